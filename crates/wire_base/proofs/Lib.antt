@@ -1,2 +1,4 @@
 pub mod TextLemmas
 pub mod ReaderLaws
+pub mod LoopLaws
+pub mod PlaceLaws

@@ -2,12 +2,12 @@
 // place behind it, or the place of the fault.
 ghost use Rattle.std.specs.Prelude.{◌≡◌, drop};
 ghost use Rattle.std.specs.Int.{Width, w8, w16, w32, w64, byte_len};
-ghost use Rattle.wire_base.specs.Readers.{Finds, number, block, string, no_more};
+ghost use Rattle.wire_base.specs.Readers.{Finds, Gives, number, block, string, no_more};
 ghost use Rattle.wire_base.specs.declared.reader.CodecFault.TheVariants.{Bad, NoMemory};
 
 use crate::bytes;
-use crate::text::check_text;
-use std::alloc::{AllocError, AllocFailed};
+use crate::text::{Text, check_text};
+use std::alloc::{AllocError, AllocFailed, Global};
 
 /// The field that begins at this offset isn't whole or isn't valid, or bytes are left over there.
 #[derive(Clone, Copy, Debug, PartialEq, Eq)]
@@ -131,10 +131,10 @@ pub fn block_at(bytes: &[u8], at: usize) -> Result<(&[u8], usize), BadField>
     Ok((rest.split_at(length).0, next + length))
 }
 
-/// A length of two bytes, and then that many bytes of text.
-#[tactic(auto, unfolding(crate::specs::Readers::block, crate::specs::Readers::string))]
-pub fn string_at(bytes: &[u8], at: usize) -> Result<(&[u8], usize), BadField>
-    ensures { Finds (λ x. (x.0.now, x.1)) result (string bytes.now at) }
+// A length of two bytes, and then that many bytes.
+#[tactic(auto, unfolding(crate::specs::Readers::block))]
+fn short_block_at(bytes: &[u8], at: usize) -> Result<(&[u8], usize), BadField>
+    ensures { Finds (λ x. (x.0.now, x.1)) result (block w16 bytes.now at) }
 {
     let (length, next) = u16_at(bytes, at)?;
     let length = length as usize;
@@ -142,11 +142,31 @@ pub fn string_at(bytes: &[u8], at: usize) -> Result<(&[u8], usize), BadField>
     if rest.len() < length {
         return Err(BadField { at });
     }
-    let (text, _) = rest.split_at(length);
+    Ok((rest.split_at(length).0, next + length))
+}
+
+/// A length of two bytes, and then that many bytes of text.
+#[tactic(auto, unfolding(crate::specs::Readers::string))]
+pub fn string_at(bytes: &[u8], at: usize) -> Result<(&[u8], usize), BadField>
+    ensures { Finds (λ x. (x.0.now, x.1)) result (string bytes.now at) }
+{
+    let (text, next) = short_block_at(bytes, at)?;
     if !check_text(text) {
         return Err(BadField { at });
     }
-    Ok((text, next + length))
+    Ok((text, next))
+}
+
+/// The same, copied.
+#[tactic(auto, unfolding(crate::specs::Readers::string))]
+pub fn text_at(alloc: Global, bytes: &[u8], at: usize) -> Result<(Text, usize), CodecFault>
+    ensures { Gives (λ x. x) result (string bytes.now at) }
+{
+    let (text, next) = short_block_at(bytes, at)?;
+    match Text::from_slice(alloc, text)? {
+        Some(text) => Ok((text, next)),
+        None => Err(CodecFault::Bad(BadField { at })),
+    }
 }
 
 /// The end of the bytes.

@@ -1,0 +1,180 @@
+// Replies, written field by field behind what the output holds.
+ghost use Rattle.std.specs.Prelude.{◌≡◌, ◌+◌, ◌-◌, ◌≤◌, ◌<◌, ◌^◌, ◌++◌, [], ◌∷◌, length, OnOk, OnErr};
+ghost use Rattle.std.specs.List.{flat_map};
+ghost use Rattle.std.specs.Int.{w8, w16, w32, to_le_bytes};
+ghost use Rattle.wire_base.specs.Readers.{counted, IsString};
+ghost use Rattle.nine_messages.specs.Messages.{frame, qid_text, r_fields, r_fits, r_frame};
+ghost use Rattle.nine_messages.specs.declared.message.RBody.TheVariants as r;
+ghost use Rattle.nine_codec.specs.Encoded.{Extends, head};
+
+use nine_messages::{Qid, RBody, RMsg};
+use wire_base::{Bytes, NoMemory, put_str, put_u16, put_u32};
+
+// The size, the type and the tag of a message whose fields have so many bytes.
+#[tactic(auto, unfolding(crate::specs::Encoded::head))]
+fn put_head(fields: usize, kind: u8, tag: u16, out: &mut Bytes) -> Result<(), NoMemory>
+    requires { fields < 2 ^ 32 - 7 }
+    ensures ok { OnOk result (out.new ≡ out.old ++ head fields kind tag) }
+    ensures err { OnErr result (out.new ≡ out.old) }
+{
+    let size = (fields as u32 + 7).to_le_bytes();
+    let tag = tag.to_le_bytes();
+    out.append(&[size[0], size[1], size[2], size[3], kind, tag[0], tag[1]])
+}
+
+// type[1] vers[4] path[8]
+fn put_qid(qid: &Qid, out: &mut Bytes) -> Result<(), NoMemory>
+    ensures ok { OnOk result (out.new ≡ out.old ++ qid_text qid.now) }
+    ensures err { OnErr result (out.new ≡ out.old) }
+{
+    let vers = qid.vers.to_le_bytes();
+    let path = qid.path.to_le_bytes();
+    out.append(&[
+        qid.kind, vers[0], vers[1], vers[2], vers[3], path[0], path[1], path[2], path[3], path[4],
+        path[5], path[6], path[7],
+    ])
+}
+
+fn version(tag: u16, msize: u32, version: &[u8], out: &mut Bytes) -> Result<(), NoMemory>
+    requires { length version.now < 2 ^ 16 }
+    ensures ok { OnOk result (out.new ≡ out.old ++ r_frame (record { tag = tag; body = r.Version msize version.now })) }
+    ensures err { OnErr result (Extends out.old out.new) }
+{
+    put_head(6 + version.len(), 101, tag, out)?;
+    put_u32(msize, out)?;
+    put_str(version, out)
+}
+
+fn attach(tag: u16, qid: &Qid, out: &mut Bytes) -> Result<(), NoMemory>
+    ensures ok { OnOk result (out.new ≡ out.old ++ r_frame (record { tag = tag; body = r.Attach qid.now })) }
+    ensures err { OnErr result (Extends out.old out.new) }
+{
+    put_head(13, 105, tag, out)?;
+    put_qid(qid, out)
+}
+
+fn error(tag: u16, ename: &[u8], out: &mut Bytes) -> Result<(), NoMemory>
+    requires { length ename.now < 2 ^ 16 }
+    ensures ok { OnOk result (out.new ≡ out.old ++ r_frame (record { tag = tag; body = r.Error ename.now })) }
+    ensures err { OnErr result (Extends out.old out.new) }
+{
+    put_head(2 + ename.len(), 107, tag, out)?;
+    put_str(ename, out)
+}
+
+// The qids, one behind the other.
+fn put_qids(qids: &[Qid], out: &mut Bytes) -> Result<(), NoMemory>
+    ensures ok { OnOk result (out.new ≡ out.old ++ flat_map qid_text qids.now) }
+    ensures err { OnErr result (Extends out.old out.new) }
+{
+    for qid in qids {
+        put_qid(qid, out)?;
+    }
+    Ok(())
+}
+
+fn walk(tag: u16, qids: &[Qid], out: &mut Bytes) -> Result<(), NoMemory>
+    requires { length qids.now ≤ 16 }
+    ensures ok { OnOk result (out.new ≡ out.old ++ r_frame (record { tag = tag; body = r.Walk qids.now })) }
+    ensures err { OnErr result (Extends out.old out.new) }
+{
+    put_head(2 + 13 * qids.len(), 111, tag, out)?;
+    put_u16(qids.len() as u16, out)?;
+    put_qids(qids, out)
+}
+
+fn open(tag: u16, qid: &Qid, iounit: u32, out: &mut Bytes) -> Result<(), NoMemory>
+    ensures ok { OnOk result (out.new ≡ out.old ++ r_frame (record { tag = tag; body = r.Open qid.now iounit })) }
+    ensures err { OnErr result (Extends out.old out.new) }
+{
+    put_head(17, 113, tag, out)?;
+    put_qid(qid, out)?;
+    put_u32(iounit, out)
+}
+
+fn read(tag: u16, content: &[u8], out: &mut Bytes) -> Result<(), NoMemory>
+    requires { length content.now < 2 ^ 32 - 11 }
+    ensures ok { OnOk result (out.new ≡ out.old ++ r_frame (record { tag = tag; body = r.Read content.now })) }
+    ensures err { OnErr result (Extends out.old out.new) }
+{
+    put_head(4 + content.len(), 117, tag, out)?;
+    put_u32(content.len() as u32, out)?;
+    out.append(content)
+}
+
+fn write(tag: u16, count: u32, out: &mut Bytes) -> Result<(), NoMemory>
+    ensures ok { OnOk result (out.new ≡ out.old ++ r_frame (record { tag = tag; body = r.Write count })) }
+    ensures err { OnErr result (Extends out.old out.new) }
+{
+    put_head(4, 119, tag, out)?;
+    put_u32(count, out)
+}
+
+fn clunk(tag: u16, out: &mut Bytes) -> Result<(), NoMemory>
+    ensures ok { OnOk result (out.new ≡ out.old ++ r_frame (record { tag = tag; body = r.Clunk })) }
+    ensures err { OnErr result (Extends out.old out.new) }
+{
+    put_head(0, 121, tag, out)
+}
+
+fn reply(m: &RMsg, out: &mut Bytes) -> Result<(), NoMemory>
+    requires { r_fits m.now.body }
+    ensures ok { OnOk result (out.new ≡ out.old ++ r_frame m.now) }
+    ensures err { OnErr result (Extends out.old out.new) }
+{
+    match &m.body {
+        RBody::Version { msize, version: text } => version(m.tag, *msize, text.as_slice(), out),
+        RBody::Attach { qid } => attach(m.tag, qid, out),
+        RBody::Error { ename } => error(m.tag, ename.as_slice(), out),
+        RBody::Walk { wqid } => walk(m.tag, wqid.as_slice(), out),
+        RBody::Open { qid, iounit } => open(m.tag, qid, *iounit, out),
+        RBody::Read { content } => read(m.tag, content.as_slice(), out),
+        RBody::Write { count } => write(m.tag, *count, out),
+        RBody::Clunk => clunk(m.tag, out),
+    }
+}
+
+/// Appends the one spelling of a reply.
+///
+/// Its strings have at most 65,535 bytes and are UTF-8 without NUL, it has at most 16 qids, and its frame is
+/// shorter than 2^32 bytes.
+pub fn encode_r(m: &RMsg, out: &mut Bytes) -> Result<(), NoMemory>
+    requires { r_fits m.now.body }
+    ensures ok { OnOk result (out.new ≡ out.old ++ r_frame m.now) }
+    ensures err { OnErr result (out.new ≡ out.old) }
+{
+    let before = out.len();
+    let done = reply(m, out);
+    if done.is_err() {
+        out.truncate(before);
+    }
+    done
+}
+
+/// Appends the reply that says why a request was refused, without a message made first.
+pub fn put_error(tag: u16, ename: &[u8], out: &mut Bytes) -> Result<(), NoMemory>
+    requires { length ename.now < 2 ^ 16 }
+    ensures ok { OnOk result (out.new ≡ out.old ++ r_frame (record { tag = tag; body = r.Error ename.now })) }
+    ensures err { OnErr result (out.new ≡ out.old) }
+{
+    let before = out.len();
+    let done = error(tag, ename, out);
+    if done.is_err() {
+        out.truncate(before);
+    }
+    done
+}
+
+/// Appends the reply that hands over what was read, without a message made first.
+pub fn put_read(tag: u16, content: &[u8], out: &mut Bytes) -> Result<(), NoMemory>
+    requires { length content.now < 2 ^ 32 - 11 }
+    ensures ok { OnOk result (out.new ≡ out.old ++ r_frame (record { tag = tag; body = r.Read content.now })) }
+    ensures err { OnErr result (out.new ≡ out.old) }
+{
+    let before = out.len();
+    let done = read(tag, content, out);
+    if done.is_err() {
+        out.truncate(before);
+    }
+    done
+}

@@ -1,0 +1,12 @@
+//! The codec of 9P2000: a frame of bytes and a message are read and written as one relation says, and a frame
+//! that is no message is refused at the place of its first fault.
+#![tactic(auto)]
+
+mod decode;
+mod encode;
+mod fault;
+
+pub use decode::decode_t;
+pub use encode::{encode_r, put_error, put_read};
+pub use fault::DecodeFault;
+pub use nine_messages::{Qid, QidList, RBody, RMsg, TBody, TMsg};

@@ -1,0 +1,73 @@
+-- The first fault of a frame lies within it.
+use Rattle.std.proofs.Common.{◌≡◌, ℕ, ◌+◌, ◌^◌, ◌<◌, ◌≤◌, List, length, Bool, true, false, cond, eqb, ltb, Result, Ok, Err, refl, arith, inl, inr}
+use Rattle.std.proofs.lemmas.Bool.{cases_Bool}
+use Rattle.std.specs.Int.{w8, w16, w32, w64}
+use Rattle.wire_base.specs.Readers.{Reader, ◌>>=◌, number, string, block, listed, both, no_more}
+use Rattle.wire_base.proofs.ReaderLaws.{AreBytes, number_spells, wide32}
+use Rattle.wire_base.proofs.PlaceLaws.{Inside, Within, bind_inside, cond_inside, number_within, block_within, string_within, listed_within, both_within, converted_within}
+use Rattle.nine_messages.specs.declared.message.TMsg.{TMsg}
+use Rattle.nine_messages.specs.declared.message.TBody.{TBody}
+use Rattle.nine_messages.specs.Decoding.{version_at, attach_at, walk_at, open_at, read_at, write_at, clunk_at, no_request, t_body_at, t_reading, IsFrame}
+
+n32 : Within (number w32)
+n32 = number_within w32
+
+pairs : Within (both (number w32) (number w32))
+pairs = both_within _ _ n32 n32
+
+offsets : Within (both (number w32) (number w64))
+offsets = both_within _ _ n32 (number_within w64)
+
+-- the fields of a request, from 7 on
+FaultsWithin : Reader TBody → Type 0
+FaultsWithin read = (bytes : List ℕ) → 7 ≤ length bytes → Inside bytes (read bytes 7)
+
+chosen : (kind k : ℕ) (one other : Reader TBody) → FaultsWithin one → FaultsWithin other → FaultsWithin (cond (eqb kind k) one other)
+unfolding FaultsWithin
+chosen kind k one other p q bytes le = elim (cases_Bool (eqb kind k)) [
+    | inl is ↦ rw is (p bytes le)
+    | inr not ↦ rw not (q bytes le)
+  ]
+
+body_within : (kind : ℕ) → FaultsWithin (t_body_at kind)
+unfolding FaultsWithin t_body_at version_at attach_at walk_at open_at read_at write_at clunk_at
+body_within kind =
+    chosen kind 100 _ _ (λ bytes le. converted_within _ _ (both_within _ _ n32 string_within) bytes 7 le)
+    (chosen kind 104 _ _ (λ bytes le. converted_within _ _ (both_within _ _ (both_within _ _ pairs string_within) string_within) bytes 7 le)
+    (chosen kind 110 _ _ (λ bytes le. converted_within _ _ (both_within _ _ pairs (listed_within w16 16 string string_within)) bytes 7 le)
+    (chosen kind 112 _ _ (λ bytes le. converted_within _ _ (both_within _ _ n32 (number_within w8)) bytes 7 le)
+    (chosen kind 116 _ _ (λ bytes le. converted_within _ _ (both_within _ _ offsets n32) bytes 7 le)
+    (chosen kind 118 _ _ (λ bytes le. converted_within _ _ (both_within _ _ offsets (block_within w32)) bytes 7 le)
+    (chosen kind 120 _ _ (λ bytes le. converted_within _ _ n32 bytes 7 le)
+    (λ bytes le. omega arith)))))))
+
+-- where a reading ends in a fault, it is within the bytes
+FaultInside : {A : Type 0} → List ℕ → Result A ℕ → Type 0
+FaultInside bytes (Ok x) = Unit {0}
+FaultInside bytes (Err fault) = fault ≤ length bytes
+
+bind_fault : {A B : Type 0} (bytes : List ℕ) (r : Result (A × ℕ) ℕ) (f : A × ℕ → Result B ℕ) → Inside bytes r → ((x : A × ℕ) → x.1 ≤ length bytes → FaultInside bytes (f x)) → FaultInside bytes (r >>= f)
+unfolding FaultInside
+bind_fault bytes (Ok x) f h k = k x h
+bind_fault bytes (Err fault) f h k = h
+
+cond_fault : {A : Type 0} (bytes : List ℕ) (b : Bool) (at : ℕ) (x : A) → at ≤ length bytes → FaultInside bytes (cond b (Err at) (Ok x))
+unfolding FaultInside
+cond_fault bytes true at x le = le
+cond_fault bytes false at x le = tt
+
+reading_within : (bytes : List ℕ) → 7 ≤ length bytes → FaultInside bytes (t_reading bytes)
+unfolding t_reading FaultsWithin
+reading_within bytes le =
+    bind_fault bytes (number w8 bytes 4) _ (number_within w8 bytes 4 (omega arith)) (λ kind h.
+    bind_fault bytes (number w16 bytes 5) _ (number_within w16 bytes 5 (omega arith)) (λ tag k.
+    bind_fault bytes (t_body_at kind.0 bytes 7) _ (body_within kind.0 bytes le) (λ body m.
+    cond_fault bytes (ltb body.1 (length bytes)) body.1 _ m)))
+
+pub fault_within : (bytes : List ℕ) (fault : ℕ) → IsFrame bytes → t_reading bytes ≡ Err fault → fault ≤ length bytes
+unfolding FaultInside
+fault_within bytes fault whole e = let h = reading_within bytes whole.header in rw e at h
+
+-- a size field of four bytes
+pub frame_small : (bytes : List ℕ) → AreBytes bytes → IsFrame bytes → length bytes < 2 ^ 32
+frame_small bytes fits whole = ((number_spells w32 (2 ^ 32) wide32).taken bytes 0 4 (length bytes) fits whole.size).1

@@ -1,0 +1,47 @@
+// The messages, a variant each, with the fields of section 5 of the Plan 9 manual in the order of the wire.
+use crate::qid::{Qid, QidList};
+use wire_base::{Bytes, Text, TextList};
+
+/// A request: its tag and what is asked.
+#[derive(Debug, Drop)]
+pub struct TMsg {
+    pub tag: u16,
+    pub body: TBody,
+}
+
+/// What a client asks.
+#[derive(Debug, Drop)]
+pub enum TBody {
+    /// The largest message and the version that the client knows.
+    Version { msize: u32, version: Text },
+    /// A fid for the root of the tree.
+    Attach { fid: u32, afid: u32, uname: Text, aname: Text },
+    /// A new fid for what is found from a fid by at most 16 names.
+    Walk { fid: u32, newfid: u32, wname: TextList },
+    Open { fid: u32, mode: u8 },
+    Read { fid: u32, offset: u64, count: u32 },
+    Write { fid: u32, offset: u64, content: Bytes },
+    Clunk { fid: u32 },
+}
+
+/// A reply: the tag of its request and what is answered.
+#[derive(Debug, Drop)]
+pub struct RMsg {
+    pub tag: u16,
+    pub body: RBody,
+}
+
+/// What a server answers.
+#[derive(Debug, Drop)]
+pub enum RBody {
+    Version { msize: u32, version: Text },
+    /// Why the request was refused.
+    Error { ename: Text },
+    Attach { qid: Qid },
+    /// The qids of the names that were found, at most 16.
+    Walk { wqid: QidList },
+    Open { qid: Qid, iounit: u32 },
+    Read { content: Bytes },
+    Write { count: u32 },
+    Clunk,
+}
