@@ -5,7 +5,7 @@ ghost use Rattle.attr_tuples.specs.Attributes.{is_attr, is_tuple, is_name, is_va
 use crate::attr::{Attr, Value};
 use std::alloc::Global;
 use std::marker::Model;
-use wire_base::NoMemory;
+use wire_base::{NoMemory, Text};
 
 const MOST_ATTRIBUTES: usize = 36;
 
@@ -27,17 +27,38 @@ impl Model for Tuple {
     ghost invariant = { λ t. is_tuple t.list.items ≡ true };
 }
 
-fn check_name(name: &[u8]) -> bool
-    requires { is_text name.now ≡ true }
-    ensures { result ≡ is_name name.now }
+fn check_name_byte(byte: u8) -> bool
+    ensures { result ≡ is_name_byte byte }
 {
-    !name.is_empty() && name != b"!" && name.iter().all(|b| is_name_byte(*b))
+    byte > b' ' && byte != b'\'' && byte != b'=' && byte != b'?'
 }
 
-fn is_name_byte(b: u8) -> bool
-    ensures { result ≡ is_name_byte b }
+fn check_value_byte(byte: u8) -> bool
+    ensures { result ≡ is_value_byte byte }
 {
-    b > b' ' && b != b'\'' && b != b'=' && b != b'?'
+    byte >= b' ' || byte == b'\t'
+}
+
+fn check_name(name: &Text) -> bool
+    ensures { result ≡ is_name name.now }
+{
+    let bytes = name.as_slice();
+    !bytes.is_empty() && bytes != b"!".as_slice() && bytes.iter().all(|byte| check_name_byte(*byte))
+}
+
+fn check_value(value: &Value) -> bool
+    ensures { result ≡ is_value value.now }
+{
+    match value {
+        Value::Is(text) => text.as_slice().iter().all(|byte| check_value_byte(*byte)),
+        Value::Ask | Value::Bare => true,
+    }
+}
+
+fn check_attr(attr: &Attr) -> bool
+    ensures { result ≡ is_attr attr.now }
+{
+    check_name(&attr.name) && check_value(&attr.value)
 }
 
 impl Tuple {
@@ -82,7 +103,7 @@ impl Tuple {
     pub fn copy(&self) -> Result<Tuple, NoMemory>
         ensures { IfOk result (λ tuple. tuple ≡ self.now) }
     {
-        let mut list = Vec::new(self.list.allocator());
+        let mut list = Vec::new(*self.list.allocator());
         for attr in &self.list {
             list.push(attr.copy()?)?;
         }
