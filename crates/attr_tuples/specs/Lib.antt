@@ -1,0 +1,4 @@
+pub mod Attributes
+pub mod Printing
+pub mod Equality
+pub mod PlainKeys

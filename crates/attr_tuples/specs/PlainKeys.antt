@@ -1,0 +1,101 @@
+-- Plain keys: keys of the protocol apop (RFC 1939) written without quotes, as `proto=apop user=ann !password=secret`.
+-- A plain key is 1 to 32 words `name=value` with one blank between. What it says (IsPlainKey) and how it is read
+-- (plain_key) are given apart.
+use Rattle.std.specs.Prelude.{◌≡◌, ℕ, List, [], ◌∷◌, Bool, true, false, not, ◌&&◌, ◌==◌, ◌≤◌, nat_lt, nat_le, nat_eq, length, map, filter, drop, Option, Some, None, count_by, codes, if◌then◌else◌}
+use Rattle.std.specs.List.{list_all, list_any, slice_split, before_first, after_first, starts_with}
+use Rattle.std.specs.Str.{bytes_eq}
+use Rattle.attr_tuples.specs.Equality.{same_attr}
+use Rattle.attr_tuples.specs.declared.attr.Attr.{Attr}
+use Rattle.attr_tuples.specs.declared.attr.Value.{Value}
+use Rattle.attr_tuples.specs.declared.attr.Value.TheVariants.{Is, Ask, Bare}
+
+-- a byte of a plain value: from 0x21 to 0x7e, neither `'` nor `?`
+abbrev pub is_plain_byte : ℕ → Bool
+is_plain_byte b = nat_le 33 b && (nat_le b 126 && (not (b == 39) && not (b == 63)))
+
+-- a byte of a plain name is no `=` either
+abbrev pub is_plain_name_byte : ℕ → Bool
+is_plain_name_byte b = is_plain_byte b && not (b == 61)
+
+-- a plain name isn't empty and isn't `!` alone
+abbrev pub is_plain_name : List ℕ → Bool
+is_plain_name name = nat_lt 0 (length name) && (not (bytes_eq name (codes "!")) && list_all is_plain_name_byte name)
+
+-- a plain value isn't empty
+abbrev pub is_plain_value : List ℕ → Bool
+is_plain_value text = nat_lt 0 (length text) && list_all is_plain_byte text
+
+-- a plain attribute has a plain name and a plain value
+abbrev pub is_plain : Attr → Bool
+is_plain a = is_plain_name a.name && has_plain_value a.value
+  where
+    has_plain_value : Value → Bool
+    has_plain_value (Is text) = is_plain_value text
+    has_plain_value Ask = false
+    has_plain_value Bare = false
+
+-- ---- what a plain key says
+
+-- whether an attribute has the name
+abbrev pub is_named : List ℕ → Attr → Bool
+is_named name a = bytes_eq a.name name
+
+-- the values of the attributes of a name, in order
+abbrev pub values_of : List ℕ → List Attr → List Value
+values_of name attrs = map (λ a. a.value) (filter (is_named name) attrs)
+
+-- one attribute has the name, and this is its value
+abbrev pub HasOnly : List ℕ → List ℕ → List Attr → Type 0
+HasOnly name text attrs = values_of name attrs ≡ Is text ∷ []
+
+-- 1 to 32 plain attributes; of these one names the protocol, which is apop, one a user of 1 to 27 bytes, and one a
+-- password
+pub record IsPlainKey (attrs : List Attr) : Type 0 where
+  pub some : 1 ≤ length attrs
+  pub few : length attrs ≤ 32
+  pub plain : list_all is_plain attrs ≡ true
+  pub proto : HasOnly (codes "proto") (codes "apop") attrs
+  pub user : (name : List ℕ) × HasOnly (codes "user") name attrs × (1 ≤ length name) × (length name ≤ 27)
+  pub password : (secret : List ℕ) × HasOnly (codes "!password") secret attrs
+
+-- ---- how it is read
+
+-- the words of a text, which is cut at each blank
+abbrev pub words : List ℕ → List (List ℕ)
+words text = slice_split (λ b. b == 32) text
+
+-- the attribute of a word, which is cut at its first `=`; a word without one gives an empty value, which isn't plain
+abbrev pub word_attr : List ℕ → Attr
+word_attr word = record { name = before_first (λ b. b == 61) word; value = Is (after_first (λ b. b == 61) word) }
+
+-- whether just one attribute has the name
+abbrev pub is_named_once : List ℕ → List Attr → Bool
+is_named_once name attrs = count_by (is_named name) attrs == 1
+
+-- whether an attribute is a user of at most 27 bytes
+abbrev pub is_short_user : Attr → Bool
+is_short_user a = is_named (codes "user") a && is_short a.value
+  where
+    is_short : Value → Bool
+    is_short (Is text) = nat_le (length text) 27
+    is_short Ask = false
+    is_short Bare = false
+
+-- whether the attributes are those of a plain key
+abbrev pub is_plain_key : List Attr → Bool
+is_plain_key attrs =
+    nat_le (length attrs) 32
+    && (list_all is_plain attrs
+    && (is_named_once (codes "proto") attrs
+    && (list_any (same_attr (record { name = codes "proto"; value = Is (codes "apop") })) attrs
+    && (is_named_once (codes "user") attrs
+    && (list_any is_short_user attrs
+    && is_named_once (codes "!password") attrs)))))
+
+-- the plain key that a text is, if it is one
+unfoldable pub plain_key : List ℕ → Option (List Attr)
+plain_key text = let attrs = map word_attr (words text) in if is_plain_key attrs then Some attrs else None
+
+-- the plain key of a line of ctl, which begins with `key ` and goes on with the key
+unfoldable pub key_line : List ℕ → Option (List Attr)
+key_line content = if starts_with nat_eq content (codes "key ") then plain_key (drop 4 content) else None

@@ -1,0 +1,57 @@
+-- Tuples as text, as factotum(4) of the Plan 9 manual writes attributes: words with one blank between, a value
+-- in quotes where a reader would cut it, and what is shown of a tuple with secrets.
+use Rattle.std.specs.Prelude.{ℕ, List, [], ◌∷◌, ◌++◌, Bool, ◌||◌, ◌==◌, length, map, if◌then◌else◌}
+use Rattle.std.specs.List.{list_any, flat_map, join_with_byte}
+use Rattle.attr_tuples.specs.Attributes.{is_secret}
+use Rattle.attr_tuples.specs.declared.attr.Attr.{Attr}
+use Rattle.attr_tuples.specs.declared.attr.Value.{Value}
+use Rattle.attr_tuples.specs.declared.attr.Value.TheVariants.{Is, Ask, Bare}
+use Rattle.attr_tuples.specs.declared.print.Secrets.{Secrets}
+use Rattle.attr_tuples.specs.declared.print.Secrets.TheVariants.{Printed, Hidden}
+
+-- a byte inside quotes: a `'` is doubled
+abbrev pub quoted_byte : ℕ → List ℕ
+quoted_byte b = if b == 39 then 39 ∷ 39 ∷ [] else b ∷ []
+
+-- a value in quotes
+abbrev pub quoted : List ℕ → List ℕ
+quoted text = 39 ∷ flat_map quoted_byte text ++ 39 ∷ []
+
+-- a byte at which an unquoted value would end: a blank, a tab or a `'`
+abbrev pub ends_unquoted : ℕ → Bool
+ends_unquoted b = b == 32 || (b == 9 || b == 39)
+
+-- a value stands in quotes exactly where it is empty or holds a blank, a tab or a `'`
+abbrev pub needs_quotes : List ℕ → Bool
+needs_quotes text = length text == 0 || list_any ends_unquoted text
+
+-- a value as it is printed
+abbrev pub value_text : List ℕ → List ℕ
+value_text text = if needs_quotes text then quoted text else text
+
+-- what follows the name: `=` and the value, a `?`, or nothing
+abbrev pub ending_text : Value → List ℕ
+ending_text (Is text) = 61 ∷ value_text text
+ending_text Ask = 63 ∷ []
+ending_text Bare = []
+
+-- an attribute as it is printed
+abbrev pub attr_text : Attr → List ℕ
+attr_text a = a.name ++ ending_text a.value
+
+-- a tuple as it is printed: its attributes in order, with one blank between
+unfoldable pub printed_text : List Attr → List ℕ
+printed_text attrs = join_with_byte 32 (map attr_text attrs)
+
+-- a secret attribute shows its name and asks for its value; any other shows as it is
+abbrev pub hidden : Attr → Attr
+hidden a = if is_secret a.name then record { name = a.name; value = Ask } else a
+
+-- an attribute as it is seen, where secrets are printed or hidden
+abbrev pub seen : Secrets → Attr → Attr
+seen Printed a = a
+seen Hidden a = hidden a
+
+-- a tuple as it is shown: printed with its secrets hidden
+unfoldable pub public_text : List Attr → List ℕ
+public_text attrs = printed_text (map hidden attrs)

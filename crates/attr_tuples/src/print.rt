@@ -1,0 +1,129 @@
+// Tuples as text.
+ghost use Rattle.std.specs.Prelude.{◌≡◌, ◌∷◌, ◌++◌, length, take, map, OnOk, OnErr};
+ghost use Rattle.attr_tuples.specs.Attributes.{is_secret};
+ghost use Rattle.attr_tuples.specs.Printing.{quoted, needs_quotes, value_text, ending_text, attr_text, printed_text, public_text, seen, quoted_byte};
+
+use crate::attr::{Attr, Value};
+use crate::tuple::Tuple;
+use wire_base::{Bytes, NoMemory};
+
+/// Whether secrets are printed or hidden.
+#[derive(Clone, Copy)]
+enum Secrets {
+    Printed,
+    Hidden,
+}
+
+/// Appends the attributes in order, with one blank between. A value is quoted exactly where it is empty or holds
+/// a blank, a tab or a `'`.
+pub fn print_tuple(tuple: &Tuple, out: &mut Bytes) -> Result<(), NoMemory>
+    ensures ok { OnOk result (out.new ≡ out.old ++ printed_text tuple.now) }
+    ensures err { OnErr result (out.new ≡ out.old) }
+{
+    print_seen(tuple, Secrets::Printed, out)
+}
+
+/// Appends the same, but each attribute whose name begins with `!` as its name and a `?`.
+pub fn print_public(tuple: &Tuple, out: &mut Bytes) -> Result<(), NoMemory>
+    ensures ok { OnOk result (out.new ≡ out.old ++ public_text tuple.now) }
+    ensures err { OnErr result (out.new ≡ out.old) }
+{
+    print_seen(tuple, Secrets::Hidden, out)
+}
+
+fn print_seen(tuple: &Tuple, secrets: Secrets, out: &mut Bytes) -> Result<(), NoMemory>
+    ensures ok { OnOk result (out.new ≡ out.old ++ printed_text (map (seen secrets) tuple.now)) }
+    ensures err { OnErr result (out.new ≡ out.old) }
+{
+    let before = out.len();
+    let done = append_attrs(tuple.attrs(), secrets, out);
+    if done.is_err() {
+        out.truncate(before);
+    }
+    done
+}
+
+// What is appended before memory runs out stays, in this function and in those below.
+fn append_attrs(attrs: &[Attr], secrets: Secrets, out: &mut Bytes) -> Result<(), NoMemory>
+    ensures ok { OnOk result (out.new ≡ out.old ++ printed_text (map (seen secrets) attrs.now)) }
+    ensures err { OnErr result (take (length out.old) out.new ≡ out.old) }
+{
+    let [first, rest @ ..] = attrs else {
+        return Ok(());
+    };
+    append_attr(first, secrets, out)?;
+    for attr in rest {
+        out.push(b' ')?;
+        append_attr(attr, secrets, out)?;
+    }
+    Ok(())
+}
+
+fn append_attr(attr: &Attr, secrets: Secrets, out: &mut Bytes) -> Result<(), NoMemory>
+    ensures ok { OnOk result (out.new ≡ out.old ++ attr_text (seen secrets attr.now)) }
+    ensures err { OnErr result (take (length out.old) out.new ≡ out.old) }
+{
+    out.append(attr.name.as_slice())?;
+    match secrets {
+        Secrets::Hidden if check_secret(attr.name.as_slice()) => out.push(b'?'),
+        Secrets::Hidden | Secrets::Printed => append_ending(&attr.value, out),
+    }
+}
+
+fn check_secret(name: &[u8]) -> bool
+    ensures { result ≡ is_secret name.now }
+{
+    matches!(name, [b'!', ..])
+}
+
+fn append_ending(value: &Value, out: &mut Bytes) -> Result<(), NoMemory>
+    ensures ok { OnOk result (out.new ≡ out.old ++ ending_text value.now) }
+    ensures err { OnErr result (take (length out.old) out.new ≡ out.old) }
+{
+    match value {
+        Value::Is(text) => {
+            out.push(b'=')?;
+            append_value(text.as_slice(), out)
+        }
+        Value::Ask => out.push(b'?'),
+        Value::Bare => Ok(()),
+    }
+}
+
+fn append_value(text: &[u8], out: &mut Bytes) -> Result<(), NoMemory>
+    ensures ok { OnOk result (out.new ≡ out.old ++ value_text text.now) }
+    ensures err { OnErr result (take (length out.old) out.new ≡ out.old) }
+{
+    if check_needs_quotes(text) {
+        append_quoted(text, out)
+    } else {
+        out.append(text)
+    }
+}
+
+fn check_needs_quotes(text: &[u8]) -> bool
+    ensures { result ≡ needs_quotes text.now }
+{
+    text.is_empty() || text.iter().any(|byte| matches!(byte, b' ' | b'\t' | b'\''))
+}
+
+fn append_quoted(text: &[u8], out: &mut Bytes) -> Result<(), NoMemory>
+    ensures ok { OnOk result (out.new ≡ out.old ++ quoted text.now) }
+    ensures err { OnErr result (take (length out.old) out.new ≡ out.old) }
+{
+    out.push(b'\'')?;
+    for byte in text {
+        append_quoted_byte(*byte, out)?;
+    }
+    out.push(b'\'')
+}
+
+fn append_quoted_byte(byte: u8, out: &mut Bytes) -> Result<(), NoMemory>
+    ensures ok { OnOk result (out.new ≡ out.old ++ quoted_byte byte) }
+    ensures err { OnErr result (take (length out.old) out.new ≡ out.old) }
+{
+    if byte == b'\'' {
+        out.push(b'\'')?;
+    }
+    out.push(byte)
+}
