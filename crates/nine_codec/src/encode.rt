@@ -1,5 +1,5 @@
 // Replies, written field by field behind what the output holds.
-ghost use Rattle.std.specs.Prelude.{◌≡◌, ◌+◌, ◌-◌, ◌≤◌, ◌<◌, ◌^◌, ◌++◌, [], ◌∷◌, length, OnOk, OnErr};
+ghost use Rattle.std.specs.Prelude.{◌≡◌, ◌+◌, ◌-◌, ◌≤◌, ◌<◌, ◌^◌, ◌++◌, [], ◌∷◌, length, take, OnOk, OnErr};
 ghost use Rattle.std.specs.List.{flat_map};
 ghost use Rattle.std.specs.Int.{w8, w16, w32, to_le_bytes};
 ghost use Rattle.wire_base.specs.Readers.{counted, IsString};
@@ -35,7 +35,7 @@ fn put_qid(qid: &Qid, out: &mut Bytes) -> Result<(), NoMemory>
     ])
 }
 
-fn version(tag: u16, msize: u32, version: &[u8], out: &mut Bytes) -> Result<(), NoMemory>
+fn spell_version(tag: u16, msize: u32, version: &[u8], out: &mut Bytes) -> Result<(), NoMemory>
     requires { length version.now < 2 ^ 16 }
     ensures ok { OnOk result (out.new ≡ out.old ++ r_frame (record { tag = tag; body = r.Version msize version.now })) }
     ensures err { OnErr result (Extends out.old out.new) }
@@ -45,7 +45,7 @@ fn version(tag: u16, msize: u32, version: &[u8], out: &mut Bytes) -> Result<(), 
     put_str(version, out)
 }
 
-fn attach(tag: u16, qid: &Qid, out: &mut Bytes) -> Result<(), NoMemory>
+fn spell_attach(tag: u16, qid: &Qid, out: &mut Bytes) -> Result<(), NoMemory>
     ensures ok { OnOk result (out.new ≡ out.old ++ r_frame (record { tag = tag; body = r.Attach qid.now })) }
     ensures err { OnErr result (Extends out.old out.new) }
 {
@@ -53,7 +53,7 @@ fn attach(tag: u16, qid: &Qid, out: &mut Bytes) -> Result<(), NoMemory>
     put_qid(qid, out)
 }
 
-fn error(tag: u16, ename: &[u8], out: &mut Bytes) -> Result<(), NoMemory>
+fn spell_error(tag: u16, ename: &[u8], out: &mut Bytes) -> Result<(), NoMemory>
     requires { length ename.now < 2 ^ 16 }
     ensures ok { OnOk result (out.new ≡ out.old ++ r_frame (record { tag = tag; body = r.Error ename.now })) }
     ensures err { OnErr result (Extends out.old out.new) }
@@ -73,7 +73,7 @@ fn put_qids(qids: &[Qid], out: &mut Bytes) -> Result<(), NoMemory>
     Ok(())
 }
 
-fn walk(tag: u16, qids: &[Qid], out: &mut Bytes) -> Result<(), NoMemory>
+fn spell_walk(tag: u16, qids: &[Qid], out: &mut Bytes) -> Result<(), NoMemory>
     requires { length qids.now ≤ 16 }
     ensures ok { OnOk result (out.new ≡ out.old ++ r_frame (record { tag = tag; body = r.Walk qids.now })) }
     ensures err { OnErr result (Extends out.old out.new) }
@@ -83,7 +83,7 @@ fn walk(tag: u16, qids: &[Qid], out: &mut Bytes) -> Result<(), NoMemory>
     put_qids(qids, out)
 }
 
-fn open(tag: u16, qid: &Qid, iounit: u32, out: &mut Bytes) -> Result<(), NoMemory>
+fn spell_open(tag: u16, qid: &Qid, iounit: u32, out: &mut Bytes) -> Result<(), NoMemory>
     ensures ok { OnOk result (out.new ≡ out.old ++ r_frame (record { tag = tag; body = r.Open qid.now iounit })) }
     ensures err { OnErr result (Extends out.old out.new) }
 {
@@ -92,7 +92,7 @@ fn open(tag: u16, qid: &Qid, iounit: u32, out: &mut Bytes) -> Result<(), NoMemor
     put_u32(iounit, out)
 }
 
-fn read(tag: u16, content: &[u8], out: &mut Bytes) -> Result<(), NoMemory>
+fn spell_read(tag: u16, content: &[u8], out: &mut Bytes) -> Result<(), NoMemory>
     requires { length content.now < 2 ^ 32 - 11 }
     ensures ok { OnOk result (out.new ≡ out.old ++ r_frame (record { tag = tag; body = r.Read content.now })) }
     ensures err { OnErr result (Extends out.old out.new) }
@@ -102,7 +102,7 @@ fn read(tag: u16, content: &[u8], out: &mut Bytes) -> Result<(), NoMemory>
     out.append(content)
 }
 
-fn write(tag: u16, count: u32, out: &mut Bytes) -> Result<(), NoMemory>
+fn spell_write(tag: u16, count: u32, out: &mut Bytes) -> Result<(), NoMemory>
     ensures ok { OnOk result (out.new ≡ out.old ++ r_frame (record { tag = tag; body = r.Write count })) }
     ensures err { OnErr result (Extends out.old out.new) }
 {
@@ -110,28 +110,107 @@ fn write(tag: u16, count: u32, out: &mut Bytes) -> Result<(), NoMemory>
     put_u32(count, out)
 }
 
-fn clunk(tag: u16, out: &mut Bytes) -> Result<(), NoMemory>
+fn spell_clunk(tag: u16, out: &mut Bytes) -> Result<(), NoMemory>
     ensures ok { OnOk result (out.new ≡ out.old ++ r_frame (record { tag = tag; body = r.Clunk })) }
     ensures err { OnErr result (Extends out.old out.new) }
 {
     put_head(0, 121, tag, out)
 }
 
-fn reply(m: &RMsg, out: &mut Bytes) -> Result<(), NoMemory>
-    requires { r_fits m.now.body }
-    ensures ok { OnOk result (out.new ≡ out.old ++ r_frame m.now) }
-    ensures err { OnErr result (Extends out.old out.new) }
+// What was begun and found no memory is taken back.
+fn kept(before: usize, done: Result<(), NoMemory>, out: &mut Bytes) -> Result<(), NoMemory>
+    ensures result { result ≡ done }
+    ensures ok { OnOk result (out.new ≡ out.old) }
+    ensures err { OnErr result (out.new ≡ take before out.old) }
 {
-    match &m.body {
-        RBody::Version { msize, version: text } => version(m.tag, *msize, text.as_slice(), out),
-        RBody::Attach { qid } => attach(m.tag, qid, out),
-        RBody::Error { ename } => error(m.tag, ename.as_slice(), out),
-        RBody::Walk { wqid } => walk(m.tag, wqid.as_slice(), out),
-        RBody::Open { qid, iounit } => open(m.tag, qid, *iounit, out),
-        RBody::Read { content } => read(m.tag, content.as_slice(), out),
-        RBody::Write { count } => write(m.tag, *count, out),
-        RBody::Clunk => clunk(m.tag, out),
+    if done.is_err() {
+        out.truncate(before);
     }
+    done
+}
+
+/// Appends the reply that agrees to a version.
+pub fn put_version(tag: u16, msize: u32, version: &[u8], out: &mut Bytes) -> Result<(), NoMemory>
+    requires { length version.now < 2 ^ 16 }
+    ensures ok { OnOk result (out.new ≡ out.old ++ r_frame (record { tag = tag; body = r.Version msize version.now })) }
+    ensures err { OnErr result (out.new ≡ out.old) }
+{
+    let before = out.len();
+    let done = spell_version(tag, msize, version, out);
+    kept(before, done, out)
+}
+
+/// Appends the reply to an attach.
+pub fn put_attach(tag: u16, qid: &Qid, out: &mut Bytes) -> Result<(), NoMemory>
+    ensures ok { OnOk result (out.new ≡ out.old ++ r_frame (record { tag = tag; body = r.Attach qid.now })) }
+    ensures err { OnErr result (out.new ≡ out.old) }
+{
+    let before = out.len();
+    let done = spell_attach(tag, qid, out);
+    kept(before, done, out)
+}
+
+/// Appends the reply that says why a request was refused.
+pub fn put_error(tag: u16, ename: &[u8], out: &mut Bytes) -> Result<(), NoMemory>
+    requires { length ename.now < 2 ^ 16 }
+    ensures ok { OnOk result (out.new ≡ out.old ++ r_frame (record { tag = tag; body = r.Error ename.now })) }
+    ensures err { OnErr result (out.new ≡ out.old) }
+{
+    let before = out.len();
+    let done = spell_error(tag, ename, out);
+    kept(before, done, out)
+}
+
+/// Appends the reply that names the files that a walk came through.
+pub fn put_walk(tag: u16, qids: &[Qid], out: &mut Bytes) -> Result<(), NoMemory>
+    requires { length qids.now ≤ 16 }
+    ensures ok { OnOk result (out.new ≡ out.old ++ r_frame (record { tag = tag; body = r.Walk qids.now })) }
+    ensures err { OnErr result (out.new ≡ out.old) }
+{
+    let before = out.len();
+    let done = spell_walk(tag, qids, out);
+    kept(before, done, out)
+}
+
+/// Appends the reply to an open.
+pub fn put_open(tag: u16, qid: &Qid, iounit: u32, out: &mut Bytes) -> Result<(), NoMemory>
+    ensures ok { OnOk result (out.new ≡ out.old ++ r_frame (record { tag = tag; body = r.Open qid.now iounit })) }
+    ensures err { OnErr result (out.new ≡ out.old) }
+{
+    let before = out.len();
+    let done = spell_open(tag, qid, iounit, out);
+    kept(before, done, out)
+}
+
+/// Appends the reply that hands over what was read.
+pub fn put_read(tag: u16, content: &[u8], out: &mut Bytes) -> Result<(), NoMemory>
+    requires { length content.now < 2 ^ 32 - 11 }
+    ensures ok { OnOk result (out.new ≡ out.old ++ r_frame (record { tag = tag; body = r.Read content.now })) }
+    ensures err { OnErr result (out.new ≡ out.old) }
+{
+    let before = out.len();
+    let done = spell_read(tag, content, out);
+    kept(before, done, out)
+}
+
+/// Appends the reply that says how many bytes were written.
+pub fn put_write(tag: u16, count: u32, out: &mut Bytes) -> Result<(), NoMemory>
+    ensures ok { OnOk result (out.new ≡ out.old ++ r_frame (record { tag = tag; body = r.Write count })) }
+    ensures err { OnErr result (out.new ≡ out.old) }
+{
+    let before = out.len();
+    let done = spell_write(tag, count, out);
+    kept(before, done, out)
+}
+
+/// Appends the reply that a fid was given up.
+pub fn put_clunk(tag: u16, out: &mut Bytes) -> Result<(), NoMemory>
+    ensures ok { OnOk result (out.new ≡ out.old ++ r_frame (record { tag = tag; body = r.Clunk })) }
+    ensures err { OnErr result (out.new ≡ out.old) }
+{
+    let before = out.len();
+    let done = spell_clunk(tag, out);
+    kept(before, done, out)
 }
 
 /// Appends the one spelling of a reply.
@@ -143,38 +222,15 @@ pub fn encode_r(m: &RMsg, out: &mut Bytes) -> Result<(), NoMemory>
     ensures ok { OnOk result (out.new ≡ out.old ++ r_frame m.now) }
     ensures err { OnErr result (out.new ≡ out.old) }
 {
-    let before = out.len();
-    let done = reply(m, out);
-    if done.is_err() {
-        out.truncate(before);
+    let tag = m.tag;
+    match &m.body {
+        RBody::Version { msize, version } => put_version(tag, *msize, version.as_slice(), out),
+        RBody::Attach { qid } => put_attach(tag, qid, out),
+        RBody::Error { ename } => put_error(tag, ename.as_slice(), out),
+        RBody::Walk { wqid } => put_walk(tag, wqid.as_slice(), out),
+        RBody::Open { qid, iounit } => put_open(tag, qid, *iounit, out),
+        RBody::Read { content } => put_read(tag, content.as_slice(), out),
+        RBody::Write { count } => put_write(tag, *count, out),
+        RBody::Clunk => put_clunk(tag, out),
     }
-    done
-}
-
-/// Appends the reply that says why a request was refused, without a message made first.
-pub fn put_error(tag: u16, ename: &[u8], out: &mut Bytes) -> Result<(), NoMemory>
-    requires { length ename.now < 2 ^ 16 }
-    ensures ok { OnOk result (out.new ≡ out.old ++ r_frame (record { tag = tag; body = r.Error ename.now })) }
-    ensures err { OnErr result (out.new ≡ out.old) }
-{
-    let before = out.len();
-    let done = error(tag, ename, out);
-    if done.is_err() {
-        out.truncate(before);
-    }
-    done
-}
-
-/// Appends the reply that hands over what was read, without a message made first.
-pub fn put_read(tag: u16, content: &[u8], out: &mut Bytes) -> Result<(), NoMemory>
-    requires { length content.now < 2 ^ 32 - 11 }
-    ensures ok { OnOk result (out.new ≡ out.old ++ r_frame (record { tag = tag; body = r.Read content.now })) }
-    ensures err { OnErr result (out.new ≡ out.old) }
-{
-    let before = out.len();
-    let done = read(tag, content, out);
-    if done.is_err() {
-        out.truncate(before);
-    }
-    done
 }

@@ -7,6 +7,9 @@ mod encode;
 mod fault;
 
 pub use decode::decode_t;
-pub use encode::{encode_r, put_error, put_read};
+pub use encode::{
+    encode_r, put_attach, put_clunk, put_error, put_open, put_read, put_version, put_walk,
+    put_write,
+};
 pub use fault::DecodeFault;
 pub use nine_messages::{Qid, QidList, RBody, RMsg, TBody, TMsg};
