@@ -1,0 +1,11 @@
+//! Bytes and where they come from and go to: sources and sinks that count their faults, forms of
+//! them in memory, and adapters over std's readers and writers.
+#![tactic(auto)]
+
+mod memory;
+mod sink;
+mod source;
+
+pub use memory::{FaultPlan, MemSink, MemSource};
+pub use sink::{Put, Sink};
+pub use source::{Got, Source};
