@@ -2,10 +2,14 @@
 //! them in memory, and adapters over std's readers and writers.
 #![tactic(auto)]
 
+mod adapters;
 mod memory;
 mod sink;
 mod source;
+mod steady;
 
+pub use adapters::{ReadSource, WriteSink};
 pub use memory::{FaultPlan, MemSink, MemSource};
 pub use sink::{Put, Sink};
 pub use source::{Got, Source};
+pub use steady::{SteadySink, SteadySource};
