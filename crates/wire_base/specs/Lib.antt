@@ -3,3 +3,4 @@ pub mod Causes
 pub mod Memory
 pub mod Steady
 pub mod Streams
+pub mod Whole
