@@ -40,7 +40,7 @@ Gains-front a b c xs at h p q = record {
   rest = drop at xs;
   parts = sym (take-append-drop at xs);
   gained = subst (Gains a c) (append-nil (take at xs)) (Gains-trans a b c _ _ p q);
-  missing = omega (arith, length-drop at xs)
+  missing = omega (arith, length-drop at xs);
 }
 
 -- What a read gave past the limit is a flood.
@@ -48,7 +48,7 @@ pub floods : (a b c : Option (List ℕ)) (xs out : List ℕ) (n limit : ℕ) →
 floods a b c xs out n limit fits past p q = record {
   taken = xs ++ take n out;
   consumed = Consumes-trans a b c xs (take n out) p q;
-  flood = (λ _. omega (arith, length-append xs (take n out), length-take-le n out fits), λ _. refl)
+  flood = (λ _. omega (arith, length-append xs (take n out), length-take-le n out fits), λ _. refl);
 }
 
 -- What was read within the limit is no flood.
@@ -56,5 +56,5 @@ pub no_flood : (a c : Option (List ℕ)) (xs : List ℕ) (limit : ℕ) (fault : 
 no_flood a c xs limit fault other within p = record {
   taken = xs;
   consumed = p;
-  flood = (λ is. absurd (other is), λ more. absurd (omega arith))
+  flood = (λ is. absurd (other is), λ more. absurd (omega arith));
 }

@@ -1,7 +1,8 @@
 -- What the forms in memory show of themselves: the numbers of the calls that fail, the calls made
 -- and the faults so far, and the bytes left or held. The definitions are the project's own.
-use Rattle.std.specs.Prelude.{◌≡◌, ℕ, ◌+◌, ◌-◌, ◌^◌, ◌==◌, Bool, List, [], if◌then◌else◌, length, min, ⊤}
+use Rattle.std.specs.Prelude.{◌≡◌, ℕ, ◌==◌, Bool, List, [], length, min, ⊤}
 use Rattle.std.specs.List.{list_any}
+use Rattle.wire_base.specs.Causes.{CountsOutcome, one_more}
 use Rattle.wire_base.specs.declared.source.Got.{Got}
 use Rattle.wire_base.specs.declared.source.Got.TheVariants.{Bytes, End, Failed}
 use Rattle.wire_base.specs.declared.sink.Put.{Put}
@@ -9,10 +10,6 @@ use Rattle.wire_base.specs.declared.sink.Put.TheVariants.{Took, Failed as NotTak
 use Rattle.wire_base.specs.declared.memory.FaultPlan.{FaultPlan}
 use Rattle.wire_base.specs.declared.memory.MemSource.{MemSource}
 use Rattle.wire_base.specs.declared.memory.MemSink.{MemSink}
-
--- One more, but a counter of 64 bits stops at its last value.
-abbrev pub one_more : ℕ → ℕ
-one_more n = min (n + 1) (2 ^ 64 - 1)
 
 -- The numbers of the calls that are to fail, counted from 1.
 abbrev pub failing_calls : FaultPlan → List ℕ
@@ -34,18 +31,13 @@ fails_next plan = list_any (λ number. number == one_more (calls_of plan)) (fail
 pub record CountsCall (old new : FaultPlan) (failed : Bool) : Type 0 where
   pub listed : failing_calls new ≡ failing_calls old
   pub calls : calls_of new ≡ one_more (calls_of old)
-  pub faults : faults_of new ≡ (if failed then one_more (faults_of old) else faults_of old)
+  pub faults : CountsOutcome (faults_of old) (faults_of new) failed
 
--- A fault was counted that no plan foresaw.
+-- A fault was counted that was not planned.
 pub record CountsFault (old new : FaultPlan) : Type 0 where
   pub listed : failing_calls new ≡ failing_calls old
   pub calls : calls_of new ≡ calls_of old
   pub faults : faults_of new ≡ one_more (faults_of old)
-
--- One call was made: the numbers that fail stay.
-pub record KeepsPlan (old new : FaultPlan) : Type 0 where
-  pub listed : failing_calls new ≡ failing_calls old
-  pub calls : calls_of new ≡ one_more (calls_of old)
 
 -- The plan of a source's faults.
 abbrev pub source_plan : MemSource → FaultPlan

@@ -1,5 +1,5 @@
 -- What the steady forms in memory show of themselves. The definitions are the project's own.
-use Rattle.std.specs.Prelude.{ℕ, List, Option, None, Some}
+use Rattle.std.specs.Prelude.{ℕ, List, Option}
 use Rattle.std.specs.Option.{option_map}
 use Rattle.wire_base.specs.declared.steady.SteadySource.{SteadySource}
 use Rattle.wire_base.specs.declared.steady.SteadySink.{SteadySink}

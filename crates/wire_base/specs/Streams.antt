@@ -1,7 +1,7 @@
 -- What one read does to the bytes that a source has left, and one write to the bytes that a sink
 -- holds. Both are optional, since a source or a sink need not tell its bytes. The definitions are
 -- the project's own, in the words that std has for its readers and writers.
-use Rattle.std.specs.Prelude.{◌≡◌, ℕ, ◌<◌, ◌≤◌, List, [], ◌++◌, Option, None, Some, length, take, ⊤}
+use Rattle.std.specs.Prelude.{◌≡◌, ℕ, ◌<◌, ◌≤◌, Bool, true, false, List, [], ◌++◌, Option, None, Some, length, take, ⊤}
 use Rattle.std.specs.Io.KnownBytes.{Consumes, IsAtEnd, Keeps}
 use Rattle.wire_base.specs.declared.source.Got.{Got}
 use Rattle.wire_base.specs.declared.source.Got.TheVariants.{Bytes, End, Failed}
@@ -27,3 +27,14 @@ Gains (Some xs) (Some ys) bs = ys ≡ xs ++ bs
 abbrev pub Writes : Option (List ℕ) → Option (List ℕ) → Put → List ℕ → Type 0
 Writes old new (Took n) piece = (0 < n) × (n ≤ length piece) × Gains old new (take n piece)
 Writes old new NotTaken piece = Gains old new []
+
+-- Whether a read failed.
+abbrev pub read_failed : Got → Bool
+read_failed (Bytes n) = false
+read_failed End = false
+read_failed Failed = true
+
+-- Whether a write failed.
+abbrev pub write_failed : Put → Bool
+write_failed (Took n) = false
+write_failed NotTaken = true

@@ -6,7 +6,7 @@ use crate::source::{Got, Source};
 use std::marker::Model;
 
 /// Bytes of which a front was read already.
-#[derive(Drop)]
+#[derive(Debug, Drop)]
 pub(crate) struct Unread {
     bytes: Vec<u8>,
     at: usize,
@@ -80,7 +80,7 @@ impl FaultPlan {
         failed
     }
 
-    /// Counts a fault that no plan foresaw.
+    /// Counts a fault that was not planned.
     pub fn count_fault(&mut self)
         ensures counted { CountsFault self.old self.new }
         ensures later { faults_of self.old ≤ faults_of self.new }
@@ -90,7 +90,7 @@ impl FaultPlan {
 }
 
 /// A source that gives the bytes that it was made with, as many at a time as fit.
-#[derive(Drop)]
+#[derive(Debug, Drop)]
 pub struct MemSource {
     content: Unread,
     plan: FaultPlan,
@@ -116,8 +116,8 @@ impl MemSource {
 impl Source for MemSource {
     ghost use Rattle.std.specs.Prelude.{Some, ◌↔◌, IsTrue};
     ghost use Rattle.wire_base.specs.Causes.{Rose};
-    ghost use Rattle.wire_base.specs.Memory.{GivesAll, CountsCall, fails_next, faults_of, source_plan, unread_bytes};
-    ghost use Rattle.wire_base.specs.Streams.{Reads};
+    ghost use Rattle.wire_base.specs.Memory.{CountsCall, GivesAll, fails_next, faults_of, source_plan, unread_bytes};
+    ghost use Rattle.wire_base.specs.Streams.{Reads, read_failed};
 
     ghost left = { λ source. Some (unread_bytes source) };
 
@@ -132,8 +132,7 @@ impl Source for MemSource {
 
         // A read fails exactly where its number is listed, and gives as many bytes as fit.
         ensures planned { (result ≡ Got.Failed) ↔ IsTrue (fails_next (source_plan self.old)) }
-        ensures call { CountsCall (source_plan self.old) (source_plan self.new)
-            (fails_next (source_plan self.old)) }
+        ensures call { CountsCall (source_plan self.old) (source_plan self.new) (read_failed result) }
         ensures full { GivesAll (unread_bytes self.old) (length out.old) result }
     {
         if self.plan.begin_call() {
@@ -180,8 +179,8 @@ impl MemSink {
 impl Sink for MemSink {
     ghost use Rattle.std.specs.Prelude.{Some, ◌++◌, IsTrue};
     ghost use Rattle.wire_base.specs.Causes.{Rose};
-    ghost use Rattle.wire_base.specs.Memory.{TakesAll, KeepsPlan, fails_next, faults_of, held_bytes, sink_plan};
-    ghost use Rattle.wire_base.specs.Streams.{Writes};
+    ghost use Rattle.wire_base.specs.Memory.{CountsCall, TakesAll, fails_next, faults_of, held_bytes, sink_plan};
+    ghost use Rattle.wire_base.specs.Streams.{Writes, write_failed};
 
     ghost holds = { λ sink. Some (held_bytes sink) };
 
@@ -196,7 +195,7 @@ impl Sink for MemSink {
 
         // A write whose number is listed fails. Another fails only where there is no memory.
         ensures planned { IsTrue (fails_next (sink_plan self.old)) → result ≡ Put.Failed }
-        ensures call { KeepsPlan (sink_plan self.old) (sink_plan self.new) }
+        ensures call { CountsCall (sink_plan self.old) (sink_plan self.new) (write_failed result) }
         ensures whole { TakesAll result piece.now }
     {
         if self.plan.begin_call() {
@@ -209,5 +208,50 @@ impl Sink for MemSink {
                 Put::Failed
             }
         }
+    }
+}
+
+#[cfg(test)]
+mod tests {
+    use super::*;
+    use std::test::Fail;
+
+    #[test]
+    fn source_gives_what_fits_but_at_planned_faults(rt: HostRuntime) -> Result<(), Fail> {
+        let fails = [2, 5].to_vec(rt.alloc())?;
+        let mut source = MemSource::new(b"hello".to_vec(rt.alloc())?, fails);
+        for (call, room, want, piece) in [
+            (1, 2, Got::Bytes(2), "he------"),
+            (2, 2, Got::Failed, "--------"),
+            (3, 8, Got::Bytes(3), "llo-----"),
+            (4, 8, Got::End, "--------"),
+            (5, 8, Got::Failed, "--------"),
+            (6, 8, Got::End, "--------"),
+        ] {
+            let mut out = [b'-'; 8];
+            let got = source.read(&mut out[..room.clamp(1, 8)]);
+            assert_eq!(rt; got, want, "at call {call}");
+            assert_eq!(rt; out.as_slice(), piece.as_bytes(), "at call {call}");
+        }
+        Ok(())
+    }
+
+    #[test]
+    fn sink_keeps_whole_pieces_but_at_planned_faults(rt: HostRuntime) -> Result<(), Fail> {
+        let fails = [2, 4].to_vec(rt.alloc())?;
+        let mut sink = MemSink::new(b"so ".to_vec(rt.alloc())?, fails);
+        for (piece, want, content) in [
+            (b'a', Put::Took(1), "so a"),
+            (b'b', Put::Failed, "so a"),
+            (b'c', Put::Took(1), "so ac"),
+            (b'd', Put::Failed, "so ac"),
+            (b'e', Put::Took(1), "so ace"),
+        ] {
+            assert_eq!(rt; sink.write(&[piece]), want, "at {piece}");
+            assert_eq!(rt; sink.content(), content.as_bytes(), "after {piece}");
+        }
+        assert_eq!(rt; sink.write(b" high"), Put::Took(5));
+        assert_eq!(rt; sink.content(), b"so ace high".as_slice());
+        Ok(())
     }
 }

@@ -7,7 +7,7 @@ use crate::source::{Got, Source};
 use std::alloc::Global;
 
 /// A source that gives the bytes that it was made with, as many at a time as fit.
-#[derive(Drop)]
+#[derive(Debug, Drop)]
 pub struct SteadySource {
     content: Unread,
 }
@@ -99,5 +99,37 @@ impl Sink for SteadySink {
             self.content = None;
         }
         Put::Took(piece.len())
+    }
+}
+
+#[cfg(test)]
+mod tests {
+    use super::*;
+    use std::test::Fail;
+
+    #[test]
+    fn source_gives_what_fits(rt: HostRuntime) -> Result<(), Fail> {
+        let mut source = SteadySource::new(b"hello".to_vec(rt.alloc())?);
+        for (want, piece) in [
+            (Got::Bytes(3), "hel"),
+            (Got::Bytes(2), "lo-"),
+            (Got::End, "---"),
+            (Got::End, "---"),
+        ] {
+            let mut out = [b'-'; 3];
+            assert_eq!(rt; source.read(&mut out), want, "before {piece}");
+            assert_eq!(rt; out.as_slice(), piece.as_bytes());
+        }
+        Ok(())
+    }
+
+    #[test]
+    fn sink_keeps_whole_pieces(rt: HostRuntime) -> Result<(), Fail> {
+        let mut sink = SteadySink::new(rt.alloc());
+        assert!(rt; sink.content().ok_or("untold")?.is_empty());
+        assert_eq!(rt; sink.write(b"he"), Put::Took(2));
+        assert_eq!(rt; sink.write(b"llo"), Put::Took(3));
+        assert_eq!(rt; sink.content().ok_or("untold")?, b"hello".as_slice());
+        Ok(())
     }
 }

@@ -1,4 +1,4 @@
-use Rattle.std.proofs.Common.{◌≡◌, ◌<◌, ◌-◌, ◌≤◌, ◌+◌, ◌++◌, length, take, vec_len, arith, length-append}
+use Rattle.std.proofs.Common.{◌<◌, ◌-◌, ◌≤◌, ◌++◌, length, take, arith, length-append}
 use Rattle.std.proofs.KnownBytes.{Consumes-trans}
 use Rattle.std.proofs.lemmas.List.{length-take-le}
 use Rattle.wire_base.proofs.StreamLemmas.{floods, no_flood}
@@ -16,5 +16,5 @@ returns-then-is_err-clause-err g c =
     let kept = c.loop-count.bytes.items in
     let more = take c.in-Bytes.count c.read.new.out in
     let within : length (kept ++ more) ≤ c.args.limit
-        = omega (arith, c.loop-count.bytes.ok.0, length-append kept more, length-take-le c.in-Bytes.count c.read.new.out got.1) in
+    = omega (arith, c.loop-count.bytes.ok.0, length-append kept more, length-take-le c.in-Bytes.count c.read.new.out got.1) in
     no_flood _ _ _ _ _ (λ is. cc) within (Consumes-trans _ _ _ kept more c.loop-count.invariant.consumed got.2)

@@ -9,7 +9,7 @@ invariant-loop-count g l = record {
   consumed : Consumes (g.S.Source.left l.fn.source) (g.S.Source.left l.source) l.bytes.items;
   within : vec_len l.bytes ≤ l.limit;
   later : g.S.Source.faults l.fn.source ≤ g.S.Source.faults l.source;
-  room : length l.chunk ≡ 65536
+  room : length l.chunk ≡ 65536;
 }
 
 abbrev pub decreases-loop-count : goal.decreases-loop-count

@@ -7,7 +7,7 @@ loop-at-preserved g c = let took = c.in-Took.ensures.bytes in record {
   gained = Gains-more _ _ _ _ _ _ c.loop-at.invariant.gained took.2;
   within = search rules;
   later = omega (arith, c.loop-at.invariant.later, c.write.ensures.counted);
-  untouched = λ none. absurd (omega (arith, took.0))
+  untouched = λ none. absurd (omega (arith, took.0));
 }
 
 pub returns-in-Failed-clause-err : goal.returns-in-Failed-clause-err

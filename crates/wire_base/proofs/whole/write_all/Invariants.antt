@@ -9,7 +9,7 @@ invariant-loop-at g l = record {
   gained : Gains (g.W.Sink.holds l.fn.sink) (g.W.Sink.holds l.sink) (take l.at l.piece);
   within : l.at ≤ length l.piece;
   later : g.W.Sink.faults l.fn.sink ≤ g.W.Sink.faults l.sink;
-  untouched : l.at ≡ 0 → l.sink ≡ l.fn.sink
+  untouched : l.at ≡ 0 → l.sink ≡ l.fn.sink;
 }
 
 abbrev pub decreases-loop-at : goal.decreases-loop-at
