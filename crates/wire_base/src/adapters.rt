@@ -60,8 +60,8 @@ impl<R: Read> Source for ReadSource<R> {
     }
 }
 
-/// A sink over a writer, which it never flushes. It tells no content. Each write that fails, or takes nothing, is counted,
-/// up to the last value of the counter.
+/// A sink over a writer, which it never flushes. It tells no content. Each write that fails, or
+/// takes nothing, is counted, up to the last value of the counter.
 #[derive(Debug, Drop)]
 pub struct WriteSink<W> {
     inner: W,
