@@ -58,3 +58,10 @@ no_flood a c xs limit fault other within p = record {
   consumed = p;
   flood = (λ is. absurd (other is), λ more. absurd (omega arith));
 }
+
+-- A source that tells its bytes, and has no more than the limit, gives no flood.
+pub TakesBefore-told : (xs : List ℕ) (new : Option (List ℕ)) (limit : ℕ) (fault : WholeFault) → length xs ≤ limit → TakesBefore (Some xs) new limit fault → fault ≢ Flood
+TakesBefore-told xs None limit fault within took is = absurd took.consumed
+TakesBefore-told xs (Some ys) limit fault within took is =
+    let past : limit < length took.taken = took.flood.0 is in
+    omega (arith, length-append took.taken ys, ap length took.consumed)
