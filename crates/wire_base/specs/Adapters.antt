@@ -23,8 +23,8 @@ writer_of sink = sink.inner
 abbrev pub write_faults : {W : Type 0} → WriteSink W → ℕ
 write_faults sink = sink.faults
 
--- What a write put into the writer below, where that one tells its bytes: exactly those that are said
--- to be taken.
+-- What a write put into the writer below, where that one tells its bytes: exactly those that are
+-- said to be taken.
 abbrev pub Passes : Option (List ℕ) → Option (List ℕ) → Put → List ℕ → Type 0
 Passes old new (Took n) piece = Appends old new (take n piece)
 Passes old new Failed piece = Keeps old new

@@ -8,15 +8,16 @@ use Rattle.wire_base.specs.declared.source.Got.TheVariants.{Bytes, End, Failed}
 use Rattle.wire_base.specs.declared.sink.Put.{Put}
 use Rattle.wire_base.specs.declared.sink.Put.TheVariants.{Took, Failed as NotTaken}
 
--- What a read into `out` tells of the bytes left before and after it: n bytes, at least one, came off
--- the front and stand at the front of `out`; or nothing is left; or the read failed and all stayed.
+-- What a read into `out` tells of the bytes left before and after it: n bytes, at least one, came
+-- off the front and stand at the front of `out`; or nothing is left; or the read failed and all
+-- stayed.
 abbrev pub Reads : Option (List ℕ) → Option (List ℕ) → Got → List ℕ → Type 0
 Reads old new (Bytes n) out = (0 < n) × (n ≤ length out) × Consumes old new (take n out)
 Reads old new End out = IsAtEnd new × Keeps old new
 Reads old new Failed out = Keeps old new
 
--- Bytes that are known now were known before, and these came behind them. It says nothing where none
--- are known now, since a sink may stop telling.
+-- Bytes that are known now were known before, and these came behind them. It says nothing where
+-- none are known now, since a sink may stop telling.
 abbrev pub Gains : Option (List ℕ) → Option (List ℕ) → List ℕ → Type 0
 Gains old None bs = ⊤
 Gains None (Some ys) bs = ⊥

@@ -1,5 +1,5 @@
--- What reading a source to its end, and writing a whole piece, leave where they fail. The definitions
--- are the project's own.
+-- What reading a source to its end, and writing a whole piece, leave where they fail. The
+-- definitions are the project's own.
 use Rattle.std.specs.Prelude.{◌≡◌, ℕ, ◌<◌, ◌↔◌, List, ◌++◌, Option, length}
 use Rattle.std.specs.Io.KnownBytes.{Consumes}
 use Rattle.wire_base.specs.declared.whole.WholeFault.{WholeFault}

@@ -43,7 +43,8 @@ impl<R: Read> Source for ReadSource<R> {
         ensures bytes { Reads (R.remaining (reader_of self.old)) (R.remaining (reader_of self.new))
             result out.new }
         ensures counted { read_faults self.old ≤ read_faults self.new }
-        ensures cause { result ≡ Got.Failed → Rose (read_faults self.old) (read_faults self.new) }
+        ensures cause { result ≡ Got.Failed
+            → Rose (read_faults self.old) (read_faults self.new) }
 
         // A read that fails is one fault, and another is none.
         ensures exact { CountsOutcome (read_faults self.old) (read_faults self.new)
@@ -94,7 +95,8 @@ impl<W: Write> Sink for WriteSink<W> {
         requires { 0 < length piece.now }
         ensures bytes { Writes None None result piece.now }
         ensures counted { write_faults self.old ≤ write_faults self.new }
-        ensures cause { result ≡ Put.Failed → Rose (write_faults self.old) (write_faults self.new) }
+        ensures cause { result ≡ Put.Failed
+            → Rose (write_faults self.old) (write_faults self.new) }
 
         // What the writer below tells of its bytes grew by exactly those that are said to be taken.
         ensures passed { Passes (W.contents (writer_of self.old)) (W.contents (writer_of self.new))

@@ -125,14 +125,16 @@ impl Source for MemSource {
 
     fn read(&mut self, out: &mut [u8]) -> Got
         requires { 0 < length out.old }
-        ensures bytes { Reads (Some (unread_bytes self.old)) (Some (unread_bytes self.new)) result out.new }
+        ensures bytes { Reads (Some (unread_bytes self.old)) (Some (unread_bytes self.new))
+            result out.new }
         ensures counted { faults_of (source_plan self.old) ≤ faults_of (source_plan self.new) }
         ensures cause { result ≡ Got.Failed
             → Rose (faults_of (source_plan self.old)) (faults_of (source_plan self.new)) }
 
         // A read fails exactly where its number is listed, and gives as many bytes as fit.
         ensures planned { (result ≡ Got.Failed) ↔ IsTrue (fails_next (source_plan self.old)) }
-        ensures call { CountsCall (source_plan self.old) (source_plan self.new) (read_failed result) }
+        ensures call { CountsCall (source_plan self.old) (source_plan self.new)
+            (read_failed result) }
         ensures full { GivesAll (unread_bytes self.old) (length out.old) result }
     {
         if self.plan.begin_call() {
@@ -188,14 +190,16 @@ impl Sink for MemSink {
 
     fn write(&mut self, piece: &[u8]) -> Put
         requires { 0 < length piece.now }
-        ensures bytes { Writes (Some (held_bytes self.old)) (Some (held_bytes self.new)) result piece.now }
+        ensures bytes { Writes (Some (held_bytes self.old)) (Some (held_bytes self.new))
+            result piece.now }
         ensures counted { faults_of (sink_plan self.old) ≤ faults_of (sink_plan self.new) }
         ensures cause { result ≡ Put.Failed
             → Rose (faults_of (sink_plan self.old)) (faults_of (sink_plan self.new)) }
 
         // A write whose number is listed fails. Another fails only where there is no memory.
         ensures planned { IsTrue (fails_next (sink_plan self.old)) → result ≡ Put.Failed }
-        ensures call { CountsCall (sink_plan self.old) (sink_plan self.new) (write_failed result) }
+        ensures call { CountsCall (sink_plan self.old) (sink_plan self.new)
+            (write_failed result) }
         ensures whole { TakesAll result piece.now }
     {
         if self.plan.begin_call() {

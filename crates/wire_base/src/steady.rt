@@ -37,7 +37,8 @@ impl Source for SteadySource {
 
     fn read(&mut self, out: &mut [u8]) -> Got
         requires { 0 < length out.old }
-        ensures bytes { Reads (Some (unread_bytes self.old)) (Some (unread_bytes self.new)) result out.new }
+        ensures bytes { Reads (Some (unread_bytes self.old)) (Some (unread_bytes self.new))
+            result out.new }
         ensures steady { result ≢ Got.Failed }
         ensures full { GivesAll (unread_bytes self.old) (length out.old) result }
     {

@@ -34,13 +34,16 @@ pub fn read_whole<S: Source>(
     limit: usize,
     source: &mut S,
 ) -> Result<Vec<u8>, WholeFault>
-    ensures ok { IfOk result (λ bytes. Consumes (S.left source.old) (S.left source.new) bytes.items) }
+    ensures ok { IfOk result (λ bytes.
+        Consumes (S.left source.old) (S.left source.new) bytes.items) }
     ensures end { OnOk result (IsAtEnd (S.left source.new)) }
     ensures bounded { IfOk result (λ bytes. vec_len bytes ≤ limit) }
 
     // What an error left: a flood comes exactly where more than the limit was taken.
-    ensures err { IfErr result (λ fault. TakesBefore (S.left source.old) (S.left source.new) limit fault) }
-    ensures cause { result ≡ Err WholeFault.Failed → Rose (S.faults source.old) (S.faults source.new) }
+    ensures err { IfErr result (λ fault.
+        TakesBefore (S.left source.old) (S.left source.new) limit fault) }
+    ensures cause { result ≡ Err WholeFault.Failed
+        → Rose (S.faults source.old) (S.faults source.new) }
     ensures counted { S.faults source.old ≤ S.faults source.new }
 {
     let mut bytes = Vec::new(alloc);
