@@ -1,7 +1,8 @@
 // Tuples as text.
 ghost use Rattle.std.specs.Prelude.{◌≡◌, ◌∷◌, ◌++◌, length, take, map, OnOk, OnErr};
+ghost use Rattle.std.specs.List.{list_any};
 ghost use Rattle.attr_tuples.specs.Attributes.{is_secret};
-ghost use Rattle.attr_tuples.specs.Printing.{quoted, needs_quotes, value_text, ending_text, attr_text, printed_text, public_text, seen, quoted_byte};
+ghost use Rattle.attr_tuples.specs.Printing.{quoted, needs_quotes, value_text, ending_text, attr_text, printed_text, public_text, seen, quoted_byte, ends_unquoted};
 
 use crate::attr::{Attr, Value};
 use crate::tuple::Tuple;
@@ -44,6 +45,7 @@ fn print_seen(tuple: &Tuple, secrets: Secrets, out: &mut Bytes) -> Result<(), No
 }
 
 // What is appended before memory runs out stays, in this function and in those below.
+#[tactic(auto, using(crate::proofs::PrintLemmas::kept_then))]
 fn append_attrs(attrs: &[Attr], secrets: Secrets, out: &mut Bytes) -> Result<(), NoMemory>
     ensures ok { OnOk result (out.new ≡ out.old ++ printed_text (map (seen secrets) attrs.now)) }
     ensures err { OnErr result (take (length out.old) out.new ≡ out.old) }
@@ -59,6 +61,7 @@ fn append_attrs(attrs: &[Attr], secrets: Secrets, out: &mut Bytes) -> Result<(),
     Ok(())
 }
 
+#[tactic(auto, using(crate::proofs::PrintLemmas::kept_then))]
 fn append_attr(attr: &Attr, secrets: Secrets, out: &mut Bytes) -> Result<(), NoMemory>
     ensures ok { OnOk result (out.new ≡ out.old ++ attr_text (seen secrets attr.now)) }
     ensures err { OnErr result (take (length out.old) out.new ≡ out.old) }
@@ -76,6 +79,7 @@ fn check_secret(name: &[u8]) -> bool
     matches!(name, [b'!', ..])
 }
 
+#[tactic(auto, using(crate::proofs::PrintLemmas::kept_then))]
 fn append_ending(value: &Value, out: &mut Bytes) -> Result<(), NoMemory>
     ensures ok { OnOk result (out.new ≡ out.old ++ ending_text value.now) }
     ensures err { OnErr result (take (length out.old) out.new ≡ out.old) }
@@ -104,9 +108,17 @@ fn append_value(text: &[u8], out: &mut Bytes) -> Result<(), NoMemory>
 fn check_needs_quotes(text: &[u8]) -> bool
     ensures { result ≡ needs_quotes text.now }
 {
-    text.is_empty() || text.iter().any(|byte| matches!(byte, b' ' | b'\t' | b'\''))
+    text.is_empty() || holds_end(text)
 }
 
+fn holds_end(text: &[u8]) -> bool
+    ensures { result ≡ list_any ends_unquoted text.now }
+{
+    text.iter()
+        .any(|byte| *byte == b' ' || *byte == b'\t' || *byte == b'\'')
+}
+
+#[tactic(auto, using(crate::proofs::PrintLemmas::kept_then))]
 fn append_quoted(text: &[u8], out: &mut Bytes) -> Result<(), NoMemory>
     ensures ok { OnOk result (out.new ≡ out.old ++ quoted text.now) }
     ensures err { OnErr result (take (length out.old) out.new ≡ out.old) }
