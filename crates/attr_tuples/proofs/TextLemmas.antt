@@ -9,7 +9,7 @@ use Rattle.attr_tuples.specs.declared.attr.Attr.{Attr}
 use Rattle.attr_tuples.specs.declared.attr.Value.{Value}
 use Rattle.attr_tuples.specs.declared.attr.Value.TheVariants.{Is, Ask, Bare}
 use Rattle.attr_tuples.specs.Attributes.{is_attr, is_name, is_value, is_name_byte, is_value_byte, is_tuple}
-use Rattle.attr_tuples.specs.PlainKeys.{is_plain_byte, is_plain_name_byte, is_plain_name, is_plain_value, is_plain, is_given, is_plain_key}
+use Rattle.attr_tuples.specs.PlainKeys.{is_plain_byte, is_plain_name_byte, is_plain_name, is_plain_value, is_plain, is_given, is_plain_key, are_plain}
 
 plain_low : (b : ℕ) → is_plain_byte b ≡ true → 33 ≤ b
 plain_low b h = leb-true 33 b (and_parts _ _ h).0
@@ -80,5 +80,5 @@ attrs_from_plain (a ∷ attrs) h =
 -- the attributes of a plain key are a tuple
 pub tuple_from_plain : (attrs : List Attr) → is_plain_key attrs ≡ true → is_tuple attrs ≡ true
 tuple_from_plain attrs h =
-    let parts = and_parts _ _ (and_parts _ _ h).0 in
+    let parts = and_parts (leb (length attrs) 32) (list_all is_plain attrs) (and_parts (are_plain attrs) _ h).0 in
     and_from _ _ (le-leb (length attrs) 36 (omega (arith, leb-true (length attrs) 32 parts.0))) (attrs_from_plain attrs parts.1)
