@@ -1,7 +1,7 @@
 -- What stood in an output before stays its front, and a printed tuple is its first attribute and the others.
-use Rattle.std.proofs.Common.{◌≡◌, ℕ, ◌≤◌, List, [], ◌∷◌, ◌++◌, length, map, take, refl, sym, ap, ◌∙◌, arith, length-append}
+use Rattle.std.proofs.Common.{◌≡◌, ℕ, ◌≤◌, List, [], ◌∷◌, ◌++◌, ◌-◌, length, map, take, drop, get_or, refl, sym, ap, ◌∙◌, arith, length-append}
 use Rattle.std.specs.List.{flat_map, join_with_byte}
-use Rattle.std.proofs.lemmas.List.{append-nil, map-id, take-take, take_at}
+use Rattle.std.proofs.lemmas.List.{append-nil, map-id, take_all, take-take, take_at}
 use Rattle.attr_tuples.specs.declared.attr.Attr.{Attr}
 use Rattle.attr_tuples.specs.Printing.{attr_text, printed_text, seen, others_text}
 use Rattle.attr_tuples.specs.declared.print.Secrets.{Secrets}
@@ -33,3 +33,11 @@ printed_cons secrets a attrs =
 -- where secrets are printed a tuple is printed as it is
 pub printed_as_is : (attrs : List Attr) → printed_text (map (seen Printed) attrs) ≡ printed_text attrs
 printed_as_is attrs = ap printed_text (map-id attrs)
+
+-- the same of the first attribute and the others of a list that isn't empty
+pub first_and_others : (secrets : Secrets) (attrs : List Attr) (first : Attr) → 1 ≤ length attrs → first ≡ get_or attrs 0 first → attr_text (seen secrets first) ++ others_text secrets (take (length attrs - 1) (drop 1 attrs)) ≡ printed_text (map (seen secrets) attrs)
+first_and_others secrets [] first long e = absurd (omega arith)
+first_and_others secrets (a ∷ attrs) first long e =
+    ap (λ (x : Attr). attr_text (seen secrets x) ++ others_text secrets (take (length (a ∷ attrs) - 1) attrs)) e
+    ∙ ap (λ (xs : List Attr). attr_text (seen secrets a) ++ others_text secrets xs) (take_all (length (a ∷ attrs) - 1) attrs (omega arith))
+    ∙ sym (printed_cons secrets a attrs)
