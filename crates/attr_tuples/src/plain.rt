@@ -11,6 +11,7 @@ use std::alloc::Global;
 use wire_base::{NoMemory, Text};
 
 const MOST_WORDS: usize = 32;
+
 const MOST_USER_BYTES: usize = 27;
 
 /// Reads `key ` and a plain key: 1 to 32 words `name=value` with one blank between, among them `proto=apop`, one
@@ -68,7 +69,8 @@ fn count_words(text: &[u8]) -> usize
 fn each_plain(text: &[u8]) -> bool
     ensures { result ≡ list_all is_plain (map word_attr (words text.now)) }
 {
-    text.split(|byte| *byte == b' ').all(|word| check_plain(word))
+    text.split(|byte| *byte == b' ')
+        .all(|word| check_plain(word))
 }
 
 fn count_named(text: &[u8], name: &[u8]) -> usize
@@ -82,13 +84,15 @@ fn count_named(text: &[u8], name: &[u8]) -> usize
 fn any_apop(text: &[u8]) -> bool
     ensures { result ≡ list_any is_apop (map word_attr (words text.now)) }
 {
-    text.split(|byte| *byte == b' ').any(|word| check_apop(word))
+    text.split(|byte| *byte == b' ')
+        .any(|word| check_apop(word))
 }
 
 fn any_short_user(text: &[u8]) -> bool
     ensures { result ≡ list_any is_short_user (map word_attr (words text.now)) }
 {
-    text.split(|byte| *byte == b' ').any(|word| check_short_user(word))
+    text.split(|byte| *byte == b' ')
+        .any(|word| check_short_user(word))
 }
 
 // A word up to its first `=`, and behind it.
