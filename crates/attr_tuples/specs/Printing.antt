@@ -52,6 +52,10 @@ abbrev pub seen : Secrets → Attr → Attr
 seen Printed a = a
 seen Hidden a = hidden a
 
+-- attributes as they are seen, each behind a blank
+abbrev pub others_text : Secrets → List Attr → List ℕ
+others_text secrets attrs = flat_map (λ a. 32 ∷ attr_text (seen secrets a)) attrs
+
 -- a tuple as it is shown: printed with its secrets hidden
 unfoldable pub public_text : List Attr → List ℕ
 public_text attrs = printed_text (map hidden attrs)

@@ -8,25 +8,21 @@ ghost use Rattle.attr_tuples.specs.PlainKeys.{IsPlainKey, plain_key};
 /// A text is read as a plain key exactly where the key says what a plain key says and the text is how it is printed.
 pub fn plain_keys_are_their_text()
     ensures { (text : List ℕ) (key : List Attr) → (plain_key text ≡ Some key) ↔ (IsPlainKey key × (text ≡ printed_text key)) }
-{
-}
+{}
 
 /// Tuples that are alike with their secrets hidden are shown alike.
 pub fn public_text_hides_secrets()
     ensures { (a b : List Attr) → map hidden a ≡ map hidden b → public_text a ≡ public_text b }
-{
-}
+{}
 
 /// Tuples that are alike with their secrets hidden compare alike with any third, on either side.
 pub fn public_equal_hides_secrets()
     ensures left { (a b c : List Attr) → map hidden a ≡ map hidden b → public_equal a c ≡ public_equal b c }
     ensures right { (a b c : List Attr) → map hidden a ≡ map hidden b → public_equal c a ≡ public_equal c b }
-{
-}
+{}
 
 /// Each tuple is the same in public as itself, and if one is as another, that one is as the first.
 pub fn public_equal_compares()
     ensures itself { (a : List Attr) → public_equal a a ≡ true }
     ensures either_way { (a b : List Attr) → public_equal a b ≡ public_equal b a }
-{
-}
+{}

@@ -5,6 +5,8 @@ mod attr;
 mod laws;
 mod plain;
 mod print;
+#[cfg(test)]
+mod tests;
 mod tuple;
 
 pub use attr::{Attr, Value};

@@ -1,7 +1,8 @@
 // Tuples as text.
 ghost use Rattle.std.specs.Prelude.{◌≡◌, ◌∷◌, ◌++◌, length, take, map, OnOk, OnErr};
+ghost use Rattle.std.specs.List.{list_any};
 ghost use Rattle.attr_tuples.specs.Attributes.{is_secret};
-ghost use Rattle.attr_tuples.specs.Printing.{quoted, needs_quotes, value_text, ending_text, attr_text, printed_text, public_text, seen, quoted_byte};
+ghost use Rattle.attr_tuples.specs.Printing.{quoted, needs_quotes, value_text, ending_text, attr_text, printed_text, public_text, seen, quoted_byte, ends_unquoted, others_text};
 
 use crate::attr::{Attr, Value};
 use crate::tuple::Tuple;
@@ -16,6 +17,7 @@ enum Secrets {
 
 /// Appends the attributes in order, with one blank between. A value is quoted exactly where it is empty or holds
 /// a blank, a tab or a `'`.
+#[tactic(auto, using(crate::proofs::PrintLemmas::printed_as_is))]
 pub fn print_tuple(tuple: &Tuple, out: &mut Bytes) -> Result<(), NoMemory>
     ensures ok { OnOk result (out.new ≡ out.old ++ printed_text tuple.now) }
     ensures err { OnErr result (out.new ≡ out.old) }
@@ -24,6 +26,7 @@ pub fn print_tuple(tuple: &Tuple, out: &mut Bytes) -> Result<(), NoMemory>
 }
 
 /// Appends the same, but each attribute whose name begins with `!` as its name and a `?`.
+#[tactic(auto, unfolding(crate::specs::Printing::public_text))]
 pub fn print_public(tuple: &Tuple, out: &mut Bytes) -> Result<(), NoMemory>
     ensures ok { OnOk result (out.new ≡ out.old ++ public_text tuple.now) }
     ensures err { OnErr result (out.new ≡ out.old) }
@@ -44,21 +47,32 @@ fn print_seen(tuple: &Tuple, secrets: Secrets, out: &mut Bytes) -> Result<(), No
 }
 
 // What is appended before memory runs out stays, in this function and in those below.
+#[tactic(auto, using(crate::proofs::PrintLemmas::kept_then), unfolding(crate::specs::Printing::printed_text))]
 fn append_attrs(attrs: &[Attr], secrets: Secrets, out: &mut Bytes) -> Result<(), NoMemory>
     ensures ok { OnOk result (out.new ≡ out.old ++ printed_text (map (seen secrets) attrs.now)) }
     ensures err { OnErr result (take (length out.old) out.new ≡ out.old) }
 {
-    let [first, rest @ ..] = attrs else {
+    let [first, others @ ..] = attrs else {
         return Ok(());
     };
     append_attr(first, secrets, out)?;
-    for attr in rest {
+    append_others(others, secrets, out)
+}
+
+// Each attribute behind a blank.
+#[tactic(auto, using(crate::proofs::PrintLemmas::kept_then))]
+fn append_others(attrs: &[Attr], secrets: Secrets, out: &mut Bytes) -> Result<(), NoMemory>
+    ensures ok { OnOk result (out.new ≡ out.old ++ others_text secrets attrs.now) }
+    ensures err { OnErr result (take (length out.old) out.new ≡ out.old) }
+{
+    for attr in attrs {
         out.push(b' ')?;
         append_attr(attr, secrets, out)?;
     }
     Ok(())
 }
 
+#[tactic(auto, using(crate::proofs::PrintLemmas::kept_then))]
 fn append_attr(attr: &Attr, secrets: Secrets, out: &mut Bytes) -> Result<(), NoMemory>
     ensures ok { OnOk result (out.new ≡ out.old ++ attr_text (seen secrets attr.now)) }
     ensures err { OnErr result (take (length out.old) out.new ≡ out.old) }
@@ -76,6 +90,7 @@ fn check_secret(name: &[u8]) -> bool
     matches!(name, [b'!', ..])
 }
 
+#[tactic(auto, using(crate::proofs::PrintLemmas::kept_then))]
 fn append_ending(value: &Value, out: &mut Bytes) -> Result<(), NoMemory>
     ensures ok { OnOk result (out.new ≡ out.old ++ ending_text value.now) }
     ensures err { OnErr result (take (length out.old) out.new ≡ out.old) }
@@ -104,9 +119,17 @@ fn append_value(text: &[u8], out: &mut Bytes) -> Result<(), NoMemory>
 fn check_needs_quotes(text: &[u8]) -> bool
     ensures { result ≡ needs_quotes text.now }
 {
-    text.is_empty() || text.iter().any(|byte| matches!(byte, b' ' | b'\t' | b'\''))
+    text.is_empty() || holds_end(text)
 }
 
+fn holds_end(text: &[u8]) -> bool
+    ensures { result ≡ list_any ends_unquoted text.now }
+{
+    text.iter()
+        .any(|byte| *byte == b' ' || *byte == b'\t' || *byte == b'\'')
+}
+
+#[tactic(auto, using(crate::proofs::PrintLemmas::kept_then))]
 fn append_quoted(text: &[u8], out: &mut Bytes) -> Result<(), NoMemory>
     ensures ok { OnOk result (out.new ≡ out.old ++ quoted text.now) }
     ensures err { OnErr result (take (length out.old) out.new ≡ out.old) }

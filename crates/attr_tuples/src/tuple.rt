@@ -1,5 +1,6 @@
 // A tuple: attributes in order, each such as a line of text can give.
 ghost use Rattle.std.specs.Prelude.{◌≡◌, [], ◌∷◌, ◌++◌, ◌&&◌, nat_lt, length, true, IfOk, OnErr, if◌then◌else◌};
+ghost use Rattle.std.specs.List.{list_all};
 ghost use Rattle.attr_tuples.specs.Attributes.{is_attr, is_tuple, is_name, is_value, is_name_byte, is_value_byte};
 
 use crate::attr::{Attr, Value};
@@ -39,18 +40,30 @@ fn check_value_byte(byte: u8) -> bool
     byte >= b' ' || byte == b'\t'
 }
 
+fn check_name_bytes(bytes: &[u8]) -> bool
+    ensures { result ≡ list_all is_name_byte bytes.now }
+{
+    bytes.iter().all(|byte| check_name_byte(*byte))
+}
+
+fn check_value_bytes(bytes: &[u8]) -> bool
+    ensures { result ≡ list_all is_value_byte bytes.now }
+{
+    bytes.iter().all(|byte| check_value_byte(*byte))
+}
+
 fn check_name(name: &Text) -> bool
     ensures { result ≡ is_name name.now }
 {
     let bytes = name.as_slice();
-    !bytes.is_empty() && bytes != b"!".as_slice() && bytes.iter().all(|byte| check_name_byte(*byte))
+    !bytes.is_empty() && bytes != b"!".as_slice() && check_name_bytes(bytes)
 }
 
 fn check_value(value: &Value) -> bool
     ensures { result ≡ is_value value.now }
 {
     match value {
-        Value::Is(text) => text.as_slice().iter().all(|byte| check_value_byte(*byte)),
+        Value::Is(text) => check_value_bytes(text.as_slice()),
         Value::Ask | Value::Bare => true,
     }
 }
@@ -103,10 +116,11 @@ impl Tuple {
     pub fn copy(&self) -> Result<Tuple, NoMemory>
         ensures { IfOk result (λ tuple. tuple ≡ self.now) }
     {
+        let attrs = self.attrs();
         let mut list = Vec::new(*self.list.allocator());
-        for attr in &self.list {
+        for attr in attrs {
             list.push(attr.copy()?)?;
         }
-        Ok(Tuple { list })
+        Ok(Tuple::from_vec(list))
     }
 }

@@ -1,0 +1,8 @@
+use Rattle.attr_tuples.proofs.EqualityLemmas.{public_equal_itself, public_equal_swap}
+use Rattle.attr_tuples.proofs.laws.public_equal_compares.Goals as goal
+
+pub returns-clause-itself : goal.returns-clause-itself
+returns-clause-itself c = public_equal_itself
+
+pub returns-clause-either_way : goal.returns-clause-either_way
+returns-clause-either_way c = public_equal_swap

@@ -1,0 +1,6 @@
+use Rattle.std.proofs.Common.{◌≡◌, take}
+use Rattle.attr_tuples.proofs.tuple.Tuple.copy.Given as goal
+
+-- the attributes so far
+abbrev pub invariant-loop-attr : goal.invariant-loop-attr
+invariant-loop-attr l = l.list.items ≡ take l.attr-index l.attrs
