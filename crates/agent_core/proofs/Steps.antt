@@ -1,0 +1,233 @@
+-- What is told of a history after one more event, against what is kept.
+use Rattle.std.proofs.Common.{◌≡◌, ℕ, suc, ◌+◌, ◌≤◌, ◌<◌, List, [], ◌∷◌, ◌++◌, length, get_or, drop, map, reverse, Bool, true, false, cond, eqb, ltb, Equal, Greater, ◌&&◌, ◌||◌, not, Option, Some, None, refl, sym, ap, subst, ◌∙◌, inl, inr, arith}
+use Rattle.std.specs.Prelude.{option_to_list}
+use Rattle.std.specs.Ordering.{nat_cmp, is_eq}
+use Rattle.std.specs.BTreeMap.{get, is_at, btree_map_len}
+use Rattle.std.proofs.lemmas.Bool.{cases_Bool, eq-eqb, eqb-true, ne_eqb, ltb-true, ltb-false, false≢true}
+use Rattle.std.proofs.lemmas.List.{drop_all, drop-drop, drop-append-le, length-reverse, reverse-append, map-append}
+use Rattle.nine_messages.specs.declared.message.RMsg.{RMsg}
+use Rattle.nine_messages.specs.Messages.{r_frame}
+use Rattle.agent_history.specs.declared.event.Event.{Event}
+use Rattle.agent_history.specs.declared.event.Event.TheVariants.{Request, Hang, Answer, NoAnswer, NoRoom, Take, TakeAsk, Stop}
+use Rattle.agent_history.specs.Deeds.{Deed, Hung, msize_of, fid_of, held_by, keys_of, text_of}
+use Rattle.agent_history.specs.Table.{deed_by, reply_to}
+use Rattle.agent_history.specs.Histories.{History, has_stopped, was_opened, was_hung, is_gone, deeds, replies, taken, untaken, answer, first_reply}
+use Rattle.agent_history.specs.declared.event.StepAnswer.TheVariants.{Reply, NoReply, Gone}
+use Rattle.attr_tuples.specs.declared.attr.Attr.{Attr}
+use Rattle.agent_history.proofs.DeedLaws.{SameFor, same_for, same_for_none, same_by_frame}
+use Rattle.agent_history.proofs.HistoryLaws.{hung_opened, taken_given}
+use Rattle.agent_core.specs.declared.connection.Connection.{Connection}
+use Rattle.agent_core.specs.Connections.{IsFresh, Keeps, kept_fid}
+use Rattle.agent_core.specs.Agents.{opened_at, hung_at, replies_at, KeepsAt, Stands}
+
+same : (a : ℕ) → eqb a a ≡ true
+same a = eq-eqb a a refl
+
+-- ---- connections that the event isn't on
+
+keeps_same : (before after : List Deed) (conn : ℕ) (o : Option Connection) → SameFor before after conn → KeepsAt before conn o → KeepsAt after conn o
+keeps_same before after conn None s h = (s.msize ∙ h.0, λ fid. s.fids fid ∙ h.1 fid, s.held ∙ h.2)
+keeps_same before after conn (Some c) s h = record {
+  msize = h.msize ∙ sym s.msize;
+  fids = λ fid. h.fids fid ∙ sym (ap (λ f. kept_fid f (text_of after conn fid)) (s.fids fid) ∙ ap (kept_fid (fid_of before conn fid)) (s.texts fid));
+  held = h.held ∙ sym s.held;
+}
+
+stands_same : (H : History) (e : Event) (conn : ℕ) (o : Option Connection) → was_opened (e ∷ H) conn ≡ was_opened H conn → was_hung (e ∷ H) conn ≡ was_hung H conn → SameFor (deeds H) (deeds (e ∷ H)) conn → untaken (e ∷ H) conn ≡ untaken H conn → Stands H conn o → Stands (e ∷ H) conn o
+stands_same H e conn o opened hung deeds-same left s = record {
+  opened = s.opened ∙ sym opened;
+  hung = s.hung ∙ sym hung;
+  keeps = λ not_hung. keeps_same (deeds H) (deeds (e ∷ H)) conn o deeds-same (s.keeps (sym hung ∙ not_hung));
+  replies = λ not_hung. s.replies (sym hung ∙ not_hung) ∙ ap (λ (ms : List RMsg). map r_frame ms) (sym left);
+}
+
+pub request_others : (H : History) (at : ℕ) (frame word : List ℕ) (conn : ℕ) (o : Option Connection) → eqb at conn ≡ false → Stands H conn o → Stands (Request at frame word ∷ H) conn o
+request_others H at frame word conn o e s = stands_same H (Request at frame word) conn o (rw e refl) refl (same_deeds (is_gone H at)) (rw e refl) s
+  where
+    same_deeds : (gone : Bool) → SameFor (deeds H) (cond gone (deeds H) (option_to_list (deed_by (deeds H) at frame) ++ deeds H)) conn
+    same_deeds true = same_for_none (deeds H) conn
+    same_deeds false = same_by_frame (deeds H) at conn frame e
+
+pub take_others : (H : History) (at conn : ℕ) (o : Option Connection) → eqb at conn ≡ false → Stands H conn o → Stands (Take at ∷ H) conn o
+take_others H at conn o e s = stands_same H (Take at) conn o (rw e refl) refl (same_for_none (deeds H) conn) (rw e refl) s
+
+pub hang_others : (H : History) (at conn : ℕ) (o : Option Connection) → eqb at conn ≡ false → Stands H conn o → Stands (Hang at ∷ H) conn o
+hang_others H at conn o e s = stands_same H (Hang at) conn o refl (rw e refl) (same_deeds (not (is_gone H at) && was_opened H at)) refl s
+  where
+    same_deeds : (b : Bool) → SameFor (deeds H) (cond b (Hung at ∷ deeds H) (deeds H)) conn
+    same_deeds true = same_for (Hung at) (deeds H) conn e
+    same_deeds false = same_for_none (deeds H) conn
+
+-- ---- a request
+
+not_gone : (H : History) (conn : ℕ) → has_stopped H ≡ false → was_hung H conn ≡ false → is_gone H conn ≡ false
+not_gone H conn stopped hung = rw (stopped, hung) refl
+
+-- one more reply is left to take
+untaken_more : (n : ℕ) (xs : List RMsg) (x : RMsg) → n ≤ length xs → drop n (reverse (x ∷ xs)) ≡ drop n (reverse xs) ++ x ∷ []
+untaken_more n xs x le =
+    ap (drop n) (reverse-append (x ∷ []) xs) ∙ drop-append-le n (reverse xs) (x ∷ []) (omega (arith, le, length-reverse xs))
+
+-- what is kept doesn't depend on the flag
+pub keeps_opened : (done : List Deed) (conn : ℕ) (c : Connection) → Keeps done conn c → Keeps done conn (record c { opened = true })
+keeps_opened done conn c h = record { msize = h.msize; fids = h.fids; held = h.held }
+
+pub request_live : (H : History) (at : ℕ) (frame word : List ℕ) (c d : Connection) → has_stopped H ≡ false → was_hung H at ≡ false → Stands H at (Some c)
+    → d.opened ≡ true → d.hung ≡ c.hung → Keeps (option_to_list (deed_by (deeds H) at frame) ++ deeds H) at d
+    → d.replies.items ≡ c.replies.items ++ r_frame (reply_to (deeds H) at frame) ∷ []
+    → Stands (Request at frame word ∷ H) at (Some d)
+request_live H at frame word c d stopped hung s opened same-hung keeps more =
+    let live = not_gone H at stopped hung in
+    record {
+      opened = opened ∙ rw (same at) refl;
+      hung = same-hung ∙ s.hung;
+      keeps = λ h. rw live keeps;
+      replies = λ h. rw (same at, live) (more ∙ ap (λ (rs : List (List ℕ)). rs ++ r_frame (reply_to (deeds H) at frame) ∷ []) (s.replies hung)
+          ∙ sym (map-append r_frame (untaken H at) (reply_to (deeds H) at frame ∷ []))
+          ∙ ap (λ (ms : List RMsg). map r_frame ms) (sym (untaken_more (taken H at) (replies H at) (reply_to (deeds H) at frame) (taken_given H at))));
+    }
+
+-- nothing happens on a connection that was hung up
+pub request_hung : (H : History) (at : ℕ) (frame word : List ℕ) (o : Option Connection) → was_hung H at ≡ true → Stands H at o → Stands (Request at frame word ∷ H) at o
+request_hung H at frame word o hung s = record {
+  opened = s.opened ∙ hung_opened H at hung ∙ rw (same at) refl;
+  hung = s.hung;
+  keeps = λ h. absurd (false≢true (sym h ∙ hung));
+  replies = λ h. absurd (false≢true (sym h ∙ hung));
+}
+
+-- the keys after a frame: on a connection that was hung up they stay
+pub keys_hung : (H : History) (at : ℕ) (frame word : List ℕ) (keys : List (List Attr)) → has_stopped H ≡ false → was_hung H at ≡ true → keys ≡ keys_of (deeds H) → keys ≡ keys_of (deeds (Request at frame word ∷ H))
+keys_hung H at frame word keys stopped hung e = rw (stopped, hung) e
+
+pub keys_live : (H : History) (at : ℕ) (frame word : List ℕ) (keys : List (List Attr)) → has_stopped H ≡ false → was_hung H at ≡ false → keys ≡ keys_of (option_to_list (deed_by (deeds H) at frame) ++ deeds H) → keys ≡ keys_of (deeds (Request at frame word ∷ H))
+keys_live H at frame word keys stopped hung e = rw (not_gone H at stopped hung) e
+
+-- a connection that is made and knows nothing
+pub fresh_stands : (H : History) (conn : ℕ) (c : Connection) → IsFresh c → Stands H conn None → Stands H conn (Some c)
+fresh_stands H conn c f s = record {
+  opened = f.opened ∙ s.opened;
+  hung = f.hung ∙ s.hung;
+  keeps = λ h. let k = s.keeps h in record { msize = f.msize ∙ sym k.0; fids = λ fid. f.fids fid ∙ ap (λ g. kept_fid g (text_of (deeds H) conn fid)) (sym (k.1 fid)); held = f.held ∙ sym k.2 };
+  replies = λ h. f.replies ∙ s.replies h;
+}
+
+-- ---- a take
+
+untaken_taken : (H : History) (at : ℕ) → has_stopped H ≡ false → was_hung H at ≡ false → untaken (Take at ∷ H) at ≡ drop 1 (untaken H at)
+untaken_taken H at stopped hung = rw (same at, not_gone H at stopped hung) (left (ltb (taken H at) (length (replies H at))) refl)
+  where
+    rest : List RMsg
+    rest = reverse (replies H at)
+
+    left : (b : Bool) → ltb (taken H at) (length (replies H at)) ≡ b → drop (cond b (taken H at + 1) (taken H at)) (reverse (replies H at)) ≡ drop 1 (drop (taken H at) (reverse (replies H at)))
+    left true e = sym (drop-drop 1 (taken H at) (reverse (replies H at)))
+    left false e =
+        let none : drop (taken H at) (reverse (replies H at)) ≡ [] = drop_all (taken H at) (reverse (replies H at)) (omega (arith, ltb-false _ _ e, length-reverse (replies H at))) in
+        none ∙ ap (drop 1) (sym none)
+
+drop_one : (ms : List RMsg) → drop 1 (map r_frame ms) ≡ map r_frame (drop 1 ms)
+drop_one [] = refl
+drop_one (m ∷ ms) = refl
+
+pub take_live : (H : History) (at : ℕ) (c d : Connection) → has_stopped H ≡ false → was_hung H at ≡ false → Stands H at (Some c)
+    → d.opened ≡ true → d.hung ≡ c.hung → Keeps (deeds H) at d → d.replies.items ≡ drop 1 c.replies.items → Stands (Take at ∷ H) at (Some d)
+take_live H at c d stopped hung s opened same-hung keeps rest = record {
+  opened = opened ∙ rw (same at) refl;
+  hung = same-hung ∙ s.hung;
+  keeps = λ h. keeps;
+  replies = λ h. rest ∙ ap (drop 1) (s.replies hung) ∙ drop_one (untaken H at) ∙ ap (λ (ms : List RMsg). map r_frame ms) (sym (untaken_taken H at stopped hung));
+}
+
+pub take_hung : (H : History) (at : ℕ) (o : Option Connection) → was_hung H at ≡ true → Stands H at o → Stands (Take at ∷ H) at o
+take_hung H at o hung s = record {
+  opened = s.opened ∙ hung_opened H at hung ∙ rw (same at) refl;
+  hung = s.hung;
+  keeps = λ h. absurd (false≢true (sym h ∙ hung));
+  replies = λ h. absurd (false≢true (sym h ∙ hung));
+}
+
+-- the queue by its front
+pub front_is : (xs : List (List ℕ)) (x : List ℕ) → 0 < length xs → x ≡ get_or xs 0 x → xs ≡ x ∷ drop 1 xs
+front_is [] x lt e = absurd (omega arith)
+front_is (y ∷ ys) x lt e = ap (λ (z : List ℕ). z ∷ ys) (sym e)
+
+-- what a take answers
+pub answer_hung : (H : History) (at : ℕ) → was_hung H at ≡ true → has_stopped H ≡ false → answer H (Take at) ≡ (Gone, [])
+answer_hung H at hung stopped = rw (stopped, hung) refl
+
+first_some : (ms : List RMsg) (x : List ℕ) (xs : List (List ℕ)) → x ∷ xs ≡ map r_frame ms → first_reply ms ≡ (Reply, x)
+first_some [] x xs e = absurd (cc)
+first_some (m ∷ ms) x xs e = ap (λ (t : List ℕ). (Reply, t)) (let h : x ≡ r_frame m = (cc) in sym h)
+
+first_none : (ms : List RMsg) (rs : List (List ℕ)) → rs ≡ [] → rs ≡ map r_frame ms → first_reply ms ≡ (NoReply, [])
+first_none [] rs none e = refl
+first_none (m ∷ ms) rs none e = absurd (let h : [] ≡ r_frame m ∷ map r_frame ms = sym none ∙ e in (cc))
+
+pub answer_some : (H : History) (at : ℕ) (c : Connection) (x : List ℕ) (xs : List (List ℕ)) → has_stopped H ≡ false → was_hung H at ≡ false → Stands H at (Some c) → c.replies.items ≡ x ∷ xs → answer H (Take at) ≡ (Reply, x)
+answer_some H at c x xs stopped hung s e = rw (not_gone H at stopped hung) (first_some (untaken H at) x xs (sym e ∙ s.replies hung))
+
+pub answer_none : (H : History) (at : ℕ) (c : Connection) → has_stopped H ≡ false → was_hung H at ≡ false → Stands H at (Some c) → c.replies.items ≡ [] → answer H (Take at) ≡ (NoReply, [])
+answer_none H at c stopped hung s e = rw (not_gone H at stopped hung) (first_none (untaken H at) c.replies.items e (s.replies hung))
+
+-- ---- a hang
+
+pub hang_live : (H : History) (at : ℕ) (c d : Connection) → Stands H at (Some c) → c.opened ≡ true → d.opened ≡ true → d.hung ≡ true → Stands (Hang at ∷ H) at (Some d)
+hang_live H at c d s was opened hung =
+    let now : was_hung (Hang at ∷ H) at ≡ true = rw (same at, ← s.opened, was) refl in
+    record {
+      opened = opened ∙ sym was ∙ s.opened;
+      hung = hung ∙ sym now;
+      keeps = λ h. absurd (false≢true (sym h ∙ now));
+      replies = λ h. absurd (false≢true (sym h ∙ now));
+    }
+
+-- a number that wasn't opened stays so
+pub hang_unopened : (H : History) (at : ℕ) (o : Option Connection) → opened_at o ≡ false → Stands H at o → Stands (Hang at ∷ H) at o
+hang_unopened H at o closed s =
+    let none : was_opened H at ≡ false = sym s.opened ∙ closed in
+    stands_same H (Hang at) at o refl (rw (same at, none) refl) (same_deeds none) refl s
+  where
+    and_false : (b : Bool) → (b && false) ≡ false
+    and_false true = refl
+    and_false false = refl
+
+    same_deeds : was_opened H at ≡ false → SameFor (deeds H) (deeds (Hang at ∷ H)) at
+    same_deeds none = rw (none, and_false (not (is_gone H at))) (same_for_none (deeds H) at)
+
+-- ---- the other events change nothing that is told of a connection
+
+pub answer_stands : (H : History) (call : ℕ) (bytes : List ℕ) (conn : ℕ) (o : Option Connection) → Stands H conn o → Stands (Answer call bytes ∷ H) conn o
+answer_stands H call bytes conn o s = stands_same H (Answer call bytes) conn o refl refl (same_for_none (deeds H) conn) refl s
+
+pub no_answer_stands : (H : History) (call conn : ℕ) (o : Option Connection) → Stands H conn o → Stands (NoAnswer call ∷ H) conn o
+no_answer_stands H call conn o s = stands_same H (NoAnswer call) conn o refl refl (same_for_none (deeds H) conn) refl s
+
+pub no_room_stands : (H : History) (call conn : ℕ) (o : Option Connection) → Stands H conn o → Stands (NoRoom call ∷ H) conn o
+no_room_stands H call conn o s = stands_same H (NoRoom call) conn o refl refl (same_for_none (deeds H) conn) refl s
+
+pub take_ask_stands : (H : History) (conn : ℕ) (o : Option Connection) → Stands H conn o → Stands (TakeAsk ∷ H) conn o
+take_ask_stands H conn o s = stands_same H TakeAsk conn o refl refl (same_for_none (deeds H) conn) refl s
+
+-- ---- all connections, where the one of the event was changed
+
+at_same : (a b : ℕ) → is_at (nat_cmp a) b ≡ eqb a b
+at_same a b = elim (cases_Bool (ltb a b)) [
+  | inl below ↦ rw (below, ne_eqb a b (λ e. omega (arith, ltb-true a b below))) refl
+  | inr not_below ↦ rw not_below (chosen (eqb a b))
+]
+  where
+    chosen : (t : Bool) → is_eq (cond t Equal Greater) ≡ t
+    chosen true = refl
+    chosen false = refl
+
+pub all_stand : (H H' : History) (at : ℕ) (old new : ℕ → Option Connection) (d : Connection) → ((q : ℕ) → new q ≡ cond (is_at (nat_cmp at) q) (Some d) (old q)) → Stands H' at (Some d)
+    → ((q : ℕ) → eqb at q ≡ false → Stands H q (old q) → Stands H' q (old q)) → ((q : ℕ) → Stands H q (old q)) → (q : ℕ) → Stands H' q (new q)
+all_stand H H' at old new d updates here others all q = elim (cases_Bool (eqb at q)) [
+  | inl is ↦
+      let found : new q ≡ Some d = updates q ∙ rw (at_same at q, is) refl in
+      subst (λ (o : Option Connection). Stands H' q o) (sym found) (subst (λ (n : ℕ). Stands H' n (Some d)) (eqb-true at q is) here)
+  | inr is ↦
+      let found : new q ≡ old q = updates q ∙ rw (at_same at q, is) refl in
+      subst (λ (o : Option Connection). Stands H' q o) (sym found) (others q is (all q))
+]

@@ -1,0 +1,78 @@
+-- When an agent stands for a history: what it keeps of each connection, and its keys, are what is told of the history.
+use Rattle.std.specs.Prelude.{◌≡◌, ℕ, ◌≤◌, ◌+◌, List, [], map, length, Bool, true, false, ◌||◌, nat_le, Option, Some, None}
+use Rattle.std.specs.Ordering.{nat_cmp}
+use Rattle.std.specs.BTreeMap.{get}
+use Rattle.nine_messages.specs.Messages.{r_frame}
+use Rattle.nine_messages.specs.Decoding.{IsFrame}
+use Rattle.agent_history.specs.declared.event.Event.{Event}
+use Rattle.agent_history.specs.declared.event.Event.TheVariants.{Request, Hang, Answer, NoAnswer, NoRoom, Take, TakeAsk, Stop}
+use Rattle.agent_history.specs.Deeds.{Deed, msize_of, fid_of, held_by, keys_of}
+use Rattle.agent_history.specs.Histories.{History, has_stopped, most_events, was_opened, was_hung, deeds, untaken}
+use Rattle.agent_core.specs.declared.connection.Connection.{Connection}
+use Rattle.agent_core.specs.declared.agent.Agent.{Agent}
+use Rattle.agent_core.specs.Connections.{Keeps}
+
+-- what the agent keeps of a connection; of one that it doesn't know, what it would keep of a fresh one
+abbrev pub opened_at : Option Connection → Bool
+opened_at None = false
+opened_at (Some c) = c.opened
+
+abbrev pub hung_at : Option Connection → Bool
+hung_at None = false
+hung_at (Some c) = c.hung
+
+abbrev pub replies_at : Option Connection → List (List ℕ)
+replies_at None = []
+replies_at (Some c) = c.replies.items
+
+abbrev pub KeepsAt : List Deed → ℕ → Option Connection → Type 0
+KeepsAt done conn None = (msize_of done conn ≡ None) × ((fid : ℕ) → fid_of done conn fid ≡ None) × (held_by done conn ≡ 0)
+KeepsAt done conn (Some c) = Keeps done conn c
+
+-- what is kept of a connection is what a history tells of it; of one that was hung up, that it was
+pub record Stands (history : History) (conn : ℕ) (o : Option Connection) : Type 0 where
+  pub opened : opened_at o ≡ was_opened history conn
+  pub hung : hung_at o ≡ was_hung history conn
+  pub keeps : was_hung history conn ≡ false → KeepsAt (deeds history) conn o
+  pub replies : was_hung history conn ≡ false → replies_at o ≡ map r_frame (untaken history conn)
+
+-- the agent stopped, by a stop or since it carried out all its events
+abbrev pub stopped_at : Agent → Bool
+stopped_at agent = nat_le most_events agent.events || agent.stopped
+
+-- of an agent that hasn't stopped
+pub record Lives (history : History) (agent : Agent) : Type 0 where
+  pub events : agent.events ≡ length history
+  pub keys : agent.keys.items ≡ keys_of (deeds history)
+  pub connections : (conn : ℕ) → Stands history conn (get nat_cmp agent.connections conn)
+
+-- the agent stands for the history
+pub record StandsFor (history : History) (agent : Agent) : Type 0 where
+  pub stopped : stopped_at agent ≡ has_stopped history
+  pub lives : has_stopped history ≡ false → Lives history agent
+
+-- an event that may come: a frame is whole, an answer of the authentication server has at most 160 bytes
+abbrev pub IsEvent : Event → Type 0
+IsEvent (Request conn frame word) = IsFrame frame
+IsEvent (Answer call bytes) = length bytes ≤ 160
+IsEvent event = Unit {0}
+
+-- how many replies of a connection the agent keeps
+abbrev pub kept_replies : Agent → ℕ → ℕ
+kept_replies agent conn = length (replies_at (get nat_cmp agent.connections conn))
+
+-- a take that gave a reply leaves one less
+abbrev pub TakesOne : Event → Agent → Agent → Type 0
+TakesOne (Take conn) old new = kept_replies new conn + 1 ≡ kept_replies old conn
+TakesOne event old new = ⊥
+
+-- something is kept of the connection, and there is no reply to take
+abbrev pub HasNone : Option Connection → Type 0
+HasNone None = ⊥
+HasNone (Some c) = c.replies.items ≡ []
+
+-- the events that take no memory: all but a request, a take that finds a reply, and a take that opens its connection
+abbrev pub TakesNone : Event → Agent → Type 0
+TakesNone (Request conn frame word) agent = ⊥
+TakesNone (Take conn) agent = HasNone (get nat_cmp agent.connections conn)
+TakesNone event agent = Unit {0}

@@ -1,0 +1,125 @@
+// The agent, and its one step.
+
+use crate::connection::Connection;
+use crate::step::{hang_at, request_at, take_at};
+use agent_history::{Event, StepAnswer};
+use attr_tuples::Tuple;
+use std::alloc::Global;
+use std::collections::BTreeMap;
+use wire_base::{Bytes, NoMemory};
+
+/// How many events an agent carries out; the next one comes as after a stop.
+const MOST_EVENTS: u64 = 1 << 50;
+
+/// The agent: keys, and what it knows of each connection.
+#[derive(Drop)]
+pub struct Agent {
+    alloc: Global,
+    connections: BTreeMap<u64, Connection>,
+    keys: Vec<Tuple>,
+    events: u64,
+    stopped: bool,
+}
+
+impl Agent {
+    ghost use Rattle.std.specs.Prelude.{◌≡◌, ◌++◌, ◌∷◌, ◌||◌, ℕ, [], false, IsOk, IfOk, OnOk, OnErr};
+    ghost use Rattle.std.specs.Ordering.{nat_cmp};
+    ghost use Rattle.std.specs.BTreeMap.{get};
+    ghost use Rattle.agent_history.specs.Deeds.{keys_of};
+    ghost use Rattle.agent_history.specs.Histories.{History, has_stopped, is_stop, deeds, answer};
+    ghost use Rattle.agent_core.specs.Agents.{StandsFor, Lives, Stands, IsEvent, TakesOne, TakesNone, stopped_at};
+
+    /// An agent without keys and connections.
+    pub fn new(alloc: Global) -> Result<Agent, NoMemory>
+        ensures { IfOk result (λ agent. StandsFor [] agent) }
+    {
+        Ok(Agent {
+            alloc,
+            connections: BTreeMap::new(alloc),
+            keys: Vec::new(alloc),
+            events: 0,
+            stopped: false,
+        })
+    }
+
+    // It stopped, by a stop or since it carried out all its events.
+    fn has_stopped(&self) -> bool
+        ensures { result ≡ stopped_at self.now }
+    {
+        self.events >= MOST_EVENTS || self.stopped
+    }
+
+    // What an event does while the agent runs.
+    fn act(&mut self, event: &Event, out: &mut Bytes) -> Result<StepAnswer, NoMemory>
+        requires { IsEvent event.now }
+        ensures answer { IfOk result (λ a. (H : History) → has_stopped H ≡ false → Lives H self.old → (a ≡ (answer H event.now).0) × (out.new ≡ out.old ++ (answer H event.now).1)) }
+        ensures keys { OnOk result ((H : History) → has_stopped H ≡ false → Lives H self.old → self.new.keys.items ≡ keys_of (deeds (event.now ∷ H))) }
+        ensures connections { OnOk result ((H : History) → has_stopped H ≡ false → Lives H self.old → is_stop event.now ≡ false → (q : ℕ) → Stands (event.now ∷ H) q (get nat_cmp self.new.connections q)) }
+        ensures stopped { OnOk result (self.new.stopped ≡ (self.old.stopped || is_stop event.now)) }
+        ensures events { self.new.events ≡ self.old.events }
+        ensures err { OnErr result ((H : History) → Lives H self.old → Lives H self.new) }
+        ensures err_stopped { OnErr result (self.new.stopped ≡ self.old.stopped) }
+        ensures err_out { OnErr result (out.new ≡ out.old) }
+        ensures fewer { IfOk result (λ a. a ≡ StepAnswer.Reply → TakesOne event.now self.old self.new) }
+        ensures takes_none { TakesNone event.now self.old → IsOk result }
+    {
+        match event {
+            Event::Request { conn, frame, .. } => {
+                let frame = frame.as_slice();
+                request_at(
+                    self.alloc,
+                    &mut self.connections,
+                    &mut self.keys,
+                    *conn,
+                    frame,
+                )?;
+                Ok(StepAnswer::Done)
+            }
+            Event::Take { conn } => take_at(self.alloc, &mut self.connections, *conn, out),
+            Event::Hang { conn } => {
+                hang_at(&mut self.connections, *conn);
+                Ok(StepAnswer::Done)
+            }
+            Event::TakeAsk => Ok(StepAnswer::NoAsk),
+            Event::Answer { .. } | Event::NoAnswer { .. } | Event::NoRoom { .. } => {
+                Ok(StepAnswer::Done)
+            }
+            Event::Stop => {
+                self.stopped = true;
+                self.connections.clear();
+                Ok(StepAnswer::Done)
+            }
+        }
+    }
+
+    /// Carries out one event, and puts behind `out` what it gives.
+    ///
+    /// A frame is whole and has at least 7 bytes; an answer of the authentication server has at most 160. It takes
+    /// all memory first: where that runs out, the agent and `out` are as before, and the event isn't in the history.
+    pub fn step(&mut self, event: &Event, out: &mut Bytes) -> Result<StepAnswer, NoMemory>
+        requires { IsEvent event.now }
+
+        // It answers as the definitions say of the history before, and stands for that history and this event.
+        ensures answer { IfOk result (λ a. (H : History) → StandsFor H self.old → (a ≡ (answer H event.now).0) × (out.new ≡ out.old ++ (answer H event.now).1)) }
+        ensures stands { OnOk result ((H : History) → StandsFor H self.old → StandsFor (event.now ∷ H) self.new) }
+
+        // After want of memory all is as before.
+        ensures err { OnErr result ((H : History) → StandsFor H self.old → StandsFor H self.new) }
+        ensures err_out { OnErr result (out.new ≡ out.old) }
+
+        // Where it takes no memory it succeeds, and a take that gave a reply leaves one less.
+        ensures takes_none { TakesNone event.now self.old → IsOk result }
+        ensures fewer { IfOk result (λ a. a ≡ StepAnswer.Reply → TakesOne event.now self.old self.new) }
+    {
+        if self.has_stopped() {
+            return Ok(match event {
+                Event::Take { .. } => StepAnswer::Gone,
+                Event::TakeAsk => StepAnswer::Stopped,
+                _ => StepAnswer::Done,
+            });
+        }
+        let answer = self.act(event, out)?;
+        self.events += 1;
+        Ok(answer)
+    }
+}

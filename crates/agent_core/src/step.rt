@@ -1,0 +1,138 @@
+// The steps on the connections of an agent, an event each.
+ghost use Rattle.std.specs.Prelude.{◌≡◌, ◌++◌, [], ◌∷◌, List, ℕ, true, false, IsSome, IsOk, IfOk, OnOk, OnErr, ◌+◌, length};
+ghost use Rattle.std.specs.Ordering.{nat_cmp};
+ghost use Rattle.std.specs.BTreeMap.{get};
+ghost use Rattle.nine_messages.specs.Decoding.{IsFrame};
+ghost use Rattle.agent_history.specs.declared.event.Event.TheVariants as events;
+ghost use Rattle.agent_history.specs.Deeds.{keys_of};
+ghost use Rattle.agent_history.specs.Histories.{History, has_stopped, deeds, answer};
+ghost use Rattle.agent_core.specs.Agents.{replies_at, Stands};
+
+use crate::connection::Connection;
+use agent_history::StepAnswer;
+use attr_tuples::Tuple;
+use std::alloc::Global;
+use std::collections::BTreeMap;
+use wire_base::{Bytes, NoMemory};
+
+pub(crate) type Connections = BTreeMap<u64, Connection>;
+
+// Makes sure that something is kept of a connection.
+fn ensure_connection(
+    alloc: Global,
+    connections: &mut Connections,
+    conn: u64,
+) -> Result<(), NoMemory>
+    ensures known { OnOk result (IsSome (get nat_cmp connections.new conn)) }
+    ensures known_before { IsSome (get nat_cmp connections.old conn) → IsOk result }
+    ensures replies { replies_at (get nat_cmp connections.new conn) ≡ replies_at (get nat_cmp connections.old conn) }
+    ensures stands { (H : History) → ((q : ℕ) → Stands H q (get nat_cmp connections.old q)) → (q : ℕ) → Stands H q (get nat_cmp connections.new q) }
+{
+    if connections.get(&conn).is_none() {
+        connections.insert(conn, Connection::new(alloc))?;
+    }
+    Ok(())
+}
+
+// A frame on a connection: the connection is opened, and the frame is answered, unless it was hung up.
+fn request(
+    alloc: Global,
+    connection: &mut Connection,
+    keys: &mut Vec<Tuple>,
+    frame: &[u8],
+) -> Result<(), NoMemory>
+    requires { IsFrame frame.now }
+    ensures ok { OnOk result ((H : History) (conn : ℕ) (word : List ℕ) → has_stopped H ≡ false → keys.old.items ≡ keys_of (deeds H) → Stands H conn (Some connection.old)
+        → Stands (events.Request conn frame.now word ∷ H) conn (Some connection.new) × (keys.new.items ≡ keys_of (deeds (events.Request conn frame.now word ∷ H)))) }
+    ensures err { OnErr result ((H : History) (conn : ℕ) → keys.old.items ≡ keys_of (deeds H) → Stands H conn (Some connection.old) → Stands H conn (Some connection.new) × (keys.new.items ≡ keys_of (deeds H))) }
+{
+    if connection.hung {
+        return Ok(());
+    }
+    connection.serve(alloc, keys, frame)?;
+    connection.opened = true;
+    Ok(())
+}
+
+// A take on a connection: its oldest reply is put out, if there is one.
+fn take(connection: &mut Connection, out: &mut Bytes) -> Result<StepAnswer, NoMemory>
+    ensures ok { IfOk result (λ a. (H : History) (conn : ℕ) → has_stopped H ≡ false → Stands H conn (Some connection.old)
+        → Stands (events.Take conn ∷ H) conn (Some connection.new) × (a ≡ (answer H (events.Take conn)).0) × (out.new ≡ out.old ++ (answer H (events.Take conn)).1)) }
+    ensures err { OnErr result ((connection.new ≡ connection.old) × (out.new ≡ out.old)) }
+    ensures fewer { IfOk result (λ a. a ≡ StepAnswer.Reply → length connection.new.replies.items + 1 ≡ length connection.old.replies.items) }
+    ensures nothing { connection.old.replies.items ≡ [] → IsOk result }
+{
+    if connection.hung {
+        return Ok(StepAnswer::Gone);
+    }
+    let Some(reply) = connection.replies.front() else {
+        connection.opened = true;
+        return Ok(StepAnswer::NoReply);
+    };
+    out.append(reply.as_slice())?;
+    connection.opened = true;
+    connection.replies.pop_front();
+    Ok(StepAnswer::Reply)
+}
+
+// A hang: a connection that was opened is hung up, and what was kept of it is given up.
+fn hang(connection: &mut Connection)
+    ensures { (H : History) (conn : ℕ) → Stands H conn (Some connection.old) → Stands (events.Hang conn ∷ H) conn (Some connection.new) }
+{
+    if connection.opened {
+        connection.hung = true;
+        connection.fids.clear();
+        connection.replies.clear();
+    }
+}
+
+// A frame on a connection of this number.
+pub(crate) fn request_at(
+    alloc: Global,
+    connections: &mut Connections,
+    keys: &mut Vec<Tuple>,
+    conn: u64,
+    frame: &[u8],
+) -> Result<(), NoMemory>
+    requires { IsFrame frame.now }
+    ensures ok { OnOk result ((H : History) (word : List ℕ) → has_stopped H ≡ false → keys.old.items ≡ keys_of (deeds H) → ((q : ℕ) → Stands H q (get nat_cmp connections.old q))
+        → (keys.new.items ≡ keys_of (deeds (events.Request conn frame.now word ∷ H))) × ((q : ℕ) → Stands (events.Request conn frame.now word ∷ H) q (get nat_cmp connections.new q))) }
+    ensures err { OnErr result ((H : History) → keys.old.items ≡ keys_of (deeds H) → ((q : ℕ) → Stands H q (get nat_cmp connections.old q))
+        → (keys.new.items ≡ keys_of (deeds H)) × ((q : ℕ) → Stands H q (get nat_cmp connections.new q))) }
+{
+    ensure_connection(alloc, connections, conn)?;
+    let Some(connection) = connections.get_mut(&conn) else {
+        unreachable!()
+    };
+    request(alloc, connection, keys, frame)
+}
+
+// A take on a connection of this number.
+pub(crate) fn take_at(
+    alloc: Global,
+    connections: &mut Connections,
+    conn: u64,
+    out: &mut Bytes,
+) -> Result<StepAnswer, NoMemory>
+    ensures ok { IfOk result (λ a. (H : History) → has_stopped H ≡ false → ((q : ℕ) → Stands H q (get nat_cmp connections.old q))
+        → ((q : ℕ) → Stands (events.Take conn ∷ H) q (get nat_cmp connections.new q)) × (a ≡ (answer H (events.Take conn)).0) × (out.new ≡ out.old ++ (answer H (events.Take conn)).1)) }
+    ensures err { OnErr result ((H : History) → ((q : ℕ) → Stands H q (get nat_cmp connections.old q)) → (q : ℕ) → Stands H q (get nat_cmp connections.new q)) }
+    ensures err_out { OnErr result (out.new ≡ out.old) }
+    ensures fewer { IfOk result (λ a. a ≡ StepAnswer.Reply → length (replies_at (get nat_cmp connections.new conn)) + 1 ≡ length (replies_at (get nat_cmp connections.old conn))) }
+    ensures nothing { IsSome (get nat_cmp connections.old conn) → replies_at (get nat_cmp connections.old conn) ≡ [] → IsOk result }
+{
+    ensure_connection(alloc, connections, conn)?;
+    let Some(connection) = connections.get_mut(&conn) else {
+        unreachable!()
+    };
+    take(connection, out)
+}
+
+// A hang of a connection of this number.
+pub(crate) fn hang_at(connections: &mut Connections, conn: u64)
+    ensures { (H : History) → ((q : ℕ) → Stands H q (get nat_cmp connections.old q)) → (q : ℕ) → Stands (events.Hang conn ∷ H) q (get nat_cmp connections.new q) }
+{
+    if let Some(connection) = connections.get_mut(&conn) {
+        hang(connection);
+    }
+}

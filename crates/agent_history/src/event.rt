@@ -1,0 +1,68 @@
+// The events of an agent, each of them one step, and what a step answers.
+use wire_base::Bytes;
+
+/// Where an answer of the authentication server ends: two tickets, a challenge, or a ticket and an authenticator
+/// that vouch for a user.
+#[derive(Clone, Copy, Debug, PartialEq, Eq)]
+pub enum Shape {
+    Tickets,
+    Challenge,
+    Vouch,
+}
+
+/// What happens to an agent.
+#[derive(Debug, Drop)]
+pub enum Event {
+    /// A whole frame came on a connection, together with a word that was drawn for it.
+    Request {
+        conn: u64,
+        frame: Bytes,
+        word: [u8; 8],
+    },
+    /// A connection was hung up.
+    Hang {
+        conn: u64,
+    },
+    /// The authentication server answered the question of this number, by at most 160 bytes.
+    Answer {
+        call: u64,
+        bytes: Bytes,
+    },
+    /// The question of this number stays without an answer.
+    NoAnswer {
+        call: u64,
+    },
+    /// There was no memory for the answer to the question of this number.
+    NoRoom {
+        call: u64,
+    },
+    /// The oldest reply of a connection that wasn't taken yet is asked for.
+    Take {
+        conn: u64,
+    },
+    /// The oldest question for the authentication server that wasn't taken yet is asked for.
+    TakeAsk,
+    /// The agent stops for good.
+    Stop,
+}
+
+/// What a step answers, beside the bytes that it puts out.
+#[derive(Clone, Copy, Debug, PartialEq, Eq)]
+pub enum StepAnswer {
+    /// It was carried out.
+    Done,
+    /// A reply was put out.
+    Reply,
+    /// There is no reply to take.
+    NoReply,
+    /// The connection was hung up, or the agent stopped.
+    Gone,
+    /// A question of a conversation was put out.
+    Ask { call: u64, conv: u64, shape: Shape },
+    /// A conversation needs the connection no more that it had opened.
+    DropCall { conv: u64 },
+    /// There is no question to take.
+    NoAsk,
+    /// The agent stopped.
+    Stopped,
+}

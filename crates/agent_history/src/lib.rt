@@ -1,0 +1,9 @@
+//! What happened to an agent, and what that means: the events, the tree of files, the deeds that a history
+//! comes to, and what the agent answers after it. The crate of the agent proves that it answers so.
+#![tactic(auto)]
+
+mod event;
+mod tree;
+
+pub use event::{Event, Shape, StepAnswer};
+pub use tree::{FidState, Node};
