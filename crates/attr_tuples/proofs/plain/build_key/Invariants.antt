@@ -1,4 +1,4 @@
-use Rattle.std.proofs.Common.{◌≡◌, ◌+◌, ◌++◌, map, length}
+use Rattle.std.proofs.Common.{◌≡◌, ◌++◌, map}
 use Rattle.attr_tuples.specs.PlainKeys.{words, word_attr}
 use Rattle.attr_tuples.specs.Steps.{words_left}
 use Rattle.attr_tuples.proofs.PlainLemmas.{length_left}
