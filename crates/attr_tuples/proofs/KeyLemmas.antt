@@ -12,7 +12,8 @@ use Rattle.attr_tuples.specs.declared.attr.Attr.{Attr}
 use Rattle.attr_tuples.specs.declared.attr.Value.{Value}
 use Rattle.attr_tuples.specs.declared.attr.Value.TheVariants.{Is, Ask, Bare}
 use Rattle.attr_tuples.specs.Printing.{attr_text, ending_text, value_text, needs_quotes, quoted, ends_unquoted, printed_text}
-use Rattle.attr_tuples.specs.PlainKeys.{IsPlainKey, plain_key, key_line, is_plain_key, are_plain, names_apop, names_short_user, names_password, is_plain, is_given, is_plain_name, is_plain_value, is_plain_byte, is_plain_name_byte, is_named, is_named_once, is_apop, is_short_user, values_of, word_attr, words, words_left}
+use Rattle.attr_tuples.specs.PlainKeys.{IsPlainKey, plain_key, key_line, is_plain_key, are_plain, names_apop, names_short_user, names_password, is_plain, is_given, is_plain_name, is_plain_value, is_plain_byte, is_plain_name_byte, is_named, is_named_once, is_apop, is_short_user, values_of, word_attr, words}
+use Rattle.attr_tuples.specs.Steps.{words_left}
 use Rattle.attr_tuples.proofs.CutLemmas.{Lacks, before_first-at, after_first-at, slice_split-Lacks, slice_split-at}
 use Rattle.attr_tuples.proofs.PlainLemmas.{list_all_middle, length-map}
 use Rattle.attr_tuples.proofs.TextLemmas.{plain_name_bytes}

@@ -3,7 +3,8 @@ use Rattle.std.proofs.Common.{◌≡◌, ℕ, ◌≤◌, List, [], ◌∷◌, �
 use Rattle.std.specs.List.{flat_map, join_with_byte}
 use Rattle.std.proofs.lemmas.List.{append-nil, map-id, take_all, take-take, take_at}
 use Rattle.attr_tuples.specs.declared.attr.Attr.{Attr}
-use Rattle.attr_tuples.specs.Printing.{attr_text, printed_text, seen, others_text}
+use Rattle.attr_tuples.specs.Printing.{attr_text, printed_text}
+use Rattle.attr_tuples.specs.Steps.{seen, others_text}
 use Rattle.attr_tuples.specs.declared.print.Secrets.{Secrets}
 use Rattle.attr_tuples.specs.declared.print.Secrets.TheVariants.{Printed}
 

@@ -1,8 +1,8 @@
 -- Plain bytes are text, and a plain attribute is one that a tuple can hold.
-use Rattle.std.proofs.Common.{◌≡◌, ℕ, zero, suc, ◌+◌, ◌<◌, ◌≤◌, List, [], ◌∷◌, Bool, true, false, not, ◌&&◌, ◌||◌, eqb, leb, length, refl, sym, ap, ◌∙◌, arith, get_or, codes}
+use Rattle.std.proofs.Common.{◌≡◌, ℕ, zero, suc, ◌≤◌, List, [], ◌∷◌, true, false, not, ◌&&◌, eqb, leb, length, refl, arith}
 use Rattle.std.specs.List.{list_all, list_any}
-use Rattle.std.specs.Str.{IsAscii, is_utf8, bytes_eq}
-use Rattle.std.proofs.lemmas.Bool.{and_parts, and_from, leb-true, le-leb, ne_eqb, not-true, not_from_false, or_left}
+use Rattle.std.specs.Str.{IsAscii}
+use Rattle.std.proofs.lemmas.Bool.{and_parts, and_from, leb-true, le-leb, ne_eqb, not_from_false, or_left}
 use Rattle.std.proofs.lemmas.Str.{IsUtf8-from_ascii, is_utf8-from_IsUtf8}
 use Rattle.wire_base.specs.Texts.{is_text}
 use Rattle.attr_tuples.specs.declared.attr.Attr.{Attr}

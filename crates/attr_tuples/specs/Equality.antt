@@ -1,5 +1,5 @@
 -- When two tuples are the same in public: their secrets aside, they hold the same attributes equally often.
-use Rattle.std.specs.Prelude.{ℕ, List, ◌++◌, Bool, true, false, ◌&&◌, ◌==◌, filter, count_by}
+use Rattle.std.specs.Prelude.{List, ◌++◌, Bool, true, false, ◌&&◌, ◌==◌, filter, count_by}
 use Rattle.std.specs.List.{list_all}
 use Rattle.std.specs.Str.{bytes_eq}
 use Rattle.attr_tuples.specs.Attributes.{is_public}

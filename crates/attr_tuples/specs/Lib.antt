@@ -2,3 +2,4 @@ pub mod Attributes
 pub mod Printing
 pub mod Equality
 pub mod PlainKeys
+pub mod Steps

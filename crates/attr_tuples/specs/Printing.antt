@@ -6,8 +6,6 @@ use Rattle.attr_tuples.specs.Attributes.{is_secret}
 use Rattle.attr_tuples.specs.declared.attr.Attr.{Attr}
 use Rattle.attr_tuples.specs.declared.attr.Value.{Value}
 use Rattle.attr_tuples.specs.declared.attr.Value.TheVariants.{Is, Ask, Bare}
-use Rattle.attr_tuples.specs.declared.print.Secrets.{Secrets}
-use Rattle.attr_tuples.specs.declared.print.Secrets.TheVariants.{Printed, Hidden}
 
 -- a byte inside quotes: a `'` is doubled
 abbrev pub quoted_byte : ℕ → List ℕ
@@ -46,15 +44,6 @@ printed_text attrs = join_with_byte 32 (map attr_text attrs)
 -- a secret attribute shows its name and asks for its value; any other shows as it is
 abbrev pub hidden : Attr → Attr
 hidden a = if is_secret a.name then record { name = a.name; value = Ask } else a
-
--- an attribute as it is seen, where secrets are printed or hidden
-abbrev pub seen : Secrets → Attr → Attr
-seen Printed a = a
-seen Hidden a = hidden a
-
--- attributes as they are seen, each behind a blank
-abbrev pub others_text : Secrets → List Attr → List ℕ
-others_text secrets attrs = flat_map (λ a. 32 ∷ attr_text (seen secrets a)) attrs
 
 -- a tuple as it is shown: printed with its secrets hidden
 unfoldable pub public_text : List Attr → List ℕ

@@ -1,8 +1,8 @@
 // Laws of the definitions, each the contract of a function that does nothing.
-ghost use Rattle.std.specs.Prelude.{◌≡◌, ℕ, List, ◌↔◌, Some, true, map};
+ghost use Rattle.std.specs.Prelude.{◌≡◌, ℕ, List, ◌↔◌, Some, true, map, count_by};
 ghost use Rattle.attr_tuples.specs.declared.attr.Attr.{Attr};
 ghost use Rattle.attr_tuples.specs.Printing.{hidden, printed_text, public_text};
-ghost use Rattle.attr_tuples.specs.Equality.{public_equal};
+ghost use Rattle.attr_tuples.specs.Equality.{public_equal, public_part, same_attr};
 ghost use Rattle.attr_tuples.specs.PlainKeys.{IsPlainKey, plain_key};
 
 /// A text is read as a plain key exactly where the key says what a plain key says and the text is how it is printed.
@@ -21,8 +21,10 @@ pub fn public_equal_hides_secrets()
     ensures right { (a b c : List Attr) → map hidden a ≡ map hidden b → public_equal c a ≡ public_equal c b }
 {}
 
-/// Each tuple is the same in public as itself, and if one is as another, that one is as the first.
+/// Tuples are the same in public exactly where they hold each public attribute, of all there are, equally often.
+/// So each is the same as itself, and if one is as another, that one is as the first.
 pub fn public_equal_compares()
+    ensures counts { (a b : List Attr) → (public_equal a b ≡ true) ↔ ((x : Attr) → count_by (same_attr x) (public_part a) ≡ count_by (same_attr x) (public_part b)) }
     ensures itself { (a : List Attr) → public_equal a a ≡ true }
     ensures either_way { (a b : List Attr) → public_equal a b ≡ public_equal b a }
 {}

@@ -3,7 +3,8 @@ ghost use Rattle.std.specs.Prelude.{◌≡◌, ◌==◌, ◌&&◌, ◌∷◌, �
 ghost use Rattle.std.specs.List.{before_first, after_first, list_all, list_any};
 ghost use Rattle.std.specs.Str.{bytes_eq};
 ghost use Rattle.wire_base.specs.Texts.{is_text};
-ghost use Rattle.attr_tuples.specs.PlainKeys.{key_line, words, word_attr, is_plain_byte, is_plain_name_byte, is_plain_name, is_plain_value, is_plain, is_named, is_short_user, is_plain_key, is_apop, are_plain, names_apop, names_short_user, names_password, words_left};
+ghost use Rattle.attr_tuples.specs.PlainKeys.{key_line, words, word_attr, is_plain_byte, is_plain_name_byte, is_plain_name, is_plain_value, is_plain, is_named, is_short_user, is_plain_key, is_apop, are_plain, names_apop, names_short_user, names_password};
+ghost use Rattle.attr_tuples.specs.Steps.{words_left};
 
 use crate::attr::{Attr, Value};
 use crate::tuple::Tuple;

@@ -2,7 +2,8 @@
 ghost use Rattle.std.specs.Prelude.{◌≡◌, ◌∷◌, ◌++◌, length, take, map, OnOk, OnErr};
 ghost use Rattle.std.specs.List.{list_any};
 ghost use Rattle.attr_tuples.specs.Attributes.{is_secret};
-ghost use Rattle.attr_tuples.specs.Printing.{quoted, needs_quotes, value_text, ending_text, attr_text, printed_text, public_text, seen, quoted_byte, ends_unquoted, others_text};
+ghost use Rattle.attr_tuples.specs.Printing.{quoted, needs_quotes, value_text, ending_text, attr_text, printed_text, public_text, quoted_byte, ends_unquoted};
+ghost use Rattle.attr_tuples.specs.Steps.{seen, others_text};
 
 use crate::attr::{Attr, Value};
 use crate::tuple::Tuple;

@@ -1,4 +1,3 @@
-use Rattle.std.proofs.Common.{refl}
 use Rattle.std.proofs.lemmas.Bool.{and_parts}
 use Rattle.attr_tuples.proofs.TextLemmas.{plain_name_text, plain_value_text}
 use Rattle.attr_tuples.proofs.plain.build_attr.Goals as goal

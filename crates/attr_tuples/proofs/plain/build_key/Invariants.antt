@@ -1,5 +1,6 @@
-use Rattle.std.proofs.Common.{◌≡◌, ◌+◌, ◌++◌, map, length}
-use Rattle.attr_tuples.specs.PlainKeys.{words, words_left, word_attr}
+use Rattle.std.proofs.Common.{◌≡◌, ◌++◌, map}
+use Rattle.attr_tuples.specs.PlainKeys.{words, word_attr}
+use Rattle.attr_tuples.specs.Steps.{words_left}
 use Rattle.attr_tuples.proofs.PlainLemmas.{length_left}
 use Rattle.attr_tuples.proofs.plain.build_key.Given as goal
 

@@ -1,4 +1,4 @@
-use Rattle.std.proofs.Common.{◌==◌, ap}
+use Rattle.std.proofs.Common.{◌==◌}
 use Rattle.attr_tuples.proofs.PlainLemmas.{split_found, split_missing}
 use Rattle.attr_tuples.proofs.plain.cut_text.Goals as goal
 

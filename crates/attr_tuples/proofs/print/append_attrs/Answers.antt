@@ -1,5 +1,6 @@
 use Rattle.std.proofs.Common.{◌≡◌, ℕ, ◌-◌, ◌++◌, List, length, take, drop, OnOk, ap, subst, ◌∙◌, append_assoc, arith}
-use Rattle.attr_tuples.specs.Printing.{attr_text, seen, others_text}
+use Rattle.attr_tuples.specs.Printing.{attr_text}
+use Rattle.attr_tuples.specs.Steps.{seen, others_text}
 use Rattle.attr_tuples.proofs.PrintLemmas.{first_and_others}
 use Rattle.attr_tuples.proofs.print.append_attrs.Goals as goal
 

@@ -1,5 +1,5 @@
 use Rattle.std.proofs.Common.{◌≡◌, ◌++◌, take}
-use Rattle.attr_tuples.specs.Printing.{others_text}
+use Rattle.attr_tuples.specs.Steps.{others_text}
 use Rattle.attr_tuples.proofs.print.append_others.Given as goal
 
 -- the attributes so far, each behind a blank
