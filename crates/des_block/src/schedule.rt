@@ -42,7 +42,8 @@ impl Schedule {
     /// The schedule of a key of eight bytes, the lowest bit of each being a parity bit.
     pub fn new(key: &[u8; 8]) -> Schedule
         ensures value { result ≡ key_schedule (bits_of key.now) }
-        ensures parity_plays_no_part { (other : List ℕ) → SameButParity key.now other → key_schedule (bits_of other) ≡ result }
+        ensures parity_plays_no_part { (other : List ℕ) → SameButParity key.now other
+            → key_schedule (bits_of other) ≡ result }
     {
         let (c, d) = split::<28, 56>(&permute(&KEY_CHOICE_1, &block_bits(key)));
         Schedule {
