@@ -1,0 +1,5 @@
+pub mod BitLemmas
+pub mod RoundLemmas
+pub mod ByteLaws
+pub mod CipherLaws
+pub mod ParityLaws
