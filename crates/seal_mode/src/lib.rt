@@ -1,0 +1,9 @@
+//! Keys of seven bytes, the key that a password stands for, and the sealing of a text in place by DES in
+//! blocks that overlap by one byte, as Plan 9's authentication protocols do it.
+#![tactic(auto)]
+
+mod keys;
+mod sealing;
+
+pub use keys::{Key7, expand56};
+pub use sealing::{open_seal, seal};
