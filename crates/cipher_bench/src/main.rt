@@ -23,7 +23,7 @@ fn main(rt: HostRuntime) -> anyhow::Result<()> {
     let _program = args.next();
     match (args.next(), args.next(), args.next()) {
         (None, None, None) => {
-            for work in [Work::Encrypt, Work::Cram] {
+            for work in [Work::Encrypt, Work::Seal, Work::Cram] {
                 report(&rt, work, FEW_ROUNDS)?;
             }
             Ok(())

@@ -9,6 +9,12 @@ returns-in-Encrypt g c =
     let made : c.encrypted.result ≡ final_bytes c.args.work c.args.rounds = rw c.in-Encrypt.is c.encrypted.ensures in
     rw (← made) c.encode.ensures
 
+pub returns-in-Seal : goal.returns-in-Seal
+unfolding final_bytes
+returns-in-Seal g c =
+    let made : c.seal_repeatedly.new.text ≡ final_bytes c.args.work c.args.rounds = rw c.in-Seal.is c.seal_repeatedly.ensures in
+    rw (← made) c.encode-in-Seal.ensures
+
 pub returns-in-Cram : goal.returns-in-Cram
 unfolding final_bytes
 returns-in-Cram g c =
