@@ -1,9 +1,9 @@
 -- Opening undoes sealing and the other way round; both keep the length, and give bytes.
-use Rattle.std.proofs.Common.{◌≡◌, ℕ, zero, suc, ◌+◌, ◌-◌, ◌*◌, ◌/◌, ◌%◌, ◌<◌, ◌≤◌, ◌==◌, Bool, true, false, List, [], ◌∷◌, ◌++◌, length, take, drop, map, reverse, refl, sym, ap, ◌∙◌, subst, arith}
+use Rattle.std.proofs.Common.{◌≡◌, ℕ, zero, suc, ◌+◌, ◌-◌, ◌*◌, ◌/◌, ◌<◌, ◌≤◌, Bool, true, false, List, [], ◌∷◌, ◌++◌, length, take, drop, map, reverse, refl, sym, ap, ◌∙◌, subst, arith}
 use Rattle.std.specs.List.{fold, range_with_len}
 use Rattle.std.specs.Prelude.{if◌then◌else◌}
 use Rattle.std.proofs.lemmas.Grind.{fold-append}
-use Rattle.std.proofs.lemmas.List.{append_assoc, take-append-drop, length-take-le, length-take, length-drop, length-append, take_at, drop_at, drop-drop, reverse-append, reverse-reverse}
+use Rattle.std.proofs.lemmas.List.{append_assoc, take-append-drop, length-take-le, length-drop, length-append, take_at, drop_at, drop-drop, reverse-append, reverse-reverse}
 use Rattle.std.proofs.lemmas.List.Elements.{All-append, All-take, All-drop}
 use Rattle.des_block.specs.Bits.{IsBlock, IsBytes}
 use Rattle.des_block.specs.Schedule.{deciphered, enciphered}
@@ -35,8 +35,8 @@ IsBytes-changed_at : (change : List ℕ → List ℕ) (text : List ℕ) (at : �
 unfolding changed_at
 IsBytes-changed_at change text at gives small =
     All-append (λ n. n < 256) _ _
-        (All-append (λ n. n < 256) _ _ (All-take (λ n. n < 256) at text small) (gives.bytes _))
-        (All-drop (λ n. n < 256) (at + 8) text small)
+    (All-append (λ n. n < 256) _ _ (All-take (λ n. n < 256) at text small) (gives.bytes _))
+    (All-drop (λ n. n < 256) (at + 8) text small)
 
 -- the block at a place
 block_at : (text : List ℕ) (at : ℕ) → IsBytes text → at + 8 ≤ length text → IsBlock (take 8 (drop at text))
@@ -146,7 +146,7 @@ unfolding opened sealed
 sealed_undone key text l small =
     ap (λ (n : ℕ). fold (changed_at (deciphered (expanded key))) (sealed key text) (reverse (block_starts n))) (length-sealed key text l)
     ∙ changes_undone (deciphered (expanded key)) (enciphered (expanded key)) (length text) (block_starts (length text)) text
-        (record { undone = enciphered_undone (expanded key) }) (enciphered_gives _) (Within-block_starts _ l) small refl
+    (record { undone = enciphered_undone (expanded key) }) (enciphered_gives _) (Within-block_starts _ l) small refl
 
 -- sealing undoes opening
 pub opened_undone : (key text : List ℕ) → 8 ≤ length text → IsBytes text → sealed key (opened key text) ≡ text
@@ -156,4 +156,4 @@ opened_undone key text l small =
     ap (λ (n : ℕ). fold (changed_at (enciphered (expanded key))) (opened key text) (block_starts n)) (length-opened key text l)
     ∙ ap (λ (places : List ℕ). fold (changed_at (enciphered (expanded key))) (opened key text) places) (sym (reverse-reverse starts))
     ∙ changes_undone (enciphered (expanded key)) (deciphered (expanded key)) (length text) (reverse starts) text
-        (record { undone = deciphered_undone (expanded key) }) (deciphered_gives _) (Within-reverse _ _ (Within-block_starts _ l)) small refl
+    (record { undone = deciphered_undone (expanded key) }) (deciphered_gives _) (Within-reverse _ _ (Within-block_starts _ l)) small refl

@@ -4,9 +4,8 @@ ghost use Rattle.des_block.specs.Bits.{IsBytes};
 ghost use Rattle.des_block.specs.Schedule.{deciphered_with, enciphered_with};
 ghost use Rattle.seal_mode.specs.Sealing.{changed_at, opened, sealed};
 
-use des_block::Schedule;
-
 use crate::keys::{Key7, expand56};
+use des_block::Schedule;
 
 /// The index of the last byte.
 fn last_index(text: &[u8]) -> usize

@@ -2,7 +2,7 @@ use Rattle.std.proofs.Common.{◌≡◌, ℕ, ◌-◌, ◌/◌, ◌%◌, List, l
 use Rattle.std.specs.List.{fold}
 use Rattle.des_block.specs.Bits.{bits_of}
 use Rattle.des_block.specs.Schedule.{deciphered_with, key_schedule}
-use Rattle.seal_mode.specs.Sealing.{changed_at, opened, sealed}
+use Rattle.seal_mode.specs.Sealing.{changed_at, sealed}
 use Rattle.seal_mode.proofs.SealLaws.{opened_undone}
 use Rattle.seal_mode.proofs.SealLemmas.{change_less, opened_with_tail, opened_without_tail, whole_starts}
 use Rattle.seal_mode.proofs.sealing.open_seal.Goals as goal
@@ -23,11 +23,11 @@ returns-clause-value c =
     ∙ c.loop-i.invariant
     ∙ ap (λ (k : ℕ). fold (changed_at (deciphered_with c.new-schedule.result)) c.if-last-ne0.text (reverse (whole_starts k))) same_count
     ∙ elim c.if-last-ne0.branch [
-        then-last-ne0 w ↦
-            opened_with_tail c.args.key.now.0 c.args.text.now c.if-last-ne0.text c.new-schedule.result (c.last_index-last.result - 7) made (omega arith)
-                (λ e. w.if-last-ne0.true (ap (λ (n : ℕ). n % 7) c.last_index-last.ensures.value ∙ e))
-                (w.text-is ∙ w.decrypt_at.ensures)
-        | else-last-ne0 w ↦ opened_without_tail c.args.key.now.0 c.args.text.now c.if-last-ne0.text c.new-schedule.result made (omega (arith, w.if-last-ne0.false)) w.text-is
+      | then-last-ne0 w ↦
+          opened_with_tail c.args.key.now.0 c.args.text.now c.if-last-ne0.text c.new-schedule.result (c.last_index-last.result - 7) made (omega arith)
+          (λ e. w.if-last-ne0.true (ap (λ (n : ℕ). n % 7) c.last_index-last.ensures.value ∙ e))
+          (w.text-is ∙ w.decrypt_at.ensures)
+      | else-last-ne0 w ↦ opened_without_tail c.args.key.now.0 c.args.text.now c.if-last-ne0.text c.new-schedule.result made (omega (arith, w.if-last-ne0.false)) w.text-is
     ]
 
 pub returns-clause-undone : goal.returns-clause-undone
