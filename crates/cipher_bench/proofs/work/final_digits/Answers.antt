@@ -1,0 +1,22 @@
+-- In each case the digits are those of the bytes that the rounds made.
+use Rattle.std.proofs.Common.{◌≡◌}
+use Rattle.cipher_bench.specs.Work.{final_bytes}
+use Rattle.cipher_bench.proofs.work.final_digits.Goals as goal
+
+pub returns-in-Encrypt : goal.returns-in-Encrypt
+unfolding final_bytes
+returns-in-Encrypt g c =
+    let made : c.encrypted.result ≡ final_bytes c.args.work c.args.rounds = rw c.in-Encrypt.is c.encrypted.ensures in
+    rw (← made) c.encode.ensures
+
+pub returns-in-Seal : goal.returns-in-Seal
+unfolding final_bytes
+returns-in-Seal g c =
+    let made : c.seal_repeatedly.new.text ≡ final_bytes c.args.work c.args.rounds = rw c.in-Seal.is c.seal_repeatedly.ensures in
+    rw (← made) c.encode-in-Seal.ensures
+
+pub returns-in-Cram : goal.returns-in-Cram
+unfolding final_bytes
+returns-in-Cram g c =
+    let made : c.answered.result ≡ final_bytes c.args.work c.args.rounds = rw c.in-Cram.is c.answered.ensures in
+    rw (← made) c.encode-in-Cram.ensures

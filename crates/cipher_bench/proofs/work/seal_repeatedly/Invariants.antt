@@ -1,0 +1,8 @@
+-- So far the text has been sealed once for each round.
+use Rattle.std.proofs.Common.{◌≡◌}
+use Rattle.seal_mode.specs.Sealing.{sealed}
+use Rattle.cipher_bench.specs.Work.{repeated}
+use Rattle.cipher_bench.proofs.work.seal_repeatedly.Given as goal
+
+abbrev pub invariant-rounds : goal.invariant-rounds
+invariant-rounds l = l.text ≡ repeated (sealed l.key.0) l.round l.fn.text

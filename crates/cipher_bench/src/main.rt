@@ -1,0 +1,39 @@
+//! Repeats DES, the seal of tickets or the CRAM-MD5 answer a given number of times, each result
+//! being the next input, and prints the last result: the program that bench/ciphers measures.
+#![tactic(auto)]
+
+use anyhow::bail;
+use std::env;
+
+mod work;
+
+use work::{Work, final_digits};
+
+// The rounds of each work in a run without arguments.
+const FEW_ROUNDS: u64 = 3;
+
+fn report(rt: &(impl Print + Alloc), work: Work, rounds: u64) -> anyhow::Result<()> {
+    let digits = final_digits(rt.alloc(), work, rounds)?;
+    println!(rt; "{digits}")?;
+    Ok(())
+}
+
+fn main(rt: HostRuntime) -> anyhow::Result<()> {
+    let mut args = env::args(&rt)?;
+    let _program = args.next();
+    match (args.next(), args.next(), args.next()) {
+        (None, None, None) => {
+            for work in [Work::Encrypt, Work::Seal, Work::Cram] {
+                report(&rt, work, FEW_ROUNDS)?;
+            }
+            Ok(())
+        }
+        (Some(word), Some(count), None) => {
+            let Some(work) = Work::named(word.as_str()) else {
+                bail!("the work is one of encrypt, seal and cram");
+            };
+            report(&rt, work, count.as_str().parse::<u64>()?)
+        }
+        _ => bail!("usage: cipher_bench [encrypt|seal|cram ROUNDS]"),
+    }
+}
