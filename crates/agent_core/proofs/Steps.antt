@@ -114,7 +114,7 @@ fresh_stands H conn c f s = record {
 
 -- ---- a take
 
-untaken_taken : (H : History) (at : ℕ) → has_stopped H ≡ false → was_hung H at ≡ false → untaken (Take at ∷ H) at ≡ drop 1 (untaken H at)
+pub untaken_taken : (H : History) (at : ℕ) → has_stopped H ≡ false → was_hung H at ≡ false → untaken (Take at ∷ H) at ≡ drop 1 (untaken H at)
 untaken_taken H at stopped hung = rw (same at, not_gone H at stopped hung) (left (ltb (taken H at) (length (replies H at))) refl)
   where
     rest : List RMsg

@@ -1,0 +1,75 @@
+-- Taking until there is no reply.
+use Rattle.std.proofs.Common.{◌≡◌, ℕ, zero, suc, ◌+◌, ◌-◌, ◌<◌, List, [], ◌∷◌, ◌++◌, length, drop, Bool, true, false, cond, refl, sym, ap, ◌∙◌, inl, inr, arith}
+use Rattle.std.proofs.lemmas.Bool.{cases_Bool}
+use Rattle.nine_messages.specs.declared.message.RMsg.{RMsg}
+use Rattle.agent_history.specs.declared.event.Event.TheVariants.{Take}
+use Rattle.agent_history.specs.declared.event.StepAnswer.{StepAnswer}
+use Rattle.agent_history.specs.declared.event.StepAnswer.TheVariants.{Done, Reply, NoReply, Gone, Ask, DropCall, NoAsk, Stopped}
+use Rattle.agent_history.specs.Histories.{History, has_stopped, was_hung, untaken, answer, first_reply, Answered}
+use Rattle.agent_core.specs.declared.agent.Agent.{Agent}
+use Rattle.agent_core.specs.Agents.{StandsFor}
+use Rattle.agent_core.proofs.Steps.{untaken_taken, answer_hung}
+use Rattle.factotum_program.specs.Pipe.{is_reply, take_until, text_of}
+
+-- where a loop of takes stands: some takes after the history, and as many left to make as were said
+pub record Going (H : History) (n : ℕ) (agent : Agent) (text : List ℕ) : Type 0 where
+  pub history : History
+  pub left : ℕ
+  pub stands : StandsFor history agent
+  pub enough : length (untaken history 0) < left
+  pub same : take_until left history ≡ take_until n H
+  pub told : text ≡ text_of history
+
+first_left : (ms : List RMsg) → (first_reply ms).0 ≡ Reply → length (drop 1 ms) + 1 ≡ length ms
+first_left [] e = absurd (cc)
+first_left (m ∷ ms) e = omega arith
+
+-- a take that found a reply leaves one less
+reply_left : (K : History) → (answer K (Take 0)).0 ≡ Reply → length (untaken (Take 0 ∷ K) 0) + 1 ≡ length (untaken K 0)
+reply_left K e = elim (cases_Bool (has_stopped K)) [
+  | inl stopped ↦ absurd (let h : Gone ≡ Reply = (rw stopped at e) in (cc))
+  | inr runs ↦ elim (cases_Bool (was_hung K 0)) [
+    | inl hung ↦ absurd (let h : Gone ≡ Reply = sym (ap (λ (a : Answered). a.0) (answer_hung K 0 hung runs)) ∙ e in (cc))
+    | inr live ↦ ap (λ (ms : List RMsg). length ms + 1) (untaken_taken K 0 runs live) ∙ first_left (untaken K 0) (rw (runs, live) at e)
+  ]
+]
+
+until_more : (m : ℕ) (K : History) → 0 < m → is_reply (answer K (Take 0)).0 ≡ true → take_until m K ≡ take_until (m - 1) (Take 0 ∷ K)
+until_more zero K lt e = absurd (omega arith)
+until_more (suc m) K lt e = rw e (ap (λ (k : ℕ). take_until k (Take 0 ∷ K)) (omega arith))
+
+until_ends : (m : ℕ) (K : History) → 0 < m → is_reply (answer K (Take 0)).0 ≡ false → take_until m K ≡ Take 0 ∷ K
+until_ends zero K lt e = absurd (omega arith)
+until_ends (suc m) K lt e = rw e refl
+
+is_reply-true : (a : StepAnswer) → is_reply a ≡ true → a ≡ Reply
+is_reply-true Done e = absurd (cc)
+is_reply-true Reply e = refl
+is_reply-true NoReply e = absurd (cc)
+is_reply-true Gone e = absurd (cc)
+is_reply-true (Ask call conv shape) e = absurd (cc)
+is_reply-true (DropCall conv) e = absurd (cc)
+is_reply-true NoAsk e = absurd (cc)
+is_reply-true Stopped e = absurd (cc)
+
+pub going_more : (H : History) (n : ℕ) (old new : Agent) (before after : List ℕ) (found : Bool) → (g : Going H n old before) → found ≡ true → found ≡ is_reply (answer g.history (Take 0)).0 → after ≡ text_of (Take 0 ∷ g.history) → StandsFor (Take 0 ∷ g.history) new → Going H n new after
+going_more H n old new before after found g reply said told stands =
+    let is : is_reply (answer g.history (Take 0)).0 ≡ true = sym said ∙ reply in
+    let less = reply_left g.history (is_reply-true (answer g.history (Take 0)).0 is) in
+    record {
+      history = Take 0 ∷ g.history;
+      left = g.left - 1;
+      stands = stands;
+      enough = omega (arith, less, g.enough);
+      same = sym (until_more g.left g.history (omega (arith, g.enough)) is) ∙ g.same;
+      told = told;
+    }
+
+pub going_ends : (H : History) (n : ℕ) (old new : Agent) (before after : List ℕ) (found : Bool) → (g : Going H n old before) → found ≡ false → found ≡ is_reply (answer g.history (Take 0)).0 → after ≡ text_of (Take 0 ∷ g.history) → StandsFor (Take 0 ∷ g.history) new → StandsFor (take_until n H) new × (after ≡ text_of (take_until n H))
+going_ends H n old new before after found g other said told stands =
+    let end : take_until n H ≡ Take 0 ∷ g.history = sym g.same ∙ until_ends g.left g.history (omega (arith, g.enough)) (sym said ∙ other) in
+    rw end (stands, told)
+
+-- before the first take
+pub going_starts : (H : History) (n : ℕ) (agent : Agent) (text : List ℕ) → StandsFor H agent → length (untaken H 0) < n → text ≡ text_of H → Going H n agent text
+going_starts H n agent text stands enough told = record { history = H; left = n; stands = stands; enough = enough; same = refl; told = told }

@@ -1,0 +1,10 @@
+//! The program as a library: its command words, what it reads and writes, and the status it ends with. The
+//! program's `main` opens the real input and output and calls this.
+#![tactic(auto)]
+
+mod command;
+mod cut;
+mod pipe;
+mod status;
+
+pub use status::{Status, print_status};
