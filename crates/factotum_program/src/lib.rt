@@ -7,4 +7,5 @@ mod cut;
 mod pipe;
 mod status;
 
+pub use command::{an_input_is_cut_in_one_way, run_command};
 pub use status::{Status, print_status};
