@@ -1,0 +1,31 @@
+# make alone lists what can be made.
+.POSIX:
+.PHONY: help build demo test bench clean
+
+help:
+	@echo 'make build   proves the program and leaves it as bin/factotum'
+	@echo 'make demo    runs a conversation through it and shows each request and reply'
+	@echo 'make test    runs the gate: every proof, wrong body, test and program'
+	@echo 'make bench   measures it beside a plain C program, and the ciphers beside OpenSSL'
+	@echo 'make clean   removes what the others made'
+
+build:
+	@scripts/need rt
+	@mkdir -p bin
+	@cd crates/factotum && rt run -- pipe </dev/null >/dev/null
+	@cp crates/factotum/out/factotum bin/factotum
+	@echo 'bin/factotum is built'
+
+demo: build
+	@scripts/demo
+
+test:
+	@scripts/need rt git
+	@bash .ci/run
+
+bench: build
+	@bench/pipe
+	@bench/ciphers
+
+clean:
+	rm -rf bin crates/*/out
