@@ -33,6 +33,8 @@ const MOST_MSIZE: u32 = 8216;
 const READ_AND_WRITE: u8 = 2;
 
 const VERSION: &[u8; 6] = b"9P2000";
+// Most replies have at most so many bytes.
+const USUAL_REPLY: usize = 64;
 
 const NOT_SERVED: &[u8; 10] = b"not served";
 
@@ -377,7 +379,7 @@ impl Connection {
         ensures err_keys { OnErr result ((done : List Deed) (conn : ℕ) → keys.old.items ≡ keys_of done → Keeps done conn self.old → keys.new.items ≡ keys_of done) }
         ensures err_replies { OnErr result (self.new.replies.items ≡ self.old.replies.items) }
     {
-        let mut reply = Bytes::new(alloc);
+        let mut reply = Bytes::with_capacity(alloc, USUAL_REPLY)?;
         self.replies.reserve(1)?;
         self.answer(alloc, keys, frame, &mut reply)?;
         self.replies.push_back(reply).unwrap();

@@ -6,6 +6,10 @@ use attr_tuples::{Tuple, print_public};
 use std::alloc::Global;
 use wire_base::{Bytes, NoMemory};
 
+// A key's line has about so many bytes, and a list that is asked for at once so many lines.
+const USUAL_LINE: usize = 64;
+const MOST_LINES: usize = 64;
+
 #[tactic(auto, unfolding(agent_history::specs::Deeds::key_text))]
 fn put_key(key: &Tuple, out: &mut Bytes) -> Result<(), NoMemory>
     ensures { OnOk result (out.new ≡ out.old ++ key_text key.now) }
@@ -20,7 +24,7 @@ fn put_key(key: &Tuple, out: &mut Bytes) -> Result<(), NoMemory>
 pub(crate) fn list_text(alloc: Global, keys: &[Tuple]) -> Result<Bytes, NoMemory>
     ensures { IfOk result (λ text. text ≡ list_text keys.now) }
 {
-    let mut text = Bytes::new(alloc);
+    let mut text = Bytes::with_capacity(alloc, USUAL_LINE * keys.len().min(MOST_LINES))?;
     for key in keys {
         put_key(key, &mut text)?;
     }

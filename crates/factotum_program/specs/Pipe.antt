@@ -23,6 +23,10 @@ pub record IsInput (input : List ℕ) (frames : List (List ℕ)) : Type 0 where
 abbrev pub zeros : List ℕ
 zeros = 0 ∷ 0 ∷ 0 ∷ 0 ∷ 0 ∷ 0 ∷ 0 ∷ 0 ∷ []
 
+-- a request on connection 0 with that word, whatever its frame
+abbrev pub IsAsked : Event → Type 0
+IsAsked event = (frame : List ℕ) × (event ≡ Request 0 frame zeros)
+
 -- whether a take found a reply
 abbrev pub is_reply : StepAnswer → Bool
 is_reply Reply = true

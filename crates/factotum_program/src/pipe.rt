@@ -3,7 +3,7 @@ ghost use Rattle.std.specs.Prelude.{◌≡◌, ◌++◌, [], ◌∷◌, ◌+◌,
 ghost use Rattle.agent_history.specs.Histories.{History, untaken, answer};
 ghost use Rattle.agent_core.specs.Agents.{StandsFor, kept_replies};
 ghost use Rattle.agent_history.specs.declared.event.Event.TheVariants.{Request, Hang, Take};
-ghost use Rattle.factotum_program.specs.Pipe.{IsWhole, IsInput, zeros, is_reply, take_until, after_frame, text_of, pipe_text};
+ghost use Rattle.factotum_program.specs.Pipe.{IsWhole, IsInput, IsAsked, zeros, is_reply, take_until, after_frame, text_of, pipe_text};
 ghost use Rattle.factotum_program.specs.declared.pipe.PipeFault.TheVariants.{NoMemory};
 
 use crate::cut::cut;
@@ -52,36 +52,57 @@ fn take_all(agent: &mut Agent, text: &mut Bytes) -> Result<(), PipeFault>
     Ok(())
 }
 
-// Hands one frame to the agent.
-fn ask(alloc: Global, agent: &mut Agent, frame: &[u8], text: &mut Bytes) -> Result<(), PipeFault>
-    requires { IsWhole frame.now }
-    ensures stands { OnOk result ((H : History) → StandsFor H agent.old → StandsFor (Request 0 frame.now zeros ∷ H) agent.new) }
-    ensures told { OnOk result ((H : History) → StandsFor H agent.old → text.old ≡ text_of H → text.new ≡ text_of (Request 0 frame.now zeros ∷ H)) }
+// Puts a frame in the place of a request's frame, and keeps its memory.
+fn set_frame(request: &mut Event, bytes: &[u8]) -> Result<(), PipeFault>
+    requires { IsAsked request.old }
+    ensures ok { OnOk result (request.new ≡ Request 0 bytes.now zeros) }
     ensures err { IfErr result (λ e. e ≡ PipeFault.NoMemory) }
 {
-    let event = Event::Request {
-        conn: CONNECTION,
-        frame: Bytes::from_slice(alloc, frame)?,
-        word: [0; 8],
-    };
-    agent.step(&event, text)?;
+    match request {
+        Event::Request { frame, .. } => {
+            frame.clear();
+            frame.append(bytes)?;
+            Ok(())
+        }
+        _ => unreachable!(),
+    }
+}
+
+// Hands one frame to the agent.
+fn ask(
+    agent: &mut Agent,
+    frame: &[u8],
+    request: &mut Event,
+    text: &mut Bytes,
+) -> Result<(), PipeFault>
+    requires whole { IsWhole frame.now }
+    requires asked { IsAsked request.old }
+    ensures stands { OnOk result ((H : History) → StandsFor H agent.old → StandsFor (Request 0 frame.now zeros ∷ H) agent.new) }
+    ensures told { OnOk result ((H : History) → StandsFor H agent.old → text.old ≡ text_of H → text.new ≡ text_of (Request 0 frame.now zeros ∷ H)) }
+    ensures kept { OnOk result (IsAsked request.new) }
+    ensures err { IfErr result (λ e. e ≡ PipeFault.NoMemory) }
+{
+    set_frame(request, frame)?;
+    agent.step(request, text)?;
     Ok(())
 }
 
 // Hands one frame to the agent, and takes what it answers.
 #[tactic(auto, unfolding(crate::specs::Pipe::after_frame))]
 fn answer_frame(
-    alloc: Global,
     agent: &mut Agent,
     frame: &[u8],
+    request: &mut Event,
     text: &mut Bytes,
 ) -> Result<(), PipeFault>
-    requires { IsWhole frame.now }
+    requires whole { IsWhole frame.now }
+    requires asked { IsAsked request.old }
     ensures ok { OnOk result ((H : History) → StandsFor H agent.old → text.old ≡ text_of H
         → StandsFor (after_frame H frame.now) agent.new × (text.new ≡ text_of (after_frame H frame.now))) }
+    ensures kept { OnOk result (IsAsked request.new) }
     ensures err { IfErr result (λ e. e ≡ PipeFault.NoMemory) }
 {
-    ask(alloc, agent, frame, text)?;
+    ask(agent, frame, request, text)?;
     take_all(agent, text)
 }
 
@@ -102,12 +123,17 @@ pub(crate) fn answer_input(alloc: Global, input: &[u8]) -> Result<Bytes, PipeFau
 {
     let mut agent = Agent::new(alloc)?;
     let mut text = Bytes::new(alloc);
+    let mut request = Event::Request {
+        conn: CONNECTION,
+        frame: Bytes::new(alloc),
+        word: [0; 8],
+    };
     let mut rest = input;
     while !rest.is_empty() {
         let Some((frame, after)) = cut(rest) else {
             return Err(PipeFault::BadInput);
         };
-        answer_frame(alloc, &mut agent, frame, &mut text)?;
+        answer_frame(&mut agent, frame, &mut request, &mut text)?;
         rest = after;
     }
     hang_up(&mut agent, &mut text)?;

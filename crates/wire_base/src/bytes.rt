@@ -56,6 +56,14 @@ impl Bytes {
         }
     }
 
+    /// No bytes, with room for so many.
+    pub fn with_capacity(alloc: Global, capacity: usize) -> Result<Bytes, NoMemory>
+        ensures { IfOk result (λ bytes. bytes ≡ []) }
+    {
+        let list = Vec::with_capacity(alloc, capacity)?;
+        Ok(Bytes { list })
+    }
+
     /// The bytes of a vector, which is moved and not copied.
     pub fn from_vec(list: Vec<u8>) -> Bytes
         ensures { result ≡ list.items }

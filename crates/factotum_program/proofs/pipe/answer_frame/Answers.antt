@@ -1,8 +1,7 @@
-use Rattle.std.proofs.Common.{suc, length, arith}
+use Rattle.std.proofs.Common.{suc, length, ◌∷◌, arith}
 use Rattle.std.proofs.lemmas.Result.{on_ok_weaker}
 use Rattle.agent_history.specs.declared.event.Event.TheVariants.{Request}
 use Rattle.agent_history.specs.Histories.{untaken}
-use Rattle.std.proofs.Common.{◌∷◌}
 use Rattle.factotum_program.specs.Pipe.{after_frame, zeros}
 use Rattle.factotum_program.proofs.pipe.answer_frame.Goals as goal
 
