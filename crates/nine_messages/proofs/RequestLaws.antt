@@ -1,14 +1,13 @@
 -- What is read as a request is spelled so, and what is spelled so is read.
-use Rattle.std.proofs.Common.{◌≡◌, ℕ, ◌+◌, ◌<◌, ◌≤◌, ◌^◌, List, [], ◌∷◌, ◌++◌, length, take, drop, Bool, true, false, cond, eqb, Result, Ok, Err, refl, sym, ap, subst, ◌∙◌, append_assoc, append-nil, arith, rules, inl, inr}
+use Rattle.std.proofs.Common.{◌≡◌, ℕ, ◌+◌, ◌<◌, ◌≤◌, ◌^◌, List, [], ◌++◌, length, drop, cond, eqb, Ok, refl, sym, ap, subst, ◌∙◌, append-nil, arith, inl, inr}
 use Rattle.std.proofs.lemmas.Bool.{eqb-true, cases_Bool}
-use Rattle.std.proofs.lemmas.List.{length-append, take-append-drop, drop_at}
 use Rattle.std.specs.Int.{w8, w16, w32, w64, to_le_bytes}
 use Rattle.wire_base.specs.Readers.{Reader, ◌>>=◌, number, block, string, listed, both, converted, no_more, counted, spelled, listing, FitsList, IsString}
-use Rattle.wire_base.proofs.ReaderLaws.{AreBytes, Taken, Taken-then, Spells, bind_ok, ok_is, wide8, wide16, wide32, wide64, number_spells, block_spells, string_spells, listed_spells, both_spells, no_more_taken, no_more_again, drop_behind}
+use Rattle.wire_base.proofs.ReaderLaws.{AreBytes, Taken, Taken-then, Spells, bind_ok, ok_is, wide8, wide16, wide32, wide64, number_spells, block_spells, string_spells, listed_spells, both_spells, no_more_taken, no_more_again}
 use Rattle.nine_messages.specs.declared.message.TMsg.{TMsg}
 use Rattle.nine_messages.specs.declared.message.TBody.{TBody}
 use Rattle.nine_messages.specs.declared.message.TBody.TheVariants as t
-use Rattle.nine_messages.specs.Messages.{frame, t_kind, t_fields, t_fits, t_frame, IsRequest}
+use Rattle.nine_messages.specs.Messages.{frame, t_kind, t_fields, t_fits, IsRequest}
 use Rattle.nine_messages.specs.Decoding.{version_at, attach_at, walk_at, open_at, read_at, write_at, clunk_at, no_request, t_body_at, t_reading, IsFrame}
 
 -- a reader of one kind of message takes its fields and nothing else
@@ -26,7 +25,7 @@ reads kind f read text P s k t q bytes at next b fits e =
     let c = converted_ok f read bytes at next b e in
     let one = s.taken bytes at next c.0 fits c.2 in
     subst (λ (b : TBody). (t_kind b ≡ kind) × Taken bytes at next (t_fields b) × t_fits b) c.1
-      (k c.0, rw (t c.0) at one.0, q c.0 one.1)
+    (k c.0, rw (t c.0) at one.0, q c.0 one.1)
 
 n8 : Spells (number w8) (to_le_bytes w8) (λ n. n < 2 ^ 8)
 n8 = number_spells w8 (2 ^ 8) wide8
@@ -95,9 +94,9 @@ clunk_reads = reads 120 (λ p. t.Clunk p) _ _ _ n32 (λ x. refl) (λ x. refl) (�
 -- a choice of two readers
 chosen_reads : (kind k : ℕ) (one other : Reader TBody) → Reads k one → Reads kind other → Reads kind (cond (eqb kind k) one other)
 chosen_reads kind k one other p q bytes at next b fits e = elim (cases_Bool (eqb kind k)) [
-    | inl is ↦ let r = p bytes at next b fits (rw is at e) in (r.0 ∙ sym (eqb-true kind k is), r.1, r.2)
-    | inr not ↦ q bytes at next b fits (rw not at e)
-  ]
+  | inl is ↦ let r = p bytes at next b fits (rw is at e) in (r.0 ∙ sym (eqb-true kind k is), r.1, r.2)
+  | inr not ↦ q bytes at next b fits (rw not at e)
+]
 
 no_request_reads : (kind : ℕ) → Reads kind no_request
 no_request_reads kind bytes at next b fits e = absurd cc
@@ -163,7 +162,7 @@ request_taken bytes m fits whole e =
     let len : length bytes ≡ 7 + length (t_fields b.0.0) = ap length all ∙ frame_len (length bytes) k.0.0 t.0.0 (t_fields b.0.0) in
     let kind-same : t_kind b.0.0 ≡ k.0.0 = body-is.0 in
     subst (λ (m : TMsg). IsRequest bytes m) end.0
-      (record { spelling = all ∙ ap (λ (n : ℕ). frame_text n k.0.0 t.0.0 (t_fields b.0.0)) len ∙ ap (λ (kind : ℕ). frame_text (7 + length (t_fields b.0.0)) kind t.0.0 (t_fields b.0.0)) (sym kind-same); tag = tag-is.1; fields = body-is.2 })
+    (record { spelling = all ∙ ap (λ (n : ℕ). frame_text n k.0.0 t.0.0 (t_fields b.0.0)) len ∙ ap (λ (kind : ℕ). frame_text (7 + length (t_fields b.0.0)) kind t.0.0 (t_fields b.0.0)) (sym kind-same); tag = tag-is.1; fields = body-is.2 })
 
 -- and what is spelled is read
 pub request_again : (bytes : List ℕ) (m : TMsg) → IsRequest bytes m → t_reading bytes ≡ Ok m
@@ -174,7 +173,9 @@ request_again bytes m is =
     let tag-here : drop 5 bytes ≡ to_le_bytes w16 m.tag ++ fields = ap (drop 5) is.spelling in
     let fields-here : drop 7 bytes ≡ fields ++ [] = ap (drop 7) is.spelling ∙ sym (append-nil fields) in
     let long : length bytes ≤ 7 + length fields = omega (arith, ap length is.spelling) in
-    rw (n8.again bytes (to_le_bytes w16 m.tag ++ fields) 4 (t_kind m.body) (t_kind_small m.body) kind-here,
-        n16.again bytes fields 5 m.tag is.tag tag-here,
-        t_body_again m.body bytes [] 7 is.fields fields-here,
-        no_more_again m bytes (7 + length fields) long) refl
+    rw (
+      n8.again bytes (to_le_bytes w16 m.tag ++ fields) 4 (t_kind m.body) (t_kind_small m.body) kind-here,
+      n16.again bytes fields 5 m.tag is.tag tag-here,
+      t_body_again m.body bytes [] 7 is.fields fields-here,
+      no_more_again m bytes (7 + length fields) long,
+    ) refl
