@@ -46,35 +46,35 @@ fn decoded(alloc: Global, frame: &[u8]) -> Result<TMsg, DecodeFault> {
 fn files_are_asked_for(rt: HostRuntime) -> Result<(), Fail> {
     let alloc = rt.alloc();
     let frame = b"\x13\x00\x00\x00\x64\xff\xff\x18\x20\x00\x00\x06\x009P2000";
-    let message = decoded(alloc, frame)?;
-    let TBody::Version { msize, version } = message.body else {
+    let TMsg { tag, body } = decoded(alloc, frame)?;
+    let TBody::Version { msize, version } = body else {
         panic!(rt; "no version")
     };
-    assert_eq!(rt; (message.tag, msize), (0xffff, 8216));
+    assert_eq!(rt; (tag, msize), (0xffff, 8216));
     assert_eq!(rt; version.as_slice(), b"9P2000".as_slice());
 
     let frame = b"\x16\x00\x00\x00\x68\x01\x00\x00\x00\x00\x00\xff\xff\xff\xff\x03\x00ann\x00\x00";
-    let message = decoded(alloc, frame)?;
+    let TMsg { tag, body } = decoded(alloc, frame)?;
     let TBody::Attach {
         fid,
         afid,
         uname,
         aname,
-    } = message.body
+    } = body
     else {
         panic!(rt; "no attach")
     };
-    assert_eq!(rt; (message.tag, fid, afid), (1, 0, 0xffff_ffff));
+    assert_eq!(rt; (tag, fid, afid), (1, 0, 0xffff_ffff));
     assert_eq!(rt; uname.as_slice(), b"ann".as_slice());
     assert_eq!(rt; aname.as_slice(), b"".as_slice());
 
     let frame =
         b"\x20\x00\x00\x00\x6e\x02\x00\x00\x00\x00\x00\x01\x00\x00\x00\x02\x00\x08\x00factotum\x03\x00ctl";
-    let message = decoded(alloc, frame)?;
-    let TBody::Walk { fid, newfid, wname } = message.body else {
+    let TMsg { tag, body } = decoded(alloc, frame)?;
+    let TBody::Walk { fid, newfid, wname } = body else {
         panic!(rt; "no walk")
     };
-    assert_eq!(rt; (message.tag, fid, newfid), (2, 0, 1));
+    assert_eq!(rt; (tag, fid, newfid), (2, 0, 1));
     assert_eq!(rt; wname.as_slice().len(), 2);
     for (name, want) in wname.as_slice().iter().zip(["factotum", "ctl"]) {
         assert_eq!(rt; name.as_slice(), want.as_bytes());
@@ -85,24 +85,24 @@ fn files_are_asked_for(rt: HostRuntime) -> Result<(), Fail> {
 #[test]
 fn files_are_used(rt: HostRuntime) -> Result<(), Fail> {
     let alloc = rt.alloc();
-    let message = decoded(alloc, b"\x0c\x00\x00\x00\x70\x03\x00\x01\x00\x00\x00\x02")?;
-    let TBody::Open { fid, mode } = message.body else {
+    let TMsg { tag, body } = decoded(alloc, b"\x0c\x00\x00\x00\x70\x03\x00\x01\x00\x00\x00\x02")?;
+    let TBody::Open { fid, mode } = body else {
         panic!(rt; "no open")
     };
-    assert_eq!(rt; (message.tag, fid, mode), (3, 1, 2));
+    assert_eq!(rt; (tag, fid, mode), (3, 1, 2));
 
     let frame =
         b"\x38\x00\x00\x00\x76\x04\x00\x01\x00\x00\x00\x00\x00\x00\x00\x00\x00\x00\x00\x21\x00\x00\x00key proto=apop user=a !password=b";
-    let message = decoded(alloc, frame)?;
+    let TMsg { tag, body } = decoded(alloc, frame)?;
     let TBody::Write {
         fid,
         offset,
         content,
-    } = message.body
+    } = body
     else {
         panic!(rt; "no write")
     };
-    assert_eq!(rt; (message.tag, fid, offset), (4, 1, 0));
+    assert_eq!(rt; (tag, fid, offset), (4, 1, 0));
     assert_eq!(rt; content.as_slice(), LINE);
 
     for (frame, want) in [
@@ -115,18 +115,18 @@ fn files_are_used(rt: HostRuntime) -> Result<(), Fail> {
             (0x1234, 0x0102_0304, 0x0102_0304_0506_0708, 0xffff_ffff),
         ),
     ] {
-        let message = decoded(alloc, frame)?;
-        let TBody::Read { fid, offset, count } = message.body else {
+        let TMsg { tag, body } = decoded(alloc, frame)?;
+        let TBody::Read { fid, offset, count } = body else {
             panic!(rt; "no read")
         };
-        assert_eq!(rt; (message.tag, fid, offset, count), want);
+        assert_eq!(rt; (tag, fid, offset, count), want);
     }
 
-    let message = decoded(alloc, b"\x0b\x00\x00\x00\x78\x06\x00\x01\x00\x00\x00")?;
-    let TBody::Clunk { fid } = message.body else {
+    let TMsg { tag, body } = decoded(alloc, b"\x0b\x00\x00\x00\x78\x06\x00\x01\x00\x00\x00")?;
+    let TBody::Clunk { fid } = body else {
         panic!(rt; "no clunk")
     };
-    assert_eq!(rt; (message.tag, fid), (6, 1));
+    assert_eq!(rt; (tag, fid), (6, 1));
     Ok(())
 }
 
@@ -245,9 +245,11 @@ fn text_of(alloc: Global, bytes: &[u8]) -> Result<Text, Fail> {
 
 // What was appended is the reply of this number, and what stood before is kept.
 fn check_reply(rt: &impl Abort, out: &mut Bytes, number: usize) {
-    assert!(rt; number < 8);
-    assert_eq!(rt; &out.as_slice()[..2], b"--".as_slice(), "reply {number}");
-    assert_eq!(rt; &out.as_slice()[2..], REPLIES[number], "reply {number}");
+    assert!(rt; number < REPLIES.len());
+    assert!(rt; out.len() > 2, "reply {number}");
+    let (front, reply) = out.as_slice().split_at(2);
+    assert_eq!(rt; front, b"--".as_slice(), "reply {number}");
+    assert_eq!(rt; reply, REPLIES[number], "reply {number}");
     out.truncate(2);
 }
 
