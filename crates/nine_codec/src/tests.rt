@@ -105,6 +105,16 @@ fn files_are_used(rt: HostRuntime) -> Result<(), Fail> {
     assert_eq!(rt; (tag, fid, offset), (4, 1, 0));
     assert_eq!(rt; content.as_slice(), LINE);
 
+    let TMsg { tag, body } = decoded(alloc, b"\x0b\x00\x00\x00\x78\x06\x00\x01\x00\x00\x00")?;
+    let TBody::Clunk { fid } = body else {
+        panic!(rt; "no clunk")
+    };
+    assert_eq!(rt; (tag, fid), (6, 1));
+    Ok(())
+}
+
+#[test]
+fn reads_are_asked_for(rt: HostRuntime) -> Result<(), Fail> {
     for (frame, want) in [
         (
             b"\x17\x00\x00\x00\x74\x05\x00\x01\x00\x00\x00\x00\x00\x00\x00\x00\x00\x00\x00\x64\x00\x00\x00".as_slice(),
@@ -115,114 +125,107 @@ fn files_are_used(rt: HostRuntime) -> Result<(), Fail> {
             (0x1234, 0x0102_0304, 0x0102_0304_0506_0708, 0xffff_ffff),
         ),
     ] {
-        let TMsg { tag, body } = decoded(alloc, frame)?;
+        let TMsg { tag, body } = decoded(rt.alloc(), frame)?;
         let TBody::Read { fid, offset, count } = body else {
             panic!(rt; "no read")
         };
         assert_eq!(rt; (tag, fid, offset, count), want);
     }
-
-    let TMsg { tag, body } = decoded(alloc, b"\x0b\x00\x00\x00\x78\x06\x00\x01\x00\x00\x00")?;
-    let TBody::Clunk { fid } = body else {
-        panic!(rt; "no clunk")
-    };
-    assert_eq!(rt; (tag, fid), (6, 1));
     Ok(())
 }
 
+// Frames that are no requests, and the place of the first fault of each.
+const FAULTS: [(&str, &[u8], u32); 18] = [
+    ("a reply's type", b"\x07\x00\x00\x00\x79\x06\x00", 4),
+    (
+        "a type not served",
+        b"\x0b\x00\x00\x00\x7c\x07\x00\x01\x00\x00\x00",
+        4,
+    ),
+    ("no fid", b"\x07\x00\x00\x00\x78\x01\x00", 7),
+    (
+        "a fid one byte short",
+        b"\x0a\x00\x00\x00\x78\x01\x00\x00\x00\x00",
+        7,
+    ),
+    (
+        "a byte behind a clunk",
+        b"\x0c\x00\x00\x00\x78\x01\x00\x00\x00\x00\x00\x00",
+        11,
+    ),
+    (
+        "an open with no mode",
+        b"\x0b\x00\x00\x00\x70\x03\x00\x01\x00\x00\x00",
+        11,
+    ),
+    (
+        "an offset one byte short",
+        b"\x12\x00\x00\x00\x74\x05\x00\x01\x00\x00\x00\x00\x00\x00\x00\x00\x00\x00",
+        11,
+    ),
+    (
+        "a read with no count",
+        b"\x13\x00\x00\x00\x74\x05\x00\x01\x00\x00\x00\x00\x00\x00\x00\x00\x00\x00\x00",
+        19,
+    ),
+    (
+        "a version with half a length",
+        b"\x0c\x00\x00\x00\x64\xff\xff\x18\x20\x00\x00\x06",
+        11,
+    ),
+    (
+        "a version cut short",
+        b"\x13\x00\x00\x00\x64\xff\xff\x18\x20\x00\x00\x07\x009P2000",
+        11,
+    ),
+    (
+        "a byte behind a version",
+        b"\x14\x00\x00\x00\x64\xff\xff\x18\x20\x00\x00\x06\x009P2000\x00",
+        19,
+    ),
+    (
+        "a user with NUL",
+        b"\x16\x00\x00\x00\x68\x01\x00\x00\x00\x00\x00\xff\xff\xff\xff\x03\x00a\x00n\x00\x00",
+        15,
+    ),
+    (
+        "a tree not in UTF-8",
+        b"\x18\x00\x00\x00\x68\x01\x00\x00\x00\x00\x00\xff\xff\xff\xff\x03\x00ann\x02\x00\xff\xfe",
+        20,
+    ),
+    (
+        "both, and a byte more",
+        b"\x19\x00\x00\x00\x68\x01\x00\x00\x00\x00\x00\xff\xff\xff\xff\x03\x00a\x00n\x02\x00\xff\xfe\x00",
+        15,
+    ),
+    (
+        "a second name cut short",
+        b"\x20\x00\x00\x00\x6e\x02\x00\x00\x00\x00\x00\x01\x00\x00\x00\x02\x00\x08\x00factotum\x04\x00ctl",
+        27,
+    ),
+    (
+        "17 names",
+        b"\x44\x00\x00\x00\x6e\x02\x00\x00\x00\x00\x00\x01\x00\x00\x00\x11\x00\x01\x00a\x01\x00a\x01\x00a\x01\x00a\x01\x00a\x01\x00a\x01\x00a\x01\x00a\x01\x00a\x01\x00a\x01\x00a\x01\x00a\x01\x00a\x01\x00a\x01\x00a\x01\x00a\x01\x00a",
+        15,
+    ),
+    (
+        "a count past the end",
+        b"\x19\x00\x00\x00\x76\x04\x00\x01\x00\x00\x00\x00\x00\x00\x00\x00\x00\x00\x00\x03\x00\x00\x00ab",
+        19,
+    ),
+    (
+        "a byte behind the content",
+        b"\x19\x00\x00\x00\x76\x04\x00\x01\x00\x00\x00\x00\x00\x00\x00\x00\x00\x00\x00\x01\x00\x00\x00ab",
+        24,
+    ),
+];
+
 #[test]
 fn the_first_fault_is_told(rt: HostRuntime) {
-    for (name, frame, want) in [
-        (
-            "a reply's type",
-            b"\x07\x00\x00\x00\x79\x06\x00".as_slice(),
-            4,
-        ),
-        (
-            "a type not served",
-            b"\x0b\x00\x00\x00\x7c\x07\x00\x01\x00\x00\x00",
-            4,
-        ),
-        ("no fid", b"\x07\x00\x00\x00\x78\x01\x00", 7),
-        (
-            "a fid one byte short",
-            b"\x0a\x00\x00\x00\x78\x01\x00\x00\x00\x00",
-            7,
-        ),
-        (
-            "a byte behind a clunk",
-            b"\x0c\x00\x00\x00\x78\x01\x00\x00\x00\x00\x00\x00",
-            11,
-        ),
-        (
-            "an open with no mode",
-            b"\x0b\x00\x00\x00\x70\x03\x00\x01\x00\x00\x00",
-            11,
-        ),
-        (
-            "an offset one byte short",
-            b"\x12\x00\x00\x00\x74\x05\x00\x01\x00\x00\x00\x00\x00\x00\x00\x00\x00\x00",
-            11,
-        ),
-        (
-            "a read with no count",
-            b"\x13\x00\x00\x00\x74\x05\x00\x01\x00\x00\x00\x00\x00\x00\x00\x00\x00\x00\x00",
-            19,
-        ),
-        (
-            "a version with half a length",
-            b"\x0c\x00\x00\x00\x64\xff\xff\x18\x20\x00\x00\x06",
-            11,
-        ),
-        (
-            "a version cut short",
-            b"\x13\x00\x00\x00\x64\xff\xff\x18\x20\x00\x00\x07\x009P2000",
-            11,
-        ),
-        (
-            "a byte behind a version",
-            b"\x14\x00\x00\x00\x64\xff\xff\x18\x20\x00\x00\x06\x009P2000\x00",
-            19,
-        ),
-        (
-            "a user with NUL",
-            b"\x16\x00\x00\x00\x68\x01\x00\x00\x00\x00\x00\xff\xff\xff\xff\x03\x00a\x00n\x00\x00",
-            15,
-        ),
-        (
-            "a tree not in UTF-8",
-            b"\x18\x00\x00\x00\x68\x01\x00\x00\x00\x00\x00\xff\xff\xff\xff\x03\x00ann\x02\x00\xff\xfe",
-            20,
-        ),
-        (
-            "both, and a byte more",
-            b"\x19\x00\x00\x00\x68\x01\x00\x00\x00\x00\x00\xff\xff\xff\xff\x03\x00a\x00n\x02\x00\xff\xfe\x00",
-            15,
-        ),
-        (
-            "a second name cut short",
-            b"\x20\x00\x00\x00\x6e\x02\x00\x00\x00\x00\x00\x01\x00\x00\x00\x02\x00\x08\x00factotum\x04\x00ctl",
-            27,
-        ),
-        (
-            "17 names",
-            b"\x44\x00\x00\x00\x6e\x02\x00\x00\x00\x00\x00\x01\x00\x00\x00\x11\x00\x01\x00a\x01\x00a\x01\x00a\x01\x00a\x01\x00a\x01\x00a\x01\x00a\x01\x00a\x01\x00a\x01\x00a\x01\x00a\x01\x00a\x01\x00a\x01\x00a\x01\x00a\x01\x00a\x01\x00a",
-            15,
-        ),
-        (
-            "a count past the end",
-            b"\x19\x00\x00\x00\x76\x04\x00\x01\x00\x00\x00\x00\x00\x00\x00\x00\x00\x00\x00\x03\x00\x00\x00ab",
-            19,
-        ),
-        (
-            "a byte behind the content",
-            b"\x19\x00\x00\x00\x76\x04\x00\x01\x00\x00\x00\x00\x00\x00\x00\x00\x00\x00\x00\x01\x00\x00\x00ab",
-            24,
-        ),
-    ] {
+    for (name, frame, at) in FAULTS {
         match decoded(rt.alloc(), frame) {
             Ok(_) => assert!(rt; false, "{name}"),
-            Err(fault) => assert_eq!(rt; fault, DecodeFault::Bad { at: want }, "{name}"),
+            Err(fault) => assert_eq!(rt; fault, DecodeFault::Bad { at }, "{name}"),
         }
     }
 }
