@@ -1,5 +1,5 @@
 -- What an encoder has written while it is on its way.
-use Rattle.std.specs.Prelude.{◌≡◌, ℕ, ◌+◌, List, ◌∷◌, ◌++◌}
+use Rattle.std.specs.Prelude.{◌≡◌, ℕ, ◌+◌, List, ◌++◌}
 use Rattle.std.specs.Int.{w8, w16, w32, to_le_bytes}
 
 -- something stands behind what stood

@@ -5,6 +5,9 @@
 mod decode;
 mod encode;
 mod fault;
+mod laws;
+#[cfg(test)]
+mod tests;
 
 pub use decode::decode_t;
 pub use encode::{
@@ -12,4 +15,5 @@ pub use encode::{
     put_write,
 };
 pub use fault::DecodeFault;
+pub use laws::requests_are_read_as_they_are_spelled;
 pub use nine_messages::{Qid, QidList, RBody, RMsg, TBody, TMsg};

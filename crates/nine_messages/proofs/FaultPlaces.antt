@@ -1,13 +1,12 @@
 -- The first fault of a frame lies within it.
-use Rattle.std.proofs.Common.{◌≡◌, ℕ, ◌+◌, ◌^◌, ◌<◌, ◌≤◌, List, length, Bool, true, false, cond, eqb, ltb, Result, Ok, Err, refl, arith, inl, inr}
+use Rattle.std.proofs.Common.{◌≡◌, ℕ, ◌^◌, ◌<◌, ◌≤◌, List, length, Bool, true, false, cond, eqb, ltb, Result, Ok, Err, arith, inl, inr}
 use Rattle.std.proofs.lemmas.Bool.{cases_Bool}
 use Rattle.std.specs.Int.{w8, w16, w32, w64}
-use Rattle.wire_base.specs.Readers.{Reader, ◌>>=◌, number, string, block, listed, both, no_more}
+use Rattle.wire_base.specs.Readers.{Reader, ◌>>=◌, number, string, both}
 use Rattle.wire_base.proofs.ReaderLaws.{AreBytes, number_spells, wide32}
-use Rattle.wire_base.proofs.PlaceLaws.{Inside, Within, bind_inside, cond_inside, number_within, block_within, string_within, listed_within, both_within, converted_within}
-use Rattle.nine_messages.specs.declared.message.TMsg.{TMsg}
+use Rattle.wire_base.proofs.PlaceLaws.{Inside, Within, number_within, block_within, string_within, listed_within, both_within, converted_within}
 use Rattle.nine_messages.specs.declared.message.TBody.{TBody}
-use Rattle.nine_messages.specs.Decoding.{version_at, attach_at, walk_at, open_at, read_at, write_at, clunk_at, no_request, t_body_at, t_reading, IsFrame}
+use Rattle.nine_messages.specs.Decoding.{version_at, attach_at, walk_at, open_at, read_at, write_at, clunk_at, t_body_at, t_reading, IsFrame}
 
 n32 : Within (number w32)
 n32 = number_within w32
@@ -25,9 +24,9 @@ FaultsWithin read = (bytes : List ℕ) → 7 ≤ length bytes → Inside bytes (
 chosen : (kind k : ℕ) (one other : Reader TBody) → FaultsWithin one → FaultsWithin other → FaultsWithin (cond (eqb kind k) one other)
 unfolding FaultsWithin
 chosen kind k one other p q bytes le = elim (cases_Bool (eqb kind k)) [
-    | inl is ↦ rw is (p bytes le)
-    | inr not ↦ rw not (q bytes le)
-  ]
+  | inl is ↦ rw is (p bytes le)
+  | inr not ↦ rw not (q bytes le)
+]
 
 body_within : (kind : ℕ) → FaultsWithin (t_body_at kind)
 unfolding FaultsWithin t_body_at version_at attach_at walk_at open_at read_at write_at clunk_at

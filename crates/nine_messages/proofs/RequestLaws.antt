@@ -1,14 +1,13 @@
 -- What is read as a request is spelled so, and what is spelled so is read.
-use Rattle.std.proofs.Common.{◌≡◌, ℕ, ◌+◌, ◌<◌, ◌≤◌, ◌^◌, List, [], ◌∷◌, ◌++◌, length, take, drop, Bool, true, false, cond, eqb, Result, Ok, Err, refl, sym, ap, subst, ◌∙◌, append_assoc, append-nil, arith, rules, inl, inr}
+use Rattle.std.proofs.Common.{◌≡◌, ℕ, ◌+◌, ◌<◌, ◌≤◌, ◌^◌, List, [], ◌++◌, length, drop, cond, eqb, Ok, refl, sym, ap, subst, ◌∙◌, append-nil, arith, inl, inr}
 use Rattle.std.proofs.lemmas.Bool.{eqb-true, cases_Bool}
-use Rattle.std.proofs.lemmas.List.{length-append, take-append-drop, drop_at}
 use Rattle.std.specs.Int.{w8, w16, w32, w64, to_le_bytes}
 use Rattle.wire_base.specs.Readers.{Reader, ◌>>=◌, number, block, string, listed, both, converted, no_more, counted, spelled, listing, FitsList, IsString}
-use Rattle.wire_base.proofs.ReaderLaws.{AreBytes, Taken, Taken-then, Spells, bind_ok, ok_is, wide8, wide16, wide32, wide64, number_spells, block_spells, string_spells, listed_spells, both_spells, no_more_taken, no_more_again, drop_behind}
+use Rattle.wire_base.proofs.ReaderLaws.{AreBytes, Taken, Taken-then, Spells, bind_ok, ok_is, wide8, wide16, wide32, wide64, number_spells, block_spells, string_spells, listed_spells, both_spells, no_more_taken, no_more_again}
 use Rattle.nine_messages.specs.declared.message.TMsg.{TMsg}
 use Rattle.nine_messages.specs.declared.message.TBody.{TBody}
 use Rattle.nine_messages.specs.declared.message.TBody.TheVariants as t
-use Rattle.nine_messages.specs.Messages.{frame, t_kind, t_fields, t_fits, t_frame, IsRequest}
+use Rattle.nine_messages.specs.Messages.{frame, t_kind, t_fields, t_fits, IsRequest}
 use Rattle.nine_messages.specs.Decoding.{version_at, attach_at, walk_at, open_at, read_at, write_at, clunk_at, no_request, t_body_at, t_reading, IsFrame}
 
 -- a reader of one kind of message takes its fields and nothing else
@@ -26,7 +25,7 @@ reads kind f read text P s k t q bytes at next b fits e =
     let c = converted_ok f read bytes at next b e in
     let one = s.taken bytes at next c.0 fits c.2 in
     subst (λ (b : TBody). (t_kind b ≡ kind) × Taken bytes at next (t_fields b) × t_fits b) c.1
-      (k c.0, rw (t c.0) at one.0, q c.0 one.1)
+    (k c.0, rw (t c.0) at one.0, q c.0 one.1)
 
 n8 : Spells (number w8) (to_le_bytes w8) (λ n. n < 2 ^ 8)
 n8 = number_spells w8 (2 ^ 8) wide8
@@ -95,9 +94,9 @@ clunk_reads = reads 120 (λ p. t.Clunk p) _ _ _ n32 (λ x. refl) (λ x. refl) (�
 -- a choice of two readers
 chosen_reads : (kind k : ℕ) (one other : Reader TBody) → Reads k one → Reads kind other → Reads kind (cond (eqb kind k) one other)
 chosen_reads kind k one other p q bytes at next b fits e = elim (cases_Bool (eqb kind k)) [
-    | inl is ↦ let r = p bytes at next b fits (rw is at e) in (r.0 ∙ sym (eqb-true kind k is), r.1, r.2)
-    | inr not ↦ q bytes at next b fits (rw not at e)
-  ]
+  | inl is ↦ let r = p bytes at next b fits (rw is at e) in (r.0 ∙ sym (eqb-true kind k is), r.1, r.2)
+  | inr not ↦ q bytes at next b fits (rw not at e)
+]
 
 no_request_reads : (kind : ℕ) → Reads kind no_request
 no_request_reads kind bytes at next b fits e = absurd cc
@@ -141,9 +140,28 @@ t_kind_small (t.Read fid offset count) = omega arith
 t_kind_small (t.Write fid offset content) = omega arith
 t_kind_small (t.Clunk fid) = omega arith
 
+-- the parts of a frame, one behind the other to its end, are all of it
+frame_taken : (bytes fields : List ℕ) (kind tag five seven last : ℕ) → Taken bytes 0 4 (to_le_bytes w32 (length bytes)) → Taken bytes 4 five (to_le_bytes w8 kind) → Taken bytes 5 seven (to_le_bytes w16 tag) → Taken bytes 7 last fields → drop last bytes ≡ [] → bytes ≡ frame kind tag fields
+unfolding frame frame_text
+frame_taken bytes fields kind tag five seven last size-is kind-is tag-is fields-is end =
+    let kind-part : Taken bytes 4 5 (to_le_bytes w8 kind) = subst (λ (n : ℕ). Taken bytes 4 n (to_le_bytes w8 kind)) kind-is.place kind-is in
+    let tag-part : Taken bytes 5 7 (to_le_bytes w16 tag) = subst (λ (n : ℕ). Taken bytes 5 n (to_le_bytes w16 tag)) tag-is.place tag-is in
+    let head = Taken-then bytes 0 5 7 _ (to_le_bytes w16 tag) (Taken-then bytes 0 4 5 (to_le_bytes w32 (length bytes)) (to_le_bytes w8 kind) size-is kind-part) tag-part in
+    let whole = Taken-then bytes 0 7 last _ fields head fields-is in
+    let all : bytes ≡ frame_text (length bytes) kind tag fields = whole.parts ∙ ap (λ (r : List ℕ). frame_text (length bytes) kind tag fields ++ r) end ∙ append-nil (frame_text (length bytes) kind tag fields) in
+    all ∙ ap (λ (n : ℕ). frame_text n kind tag fields) (ap length all ∙ frame_len (length bytes) kind tag fields)
+
+-- and so are those of a request
+request_made : (bytes : List ℕ) (m : TMsg) (b : TBody) (kind tag five seven last : ℕ) → Taken bytes 0 4 (to_le_bytes w32 (length bytes)) → Taken bytes 4 five (to_le_bytes w8 kind) → Taken bytes 5 seven (to_le_bytes w16 tag) → Taken bytes 7 last (t_fields b) → t_kind b ≡ kind → tag < 2 ^ 16 → t_fits b → (record { tag = tag; body = b } ≡ m) × (drop last bytes ≡ []) → IsRequest bytes m
+request_made bytes m b kind tag five seven last size-is kind-is tag-is fields-is same small fits end = subst (λ (m : TMsg). IsRequest bytes m) end.0 (record {
+  spelling = rw same (frame_taken bytes (t_fields b) kind tag five seven last size-is kind-is tag-is fields-is end.1);
+  tag = small;
+  fields = fits;
+})
+
 -- what is read of a whole frame is spelled by its bytes
 pub request_taken : (bytes : List ℕ) (m : TMsg) → AreBytes bytes → IsFrame bytes → t_reading bytes ≡ Ok m → IsRequest bytes m
-unfolding t_reading frame frame_text
+unfolding t_reading
 request_taken bytes m fits whole e =
     let k = bind_ok (number w8 bytes 4) (λ kind. number w16 bytes 5 >>= λ tag. t_body_at kind.0 bytes 7 >>= λ body. no_more (record { tag = tag.0; body = body.0 }) bytes body.1) m e in
     let t = bind_ok (number w16 bytes 5) (λ tag. t_body_at k.0.0 bytes 7 >>= λ body. no_more (record { tag = tag.0; body = body.0 }) bytes body.1) m k.2 in
@@ -153,17 +171,7 @@ request_taken bytes m fits whole e =
     let kind-is = n8.taken bytes 4 k.0.1 k.0.0 fits k.1 in
     let tag-is = n16.taken bytes 5 t.0.1 t.0.0 fits t.1 in
     let body-is = t_body_reads k.0.0 bytes 7 b.0.1 b.0.0 fits b.1 in
-    let five : k.0.1 ≡ 5 = kind-is.0.place in
-    let seven : t.0.1 ≡ 7 = tag-is.0.place in
-    let kind-part : Taken bytes 4 5 (to_le_bytes w8 k.0.0) = subst (λ (n : ℕ). Taken bytes 4 n (to_le_bytes w8 k.0.0)) five kind-is.0 in
-    let tag-part : Taken bytes 5 7 (to_le_bytes w16 t.0.0) = subst (λ (n : ℕ). Taken bytes 5 n (to_le_bytes w16 t.0.0)) seven tag-is.0 in
-    let whole-part = Taken-then bytes 0 7 b.0.1 _ (t_fields b.0.0) (Taken-then bytes 0 5 7 _ (to_le_bytes w16 t.0.0) (Taken-then bytes 0 4 5 (to_le_bytes w32 (length bytes)) (to_le_bytes w8 k.0.0) size-is.0 kind-part) tag-part) body-is.1 in
-    let text = to_le_bytes w32 (length bytes) ++ to_le_bytes w8 k.0.0 ++ to_le_bytes w16 t.0.0 ++ t_fields b.0.0 in
-    let all : bytes ≡ text = whole-part.parts ∙ ap (λ (r : List ℕ). text ++ r) end.1 ∙ append-nil text in
-    let len : length bytes ≡ 7 + length (t_fields b.0.0) = ap length all ∙ frame_len (length bytes) k.0.0 t.0.0 (t_fields b.0.0) in
-    let kind-same : t_kind b.0.0 ≡ k.0.0 = body-is.0 in
-    subst (λ (m : TMsg). IsRequest bytes m) end.0
-      (record { spelling = all ∙ ap (λ (n : ℕ). frame_text n k.0.0 t.0.0 (t_fields b.0.0)) len ∙ ap (λ (kind : ℕ). frame_text (7 + length (t_fields b.0.0)) kind t.0.0 (t_fields b.0.0)) (sym kind-same); tag = tag-is.1; fields = body-is.2 })
+    request_made bytes m b.0.0 k.0.0 t.0.0 k.0.1 t.0.1 b.0.1 size-is.0 kind-is.0 tag-is.0 body-is.1 body-is.0 tag-is.1 body-is.2 end
 
 -- and what is spelled is read
 pub request_again : (bytes : List ℕ) (m : TMsg) → IsRequest bytes m → t_reading bytes ≡ Ok m
@@ -174,7 +182,9 @@ request_again bytes m is =
     let tag-here : drop 5 bytes ≡ to_le_bytes w16 m.tag ++ fields = ap (drop 5) is.spelling in
     let fields-here : drop 7 bytes ≡ fields ++ [] = ap (drop 7) is.spelling ∙ sym (append-nil fields) in
     let long : length bytes ≤ 7 + length fields = omega (arith, ap length is.spelling) in
-    rw (n8.again bytes (to_le_bytes w16 m.tag ++ fields) 4 (t_kind m.body) (t_kind_small m.body) kind-here,
-        n16.again bytes fields 5 m.tag is.tag tag-here,
-        t_body_again m.body bytes [] 7 is.fields fields-here,
-        no_more_again m bytes (7 + length fields) long) refl
+    rw (
+      n8.again bytes (to_le_bytes w16 m.tag ++ fields) 4 (t_kind m.body) (t_kind_small m.body) kind-here,
+      n16.again bytes fields 5 m.tag is.tag tag-here,
+      t_body_again m.body bytes [] 7 is.fields fields-here,
+      no_more_again m bytes (7 + length fields) long,
+    ) refl

@@ -13,15 +13,40 @@ pub struct TMsg {
 #[derive(Debug, Drop)]
 pub enum TBody {
     /// The largest message and the version that the client knows.
-    Version { msize: u32, version: Text },
+    Version {
+        msize: u32,
+        version: Text,
+    },
     /// A fid for the root of the tree.
-    Attach { fid: u32, afid: u32, uname: Text, aname: Text },
+    Attach {
+        fid: u32,
+        afid: u32,
+        uname: Text,
+        aname: Text,
+    },
     /// A new fid for what is found from a fid by at most 16 names.
-    Walk { fid: u32, newfid: u32, wname: TextList },
-    Open { fid: u32, mode: u8 },
-    Read { fid: u32, offset: u64, count: u32 },
-    Write { fid: u32, offset: u64, content: Bytes },
-    Clunk { fid: u32 },
+    Walk {
+        fid: u32,
+        newfid: u32,
+        wname: TextList,
+    },
+    Open {
+        fid: u32,
+        mode: u8,
+    },
+    Read {
+        fid: u32,
+        offset: u64,
+        count: u32,
+    },
+    Write {
+        fid: u32,
+        offset: u64,
+        content: Bytes,
+    },
+    Clunk {
+        fid: u32,
+    },
 }
 
 /// A reply: the tag of its request and what is answered.

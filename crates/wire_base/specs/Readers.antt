@@ -1,8 +1,8 @@
 -- Readers carry the place. A reader is given the whole bytes and the place at which its field begins, and
 -- answers the value and the place behind it, or the place of the fault. So a record's reader is its fields in order.
-use Rattle.std.specs.Prelude.{◌≡◌, ℕ, zero, suc, ◌+◌, List, [], ◌∷◌, ◌++◌, ◌<◌, ◌≤◌, ◌^◌, true, length, take, drop, Option, Some, None, Result, Ok, Err, nat_lt, Bool, if◌then◌else◌}
+use Rattle.std.specs.Prelude.{◌≡◌, ℕ, zero, suc, ◌+◌, List, [], ◌∷◌, ◌++◌, ◌<◌, ◌≤◌, ◌^◌, true, length, take, drop, Option, Some, None, Result, Ok, Err, nat_lt, if◌then◌else◌}
 use Rattle.std.specs.List.{flat_map, AllByRecursion}
-use Rattle.std.specs.Int.{Width, w8, w16, w32, w64, byte_len, from_le_bytes, to_le_bytes}
+use Rattle.std.specs.Int.{Width, w16, byte_len, from_le_bytes, to_le_bytes}
 use Rattle.wire_base.specs.Texts.{is_text}
 use Rattle.wire_base.specs.declared.reader.BadField.{BadField}
 use Rattle.wire_base.specs.declared.reader.CodecFault.{CodecFault}

@@ -137,3 +137,32 @@ impl Bytes {
         Ok(Bytes { list })
     }
 }
+
+#[cfg(test)]
+mod tests {
+    use super::*;
+    use std::test::Fail;
+
+    #[test]
+    fn bytes_grow_and_shrink(rt: HostRuntime) -> Result<(), Fail> {
+        let mut bytes = Bytes::new(rt.alloc());
+        assert_eq!(rt; bytes.len(), 0);
+        bytes.append(b"hel")?;
+        bytes.append(b"lo")?;
+        bytes.push(b'!')?;
+        assert_eq!(rt; bytes.as_slice(), b"hello!".as_slice());
+        let copy = bytes.copy()?;
+        for (count, left) in [(7, "hello!"), (6, "hello!"), (4, "hell"), (0, "")] {
+            bytes.truncate(count);
+            assert_eq!(rt; bytes.as_slice(), left.as_bytes(), "{count}");
+            assert_eq!(rt; bytes.len(), left.len(), "{count}");
+        }
+        let mut moved = Bytes::from_vec(copy.into_vec());
+        assert_eq!(rt; moved.as_slice(), b"hello!".as_slice());
+        moved.clear();
+        assert_eq!(rt; moved.as_slice(), b"".as_slice());
+        let sliced = Bytes::from_slice(rt.alloc(), b"\x00\xff")?;
+        assert_eq!(rt; sliced.as_slice(), [0, 255].as_slice());
+        Ok(())
+    }
+}

@@ -85,3 +85,88 @@ pub fn put_str(text: &[u8], out: &mut Bytes) -> Result<(), NoMemory>
     }
     done
 }
+
+#[cfg(test)]
+mod tests {
+    use super::*;
+    use std::test::Fail;
+
+    #[test]
+    fn numbers_have_their_lowest_byte_first(rt: HostRuntime) {
+        let input = [1, 2, 3, 4, 5, 6, 7, 8, 9, 255];
+        for (at, two, four, eight) in [
+            (
+                0,
+                Some(0x0201),
+                Some(0x0403_0201),
+                Some(0x0807_0605_0403_0201),
+            ),
+            (
+                2,
+                Some(0x0403),
+                Some(0x0605_0403),
+                Some(0xff09_0807_0605_0403),
+            ),
+            (3, Some(0x0504), Some(0x0706_0504), None),
+            (6, Some(0x0807), Some(0xff09_0807), None),
+            (7, Some(0x0908), None, None),
+            (8, Some(0xff09), None, None),
+            (9, None, None, None),
+            (10, None, None, None),
+            (11, None, None, None),
+        ] {
+            assert_eq!(rt; get_u16(&input, at), two, "two bytes at {at}");
+            assert_eq!(rt; get_u32(&input, at), four, "four bytes at {at}");
+            assert_eq!(rt; get_u64(&input, at), eight, "eight bytes at {at}");
+        }
+    }
+
+    #[test]
+    fn strings_are_counted_text(rt: HostRuntime) {
+        for (name, input, at, want) in [
+            ("a string", b"\x03\x00ann".as_slice(), 0, Some("ann")),
+            ("bytes behind it", b"\x02\x00ann".as_slice(), 0, Some("an")),
+            ("no text", b"\x00\x00".as_slice(), 0, Some("")),
+            (
+                "in the middle",
+                b"--\x03\x00\xe2\x82\xac--".as_slice(),
+                2,
+                Some("\u{20ac}"),
+            ),
+            ("one byte short", b"\x03\x00an".as_slice(), 0, None),
+            ("half a length", b"--\x03".as_slice(), 2, None),
+            ("at the end", b"\x00\x00".as_slice(), 2, None),
+            ("past the end", b"\x00\x00".as_slice(), 3, None),
+            ("a NUL", b"\x03\x00a\x00n".as_slice(), 0, None),
+            (
+                "a lone following byte",
+                b"\x02\x00a\x80".as_slice(),
+                0,
+                None,
+            ),
+            (
+                "half a character",
+                b"\x02\x00\xe2\x82\xac".as_slice(),
+                0,
+                None,
+            ),
+        ] {
+            let want = want.map(|text| text.as_bytes());
+            assert_eq!(rt; get_str(input, at), want, "{name}");
+        }
+    }
+
+    #[test]
+    fn fields_come_behind_what_stands(rt: HostRuntime) -> Result<(), Fail> {
+        let mut out = Bytes::from_slice(rt.alloc(), b"so ")?;
+        put_u16(0x0201, &mut out)?;
+        put_u32(0x0605_0403, &mut out)?;
+        put_u64(0x0e0d_0c0b_0a09_0807, &mut out)?;
+        put_str(b"ann", &mut out)?;
+        put_str(b"", &mut out)?;
+        let want =
+            b"so \x01\x02\x03\x04\x05\x06\x07\x08\x09\x0a\x0b\x0c\x0d\x0e\x03\x00ann\x00\x00";
+        assert_eq!(rt; out.as_slice(), want.as_slice());
+        Ok(())
+    }
+}

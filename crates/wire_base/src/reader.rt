@@ -178,3 +178,51 @@ pub fn end_at(bytes: &[u8], at: usize) -> Result<(), BadField>
     }
     Ok(())
 }
+
+#[cfg(test)]
+mod tests {
+    use super::*;
+    use std::test::Fail;
+
+    // A byte, numbers of two, four and eight bytes, a string and a block.
+    const RECORD: &[u8] =
+        b"\x01\x02\x03\x04\x05\x06\x07\x08\x09\x0a\x0b\x0c\x0d\x0e\x0f\x03\x00ann\x02\x00\x00\x00\x00\xff";
+
+    #[test]
+    fn fields_are_read_one_behind_the_other(rt: HostRuntime) -> Result<(), Fail> {
+        assert_eq!(rt; u8_at(RECORD, 0), Ok((1, 1)));
+        assert_eq!(rt; u16_at(RECORD, 1), Ok((0x0302, 3)));
+        assert_eq!(rt; u32_at(RECORD, 3), Ok((0x0706_0504, 7)));
+        assert_eq!(rt; u64_at(RECORD, 7), Ok((0x0f0e_0d0c_0b0a_0908, 15)));
+        assert_eq!(rt; string_at(RECORD, 15), Ok((b"ann".as_slice(), 20)));
+        assert_eq!(rt; block_at(RECORD, 20), Ok((b"\x00\xff".as_slice(), 26)));
+        assert_eq!(rt; end_at(RECORD, 26), Ok(()));
+        let (text, next) = text_at(rt.alloc(), RECORD, 15)?;
+        assert_eq!(rt; text.as_slice(), b"ann".as_slice());
+        assert_eq!(rt; next, 20);
+        Ok(())
+    }
+
+    #[test]
+    fn faults_are_told_at_their_field(rt: HostRuntime) {
+        let bad = |at| BadField { at };
+        assert_eq!(rt; u8_at(RECORD, 26), Err(bad(26)), "a byte at the end");
+        assert_eq!(rt; u16_at(RECORD, 25), Err(bad(25)), "two bytes, one short");
+        assert_eq!(rt; u32_at(RECORD, 23), Err(bad(23)), "four bytes, one short");
+        assert_eq!(rt; u64_at(RECORD, 19), Err(bad(19)), "eight bytes, one short");
+        assert_eq!(rt; block_at(RECORD, 3), Err(bad(3)), "a block past the end");
+        assert_eq!(rt; end_at(RECORD, 25), Err(bad(25)), "a byte left over");
+        for (name, input, at) in [
+            ("half a length", b"--\x01".as_slice(), 2),
+            ("one byte short", b"--\x02\x00a".as_slice(), 2),
+            ("a NUL", b"--\x02\x00a\x00".as_slice(), 2),
+            ("no UTF-8", b"--\x02\x00a\xff".as_slice(), 2),
+        ] {
+            assert_eq!(rt; string_at(input, at), Err(bad(at)), "{name}");
+            match text_at(rt.alloc(), input, at) {
+                Ok(_) => assert!(rt; false, "{name}"),
+                Err(fault) => assert_eq!(rt; fault, CodecFault::Bad(bad(at)), "{name}"),
+            }
+        }
+    }
+}

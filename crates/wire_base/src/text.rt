@@ -119,3 +119,59 @@ impl TextList {
         &self.list
     }
 }
+
+#[cfg(test)]
+mod tests {
+    use super::*;
+    use std::test::Fail;
+
+    // The bytes of RFC 3629: which are UTF-8, and which are not.
+    #[test]
+    fn text_is_utf8_without_nul(rt: HostRuntime) -> Result<(), Fail> {
+        for (name, input, is_text) in [
+            ("empty", b"".as_slice(), true),
+            ("plain", b"ann".as_slice(), true),
+            (
+                "four lengths",
+                b"A\xc3\xa9\xe2\x89\xa2\xf0\xa3\x8e\xb4".as_slice(),
+                true,
+            ),
+            ("the last character", b"\xf4\x8f\xbf\xbf".as_slice(), true),
+            ("behind the last", b"\xf4\x90\x80\x80".as_slice(), false),
+            ("a surrogate", b"\xed\xa1\x8c".as_slice(), false),
+            ("NUL in two bytes", b"\xc0\x80".as_slice(), false),
+            ("NUL alone", b"\x00".as_slice(), false),
+            ("NUL at the end", b"ann\x00".as_slice(), false),
+            ("cut short", b"ann\xe2\x89".as_slice(), false),
+            ("no first byte", b"\xa9ann".as_slice(), false),
+        ] {
+            assert_eq!(rt; check_text(input), is_text, "{name}");
+            match Text::from_slice(rt.alloc(), input)? {
+                Some(text) => {
+                    assert!(rt; is_text, "{name}");
+                    assert_eq!(rt; text.as_slice(), input, "{name}");
+                    assert_eq!(rt; text.len(), input.len(), "{name}");
+                    assert_eq!(rt; text.copy()?.as_slice(), input, "{name}");
+                }
+                None => assert!(rt; !is_text, "{name}"),
+            }
+        }
+        Ok(())
+    }
+
+    #[test]
+    fn texts_stand_in_their_order(rt: HostRuntime) -> Result<(), Fail> {
+        let words = ["so", "", "so"];
+        let mut texts = TextList::new(rt.alloc());
+        assert!(rt; texts.as_slice().is_empty());
+        for word in words {
+            let text = Text::from_slice(rt.alloc(), word.as_bytes())?;
+            texts.push(text.ok_or("no text")?)?;
+        }
+        assert_eq!(rt; texts.as_slice().len(), words.len());
+        for (text, word) in texts.as_slice().iter().zip(words) {
+            assert_eq!(rt; text.as_slice(), word.as_bytes());
+        }
+        Ok(())
+    }
+}

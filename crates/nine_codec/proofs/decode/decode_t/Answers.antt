@@ -1,4 +1,4 @@
-use Rattle.std.proofs.Common.{◌≡◌, Ok, Err, sym, ◌∙◌, arith}
+use Rattle.std.proofs.Common.{sym, ◌∙◌, arith}
 use Rattle.nine_messages.proofs.RequestLaws.{request_taken, request_again}
 use Rattle.nine_messages.proofs.FaultPlaces.{fault_within, frame_small}
 use Rattle.nine_codec.proofs.decode.decode_t.Goals as goal

@@ -1,0 +1,332 @@
+// The bytes of a session over a ctl file, and frames that are no requests, each written out by hand from
+// section 5 of the Plan 9 manual.
+use crate::decode::decode_t;
+use crate::encode::{
+    encode_r, put_attach, put_clunk, put_error, put_open, put_read, put_version, put_walk,
+    put_write,
+};
+use crate::fault::DecodeFault;
+use nine_messages::{Qid, QidList, RBody, RMsg, TBody, TMsg};
+use std::alloc::Global;
+use std::process::Abort;
+use std::test::Fail;
+use wire_base::{Bytes, Text, u32_at};
+
+const LINE: &[u8] = b"key proto=apop user=a !password=b";
+
+const ROOT: Qid = Qid {
+    kind: 0x80,
+    vers: 0,
+    path: 0,
+};
+
+const FOLDER: Qid = Qid {
+    kind: 0x80,
+    vers: 0,
+    path: 1,
+};
+
+const CTL: Qid = Qid {
+    kind: 0,
+    vers: 0,
+    path: 3,
+};
+
+// The request that a frame spells; at 0 where the frame isn't whole.
+fn decoded(alloc: Global, frame: &[u8]) -> Result<TMsg, DecodeFault> {
+    match u32_at(frame, 0) {
+        Ok((size, 4)) if frame.len() >= 7 && size as usize == frame.len() => {
+            decode_t(alloc, frame)
+        }
+        _ => Err(DecodeFault::Bad { at: 0 }),
+    }
+}
+
+#[test]
+fn files_are_asked_for(rt: HostRuntime) -> Result<(), Fail> {
+    let alloc = rt.alloc();
+    let frame = b"\x13\x00\x00\x00\x64\xff\xff\x18\x20\x00\x00\x06\x009P2000";
+    let TMsg { tag, body } = decoded(alloc, frame)?;
+    let TBody::Version { msize, version } = body else {
+        panic!(rt; "no version")
+    };
+    assert_eq!(rt; (tag, msize), (0xffff, 8216));
+    assert_eq!(rt; version.as_slice(), b"9P2000".as_slice());
+
+    let frame = b"\x16\x00\x00\x00\x68\x01\x00\x00\x00\x00\x00\xff\xff\xff\xff\x03\x00ann\x00\x00";
+    let TMsg { tag, body } = decoded(alloc, frame)?;
+    let TBody::Attach {
+        fid,
+        afid,
+        uname,
+        aname,
+    } = body
+    else {
+        panic!(rt; "no attach")
+    };
+    assert_eq!(rt; (tag, fid, afid), (1, 0, 0xffff_ffff));
+    assert_eq!(rt; uname.as_slice(), b"ann".as_slice());
+    assert_eq!(rt; aname.as_slice(), b"".as_slice());
+
+    let frame =
+        b"\x20\x00\x00\x00\x6e\x02\x00\x00\x00\x00\x00\x01\x00\x00\x00\x02\x00\x08\x00factotum\x03\x00ctl";
+    let TMsg { tag, body } = decoded(alloc, frame)?;
+    let TBody::Walk { fid, newfid, wname } = body else {
+        panic!(rt; "no walk")
+    };
+    assert_eq!(rt; (tag, fid, newfid), (2, 0, 1));
+    assert_eq!(rt; wname.as_slice().len(), 2);
+    for (name, want) in wname.as_slice().iter().zip(["factotum", "ctl"]) {
+        assert_eq!(rt; name.as_slice(), want.as_bytes());
+    }
+    Ok(())
+}
+
+#[test]
+fn files_are_used(rt: HostRuntime) -> Result<(), Fail> {
+    let alloc = rt.alloc();
+    let TMsg { tag, body } = decoded(alloc, b"\x0c\x00\x00\x00\x70\x03\x00\x01\x00\x00\x00\x02")?;
+    let TBody::Open { fid, mode } = body else {
+        panic!(rt; "no open")
+    };
+    assert_eq!(rt; (tag, fid, mode), (3, 1, 2));
+
+    let frame =
+        b"\x38\x00\x00\x00\x76\x04\x00\x01\x00\x00\x00\x00\x00\x00\x00\x00\x00\x00\x00\x21\x00\x00\x00key proto=apop user=a !password=b";
+    let TMsg { tag, body } = decoded(alloc, frame)?;
+    let TBody::Write {
+        fid,
+        offset,
+        content,
+    } = body
+    else {
+        panic!(rt; "no write")
+    };
+    assert_eq!(rt; (tag, fid, offset), (4, 1, 0));
+    assert_eq!(rt; content.as_slice(), LINE);
+
+    let TMsg { tag, body } = decoded(alloc, b"\x0b\x00\x00\x00\x78\x06\x00\x01\x00\x00\x00")?;
+    let TBody::Clunk { fid } = body else {
+        panic!(rt; "no clunk")
+    };
+    assert_eq!(rt; (tag, fid), (6, 1));
+    Ok(())
+}
+
+#[test]
+fn reads_are_asked_for(rt: HostRuntime) -> Result<(), Fail> {
+    for (frame, want) in [
+        (
+            b"\x17\x00\x00\x00\x74\x05\x00\x01\x00\x00\x00\x00\x00\x00\x00\x00\x00\x00\x00\x64\x00\x00\x00".as_slice(),
+            (5, 1, 0, 100),
+        ),
+        (
+            b"\x17\x00\x00\x00\x74\x34\x12\x04\x03\x02\x01\x08\x07\x06\x05\x04\x03\x02\x01\xff\xff\xff\xff".as_slice(),
+            (0x1234, 0x0102_0304, 0x0102_0304_0506_0708, 0xffff_ffff),
+        ),
+    ] {
+        let TMsg { tag, body } = decoded(rt.alloc(), frame)?;
+        let TBody::Read { fid, offset, count } = body else {
+            panic!(rt; "no read")
+        };
+        assert_eq!(rt; (tag, fid, offset, count), want);
+    }
+    Ok(())
+}
+
+// Frames that are no requests, and the place of the first fault of each.
+const FAULTS: [(&str, &[u8], u32); 18] = [
+    ("a reply's type", b"\x07\x00\x00\x00\x79\x06\x00", 4),
+    (
+        "a type not served",
+        b"\x0b\x00\x00\x00\x7c\x07\x00\x01\x00\x00\x00",
+        4,
+    ),
+    ("no fid", b"\x07\x00\x00\x00\x78\x01\x00", 7),
+    (
+        "a fid one byte short",
+        b"\x0a\x00\x00\x00\x78\x01\x00\x00\x00\x00",
+        7,
+    ),
+    (
+        "a byte behind a clunk",
+        b"\x0c\x00\x00\x00\x78\x01\x00\x00\x00\x00\x00\x00",
+        11,
+    ),
+    (
+        "an open with no mode",
+        b"\x0b\x00\x00\x00\x70\x03\x00\x01\x00\x00\x00",
+        11,
+    ),
+    (
+        "an offset one byte short",
+        b"\x12\x00\x00\x00\x74\x05\x00\x01\x00\x00\x00\x00\x00\x00\x00\x00\x00\x00",
+        11,
+    ),
+    (
+        "a read with no count",
+        b"\x13\x00\x00\x00\x74\x05\x00\x01\x00\x00\x00\x00\x00\x00\x00\x00\x00\x00\x00",
+        19,
+    ),
+    (
+        "a version with half a length",
+        b"\x0c\x00\x00\x00\x64\xff\xff\x18\x20\x00\x00\x06",
+        11,
+    ),
+    (
+        "a version cut short",
+        b"\x13\x00\x00\x00\x64\xff\xff\x18\x20\x00\x00\x07\x009P2000",
+        11,
+    ),
+    (
+        "a byte behind a version",
+        b"\x14\x00\x00\x00\x64\xff\xff\x18\x20\x00\x00\x06\x009P2000\x00",
+        19,
+    ),
+    (
+        "a user with NUL",
+        b"\x16\x00\x00\x00\x68\x01\x00\x00\x00\x00\x00\xff\xff\xff\xff\x03\x00a\x00n\x00\x00",
+        15,
+    ),
+    (
+        "a tree not in UTF-8",
+        b"\x18\x00\x00\x00\x68\x01\x00\x00\x00\x00\x00\xff\xff\xff\xff\x03\x00ann\x02\x00\xff\xfe",
+        20,
+    ),
+    (
+        "both, and a byte more",
+        b"\x19\x00\x00\x00\x68\x01\x00\x00\x00\x00\x00\xff\xff\xff\xff\x03\x00a\x00n\x02\x00\xff\xfe\x00",
+        15,
+    ),
+    (
+        "a second name cut short",
+        b"\x20\x00\x00\x00\x6e\x02\x00\x00\x00\x00\x00\x01\x00\x00\x00\x02\x00\x08\x00factotum\x04\x00ctl",
+        27,
+    ),
+    (
+        "17 names",
+        b"\x44\x00\x00\x00\x6e\x02\x00\x00\x00\x00\x00\x01\x00\x00\x00\x11\x00\x01\x00a\x01\x00a\x01\x00a\x01\x00a\x01\x00a\x01\x00a\x01\x00a\x01\x00a\x01\x00a\x01\x00a\x01\x00a\x01\x00a\x01\x00a\x01\x00a\x01\x00a\x01\x00a\x01\x00a",
+        15,
+    ),
+    (
+        "a count past the end",
+        b"\x19\x00\x00\x00\x76\x04\x00\x01\x00\x00\x00\x00\x00\x00\x00\x00\x00\x00\x00\x03\x00\x00\x00ab",
+        19,
+    ),
+    (
+        "a byte behind the content",
+        b"\x19\x00\x00\x00\x76\x04\x00\x01\x00\x00\x00\x00\x00\x00\x00\x00\x00\x00\x00\x01\x00\x00\x00ab",
+        24,
+    ),
+];
+
+#[test]
+fn the_first_fault_is_told(rt: HostRuntime) {
+    for (name, frame, at) in FAULTS {
+        match decoded(rt.alloc(), frame) {
+            Ok(_) => assert!(rt; false, "{name}"),
+            Err(fault) => assert_eq!(rt; fault, DecodeFault::Bad { at }, "{name}"),
+        }
+    }
+}
+
+// What the session is answered, and a refusal.
+const REPLIES: [&[u8]; 8] = [
+    b"\x13\x00\x00\x00\x65\xff\xff\x18\x20\x00\x00\x06\x009P2000",
+    b"\x14\x00\x00\x00\x69\x01\x00\x80\x00\x00\x00\x00\x00\x00\x00\x00\x00\x00\x00\x00",
+    b"\x23\x00\x00\x00\x6f\x02\x00\x02\x00\x80\x00\x00\x00\x00\x01\x00\x00\x00\x00\x00\x00\x00\x00\x00\x00\x00\x00\x03\x00\x00\x00\x00\x00\x00\x00",
+    b"\x18\x00\x00\x00\x71\x03\x00\x00\x00\x00\x00\x00\x03\x00\x00\x00\x00\x00\x00\x00\x00\x00\x00\x00",
+    b"\x0b\x00\x00\x00\x77\x04\x00\x21\x00\x00\x00",
+    b"\x2c\x00\x00\x00\x75\x05\x00\x21\x00\x00\x00key proto=apop user=a !password?\n",
+    b"\x07\x00\x00\x00\x79\x06\x00",
+    b"\x13\x00\x00\x00\x6b\x07\x00\x0a\x00not served",
+];
+
+fn text_of(alloc: Global, bytes: &[u8]) -> Result<Text, Fail> {
+    Ok(Text::from_slice(alloc, bytes)?.ok_or("no text")?)
+}
+
+// What was appended is the reply of this number, and what stood before is kept.
+fn check_reply(rt: &impl Abort, out: &mut Bytes, number: usize) {
+    assert!(rt; number < REPLIES.len());
+    assert!(rt; out.len() > 2, "reply {number}");
+    let (front, reply) = out.as_slice().split_at(2);
+    assert_eq!(rt; front, b"--".as_slice(), "reply {number}");
+    assert_eq!(rt; reply, REPLIES[number], "reply {number}");
+    out.truncate(2);
+}
+
+#[test]
+fn replies_are_appended(rt: HostRuntime) -> Result<(), Fail> {
+    let mut out = Bytes::from_slice(rt.alloc(), b"--")?;
+    put_version(0xffff, 8216, b"9P2000", &mut out)?;
+    check_reply(&rt, &mut out, 0);
+    put_attach(1, &ROOT, &mut out)?;
+    check_reply(&rt, &mut out, 1);
+    put_walk(2, &[FOLDER, CTL], &mut out)?;
+    check_reply(&rt, &mut out, 2);
+    put_open(3, &CTL, 0, &mut out)?;
+    check_reply(&rt, &mut out, 3);
+    put_write(4, 33, &mut out)?;
+    check_reply(&rt, &mut out, 4);
+    put_read(5, b"key proto=apop user=a !password?\n", &mut out)?;
+    check_reply(&rt, &mut out, 5);
+    put_clunk(6, &mut out)?;
+    check_reply(&rt, &mut out, 6);
+    put_error(7, b"not served", &mut out)?;
+    check_reply(&rt, &mut out, 7);
+    Ok(())
+}
+
+#[test]
+fn messages_are_encoded(rt: HostRuntime) -> Result<(), Fail> {
+    let alloc = rt.alloc();
+    let mut out = Bytes::from_slice(alloc, b"--")?;
+    let version = text_of(alloc, b"9P2000")?;
+    assert!(rt; version.len() < 65536);
+    let body = RBody::Version {
+        msize: 8216,
+        version,
+    };
+    encode_r(&RMsg { tag: 0xffff, body }, &mut out)?;
+    check_reply(&rt, &mut out, 0);
+    let body = RBody::Attach { qid: ROOT };
+    encode_r(&RMsg { tag: 1, body }, &mut out)?;
+    check_reply(&rt, &mut out, 1);
+    let mut wqid = QidList::new(alloc);
+    wqid.push(FOLDER)?;
+    wqid.push(CTL)?;
+    let body = RBody::Walk { wqid };
+    encode_r(&RMsg { tag: 2, body }, &mut out)?;
+    check_reply(&rt, &mut out, 2);
+    let body = RBody::Open {
+        qid: CTL,
+        iounit: 0,
+    };
+    encode_r(&RMsg { tag: 3, body }, &mut out)?;
+    check_reply(&rt, &mut out, 3);
+    let body = RBody::Write { count: 33 };
+    encode_r(&RMsg { tag: 4, body }, &mut out)?;
+    check_reply(&rt, &mut out, 4);
+    Ok(())
+}
+
+#[test]
+fn more_messages_are_encoded(rt: HostRuntime) -> Result<(), Fail> {
+    let alloc = rt.alloc();
+    let mut out = Bytes::from_slice(alloc, b"--")?;
+    let content = Bytes::from_slice(alloc, b"key proto=apop user=a !password?\n")?;
+    assert!(rt; content.len() < 64);
+    let body = RBody::Read { content };
+    encode_r(&RMsg { tag: 5, body }, &mut out)?;
+    check_reply(&rt, &mut out, 5);
+    let body = RBody::Clunk;
+    encode_r(&RMsg { tag: 6, body }, &mut out)?;
+    check_reply(&rt, &mut out, 6);
+    let ename = text_of(alloc, b"not served")?;
+    assert!(rt; ename.len() < 65536);
+    let body = RBody::Error { ename };
+    encode_r(&RMsg { tag: 7, body }, &mut out)?;
+    check_reply(&rt, &mut out, 7);
+    Ok(())
+}
