@@ -3,7 +3,9 @@
 #![tactic(auto)]
 
 mod event;
+mod laws;
 mod tree;
 
 pub use event::{Event, Shape, StepAnswer};
+pub use laws::keys_are_the_lines_in_order;
 pub use tree::{FidState, Node};
