@@ -1,3 +1,5 @@
 pub mod HistoryLaws
 pub mod DeedLaws
 pub mod KeyLaws
+pub mod FidLaws
+pub mod ReplyLaws

@@ -1,10 +1,50 @@
 // Laws of the definitions, each the contract of a function that does nothing.
-ghost use Rattle.std.specs.Prelude.{◌≡◌, List};
-ghost use Rattle.agent_history.specs.Deeds.{Deed, keys_of};
-ghost use Rattle.agent_history.specs.Laws.{latest, lines_of};
+ghost use Rattle.std.specs.Prelude.{◌≡◌, ℕ, List, ◌∷◌, ◌++◌, Some, true, false, drop, map, option_to_list, reverse, take};
+ghost use Rattle.nine_messages.specs.Messages.{r_frame};
+ghost use Rattle.agent_history.specs.declared.event.Event.{Event};
+ghost use Rattle.agent_history.specs.declared.event.Event.TheVariants.{Take};
+ghost use Rattle.agent_history.specs.Deeds.{Deed, keys_of, fid_of, msize_of, text_of, held_by};
+ghost use Rattle.agent_history.specs.Table.{deed_by};
+ghost use Rattle.agent_history.specs.Histories.{History, deeds, replies, taken, untaken};
+ghost use Rattle.agent_history.specs.Laws.{latest, lines_of, none_concerns, deed_at, is_request_or_hang, is_on, conn_of, given, gives, put_out};
 
 /// The keys are those of the accepted lines of ctl, in order: of lines that are the same in public the last one alone
 /// stands, at its own place.
 pub fn keys_are_the_lines_in_order()
     ensures { (done : List Deed) → keys_of done ≡ latest (lines_of done) }
+{}
+
+/// An event does at most one deed, and only a request or a hang does one.
+pub fn an_event_does_one_deed_or_none()
+    ensures one_or_none { (event : Event) (history : History) → deeds (event ∷ history) ≡ option_to_list (deed_at history event) ++ deeds history }
+    ensures others_none { (event : Event) (history : History) → is_request_or_hang event ≡ false → deeds (event ∷ history) ≡ deeds history }
+{}
+
+/// A request's deed is one of the request's connection.
+pub fn a_request_of_a_connection_acts_on_it()
+    ensures { (done : List Deed) (conn : ℕ) (frame : List ℕ) (deed : Deed) → deed_by done conn frame ≡ Some deed → conn_of deed ≡ conn }
+{}
+
+/// What a fid of a connection names stays until a deed that concerns it.
+pub fn a_fid_stays_until_a_deed_that_concerns_it()
+    ensures by_deeds { (more done : List Deed) (conn fid : ℕ) → none_concerns more conn fid ≡ true → fid_of (more ++ done) conn fid ≡ fid_of done conn fid }
+    ensures by_events { (event : Event) (history : History) (conn fid : ℕ) → none_concerns (option_to_list (deed_at history event)) conn fid ≡ true → fid_of (deeds (event ∷ history)) conn fid ≡ fid_of (deeds history) conn fid }
+{}
+
+/// What happens on other connections changes no fid of this one, nor what it reads, nor how many are held, nor the
+/// largest message agreed.
+pub fn other_connections_change_no_fid()
+    ensures fids { (event : Event) (history : History) (conn fid : ℕ) → is_on conn event ≡ false → fid_of (deeds (event ∷ history)) conn fid ≡ fid_of (deeds history) conn fid }
+    ensures texts { (event : Event) (history : History) (conn fid : ℕ) → is_on conn event ≡ false → text_of (deeds (event ∷ history)) conn fid ≡ text_of (deeds history) conn fid }
+    ensures held { (event : Event) (history : History) (conn : ℕ) → is_on conn event ≡ false → held_by (deeds (event ∷ history)) conn ≡ held_by (deeds history) conn }
+    ensures msize { (event : Event) (history : History) (conn : ℕ) → is_on conn event ≡ false → msize_of (deeds (event ∷ history)) conn ≡ msize_of (deeds history) conn }
+{}
+
+/// The replies that takes gave on a connection are the first ones of those that the history gave it, each once and in
+/// order, and with those that are left they are all. What a take puts out is the frame of its reply.
+pub fn a_reply_is_taken_once()
+    ensures in_order { (history : History) (conn : ℕ) → given history conn ≡ take (taken history conn) (reverse (replies history conn)) }
+    ensures with_the_rest { (history : History) (conn : ℕ) → given history conn ++ untaken history conn ≡ reverse (replies history conn) }
+    ensures next_after { (history : History) (conn : ℕ) → gives history conn ≡ true → untaken (Take conn ∷ history) conn ≡ drop 1 (untaken history conn) }
+    ensures frames { (history : History) (conn : ℕ) → put_out history conn ≡ map r_frame (given history conn) }
 {}
