@@ -3,3 +3,4 @@ pub mod DeedLaws
 pub mod KeyLaws
 pub mod FidLaws
 pub mod ReplyLaws
+pub mod SecretLaws

@@ -1,12 +1,13 @@
 // Laws of the definitions, each the contract of a function that does nothing.
 ghost use Rattle.std.specs.Prelude.{◌≡◌, ℕ, List, ◌∷◌, ◌++◌, Some, true, false, drop, map, option_to_list, reverse, take};
 ghost use Rattle.nine_messages.specs.Messages.{r_frame};
+ghost use Rattle.nine_messages.specs.declared.message.TBody.TheVariants.{Read};
 ghost use Rattle.agent_history.specs.declared.event.Event.{Event};
 ghost use Rattle.agent_history.specs.declared.event.Event.TheVariants.{Take};
-ghost use Rattle.agent_history.specs.Deeds.{Deed, keys_of, fid_of, msize_of, text_of, held_by};
-ghost use Rattle.agent_history.specs.Table.{deed_by};
+ghost use Rattle.agent_history.specs.Deeds.{Deed, keys_of, fid_of, msize_of, text_of, held_by, list_text};
+ghost use Rattle.agent_history.specs.Table.{deed_by, reply_of, reply_to};
 ghost use Rattle.agent_history.specs.Histories.{History, deeds, replies, taken, untaken};
-ghost use Rattle.agent_history.specs.Laws.{latest, lines_of, none_concerns, deed_at, is_request_or_hang, is_on, conn_of, given, gives, put_out};
+ghost use Rattle.agent_history.specs.Laws.{latest, lines_of, none_concerns, deed_at, is_request_or_hang, is_on, conn_of, given, gives, put_out, SameButSecrets};
 
 /// The keys are those of the accepted lines of ctl, in order: of lines that are the same in public the last one alone
 /// stands, at its own place.
@@ -47,4 +48,18 @@ pub fn a_reply_is_taken_once()
     ensures with_the_rest { (history : History) (conn : ℕ) → given history conn ++ untaken history conn ≡ reverse (replies history conn) }
     ensures next_after { (history : History) (conn : ℕ) → gives history conn ≡ true → untaken (Take conn ∷ history) conn ≡ drop 1 (untaken history conn) }
     ensures frames { (history : History) (conn : ℕ) → put_out history conn ≡ map r_frame (given history conn) }
+{}
+
+/// Nothing that is shown or answered depends on the value of a secret: deeds that are the same but for the secrets of
+/// the keys added have the same text of ctl, the same fids and largest messages, the same replies and deeds next.
+pub fn ctl_shows_no_secret()
+    ensures list { (a b : List Deed) → SameButSecrets a b → list_text (keys_of a) ≡ list_text (keys_of b) }
+    ensures texts { (a b : List Deed) → SameButSecrets a b → (conn fid : ℕ) → text_of a conn fid ≡ text_of b conn fid }
+    ensures fids { (a b : List Deed) → SameButSecrets a b → (conn fid : ℕ) → fid_of a conn fid ≡ fid_of b conn fid }
+    ensures msize { (a b : List Deed) → SameButSecrets a b → (conn : ℕ) → msize_of a conn ≡ msize_of b conn }
+    ensures held { (a b : List Deed) → SameButSecrets a b → (conn : ℕ) → held_by a conn ≡ held_by b conn }
+
+    ensures reads { (a b : List Deed) → SameButSecrets a b → (conn fid offset count : ℕ) → reply_of a conn (Read fid offset count) ≡ reply_of b conn (Read fid offset count) }
+    ensures any_reply { (a b : List Deed) → SameButSecrets a b → (conn : ℕ) (frame : List ℕ) → reply_to a conn frame ≡ reply_to b conn frame }
+    ensures any_deed { (a b : List Deed) → SameButSecrets a b → (conn : ℕ) (frame : List ℕ) → deed_by a conn frame ≡ deed_by b conn frame }
 {}
