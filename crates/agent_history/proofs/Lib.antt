@@ -4,3 +4,4 @@ pub mod KeyLaws
 pub mod FidLaws
 pub mod ReplyLaws
 pub mod SecretLaws
+pub mod HeldLaws

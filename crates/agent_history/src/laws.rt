@@ -7,7 +7,7 @@ ghost use Rattle.agent_history.specs.declared.event.Event.TheVariants.{Take};
 ghost use Rattle.agent_history.specs.Deeds.{Deed, keys_of, fid_of, msize_of, text_of, held_by, list_text};
 ghost use Rattle.agent_history.specs.Table.{deed_by, reply_of, reply_to};
 ghost use Rattle.agent_history.specs.Histories.{History, deeds, replies, taken, untaken};
-ghost use Rattle.agent_history.specs.Laws.{latest, lines_of, none_concerns, deed_at, is_request_or_hang, is_on, conn_of, given, gives, put_out, SameButSecrets};
+ghost use Rattle.agent_history.specs.Laws.{latest, lines_of, none_concerns, deed_at, is_request_or_hang, is_on, conn_of, given, gives, put_out, AreHeld, SameButSecrets};
 
 /// The keys are those of the accepted lines of ctl, in order: of lines that are the same in public the last one alone
 /// stands, at its own place.
@@ -39,6 +39,11 @@ pub fn other_connections_change_no_fid()
     ensures texts { (event : Event) (history : History) (conn fid : ℕ) → is_on conn event ≡ false → text_of (deeds (event ∷ history)) conn fid ≡ text_of (deeds history) conn fid }
     ensures held { (event : Event) (history : History) (conn : ℕ) → is_on conn event ≡ false → held_by (deeds (event ∷ history)) conn ≡ held_by (deeds history) conn }
     ensures msize { (event : Event) (history : History) (conn : ℕ) → is_on conn event ≡ false → msize_of (deeds (event ∷ history)) conn ≡ msize_of (deeds history) conn }
+{}
+
+/// The number of fids held is that of the fids that name something: they are some numbers, no two of them equal.
+pub fn a_fid_held_counts()
+    ensures { (history : History) (conn : ℕ) → (fids : List ℕ) × AreHeld (deeds history) conn fids }
 {}
 
 /// The replies that takes gave on a connection are the first ones of those that the history gave it, each once and in
