@@ -1,5 +1,5 @@
 -- The fids that a connection holds, as a list of numbers without an equal two, after every history.
-use Rattle.std.proofs.Common.{◌≡◌, ℕ, suc, ◌+◌, ◌-◌, List, [], ◌∷◌, ◌++◌, length, Bool, true, false, cond, eqb, ltb, ◌&&◌, ◌||◌, not, Option, Some, None, refl, sym, ap, subst, ◌∙◌, inl, inr, arith}
+use Rattle.std.proofs.Common.{◌≡◌, ℕ, ◌+◌, ◌-◌, List, [], ◌∷◌, ◌++◌, length, Bool, true, false, cond, eqb, ltb, ◌&&◌, ◌||◌, not, Option, Some, None, refl, sym, ap, subst, ◌∙◌, inl, inr, arith}
 use Rattle.std.specs.Prelude.{option_to_list, option_and_then, is_some, ◌⊎◌}
 use Rattle.std.specs.List.{list_any, filter, IsDistinct, AllByRecursion}
 use Rattle.std.proofs.lemmas.Bool.{cases_Bool, eq-eqb, eqb-true, and_parts, or_parts, not-true}
@@ -14,11 +14,11 @@ use Rattle.agent_history.specs.declared.event.Event.{Event}
 use Rattle.agent_history.specs.declared.event.Event.TheVariants.{Request, Hang, Answer, NoAnswer, NoRoom, Take, TakeAsk, Stop}
 use Rattle.agent_history.specs.declared.tree.Node.TheVariants.{Root, Ctl}
 use Rattle.agent_history.specs.declared.tree.FidState.{FidState}
-use Rattle.agent_history.specs.Deeds.{Deed, Agreed, Attached, Walked, Opened, Added, Listed, Clunked, Hung, fid_of, held_by, keys_of, closed}
-use Rattle.agent_history.specs.Table.{deed_of, deed_by, taken_as, where_true, adding, may_hold, has_version, has_ctl_open, is_empty, names_root, lead_to_ctl, names_closed_ctl, nofid, most_fids}
+use Rattle.agent_history.specs.Deeds.{Deed, Attached, Walked, Opened, Clunked, Hung, fid_of, held_by, keys_of, closed}
+use Rattle.agent_history.specs.Table.{deed_of, deed_by, taken_as, where_true, adding, may_hold, has_version, has_ctl_open, is_empty, names_root, lead_to_ctl, nofid, most_fids}
 use Rattle.agent_history.specs.Histories.{History, is_gone, was_opened, deeds}
 use Rattle.agent_history.specs.Laws.{AreHeld, is_on}
-use Rattle.agent_history.proofs.DeedLaws.{SameFor, same_for, same_for_none, same_by_frame}
+use Rattle.agent_history.proofs.DeedLaws.{SameFor}
 use Rattle.agent_history.proofs.FidLaws.{elsewhere}
 
 -- ---- numbers without an equal two
@@ -101,11 +101,14 @@ same : (a : ℕ) → eqb a a ≡ true
 same a = eq-eqb a a refl
 
 holds_same : (before after : List Deed) (conn : ℕ) → SameFor before after conn → Holds before conn → Holds after conn
-holds_same before after conn s h = (h.0, record {
-  distinct = h.1.distinct;
-  count = h.1.count ∙ sym s.held;
-  held = λ fid. ap is_some (s.fids fid) ∙ h.1.held fid;
-})
+holds_same before after conn s h = (
+  h.0,
+  record {
+    distinct = h.1.distinct;
+    count = h.1.count ∙ sym s.held;
+    held = λ fid. ap is_some (s.fids fid) ∙ h.1.held fid;
+  },
+)
 
 -- all fids are given up
 holds_none : (done : List Deed) (conn : ℕ) → held_by done conn ≡ 0 → ((fid : ℕ) → fid_of done conn fid ≡ None) → Holds done conn
@@ -115,11 +118,14 @@ holds_none done conn none empty = ([], record { distinct = tt; count = sym none;
 -- a fid more
 holds_more : (before after : List Deed) (conn fid : ℕ) (state : FidState) → is_some (fid_of before conn fid) ≡ false → held_by after conn ≡ held_by before conn + 1
     → ((f : ℕ) → fid_of after conn f ≡ cond (eqb fid f) (Some state) (fid_of before conn f)) → Holds before conn → Holds after conn
-holds_more before after conn fid state free more fids h = (fid ∷ h.0, record {
-  distinct = IsDistinct-cons eqb fid h.0 (apart_any fid h.0 (sym (h.1.held fid) ∙ free)) h.1.distinct;
-  count = omega (arith, h.1.count, more);
-  held = λ f. ap is_some (fids f) ∙ one_more f (eqb fid f) (eqb_swap f fid);
-})
+holds_more before after conn fid state free more fids h = (
+  fid ∷ h.0,
+  record {
+    distinct = IsDistinct-cons eqb fid h.0 (apart_any fid h.0 (sym (h.1.held fid) ∙ free)) h.1.distinct;
+    count = omega (arith, h.1.count, more);
+    held = λ f. ap is_some (fids f) ∙ one_more f (eqb fid f) (eqb_swap f fid);
+  },
+)
   where
     one_more : (f : ℕ) (b : Bool) → eqb f fid ≡ b → is_some (cond b (Some state) (fid_of before conn f)) ≡ (eqb f fid || list_any (eqb f) h.0)
     one_more f true e = rw e refl
@@ -128,11 +134,14 @@ holds_more before after conn fid state free more fids h = (fid ∷ h.0, record {
 -- a fid fewer
 holds_fewer : (before after : List Deed) (conn fid : ℕ) → is_some (fid_of before conn fid) ≡ true → held_by after conn ≡ held_by before conn - 1
     → ((f : ℕ) → fid_of after conn f ≡ cond (eqb fid f) None (fid_of before conn f)) → Holds before conn → Holds after conn
-holds_fewer before after conn fid held fewer fids h = (others fid h.0, record {
-  distinct = distinct_others fid h.0 h.1.distinct;
-  count = omega (arith, h.1.count, fewer, count_others fid h.0 h.1.distinct (sym (h.1.held fid) ∙ held));
-  held = λ f. ap is_some (fids f) ∙ one_fewer f (eqb fid f) ∙ sym (any_others fid f h.0);
-})
+holds_fewer before after conn fid held fewer fids h = (
+  others fid h.0,
+  record {
+    distinct = distinct_others fid h.0 h.1.distinct;
+    count = omega (arith, h.1.count, fewer, count_others fid h.0 h.1.distinct (sym (h.1.held fid) ∙ held));
+    held = λ f. ap is_some (fids f) ∙ one_fewer f (eqb fid f) ∙ sym (any_others fid f h.0);
+  },
+)
   where
     one_fewer : (f : ℕ) (b : Bool) → is_some (cond b None (fid_of before conn f)) ≡ cond b false (list_any (eqb f) h.0)
     one_fewer f true = refl

@@ -1,17 +1,14 @@
 -- The replies that takes give are the first ones of those that the history gave, in order.
 use Rattle.std.proofs.Common.{◌≡◌, ℕ, ◌+◌, ◌≤◌, ◌<◌, List, [], ◌∷◌, ◌++◌, length, take, drop, map, reverse, Bool, true, false, cond, eqb, ltb, ◌&&◌, not, refl, sym, ap, ◌∙◌, inl, inr, arith}
 use Rattle.std.proofs.Math.Seq.{take-add}
-use Rattle.std.proofs.lemmas.Bool.{cases_Bool, eq-eqb, eqb-true, ltb-true, ltb-false}
+use Rattle.std.proofs.lemmas.Bool.{cases_Bool, eq-eqb, ltb-true, ltb-false}
 use Rattle.std.proofs.lemmas.List.{take-append-le, take-append-drop, drop-drop, drop_all, length-drop, length-reverse, reverse-append, map-append}
 use Rattle.nine_messages.specs.declared.message.RMsg.{RMsg}
 use Rattle.nine_messages.specs.Messages.{r_frame}
-use Rattle.agent_history.specs.declared.event.Event.{Event}
 use Rattle.agent_history.specs.declared.event.Event.TheVariants.{Request, Hang, Answer, NoAnswer, NoRoom, Take, TakeAsk, Stop}
-use Rattle.agent_history.specs.declared.event.StepAnswer.{StepAnswer}
-use Rattle.agent_history.specs.declared.event.StepAnswer.TheVariants.{Reply, NoReply, Gone}
-use Rattle.agent_history.specs.Deeds.{Deed}
+use Rattle.agent_history.specs.declared.event.StepAnswer.TheVariants.{Gone}
 use Rattle.agent_history.specs.Table.{reply_to}
-use Rattle.agent_history.specs.Histories.{History, Answered, is_gone, deeds, replies, taken, untaken, answer, first_reply}
+use Rattle.agent_history.specs.Histories.{History, is_gone, deeds, replies, taken, untaken, answer, first_reply}
 use Rattle.agent_history.specs.Laws.{is_reply, gives, given, put_out}
 use Rattle.agent_history.proofs.HistoryLaws.{taken_given}
 

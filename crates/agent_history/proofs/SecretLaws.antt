@@ -1,6 +1,6 @@
 -- What is read off the deeds stays when the secrets of the keys added are hidden, and so does what is answered.
-use Rattle.std.proofs.Common.{◌≡◌, ℕ, List, [], ◌∷◌, ◌++◌, length, map, drop, take, Bool, true, false, cond, eqb, leb, ltb, ◌&&◌, not, Option, Some, None, refl, sym, ap, ◌∙◌, inl, inr}
-use Rattle.std.specs.Prelude.{codes, is_some, option_and_then}
+use Rattle.std.proofs.Common.{◌≡◌, ℕ, List, [], ◌∷◌, ◌++◌, map, cond, eqb, not, Option, Some, None, refl, sym, ap, ◌∙◌, inl, inr}
+use Rattle.std.specs.Prelude.{codes, option_and_then}
 use Rattle.std.specs.List.{filter, flat_map}
 use Rattle.std.proofs.lemmas.Bool.{cases_Bool}
 use Rattle.std.proofs.lemmas.List.{map-append}
@@ -14,7 +14,6 @@ use Rattle.attr_tuples.specs.Attributes.{is_secret}
 use Rattle.attr_tuples.specs.Equality.{public_equal}
 use Rattle.attr_tuples.specs.Printing.{hidden, public_text, printed_text}
 use Rattle.attr_tuples.proofs.EqualityLemmas.{public_equal_left, public_equal_right}
-use Rattle.agent_history.specs.declared.tree.FidState.{FidState}
 use Rattle.agent_history.specs.Deeds.{Deed, Agreed, Attached, Walked, Opened, Added, Listed, Clunked, Hung, msize_of, fid_of, held_by, keys_of, key_text, list_text, text_of}
 use Rattle.agent_history.specs.Table.{deed_of, deed_by, taken_as, is_empty, reply_of, body_for, reply_to, tag_of, answered}
 use Rattle.agent_history.specs.Laws.{hidden_deed, SameButSecrets}
