@@ -5,3 +5,4 @@ pub mod FidLaws
 pub mod ReplyLaws
 pub mod SecretLaws
 pub mod HeldLaws
+pub mod AlikeLaws

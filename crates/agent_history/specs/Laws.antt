@@ -1,5 +1,6 @@
 -- Words in which the laws of the definitions are stated: the lines that added keys, the deeds that concern a fid, the
--- replies that were given, deeds that differ in secrets alone, and the fids that are held.
+-- replies that were given, deeds that differ in secrets alone, and the fids that are held. After section 5 of the Plan
+-- 9 manual (fids) and factotum(4) (ctl, whose keys are shown without their secrets).
 use Rattle.std.specs.Prelude.{◌≡◌, ℕ, List, [], ◌∷◌, ◌++◌, length, take, map, Bool, true, false, not, ◌&&◌, ◌==◌, nat_eq, Option, None, is_some, if◌then◌else◌}
 use Rattle.std.specs.List.{list_any, list_all, IsDistinct}
 use Rattle.nine_messages.specs.declared.message.RMsg.{RMsg}

@@ -1,13 +1,13 @@
 // Laws of the definitions, each the contract of a function that does nothing.
-ghost use Rattle.std.specs.Prelude.{◌≡◌, ℕ, List, ◌∷◌, ◌++◌, Some, true, false, drop, map, option_to_list, reverse, take};
+ghost use Rattle.std.specs.Prelude.{◌≡◌, ℕ, List, ◌∷◌, ◌++◌, Some, true, false, drop, map, option_map, option_to_list, reverse, take};
 ghost use Rattle.nine_messages.specs.Messages.{r_frame};
 ghost use Rattle.nine_messages.specs.declared.message.TBody.TheVariants.{Read};
 ghost use Rattle.agent_history.specs.declared.event.Event.{Event};
-ghost use Rattle.agent_history.specs.declared.event.Event.TheVariants.{Take};
+ghost use Rattle.agent_history.specs.declared.event.Event.TheVariants.{Request, Take};
 ghost use Rattle.agent_history.specs.Deeds.{Deed, keys_of, fid_of, msize_of, text_of, held_by, list_text};
 ghost use Rattle.agent_history.specs.Table.{deed_by, reply_of, reply_to};
-ghost use Rattle.agent_history.specs.Histories.{History, deeds, replies, taken, untaken};
-ghost use Rattle.agent_history.specs.Laws.{latest, lines_of, none_concerns, deed_at, is_request_or_hang, is_on, conn_of, given, gives, put_out, AreHeld, SameButSecrets};
+ghost use Rattle.agent_history.specs.Histories.{History, answer, deeds, replies, taken, untaken};
+ghost use Rattle.agent_history.specs.Laws.{latest, lines_of, none_concerns, deed_at, is_request_or_hang, is_on, conn_of, given, gives, put_out, AreHeld, SameButSecrets, hidden_deed};
 
 /// The keys are those of the accepted lines of ctl, in order: of lines that are the same in public the last one alone
 /// stands, at its own place.
@@ -67,4 +67,13 @@ pub fn ctl_shows_no_secret()
     ensures reads { (a b : List Deed) → SameButSecrets a b → (conn fid offset count : ℕ) → reply_of a conn (Read fid offset count) ≡ reply_of b conn (Read fid offset count) }
     ensures any_reply { (a b : List Deed) → SameButSecrets a b → (conn : ℕ) (frame : List ℕ) → reply_to a conn frame ≡ reply_to b conn frame }
     ensures any_deed { (a b : List Deed) → SameButSecrets a b → (conn : ℕ) (frame : List ℕ) → deed_by a conn frame ≡ deed_by b conn frame }
+{}
+
+/// No later answer tells a secret: of two requests that do the same but for the secrets of a key and are replied to
+/// alike, whatever happens then, no answer to any event tells which of them it was.
+pub fn no_later_answer_tells_a_secret()
+    ensures { (history more : History) (event : Event) (conn : ℕ) (one other word another : List ℕ)
+        → option_map hidden_deed (deed_by (deeds history) conn one) ≡ option_map hidden_deed (deed_by (deeds history) conn other)
+        → reply_to (deeds history) conn one ≡ reply_to (deeds history) conn other
+        → answer (more ++ Request conn one word ∷ history) event ≡ answer (more ++ Request conn other another ∷ history) event }
 {}
