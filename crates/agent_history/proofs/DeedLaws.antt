@@ -1,5 +1,5 @@
 -- What a deed on one connection leaves as it was on the others.
-use Rattle.std.proofs.Common.{◌≡◌, ℕ, ◌+◌, ◌-◌, List, [], ◌∷◌, ◌++◌, Bool, true, false, cond, eqb, ◌&&◌, not, Option, Some, None, refl, sym, ap, ◌∙◌, inl, inr}
+use Rattle.std.proofs.Common.{◌≡◌, ℕ, List, ◌∷◌, ◌++◌, Bool, true, false, cond, eqb, ◌&&◌, Option, Some, None, refl}
 use Rattle.std.specs.Prelude.{option_to_list, option_and_then}
 use Rattle.nine_messages.specs.declared.message.TMsg.{TMsg}
 use Rattle.nine_messages.specs.declared.message.TBody.{TBody}
@@ -7,18 +7,8 @@ use Rattle.nine_messages.specs.declared.message.TBody.TheVariants as t
 use Rattle.attr_tuples.specs.declared.attr.Attr.{Attr}
 use Rattle.attr_tuples.specs.PlainKeys.{key_line}
 use Rattle.agent_history.specs.Deeds.{Deed, Agreed, Attached, Walked, Opened, Added, Listed, Clunked, Hung, msize_of, fid_of, held_by, keys_of, text_of}
+use Rattle.agent_history.specs.Laws.{conn_of}
 use Rattle.agent_history.specs.Table.{deed_of, deed_by, taken_as, where_true, adding, has_ctl_open, is_empty}
-
--- the connection of a deed
-abbrev pub conn_of : Deed → ℕ
-conn_of (Agreed conn msize) = conn
-conn_of (Attached conn fid) = conn
-conn_of (Walked conn fid node) = conn
-conn_of (Opened conn fid mode) = conn
-conn_of (Added conn key) = conn
-conn_of (Listed conn fid offset) = conn
-conn_of (Clunked conn fid) = conn
-conn_of (Hung conn) = conn
 
 -- what is read off the deeds for a connection is the same before and after
 pub record SameFor (before after : List Deed) (conn : ℕ) : Type 0 where

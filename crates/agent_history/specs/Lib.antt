@@ -1,3 +1,4 @@
 pub mod Deeds
 pub mod Table
 pub mod Histories
+pub mod Laws
