@@ -1,0 +1,4 @@
+pub mod BitLemmas
+pub mod RoundLemmas
+pub mod ByteLaws
+pub mod CipherLaws

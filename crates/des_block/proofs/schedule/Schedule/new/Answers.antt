@@ -1,0 +1,16 @@
+use Rattle.std.proofs.Common.{List, Bool, take, drop, ap, ◌∙◌}
+use Rattle.des_block.specs.Tables.{PC1, left_shifts}
+use Rattle.des_block.specs.Bits.{bits_of, permuted}
+use Rattle.des_block.specs.Schedule.{key_schedule, round_keys}
+use Rattle.des_block.proofs.schedule.Schedule.new.Goals as goal
+
+pub returns : goal.returns
+unfolding key_schedule PC1 left_shifts
+returns c =
+    let chosen = permuted PC1 (bits_of c.args.key.now) in
+    let is_chosen = c.permute.ensures ∙ ap (λ (bits : List Bool). permuted PC1 bits) c.block_bits.ensures.value in
+    c.make_round_keys.ensures
+    ∙ ap (λ (bits : List Bool). round_keys left_shifts bits c.split.result.1)
+    (c.split.ensures.first ∙ ap (λ (bits : List Bool). take 28 bits) is_chosen)
+    ∙ ap (λ (bits : List Bool). round_keys left_shifts (take 28 chosen) bits)
+    (c.split.ensures.second ∙ ap (λ (bits : List Bool). drop 28 bits) is_chosen)

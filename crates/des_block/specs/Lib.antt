@@ -1,0 +1,4 @@
+pub mod Bits
+pub mod Tables
+pub mod Rounds
+pub mod Schedule

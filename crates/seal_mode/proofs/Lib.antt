@@ -1,0 +1,4 @@
+pub mod KeyLemmas
+pub mod SealLaws
+pub mod SealLemmas
+pub mod PasswordLemmas
