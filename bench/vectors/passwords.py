@@ -1,7 +1,7 @@
 #!/usr/bin/env python3
 """Prints the known answers of the tests of keys, passwords and sealing.
 
-Written from the manual's words (Plan 9: passtokey of auth(2), sealing of authsrv(6)), with OpenSSL's DES
+Written from the manual's words (Plan 9: passtokey of authsrv(2), encrypt(2)), with OpenSSL's DES
 (legacy provider). It shares nothing with the proved code.
 """
 import subprocess

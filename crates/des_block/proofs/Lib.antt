@@ -2,3 +2,4 @@ pub mod BitLemmas
 pub mod RoundLemmas
 pub mod ByteLaws
 pub mod CipherLaws
+pub mod ParityLaws

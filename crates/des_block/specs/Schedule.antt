@@ -1,5 +1,5 @@
 -- The key schedule (FIPS 46-3, appendix 1), and the cipher on blocks of eight bytes.
-use Rattle.std.specs.Prelude.{ℕ, Bool, List, [], ◌∷◌, ◌++◌, take, drop}
+use Rattle.std.specs.Prelude.{◌≡◌, ℕ, ◌/◌, Bool, List, [], ◌∷◌, ◌++◌, take, drop, map}
 use Rattle.des_block.specs.Bits.{bits_of, bytes_of, permuted}
 use Rattle.des_block.specs.Tables.{PC1, PC2, left_shifts}
 use Rattle.des_block.specs.Rounds.{encrypt_bits, decrypt_bits}
@@ -20,6 +20,10 @@ unfoldable pub key_schedule : List Bool → List (List Bool)
 key_schedule key =
     let chosen = permuted PC1 key in
     round_keys left_shifts (take 28 chosen) (drop 28 chosen)
+
+-- two keys are the same but for their parity bits, the lowest bit of each byte
+abbrev pub SameButParity : List ℕ → List ℕ → Type 0
+SameButParity key other = map (λ n. n / 2) key ≡ map (λ n. n / 2) other
 
 -- a block of eight bytes enciphered under these round keys
 unfoldable pub enciphered_with : List (List Bool) → List ℕ → List ℕ

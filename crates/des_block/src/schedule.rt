@@ -1,8 +1,8 @@
 // The key schedule, and the cipher on blocks of eight bytes.
-ghost use Rattle.std.specs.Prelude.{◌≡◌, ◌≤◌, Bool, List, IsTrue, nat_le};
+ghost use Rattle.std.specs.Prelude.{◌≡◌, ℕ, ◌≤◌, Bool, List, IsTrue, nat_le};
 ghost use Rattle.std.specs.List.{list_all};
 ghost use Rattle.des_block.specs.Bits.{bits_of};
-ghost use Rattle.des_block.specs.Schedule.{deciphered_with, enciphered_with, key_schedule, round_keys};
+ghost use Rattle.des_block.specs.Schedule.{SameButParity, deciphered_with, enciphered_with, key_schedule, round_keys};
 
 use crate::bits::{block_bits, block_bytes, join, permute, split};
 use crate::rounds::{RoundKey, encipher};
@@ -39,9 +39,11 @@ fn make_round_keys(shifts: &[u8; 16], c: [bool; 28], d: [bool; 28]) -> [RoundKey
 }
 
 impl Schedule {
-    /// The schedule of a key of eight bytes, whose lowest bits are parity bits that play no part.
+    /// The schedule of a key of eight bytes, the lowest bit of each being a parity bit.
     pub fn new(key: &[u8; 8]) -> Schedule
-        ensures { result ≡ key_schedule (bits_of key.now) }
+        ensures value { result ≡ key_schedule (bits_of key.now) }
+        ensures parity_plays_no_part { (other : List ℕ) → SameButParity key.now other
+            → key_schedule (bits_of other) ≡ result }
     {
         let (c, d) = split::<28, 56>(&permute(&KEY_CHOICE_1, &block_bits(key)));
         Schedule {

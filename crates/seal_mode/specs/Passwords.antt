@@ -1,4 +1,4 @@
--- The key that a password stands for (passtokey in Plan 9's auth(2)).
+-- The key that a password stands for (passtokey of Plan 9's authsrv(2)).
 use Rattle.std.specs.Prelude.{ℕ, ◌+◌, ◌-◌, ◌*◌, ◌/◌, ◌%◌, ◌^◌, ◌==◌, nat_le, ◌||◌, List, [], ◌∷◌, ◌++◌, length, take, drop, map, replicate, slice_index, if◌then◌else◌}
 use Rattle.std.specs.List.{range_with_len}
 use Rattle.seal_mode.specs.Sealing.{changed_at, sealed}

@@ -1,5 +1,5 @@
 -- Sealing: how Plan 9's authentication protocols encipher a text of eight bytes or more in place, in
--- blocks that overlap by one byte (authsrv(6)).
+-- blocks that overlap by one byte (Plan 9's encrypt(2)).
 use Rattle.std.specs.Prelude.{ℕ, ◌+◌, ◌-◌, ◌*◌, ◌/◌, ◌%◌, ◌==◌, List, [], ◌∷◌, ◌++◌, length, take, drop, map, fold, reverse, if◌then◌else◌}
 use Rattle.std.specs.List.{range_with_len}
 use Rattle.des_block.specs.Schedule.{enciphered, deciphered}

@@ -47,7 +47,7 @@ fn next_key(key: &Key7, buffer: &mut [u8], at: usize) -> Key7
     make_key(&buffer[at..])
 }
 
-/// The key that a password stands for. Only its first 27 bytes count.
+/// The key that a password stands for (passtokey of Plan 9's authsrv(2)). Only its first 27 bytes count.
 pub fn pass_to_key(password: &[u8]) -> Key7
     ensures { result.0 ≡ password_key password.now }
 {

@@ -38,7 +38,7 @@ fn decrypt_at(schedule: &Schedule, text: &mut [u8], at: usize)
 
 /// Seals a text of at least eight bytes in place. Where `last` is one less than its length, the blocks at
 /// 0, 7, 14 .. are enciphered, `last / 7` of them, and then, where these don't reach the end, the block
-/// that ends there.
+/// that ends there (Plan 9's encrypt(2)).
 pub fn seal(key: &Key7, text: &mut [u8])
     requires { 8 ≤ length text.old }
     ensures value { text.new ≡ sealed key.now.0 text.old }

@@ -16,7 +16,7 @@ loop-i-preserved c =
 
 pub returns-clause-value : goal.returns-clause-value
 returns-clause-value c =
-    let made = c.new-schedule.ensures ∙ ap (λ (key : List ℕ). key_schedule (bits_of key)) c.expand56.ensures.value in
+    let made = c.new-schedule.ensures.value ∙ ap (λ (key : List ℕ). key_schedule (bits_of key)) c.expand56.ensures.value in
     let none_left : c.loop-i.i ≡ 0 = omega arith in
     let same_count : c.last_index-last.result / 7 ≡ (length c.args.text.now - 1) / 7 = omega arith in
     sym (ap (λ (k : ℕ). fold (changed_at (deciphered_with c.new-schedule.result)) c.loop-i.text (reverse (whole_starts k))) none_left)

@@ -12,7 +12,7 @@ loop-i-preserved c = change_more _ _ _ _ c.loop-i.i c.loop-i.invariant c.encrypt
 pub returns-then-last-ne0-clause-value : goal.returns-then-last-ne0-clause-value
 returns-then-last-ne0-clause-value c =
     sealed_with_tail c.args.key.now.0 c.args.text.now c.loop-i.text _ c.new-schedule.result c.loop-i.i _
-    (c.new-schedule.ensures ∙ ap (λ (key : List ℕ). key_schedule (bits_of key)) c.expand56.ensures.value)
+    (c.new-schedule.ensures.value ∙ ap (λ (key : List ℕ). key_schedule (bits_of key)) c.expand56.ensures.value)
     (omega arith) (omega arith)
     (λ e. c.if-last-ne0.true (ap (λ (n : ℕ). n % 7) c.last_index-last.ensures.value ∙ e))
     c.loop-i.invariant c.encrypt_at-then-last-ne0.ensures
@@ -25,7 +25,7 @@ returns-then-last-ne0-clause-undone c =
 pub returns-else-last-ne0-clause-value : goal.returns-else-last-ne0-clause-value
 returns-else-last-ne0-clause-value c =
     sealed_without_tail c.args.key.now.0 c.args.text.now c.loop-i.text c.new-schedule.result c.loop-i.i
-    (c.new-schedule.ensures ∙ ap (λ (key : List ℕ). key_schedule (bits_of key)) c.expand56.ensures.value)
+    (c.new-schedule.ensures.value ∙ ap (λ (key : List ℕ). key_schedule (bits_of key)) c.expand56.ensures.value)
     (omega arith) (omega arith) c.loop-i.invariant
 
 pub returns-else-last-ne0-clause-undone : goal.returns-else-last-ne0-clause-undone
