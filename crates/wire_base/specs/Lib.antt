@@ -3,6 +3,7 @@ pub mod Readers
 pub mod Adapters
 pub mod Causes
 pub mod Memory
+pub mod Names
 pub mod Steady
 pub mod Streams
 pub mod Whole

@@ -1,0 +1,6 @@
+pub mod FieldLaws
+pub mod RequestLaws
+pub mod TicketLaws
+pub mod AuthenticatorLaws
+pub mod InfoLaws
+pub mod FaultLaws
