@@ -6,10 +6,11 @@ use Rattle.agent_history.specs.declared.event.Event.TheVariants.{Take}
 use Rattle.agent_history.specs.declared.event.StepAnswer.{StepAnswer}
 use Rattle.agent_history.specs.declared.event.StepAnswer.TheVariants.{Done, Reply, NoReply, Gone, Ask, DropCall, NoAsk, Stopped}
 use Rattle.agent_history.specs.Histories.{History, has_stopped, was_hung, untaken, answer, first_reply, Answered}
+use Rattle.agent_history.specs.Laws.{is_reply}
 use Rattle.agent_core.specs.declared.agent.Agent.{Agent}
 use Rattle.agent_core.specs.Agents.{StandsFor}
 use Rattle.agent_core.proofs.Steps.{untaken_taken, answer_hung}
-use Rattle.factotum_program.specs.Pipe.{is_reply, take_until, text_of}
+use Rattle.factotum_program.specs.Pipe.{take_until, text_of}
 
 -- where a loop of takes stands: some takes after the history, and as many left to make as were said
 pub record Going (H : History) (n : ℕ) (agent : Agent) (text : List ℕ) : Type 0 where

@@ -5,9 +5,8 @@ use Rattle.std.specs.List.{AllByRecursion, concat}
 use Rattle.nine_messages.specs.Decoding.{IsFrame}
 use Rattle.agent_history.specs.declared.event.Event.{Event}
 use Rattle.agent_history.specs.declared.event.Event.TheVariants.{Request, Hang, Take}
-use Rattle.agent_history.specs.declared.event.StepAnswer.{StepAnswer}
-use Rattle.agent_history.specs.declared.event.StepAnswer.TheVariants.{Reply}
 use Rattle.agent_history.specs.Histories.{History, untaken, answer}
+use Rattle.agent_history.specs.Laws.{is_reply}
 
 -- a whole frame: its size field is the number of its bytes, from 7 to 8216
 pub record IsWhole (frame : List ℕ) : Type 0 where
@@ -26,11 +25,6 @@ zeros = 0 ∷ 0 ∷ 0 ∷ 0 ∷ 0 ∷ 0 ∷ 0 ∷ 0 ∷ []
 -- a request on connection 0 with that word, whatever its frame
 abbrev pub IsAsked : Event → Type 0
 IsAsked event = (frame : List ℕ) × (event ≡ Request 0 frame zeros)
-
--- whether a take found a reply
-abbrev pub is_reply : StepAnswer → Bool
-is_reply Reply = true
-is_reply other = false
 
 -- take, at most so often, until there is no reply
 abbrev pub take_until : ℕ → History → History
