@@ -1,14 +1,14 @@
 -- From what a request does to what a frame does.
-use Rattle.std.proofs.Common.{◌≡◌, ℕ, List, ◌∷◌, ◌++◌, Bool, true, false, Option, Some, None, refl, sym, ap, ◌∙◌, inl, inr}
-use Rattle.std.specs.Prelude.{option_and_then, option_to_list}
+use Rattle.std.proofs.Common.{◌≡◌, ℕ, List, ◌++◌, Bool, true, false, Option, Some, None, refl, ap}
+use Rattle.std.specs.Prelude.{option_and_then}
 use Rattle.nine_messages.specs.declared.message.TMsg.{TMsg}
 use Rattle.nine_messages.specs.declared.message.RMsg.{RMsg}
 use Rattle.nine_messages.specs.declared.message.RBody.{RBody}
 use Rattle.nine_messages.specs.Messages.{r_frame}
-use Rattle.agent_history.specs.Deeds.{Deed, keys_of}
+use Rattle.agent_history.specs.Deeds.{Deed}
 use Rattle.agent_history.specs.Table.{deed_of, reply_of, answered, body_for, refusal, taken_as, deed_by, reply_to, tag_of}
 use Rattle.agent_core.specs.declared.connection.Connection.{Connection}
-use Rattle.agent_core.specs.Connections.{Keeps, Tried}
+use Rattle.agent_core.specs.Connections.{Tried}
 
 answered-tried : (d : Option Deed) (done : List Deed) (conn tag : ℕ) (body : RBody) (old new : Connection) (before after : List ℕ) (served : Bool) → Tried d done conn (record { tag = tag; body = body }) old new before after served → Tried d done conn (record { tag = tag; body = answered body d }) old new before after served
 answered-tried None done conn tag body old new before after served h = h

@@ -1,15 +1,15 @@
 -- What is told of a history after one more event, against what is kept.
-use Rattle.std.proofs.Common.{◌≡◌, ℕ, suc, ◌+◌, ◌≤◌, ◌<◌, List, [], ◌∷◌, ◌++◌, length, get_or, drop, map, reverse, Bool, true, false, cond, eqb, ltb, Equal, Greater, ◌&&◌, ◌||◌, not, Option, Some, None, refl, sym, ap, subst, ◌∙◌, inl, inr, arith}
+use Rattle.std.proofs.Common.{◌≡◌, ℕ, ◌+◌, ◌≤◌, ◌<◌, List, [], ◌∷◌, ◌++◌, length, get_or, drop, map, reverse, Bool, true, false, cond, eqb, ltb, Equal, Greater, ◌&&◌, not, Option, Some, None, refl, sym, ap, subst, ◌∙◌, inl, inr, arith}
 use Rattle.std.specs.Prelude.{option_to_list}
 use Rattle.std.specs.Ordering.{nat_cmp, is_eq}
-use Rattle.std.specs.BTreeMap.{get, is_at, btree_map_len}
+use Rattle.std.specs.BTreeMap.{is_at}
 use Rattle.std.proofs.lemmas.Bool.{cases_Bool, eq-eqb, eqb-true, ne_eqb, ltb-true, ltb-false, false≢true}
 use Rattle.std.proofs.lemmas.List.{drop_all, drop-drop, drop-append-le, length-reverse, reverse-append, map-append}
 use Rattle.nine_messages.specs.declared.message.RMsg.{RMsg}
 use Rattle.nine_messages.specs.Messages.{r_frame}
 use Rattle.agent_history.specs.declared.event.Event.{Event}
-use Rattle.agent_history.specs.declared.event.Event.TheVariants.{Request, Hang, Answer, NoAnswer, NoRoom, Take, TakeAsk, Stop}
-use Rattle.agent_history.specs.Deeds.{Deed, Hung, msize_of, fid_of, held_by, keys_of, text_of}
+use Rattle.agent_history.specs.declared.event.Event.TheVariants.{Request, Hang, Answer, NoAnswer, NoRoom, Take, TakeAsk}
+use Rattle.agent_history.specs.Deeds.{Deed, Hung, fid_of, keys_of, text_of}
 use Rattle.agent_history.specs.Table.{deed_by, reply_to}
 use Rattle.agent_history.specs.Histories.{History, has_stopped, was_opened, was_hung, is_gone, deeds, replies, taken, untaken, answer, first_reply}
 use Rattle.agent_history.specs.declared.event.StepAnswer.TheVariants.{Reply, NoReply, Gone}
@@ -18,7 +18,7 @@ use Rattle.agent_history.proofs.DeedLaws.{SameFor, same_for, same_for_none, same
 use Rattle.agent_history.proofs.HistoryLaws.{hung_opened, taken_given}
 use Rattle.agent_core.specs.declared.connection.Connection.{Connection}
 use Rattle.agent_core.specs.Connections.{IsFresh, Keeps, kept_fid}
-use Rattle.agent_core.specs.Agents.{opened_at, hung_at, replies_at, KeepsAt, Stands}
+use Rattle.agent_core.specs.Agents.{opened_at, KeepsAt, Stands}
 
 same : (a : ℕ) → eqb a a ≡ true
 same a = eq-eqb a a refl

@@ -1,11 +1,11 @@
 -- When an agent stands for a history: what it keeps of each connection, and its keys, are what is told of the history.
-use Rattle.std.specs.Prelude.{◌≡◌, ℕ, ◌≤◌, ◌+◌, List, [], map, length, Bool, true, false, ◌||◌, nat_le, Option, Some, None}
+use Rattle.std.specs.Prelude.{◌≡◌, ℕ, ◌≤◌, ◌+◌, List, [], map, length, Bool, false, ◌||◌, nat_le, Option, Some, None}
 use Rattle.std.specs.Ordering.{nat_cmp}
 use Rattle.std.specs.BTreeMap.{get}
 use Rattle.nine_messages.specs.Messages.{r_frame}
 use Rattle.nine_messages.specs.Decoding.{IsFrame}
 use Rattle.agent_history.specs.declared.event.Event.{Event}
-use Rattle.agent_history.specs.declared.event.Event.TheVariants.{Request, Hang, Answer, NoAnswer, NoRoom, Take, TakeAsk, Stop}
+use Rattle.agent_history.specs.declared.event.Event.TheVariants.{Request, Answer, Take}
 use Rattle.agent_history.specs.Deeds.{Deed, msize_of, fid_of, held_by, keys_of}
 use Rattle.agent_history.specs.Histories.{History, has_stopped, most_events, was_opened, was_hung, deeds, untaken}
 use Rattle.agent_core.specs.declared.connection.Connection.{Connection}

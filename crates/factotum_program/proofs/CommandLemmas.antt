@@ -1,11 +1,11 @@
 -- Valid input without faults leaves two statuses.
-use Rattle.std.proofs.Common.{◌≡◌, ℕ, ◌<◌, ◌≤◌, List, [], ◌++◌, length, Option, Some, None, refl, sym, ap, ◌∙◌, inl, inr, arith, append-nil}
+use Rattle.std.proofs.Common.{◌≡◌, ℕ, ◌≤◌, List, ◌++◌, length, Option, Some, None, refl, sym, ap, ◌∙◌, inl, inr, arith, append-nil}
 use Rattle.std.specs.Prelude.{◌⊎◌}
 use Rattle.std.specs.Io.KnownBytes.{Consumes, IsAtEnd}
 use Rattle.std.proofs.lemmas.List.{length-append}
 use Rattle.factotum_program.specs.declared.status.Status.{Status}
 use Rattle.factotum_program.specs.declared.status.Status.TheVariants.{Fine, Usage, ReadFault, WriteFault, BadInput, NoMemory, Flood}
-use Rattle.factotum_program.specs.Commands.{Reads, ReadsNoFrames, Floods, most_input}
+use Rattle.factotum_program.specs.Commands.{ReadsNoFrames, Floods, most_input}
 use Rattle.factotum_program.specs.Pipe.{IsInput}
 
 -- what was read to its end of a told content is the content

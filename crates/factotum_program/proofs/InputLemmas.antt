@@ -1,12 +1,11 @@
 -- Cutting an input into frames: what was cut so far, and that there is one way to cut.
-use Rattle.std.proofs.Common.{◌≡◌, ℕ, suc, ◌+◌, ◌<◌, ◌≤◌, List, [], ◌∷◌, ◌++◌, length, take, drop, ltb, false, Result, Ok, Err, refl, sym, ap, subst, ◌∙◌, append_assoc, append-nil, arith}
+use Rattle.std.proofs.Common.{◌≡◌, ℕ, ◌≤◌, List, [], ◌∷◌, ◌++◌, length, take, drop, ltb, false, refl, sym, ap, ◌∙◌, append_assoc, append-nil, arith}
 use Rattle.std.specs.List.{AllByRecursion, concat}
-use Rattle.std.specs.Int.{w32, from_le_bytes}
+use Rattle.std.specs.Int.{w32}
 use Rattle.std.proofs.lemmas.List.{length-append, take_at, drop_at}
 use Rattle.std.proofs.lemmas.Bool.{le-ltb}
 use Rattle.wire_base.specs.Readers.{number}
 use Rattle.wire_base.proofs.ReaderLaws.{done, ok_is}
-use Rattle.nine_messages.specs.Decoding.{IsFrame}
 use Rattle.agent_history.specs.Histories.{History}
 use Rattle.agent_core.specs.declared.agent.Agent.{Agent}
 use Rattle.agent_core.specs.Agents.{StandsFor}

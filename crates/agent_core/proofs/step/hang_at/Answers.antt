@@ -1,8 +1,7 @@
-use Rattle.std.proofs.Common.{◌≡◌, ℕ, ◌∷◌, Option, Some, refl, sym, subst}
+use Rattle.std.proofs.Common.{◌∷◌, Option, refl, sym, subst}
 use Rattle.std.specs.Ordering.{nat_cmp}
 use Rattle.std.specs.BTreeMap.{get}
 use Rattle.agent_history.specs.declared.event.Event.TheVariants as events
-use Rattle.agent_history.specs.Histories.{History}
 use Rattle.agent_core.specs.declared.connection.Connection.{Connection}
 use Rattle.agent_core.specs.Agents.{Stands}
 use Rattle.agent_core.proofs.Steps.{all_stand, hang_others}

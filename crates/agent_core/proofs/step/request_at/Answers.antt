@@ -1,9 +1,8 @@
-use Rattle.std.proofs.Common.{◌≡◌, ℕ, List, ◌∷◌, Option, Some, refl, sym, subst}
+use Rattle.std.proofs.Common.{◌∷◌, Option, refl, sym, subst}
 use Rattle.std.specs.Ordering.{nat_cmp}
 use Rattle.std.specs.BTreeMap.{get}
 use Rattle.std.proofs.lemmas.Result.{on_ok_weaker}
 use Rattle.agent_history.specs.declared.event.Event.TheVariants as events
-use Rattle.agent_history.specs.Histories.{History}
 use Rattle.agent_core.specs.declared.connection.Connection.{Connection}
 use Rattle.agent_core.specs.Agents.{Stands}
 use Rattle.agent_core.proofs.Steps.{all_stand, request_others}

@@ -1,7 +1,6 @@
-use Rattle.std.proofs.Common.{◌≡◌, ℕ, List, [], ◌∷◌, ◌++◌, ◌<◌, length, drop, true, false, sym, refl, ap, ◌∙◌, arith, append-nil}
-use Rattle.agent_history.specs.declared.event.Event.TheVariants as events
-use Rattle.agent_history.specs.Histories.{was_hung, answer, Answered}
-use Rattle.agent_core.proofs.Steps.{keeps_opened, front_is, take_hung, take_live, answer_hung, answer_some, answer_none}
+use Rattle.std.proofs.Common.{◌≡◌, ℕ, List, ◌++◌, ◌<◌, length, drop, true, false, sym, refl, ap, ◌∙◌, arith, append-nil}
+use Rattle.agent_history.specs.Histories.{was_hung, Answered}
+use Rattle.agent_core.proofs.Steps.{front_is, take_hung, take_live, answer_hung, answer_some}
 use Rattle.agent_core.proofs.step.take.Goals as goal
 
 pub returns-then-connection-clause-ok : goal.returns-then-connection-clause-ok

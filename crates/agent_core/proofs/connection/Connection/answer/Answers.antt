@@ -1,4 +1,3 @@
-use Rattle.std.proofs.Common.{sym, ◌∙◌}
 use Rattle.std.proofs.lemmas.Result.{on_ok_weaker}
 use Rattle.agent_core.proofs.FrameSteps.{refused}
 use Rattle.agent_core.proofs.connection.Connection.answer.Goals as goal
