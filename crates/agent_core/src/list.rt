@@ -8,6 +8,7 @@ use wire_base::{Bytes, NoMemory};
 
 // A key's line has about so many bytes, and a list that is asked for at once so many lines.
 const USUAL_LINE: usize = 64;
+
 const MOST_LINES: usize = 64;
 
 #[tactic(auto, unfolding(agent_history::specs::Deeds::key_text))]
