@@ -8,6 +8,8 @@ mod fid;
 mod list;
 mod step;
 mod table;
+#[cfg(test)]
+mod tests;
 
 pub use agent::Agent;
 pub use agent_history::{Event, FidState, Node, Shape, StepAnswer};

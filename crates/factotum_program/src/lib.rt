@@ -6,6 +6,8 @@ mod command;
 mod cut;
 mod pipe;
 mod status;
+#[cfg(test)]
+mod tests;
 
 pub use command::{an_input_is_cut_in_one_way, run_command};
 pub use status::{Status, print_status};
