@@ -398,20 +398,35 @@ fn replies_come_in_order_until_a_hang(rt: HostRuntime) -> Result<(), Fail> {
         let frame = frame_of(&rt, alloc, request, 0, "")?;
         ask(&rt, alloc, &mut agent, 0, name, frame)?;
     }
-    let (take, hang) = (Event::Take { conn: 0 }, Event::Hang { conn: 0 });
     for (name, _, reply) in &OPENING[..3] {
         expect(
             &rt,
             alloc,
             &mut agent,
             name,
-            &take,
+            &Event::Take { conn: 0 },
             StepAnswer::Reply,
             reply,
         )?;
     }
-    expect(&rt, alloc, &mut agent, "hang", &hang, StepAnswer::Done, "")?;
-    expect(&rt, alloc, &mut agent, "take", &take, StepAnswer::Gone, "")?;
+    expect(
+        &rt,
+        alloc,
+        &mut agent,
+        "hang",
+        &Event::Hang { conn: 0 },
+        StepAnswer::Done,
+        "",
+    )?;
+    expect(
+        &rt,
+        alloc,
+        &mut agent,
+        "take",
+        &Event::Take { conn: 0 },
+        StepAnswer::Gone,
+        "",
+    )?;
     for (name, request, _) in &OPENING {
         let frame = frame_of(&rt, alloc, request, 0, "")?;
         ask(&rt, alloc, &mut agent, 0, name, frame)?;
@@ -421,7 +436,7 @@ fn replies_come_in_order_until_a_hang(rt: HostRuntime) -> Result<(), Fail> {
         alloc,
         &mut agent,
         "last take",
-        &take,
+        &Event::Take { conn: 0 },
         StepAnswer::Gone,
         "",
     )

@@ -1,6 +1,6 @@
 -- What holds of every history: a connection that was hung up had been opened, no more replies are taken than were
 -- given, and a stop stays.
-use Rattle.std.proofs.Common.{◌≡◌, ℕ, suc, ◌+◌, ◌≤◌, ◌<◌, List, [], ◌∷◌, length, Bool, true, false, cond, eqb, leb, ltb, ◌&&◌, ◌||◌, not, refl, sym, ap, ◌∙◌, inl, inr, arith}
+use Rattle.std.proofs.Common.{◌≡◌, ℕ, suc, ◌≤◌, [], ◌∷◌, length, Bool, true, false, eqb, leb, ltb, ◌&&◌, ◌||◌, not, refl, inl, inr, arith}
 use Rattle.std.specs.List.{list_any}
 use Rattle.std.proofs.lemmas.Bool.{cases_Bool, or_cases, and_parts, ltb-true, leb-true, le-leb}
 use Rattle.agent_history.specs.declared.event.Event.{Event}

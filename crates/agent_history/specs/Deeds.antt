@@ -1,13 +1,13 @@
 -- What is read off a list of deeds, the newest first: what stands behind a deed is all that was done before it.
 -- One recursion a question; a deed that a question doesn't name leaves its answer as it was.
 -- After section 5 of the Plan 9 manual (version, attach, walk, open, clunk) and factotum(4) (ctl).
-use Rattle.std.specs.Prelude.{ℕ, ◌+◌, ◌-◌, List, [], ◌∷◌, ◌++◌, Bool, true, false, not, ◌&&◌, ◌==◌, nat_eq, Option, Some, None, filter, codes, if◌then◌else◌}
+use Rattle.std.specs.Prelude.{ℕ, ◌+◌, ◌-◌, List, [], ◌∷◌, ◌++◌, not, ◌&&◌, ◌==◌, Option, Some, None, filter, codes, if◌then◌else◌}
 use Rattle.std.specs.List.{flat_map}
 use Rattle.attr_tuples.specs.declared.attr.Attr.{Attr}
 use Rattle.attr_tuples.specs.Equality.{public_equal}
 use Rattle.attr_tuples.specs.Printing.{public_text}
 use Rattle.agent_history.specs.declared.tree.Node.{Node}
-use Rattle.agent_history.specs.declared.tree.Node.TheVariants.{Root, Ctl}
+use Rattle.agent_history.specs.declared.tree.Node.TheVariants.{Root}
 use Rattle.agent_history.specs.declared.tree.FidState.{FidState}
 
 -- What a request that was carried out did, and to which connection.

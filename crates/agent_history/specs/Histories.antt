@@ -1,12 +1,12 @@
 -- A history of an agent, and what the agent answers after it. A history is a list of events, the newest first, so
 -- that what stands behind an event is the history before it. An entry is an event together with the number of the
 -- seat that made it; what is answered doesn't depend on seats.
-use Rattle.std.specs.Prelude.{ℕ, ◌+◌, ◌^◌, List, [], ◌∷◌, ◌++◌, length, drop, map, reverse, Bool, true, false, not, ◌&&◌, ◌||◌, ◌==◌, nat_lt, nat_le, Option, Some, None, option_to_list, if◌then◌else◌}
+use Rattle.std.specs.Prelude.{ℕ, ◌+◌, List, [], ◌∷◌, ◌++◌, length, drop, map, reverse, Bool, true, false, not, ◌&&◌, ◌||◌, ◌==◌, nat_lt, nat_le, option_to_list, if◌then◌else◌}
 use Rattle.std.specs.List.{list_any}
 use Rattle.nine_messages.specs.declared.message.RMsg.{RMsg}
 use Rattle.nine_messages.specs.Messages.{r_frame}
 use Rattle.agent_history.specs.declared.event.Event.{Event}
-use Rattle.agent_history.specs.declared.event.Event.TheVariants.{Request, Hang, Answer, NoAnswer, NoRoom, Take, TakeAsk, Stop}
+use Rattle.agent_history.specs.declared.event.Event.TheVariants.{Request, Hang, Take, TakeAsk, Stop}
 use Rattle.agent_history.specs.declared.event.StepAnswer.{StepAnswer}
 use Rattle.agent_history.specs.declared.event.StepAnswer.TheVariants.{Done, Reply, NoReply, Gone, NoAsk, Stopped}
 use Rattle.agent_history.specs.Deeds.{Deed, Hung}
