@@ -1,3 +1,4 @@
 pub mod Pipe
+pub mod Asking
 pub mod Statuses
 pub mod Commands

@@ -1,9 +1,8 @@
 -- One 9P connection over an input and an output: which inputs there are, the history that an input makes, and what is
 -- written. The history is the agent's own; nothing of how the program goes over its input stands here.
-use Rattle.std.specs.Prelude.{◌≡◌, ℕ, zero, suc, ◌≤◌, List, [], ◌∷◌, ◌++◌, length, Bool, true, false, if◌then◌else◌}
+use Rattle.std.specs.Prelude.{◌≡◌, ℕ, zero, suc, ◌≤◌, List, [], ◌∷◌, ◌++◌, length, if◌then◌else◌}
 use Rattle.std.specs.List.{AllByRecursion, concat}
 use Rattle.nine_messages.specs.Decoding.{IsFrame}
-use Rattle.agent_history.specs.declared.event.Event.{Event}
 use Rattle.agent_history.specs.declared.event.Event.TheVariants.{Request, Hang, Take}
 use Rattle.agent_history.specs.Histories.{History, untaken, answer}
 use Rattle.agent_history.specs.Laws.{is_reply}
@@ -21,10 +20,6 @@ pub record IsInput (input : List ℕ) (frames : List (List ℕ)) : Type 0 where
 -- the word that goes with each frame while nothing is drawn
 abbrev pub zeros : List ℕ
 zeros = 0 ∷ 0 ∷ 0 ∷ 0 ∷ 0 ∷ 0 ∷ 0 ∷ 0 ∷ []
-
--- a request on connection 0 with that word, whatever its frame
-abbrev pub IsAsked : Event → Type 0
-IsAsked event = (frame : List ℕ) × (event ≡ Request 0 frame zeros)
 
 -- take, at most so often, until there is no reply
 abbrev pub take_until : ℕ → History → History

@@ -4,7 +4,8 @@ ghost use Rattle.agent_history.specs.Histories.{History, untaken, answer};
 ghost use Rattle.agent_history.specs.Laws.{is_reply};
 ghost use Rattle.agent_core.specs.Agents.{StandsFor, kept_replies};
 ghost use Rattle.agent_history.specs.declared.event.Event.TheVariants.{Request, Hang, Take};
-ghost use Rattle.factotum_program.specs.Pipe.{IsWhole, IsInput, IsAsked, zeros, take_until, after_frame, text_of, pipe_text};
+ghost use Rattle.factotum_program.specs.Asking.{IsAsked};
+ghost use Rattle.factotum_program.specs.Pipe.{IsWhole, IsInput, zeros, take_until, after_frame, text_of, pipe_text};
 ghost use Rattle.factotum_program.specs.declared.pipe.PipeFault.TheVariants.{NoMemory};
 
 use crate::cut::cut;

@@ -1,5 +1,5 @@
 use Rattle.std.proofs.Common.{length}
-use Rattle.factotum_program.specs.Pipe.{IsAsked}
+use Rattle.factotum_program.specs.Asking.{IsAsked}
 use Rattle.factotum_program.proofs.InputLemmas.{Answered}
 use Rattle.factotum_program.proofs.pipe.answer_input.Given as goal
 
