@@ -10,7 +10,7 @@ use Rattle.agent_history.specs.Deeds.{Deed, msize_of, fid_of, held_by, keys_of}
 use Rattle.agent_history.specs.Histories.{History, has_stopped, most_events, was_opened, was_hung, deeds, untaken}
 use Rattle.agent_core.specs.declared.connection.Connection.{Connection}
 use Rattle.agent_core.specs.declared.agent.Agent.{Agent}
-use Rattle.agent_core.specs.Connections.{Keeps}
+use Rattle.agent_core.specs.Connections.{Keeps, SameKept, IsFresh}
 
 -- what the agent keeps of a connection; of one that it doesn't know, what it would keep of a fresh one
 abbrev pub opened_at : Option Connection → Bool
@@ -50,6 +50,27 @@ pub record Lives (history : History) (agent : Agent) : Type 0 where
 pub record StandsFor (history : History) (agent : Agent) : Type 0 where
   pub stopped : stopped_at agent ≡ has_stopped history
   pub lives : has_stopped history ≡ false → Lives history agent
+
+-- two connections are the same: their flags, their replies, their largest message and their fids
+pub record SameConnection (old new : Connection) : Type 0 where
+  pub opened : new.opened ≡ old.opened
+  pub hung : new.hung ≡ old.hung
+  pub replies : new.replies.items ≡ old.replies.items
+  pub kept : SameKept old new
+
+-- the same is kept of a number; where nothing was, a connection of which nothing is known is the same
+abbrev pub SameAt : Option Connection → Option Connection → Type 0
+SameAt None None = Unit {0}
+SameAt None (Some c) = IsFresh c
+SameAt (Some c) None = ⊥
+SameAt (Some c) (Some d) = SameConnection c d
+
+-- two agents are the same: the events they counted, whether they stopped, their keys, and what is kept of each number
+pub record SameAgent (old new : Agent) : Type 0 where
+  pub events : new.events ≡ old.events
+  pub stopped : new.stopped ≡ old.stopped
+  pub keys : new.keys.items ≡ old.keys.items
+  pub connections : (conn : ℕ) → SameAt (get nat_cmp old.connections conn) (get nat_cmp new.connections conn)
 
 -- an event that may come: a frame is whole, an answer of the authentication server has at most 160 bytes
 abbrev pub IsEvent : Event → Type 0

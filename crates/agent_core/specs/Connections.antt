@@ -22,6 +22,12 @@ pub record Keeps (done : List Deed) (conn : ℕ) (c : Connection) : Type 0 where
   pub fids : (fid : ℕ) → get nat_cmp c.fids fid ≡ kept_fid (fid_of done conn fid) (text_of done conn fid)
   pub held : btree_map_len c.fids ≡ held_by done conn
 
+-- what is kept of the fids and of the largest message is the same
+pub record SameKept (old new : Connection) : Type 0 where
+  pub msize : new.msize ≡ old.msize
+  pub fids : (fid : ℕ) → get nat_cmp new.fids fid ≡ get nat_cmp old.fids fid
+  pub held : btree_map_len new.fids ≡ btree_map_len old.fids
+
 -- the flags and the replies stay as they were
 pub record SameElsewhere (old new : Connection) : Type 0 where
   pub opened : new.opened ≡ old.opened

@@ -27,7 +27,7 @@ impl Agent {
     ghost use Rattle.std.specs.BTreeMap.{get};
     ghost use Rattle.agent_history.specs.Deeds.{keys_of};
     ghost use Rattle.agent_history.specs.Histories.{History, has_stopped, is_stop, deeds, answer};
-    ghost use Rattle.agent_core.specs.Agents.{StandsFor, Lives, Stands, IsEvent, TakesOne, TakesNone, stopped_at};
+    ghost use Rattle.agent_core.specs.Agents.{StandsFor, Lives, Stands, SameAgent, IsEvent, TakesOne, TakesNone, stopped_at};
 
     /// An agent without keys and connections.
     pub fn new(alloc: Global) -> Result<Agent, NoMemory>
@@ -57,8 +57,7 @@ impl Agent {
         ensures connections { OnOk result ((H : History) → has_stopped H ≡ false → Lives H self.old → is_stop event.now ≡ false → (q : ℕ) → Stands (event.now ∷ H) q (get nat_cmp self.new.connections q)) }
         ensures stopped { OnOk result (self.new.stopped ≡ (self.old.stopped || is_stop event.now)) }
         ensures events { self.new.events ≡ self.old.events }
-        ensures err { OnErr result ((H : History) → Lives H self.old → Lives H self.new) }
-        ensures err_stopped { OnErr result (self.new.stopped ≡ self.old.stopped) }
+        ensures err { OnErr result (SameAgent self.old self.new) }
         ensures err_out { OnErr result (out.new ≡ out.old) }
         ensures fewer { IfOk result (λ a. a ≡ StepAnswer.Reply → TakesOne event.now self.old self.new) }
         ensures takes_none { TakesNone event.now self.old → IsOk result }
@@ -104,7 +103,8 @@ impl Agent {
         ensures stands { OnOk result ((H : History) → StandsFor H self.old → StandsFor (event.now ∷ H) self.new) }
 
         // After want of memory all is as before.
-        ensures err { OnErr result ((H : History) → StandsFor H self.old → StandsFor H self.new) }
+        ensures err { OnErr result (SameAgent self.old self.new) }
+        ensures err_stands { OnErr result ((H : History) → StandsFor H self.old → StandsFor H self.new) }
         ensures err_out { OnErr result (out.new ≡ out.old) }
 
         // Where it takes no memory it succeeds, and a take that gave a reply leaves one less.

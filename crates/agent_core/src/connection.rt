@@ -5,7 +5,7 @@ ghost use Rattle.agent_history.specs.Table.{may_hold, deed_of, taken_as, deed_by
 ghost use Rattle.nine_messages.specs.declared.message.TBody.TheVariants as t;
 ghost use Rattle.nine_messages.specs.Messages.{t_fits, r_frame};
 ghost use Rattle.nine_messages.specs.Decoding.{IsFrame};
-ghost use Rattle.agent_core.specs.Connections.{IsFresh, Keeps, Tried, Tries, SameElsewhere};
+ghost use Rattle.agent_core.specs.Connections.{IsFresh, Keeps, SameKept, Tried, Tries, SameElsewhere};
 
 use crate::fid::Fid;
 use crate::list::list_text;
@@ -113,7 +113,8 @@ impl Connection {
     ) -> Result<bool, NoMemory>
         ensures tried { IfOk result (λ served. (done : List Deed) (conn : ℕ) (uname aname : List ℕ) → Tries done conn tag (t.Attach fid afid uname aname) self.old self.new out.old out.new served) }
         ensures elsewhere { SameElsewhere self.old self.new }
-        ensures err { OnErr result ((done : List Deed) (conn : ℕ) → Keeps done conn self.old → Keeps done conn self.new) }
+        ensures refused { IfOk result (λ served. served ≡ false → self.new ≡ self.old) }
+        ensures err { OnErr result (SameKept self.old self.new) }
     {
         if self.msize.is_none() || afid != NOFID || !self.may_hold(fid) {
             return Ok(false);
@@ -134,7 +135,8 @@ impl Connection {
     ) -> Result<bool, NoMemory>
         ensures tried { IfOk result (λ served. (done : List Deed) (conn : ℕ) → Tries done conn tag (t.Version msize version.now) self.old self.new out.old out.new served) }
         ensures elsewhere { SameElsewhere self.old self.new }
-        ensures err { OnErr result ((done : List Deed) (conn : ℕ) → Keeps done conn self.old → Keeps done conn self.new) }
+        ensures refused { IfOk result (λ served. served ≡ false → self.new ≡ self.old) }
+        ensures err { OnErr result (SameKept self.old self.new) }
     {
         if msize < LEAST_MSIZE || version != VERSION.as_slice() {
             return Ok(false);
@@ -158,7 +160,8 @@ impl Connection {
     ) -> Result<bool, NoMemory>
         ensures tried { IfOk result (λ served. (done : List Deed) (conn : ℕ) → Tries done conn tag (t.Walk fid newfid wname.now) self.old self.new out.old out.new served) }
         ensures elsewhere { SameElsewhere self.old self.new }
-        ensures err { OnErr result ((done : List Deed) (conn : ℕ) → Keeps done conn self.old → Keeps done conn self.new) }
+        ensures refused { IfOk result (λ served. served ≡ false → self.new ≡ self.old) }
+        ensures err { OnErr result (SameKept self.old self.new) }
     {
         if !names_root(self.state(fid))
             || !self.may_hold(newfid)
@@ -175,7 +178,8 @@ impl Connection {
     fn open(&mut self, tag: u16, fid: u32, mode: u8, out: &mut Bytes) -> Result<bool, NoMemory>
         ensures tried { IfOk result (λ served. (done : List Deed) (conn : ℕ) → Tries done conn tag (t.Open fid mode) self.old self.new out.old out.new served) }
         ensures elsewhere { SameElsewhere self.old self.new }
-        ensures err { OnErr result ((done : List Deed) (conn : ℕ) → Keeps done conn self.old → Keeps done conn self.new) }
+        ensures refused { IfOk result (λ served. served ≡ false → self.new ≡ self.old) }
+        ensures err { OnErr result (SameKept self.old self.new) }
     {
         if !names_closed_ctl(self.state(fid)) || mode != READ_AND_WRITE {
             return Ok(false);
@@ -191,7 +195,8 @@ impl Connection {
     fn clunk(&mut self, tag: u16, fid: u32, out: &mut Bytes) -> Result<bool, NoMemory>
         ensures tried { IfOk result (λ served. (done : List Deed) (conn : ℕ) → Tries done conn tag (t.Clunk fid) self.old self.new out.old out.new served) }
         ensures elsewhere { SameElsewhere self.old self.new }
-        ensures err { OnErr result ((done : List Deed) (conn : ℕ) → Keeps done conn self.old → Keeps done conn self.new) }
+        ensures refused { IfOk result (λ served. served ≡ false → self.new ≡ self.old) }
+        ensures err { OnErr result (SameKept self.old self.new) }
     {
         if self.fids.get(&fid).is_none() {
             return Ok(false);
@@ -215,7 +220,8 @@ impl Connection {
     ) -> Result<bool, NoMemory>
         ensures tried { IfOk result (λ served. (done : List Deed) (conn : ℕ) → keys.now ≡ keys_of done → Tries done conn tag (t.Read fid offset count) self.old self.new out.old out.new served) }
         ensures elsewhere { SameElsewhere self.old self.new }
-        ensures err { OnErr result ((done : List Deed) (conn : ℕ) → Keeps done conn self.old → Keeps done conn self.new) }
+        ensures refused { IfOk result (λ served. served ≡ false → self.new ≡ self.old) }
+        ensures err { OnErr result (SameKept self.old self.new) }
     {
         if !has_ctl_open(self.state(fid)) {
             return Ok(false);
@@ -246,6 +252,7 @@ impl Connection {
         requires { length content.now < 2 ^ 32 }
         ensures tried { IfOk result (λ served. (done : List Deed) (conn offset : ℕ) → keys.old.items ≡ keys_of done → Tries done conn tag (t.Write fid offset content.now) self.now self.now out.old out.new served) }
         ensures keys { OnOk result ((done : List Deed) (conn offset : ℕ) → keys.old.items ≡ keys_of done → Keeps done conn self.now → keys.new.items ≡ keys_of (option_to_list (deed_of done conn (t.Write fid offset content.now)) ++ done)) }
+        ensures refused { IfOk result (λ served. served ≡ false → keys.new.items ≡ keys.old.items) }
         ensures err { OnErr result (keys.new.items ≡ keys.old.items) }
     {
         if !has_ctl_open(self.state(fid)) || !keys.is_empty() {
@@ -274,7 +281,9 @@ impl Connection {
         ensures tried { IfOk result (λ served. (done : List Deed) (conn : ℕ) → keys.old.items ≡ keys_of done → Tries done conn tag body.now self.old self.new out.old out.new served) }
         ensures keys { OnOk result ((done : List Deed) (conn : ℕ) → keys.old.items ≡ keys_of done → Keeps done conn self.old → keys.new.items ≡ keys_of (option_to_list (deed_of done conn body.now) ++ done)) }
         ensures elsewhere { SameElsewhere self.old self.new }
-        ensures err { OnErr result ((done : List Deed) (conn : ℕ) → Keeps done conn self.old → Keeps done conn self.new) }
+        ensures refused { IfOk result (λ served. served ≡ false → self.new ≡ self.old) }
+        ensures refused_keys { IfOk result (λ served. served ≡ false → keys.new.items ≡ keys.old.items) }
+        ensures err { OnErr result (SameKept self.old self.new) }
         ensures err_keys { OnErr result (keys.new.items ≡ keys.old.items) }
     {
         match body {
@@ -327,7 +336,9 @@ impl Connection {
         ensures tried { IfOk result (λ served. (done : List Deed) (conn : ℕ) → keys.old.items ≡ keys_of done → Keeps done conn self.old → Tried (deed_by done conn frame.now) done conn (reply_to done conn frame.now) self.old self.new out.old out.new served) }
         ensures keys { OnOk result ((done : List Deed) (conn : ℕ) → keys.old.items ≡ keys_of done → Keeps done conn self.old → keys.new.items ≡ keys_of (option_to_list (deed_by done conn frame.now) ++ done)) }
         ensures elsewhere { SameElsewhere self.old self.new }
-        ensures err { OnErr result ((done : List Deed) (conn : ℕ) → Keeps done conn self.old → Keeps done conn self.new) }
+        ensures refused { IfOk result (λ served. served ≡ false → self.new ≡ self.old) }
+        ensures refused_keys { IfOk result (λ served. served ≡ false → keys.new.items ≡ keys.old.items) }
+        ensures err { OnErr result (SameKept self.old self.new) }
         ensures err_keys { OnErr result (keys.new.items ≡ keys.old.items) }
     {
         match self.request(alloc, frame)? {
@@ -352,8 +363,8 @@ impl Connection {
         ensures keys { OnOk result ((done : List Deed) (conn : ℕ) → keys.old.items ≡ keys_of done → Keeps done conn self.old → keys.new.items ≡ keys_of (option_to_list (deed_by done conn frame.now) ++ done)) }
         ensures reply { OnOk result ((done : List Deed) (conn : ℕ) → keys.old.items ≡ keys_of done → Keeps done conn self.old → out.new ≡ out.old ++ r_frame (reply_to done conn frame.now)) }
         ensures elsewhere { SameElsewhere self.old self.new }
-        ensures err { OnErr result ((done : List Deed) (conn : ℕ) → keys.old.items ≡ keys_of done → Keeps done conn self.old → Keeps done conn self.new) }
-        ensures err_keys { OnErr result ((done : List Deed) (conn : ℕ) → keys.old.items ≡ keys_of done → Keeps done conn self.old → keys.new.items ≡ keys_of done) }
+        ensures err { OnErr result (SameKept self.old self.new) }
+        ensures err_keys { OnErr result (keys.new.items ≡ keys.old.items) }
     {
         if self.try_frame(alloc, keys, frame, out)? {
             Ok(())
@@ -375,8 +386,8 @@ impl Connection {
         ensures reply { OnOk result ((done : List Deed) (conn : ℕ) → keys.old.items ≡ keys_of done → Keeps done conn self.old → self.new.replies.items ≡ self.old.replies.items ++ r_frame (reply_to done conn frame.now) ∷ []) }
         ensures opened { self.new.opened ≡ self.old.opened }
         ensures hung { self.new.hung ≡ self.old.hung }
-        ensures err { OnErr result ((done : List Deed) (conn : ℕ) → keys.old.items ≡ keys_of done → Keeps done conn self.old → Keeps done conn self.new) }
-        ensures err_keys { OnErr result ((done : List Deed) (conn : ℕ) → keys.old.items ≡ keys_of done → Keeps done conn self.old → keys.new.items ≡ keys_of done) }
+        ensures err { OnErr result (SameKept self.old self.new) }
+        ensures err_keys { OnErr result (keys.new.items ≡ keys.old.items) }
         ensures err_replies { OnErr result (self.new.replies.items ≡ self.old.replies.items) }
     {
         let mut reply = Bytes::with_capacity(alloc, USUAL_REPLY)?;

@@ -6,7 +6,7 @@ ghost use Rattle.nine_messages.specs.Decoding.{IsFrame};
 ghost use Rattle.agent_history.specs.declared.event.Event.TheVariants as events;
 ghost use Rattle.agent_history.specs.Deeds.{keys_of};
 ghost use Rattle.agent_history.specs.Histories.{History, has_stopped, deeds, answer};
-ghost use Rattle.agent_core.specs.Agents.{replies_at, Stands};
+ghost use Rattle.agent_core.specs.Agents.{replies_at, Stands, SameConnection, SameAt};
 
 use crate::connection::Connection;
 use agent_history::StepAnswer;
@@ -27,6 +27,7 @@ fn ensure_connection(
     ensures known_before { IsSome (get nat_cmp connections.old conn) → IsOk result }
     ensures replies { replies_at (get nat_cmp connections.new conn) ≡ replies_at (get nat_cmp connections.old conn) }
     ensures stands { (H : History) → ((q : ℕ) → Stands H q (get nat_cmp connections.old q)) → (q : ℕ) → Stands H q (get nat_cmp connections.new q) }
+    ensures same { (q : ℕ) → SameAt (get nat_cmp connections.old q) (get nat_cmp connections.new q) }
 {
     if connections.get(&conn).is_none() {
         connections.insert(conn, Connection::new(alloc))?;
@@ -44,7 +45,8 @@ fn request(
     requires { IsFrame frame.now }
     ensures ok { OnOk result ((H : History) (conn : ℕ) (word : List ℕ) → has_stopped H ≡ false → keys.old.items ≡ keys_of (deeds H) → Stands H conn (Some connection.old)
         → Stands (events.Request conn frame.now word ∷ H) conn (Some connection.new) × (keys.new.items ≡ keys_of (deeds (events.Request conn frame.now word ∷ H)))) }
-    ensures err { OnErr result ((H : History) (conn : ℕ) → keys.old.items ≡ keys_of (deeds H) → Stands H conn (Some connection.old) → Stands H conn (Some connection.new) × (keys.new.items ≡ keys_of (deeds H))) }
+    ensures err { OnErr result (SameConnection connection.old connection.new) }
+    ensures err_keys { OnErr result (keys.new.items ≡ keys.old.items) }
 {
     if connection.hung {
         return Ok(());
@@ -97,8 +99,8 @@ pub(crate) fn request_at(
     requires { IsFrame frame.now }
     ensures ok { OnOk result ((H : History) (word : List ℕ) → has_stopped H ≡ false → keys.old.items ≡ keys_of (deeds H) → ((q : ℕ) → Stands H q (get nat_cmp connections.old q))
         → (keys.new.items ≡ keys_of (deeds (events.Request conn frame.now word ∷ H))) × ((q : ℕ) → Stands (events.Request conn frame.now word ∷ H) q (get nat_cmp connections.new q))) }
-    ensures err { OnErr result ((H : History) → keys.old.items ≡ keys_of (deeds H) → ((q : ℕ) → Stands H q (get nat_cmp connections.old q))
-        → (keys.new.items ≡ keys_of (deeds H)) × ((q : ℕ) → Stands H q (get nat_cmp connections.new q))) }
+    ensures err { OnErr result ((q : ℕ) → SameAt (get nat_cmp connections.old q) (get nat_cmp connections.new q)) }
+    ensures err_keys { OnErr result (keys.new.items ≡ keys.old.items) }
 {
     ensure_connection(alloc, connections, conn)?;
     let Some(connection) = connections.get_mut(&conn) else {
@@ -116,7 +118,7 @@ pub(crate) fn take_at(
 ) -> Result<StepAnswer, NoMemory>
     ensures ok { IfOk result (λ a. (H : History) → has_stopped H ≡ false → ((q : ℕ) → Stands H q (get nat_cmp connections.old q))
         → ((q : ℕ) → Stands (events.Take conn ∷ H) q (get nat_cmp connections.new q)) × (a ≡ (answer H (events.Take conn)).0) × (out.new ≡ out.old ++ (answer H (events.Take conn)).1)) }
-    ensures err { OnErr result ((H : History) → ((q : ℕ) → Stands H q (get nat_cmp connections.old q)) → (q : ℕ) → Stands H q (get nat_cmp connections.new q)) }
+    ensures err { OnErr result ((q : ℕ) → SameAt (get nat_cmp connections.old q) (get nat_cmp connections.new q)) }
     ensures err_out { OnErr result (out.new ≡ out.old) }
     ensures fewer { IfOk result (λ a. a ≡ StepAnswer.Reply → length (replies_at (get nat_cmp connections.new conn)) + 1 ≡ length (replies_at (get nat_cmp connections.old conn))) }
     ensures nothing { IsSome (get nat_cmp connections.old conn) → replies_at (get nat_cmp connections.old conn) ≡ [] → IsOk result }

@@ -7,7 +7,7 @@ use crate::{Agent, Event, StepAnswer};
 use std::alloc::Global;
 use std::process::Abort;
 use std::test::Fail;
-use wire_base::{Bytes, get_u32};
+use wire_base::{Bytes, NoMemory, get_u32};
 
 // A case: its name, a request, and the reply, both in hexadecimal digits.
 type Case = (&'static str, &'static str, &'static str);
@@ -537,4 +537,24 @@ fn events_beside_requests(rt: HostRuntime) -> Result<(), Fail> {
         StepAnswer::Stopped,
         "",
     )
+}
+
+#[test]
+fn bytes_with_room_are_none_yet(rt: HostRuntime) -> Result<(), Fail> {
+    for room in [0, 1, 64] {
+        let mut bytes = Bytes::with_capacity(rt.alloc(), room)?;
+        assert_eq!(rt; bytes.as_slice(), b"".as_slice(), "{room}");
+        bytes.append(b"hello")?;
+        assert_eq!(rt; bytes.as_slice(), b"hello".as_slice(), "{room}");
+    }
+    Ok(())
+}
+
+#[test]
+fn want_of_memory_has_its_text(rt: HostRuntime) -> Result<(), Fail> {
+    assert_eq!(rt;
+        format!(in rt.alloc(); "{NoMemory}")?.as_str(),
+        "out of memory"
+    );
+    Ok(())
 }

@@ -290,6 +290,28 @@ fn name<const N: usize>(rt: &impl Abort, text: &[u8]) -> Name<N> {
 }
 
 #[test]
+fn names_are_text_that_leaves_room_for_a_nul(rt: HostRuntime) {
+    for (label, text, is_name) in [
+        ("empty", b"".as_slice(), true),
+        ("plain", b"ann".as_slice(), true),
+        ("of two bytes a letter", b"\xc3\xa9".as_slice(), true),
+        ("as long as fits", b"abcdefg".as_slice(), true),
+        ("as long as its field", b"abcdefgh".as_slice(), false),
+        ("longer", b"abcdefghi".as_slice(), false),
+        ("with a NUL", b"a\0b".as_slice(), false),
+        ("no UTF-8", b"\xff".as_slice(), false),
+    ] {
+        match Name::<8>::from_text(text) {
+            Some(name) => {
+                assert!(rt; is_name, "{label}");
+                assert_eq!(rt; name.text(), text, "{label}");
+            }
+            None => assert!(rt; !is_name, "{label}"),
+        }
+    }
+}
+
+#[test]
 fn requests(rt: HostRuntime) {
     for (kind, authid, authdom, chal, hostid, uid, bytes) in REQUESTS {
         let request = TicketReq {
