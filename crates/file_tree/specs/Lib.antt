@@ -1,0 +1,4 @@
+pub mod Tree
+pub mod Stats
+pub mod Calls
+pub mod Directories
