@@ -1,1 +1,3 @@
 pub mod RecordLaws
+pub mod DirectoryLaws
+pub mod WalkLaws

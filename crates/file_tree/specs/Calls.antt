@@ -136,3 +136,7 @@ opened mode (Some state) = Some (record { node = state.node; mode = Some mode })
 -- next is the offset of that read and the number of bytes that it gave, and 0 before the first read
 unfoldable pub dir_fault : ℕ → ℕ → Option FidFault
 dir_fault next offset = first_refusal ((not (offset == 0) && not (offset == next), BadOffset) ∷ [])
+
+-- whether a mode of open(5) that isn't denied lets its fid be read
+abbrev pub reads : ℕ → Bool
+reads mode = access mode == 0 || access mode == 2

@@ -1,6 +1,6 @@
 // The tests of each request on a fid, in their order: the first that holds refuses it.
 ghost use Rattle.std.specs.Prelude.{◌≡◌};
-ghost use Rattle.file_tree.specs.Calls.{attach_fault, dir_fault, executes, fid_fault, has_other_bits, is_denied, is_full, lacks_first, open_fault, removes_on_close, truncates, walk_fault, writes};
+ghost use Rattle.file_tree.specs.Calls.{attach_fault, dir_fault, executes, fid_fault, has_other_bits, is_denied, is_full, lacks_first, open_fault, reads, removes_on_close, truncates, walk_fault, writes};
 
 use crate::fault::FidFault;
 use crate::tree::{FidState, Node};
@@ -10,6 +10,8 @@ use wire_base::Text;
 pub const MOST_FIDS: usize = 256;
 
 const ACCESS_BITS: u8 = 3;
+
+const READING: u8 = 0;
 
 const WRITING: u8 = 1;
 
@@ -89,10 +91,18 @@ pub fn walk_fault(
     None
 }
 
-fn writes(mode: u8) -> bool
+/// Whether a mode lets its fid be written.
+pub fn writes(mode: u8) -> bool
     ensures { result ≡ writes mode }
 {
     matches!(mode & ACCESS_BITS, WRITING | READING_AND_WRITING)
+}
+
+/// Whether a mode in which a fid can be open lets it be read.
+pub fn reads(mode: u8) -> bool
+    ensures { result ≡ reads mode }
+{
+    matches!(mode & ACCESS_BITS, READING | READING_AND_WRITING)
 }
 
 // Whether a file may not be opened in a mode: it is to be removed at its close or executed, it isn't written, or it is

@@ -30,13 +30,12 @@ fn front(node: Node) -> [u8; 41]
     let path = qid.path.to_le_bytes();
     let mode = node.mode().to_le_bytes();
     [
-        size[0], size[1], 0, 0, 0, 0, 0, 0, qid.kind, 0, 0, 0, 0, path[0], path[1], path[2], path[3],
-        path[4], path[5], path[6], path[7], mode[0], mode[1], mode[2], mode[3], 0, 0, 0, 0, 0, 0, 0, 0,
-        0, 0, 0, 0, 0, 0, 0, 0,
+        size[0], size[1], 0, 0, 0, 0, 0, 0, qid.kind, 0, 0, 0, 0, path[0], path[1], path[2],
+        path[3], path[4], path[5], path[6], path[7], mode[0], mode[1], mode[2], mode[3], 0, 0, 0,
+        0, 0, 0, 0, 0, 0, 0, 0, 0, 0, 0, 0, 0,
     ]
 }
 
-#[tactic(auto, using(crate::proofs::RecordLaws::record_parts))]
 fn spell_record(node: Node, out: &mut Bytes) -> Result<(), NoMemory>
     ensures ok { OnOk result (out.new ≡ out.old ++ record_of node) }
     ensures err { OnErr result (Begins out.old out.new) }

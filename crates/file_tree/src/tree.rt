@@ -91,10 +91,7 @@ impl Node {
     pub fn is_written(self) -> bool
         ensures { result ≡ (file self).written }
     {
-        matches!(
-            self,
-            Node::Rpc | Node::Ctl | Node::Confirm | Node::Needkey
-        )
+        matches!(self, Node::Rpc | Node::Ctl | Node::Confirm | Node::Needkey)
     }
 
     pub fn is_directory(self) -> bool
