@@ -22,3 +22,6 @@ pub use refusal::{
 pub use stat::{put_record, record_size};
 pub use tree::{FidState, Node};
 pub use walk::{Nodes, walk_from};
+
+#[cfg(test)]
+mod tests;
