@@ -1,6 +1,6 @@
 -- The fids of one connection as a finite map: what each fid that is held names, whether it is open, and where its
 -- next read of a directory may begin. After section 5 of the Plan 9 manual (intro(5), fids).
-use Rattle.std.specs.Prelude.{◌≡◌, ℕ, ◌+◌, ◌≤◌, ◌==◌, List, length, Bool, ◌&&◌, Option, Some, None, option_map, if◌then◌else◌}
+use Rattle.std.specs.Prelude.{◌≡◌, ℕ, ◌+◌, ◌≤◌, ◌==◌, List, [], ◌∷◌, length, Bool, ◌&&◌, Option, Some, None, option_map, if◌then◌else◌}
 use Rattle.std.specs.Ordering.{nat_cmp}
 use Rattle.std.specs.Map.{lookup}
 use Rattle.std.specs.BTreeMap.{is_at}
@@ -67,3 +67,16 @@ is_open_directory fid = is_open fid && is_directory (node_of fid)
 -- a fid may be put in: it is held, or fewer than 256 are
 abbrev pub HasRoom : Table → ℕ → Type 0
 HasRoom table fid = held_in table + 1 ≤ most_fids + count_of (fid_at table fid)
+
+-- changes of fids, the newest first: which fid, and what it became
+abbrev pub Changes : Type 0
+Changes = List (ℕ × Option Fid)
+
+-- what the last change that concerns a fid made of it; it isn't held before the first
+abbrev pub told : Changes → ℕ → Option Fid
+told [] fid = None
+told (change ∷ before) fid = if change.0 == fid then change.1 else told before fid
+
+-- each fid is what the changes made of it
+abbrev pub StandsFor : Changes → Table → Type 0
+StandsFor changes table = (fid : ℕ) → fid_at table fid ≡ told changes fid

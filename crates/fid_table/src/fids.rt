@@ -64,17 +64,6 @@ impl Fids {
         }
     }
 
-    // The fid names this file from now on, and isn't open.
-    fn put(&mut self, fid: u32, node: Node) -> Result<(), NoMemory>
-        requires { HasRoom self.old fid }
-        ensures ok { OnOk result (Becomes self.old self.new fid (Some (fresh (at_rest node)))) }
-        ensures err { OnErr result (self.new ≡ self.old) }
-    {
-        let state = FidState { node, mode: None };
-        self.held.insert(fid, Fid { state, next: 0 })?;
-        Ok(())
-    }
-
     /// Attach: the fid names the root from now on.
     #[tactic(auto, unfolding(file_tree::specs::Calls::attach_fault))]
     pub fn attach(&mut self, fid: u32) -> Result<(), FidFault>
@@ -85,13 +74,12 @@ impl Fids {
         if let Some(fault) = attach_fault(self.state(fid), self.held.len()) {
             return Err(fault);
         }
-        self.put(fid, Node::Root)?;
+        self.mark_walked(fid, Node::Root)?;
         Ok(())
     }
 
-    /// Walk: gives the files that the names led to, as far as they are there. Where all are, newfid names the last of
+    /// Walk: gives the files that the names lead to, as far as they are there. Where all are, newfid names the last of
     /// them from now on, or what the fid names where there are no names; else it is what it was. Newfid may be the fid.
-    #[tactic(auto, unfolding(file_tree::specs::Calls::walk_fault))]
     pub fn walk(
         &mut self,
         alloc: Global,
@@ -103,6 +91,26 @@ impl Fids {
         ensures ok { OnOk result (Becomes self.old self.new newfid (moved (fid_at self.old newfid) (lead_to (node_of (state_at self.old fid)) names.now))) }
         ensures err { OnErr result (self.new ≡ self.old) }
     {
+        let (nodes, end) = self.may_walk(alloc, fid, newfid, names)?;
+        if let Some(end) = end {
+            self.mark_walked(newfid, end)?;
+        }
+        Ok(nodes)
+    }
+
+    /// The first half of a walk: the files that the names lead to, and where all of them lead, if each is there. It
+    /// changes nothing.
+    #[tactic(auto, unfolding(file_tree::specs::Calls::walk_fault))]
+    pub fn may_walk(
+        &self,
+        alloc: Global,
+        fid: u32,
+        newfid: u32,
+        names: &[Text],
+    ) -> Result<(Nodes, Option<Node>), FidFault>
+        ensures answer { Answers (walk_fault (state_at self.now fid) (state_at self.now newfid) (fid == newfid) (held_in self.now) names.now) (visited (node_of (state_at self.now fid)) names.now, lead_to (node_of (state_at self.now fid)) names.now) result }
+        ensures room { OnOk result (HasRoom self.now newfid) }
+    {
         let Some(from) = self.state(fid) else {
             return Err(FidFault::UnknownFid);
         };
@@ -110,11 +118,19 @@ impl Fids {
         if let Some(fault) = walk_fault(Some(from), onto, fid == newfid, self.held.len(), names) {
             return Err(fault);
         }
-        let (nodes, end) = walk_from(alloc, from.node, names)?;
-        if let Some(end) = end {
-            self.put(newfid, end)?;
-        }
-        Ok(nodes)
+        let found = walk_from(alloc, from.node, names)?;
+        Ok(found)
+    }
+
+    /// The second half: newfid names this file from now on, and isn't open. Where memory runs out nothing has changed.
+    pub fn mark_walked(&mut self, newfid: u32, node: Node) -> Result<(), NoMemory>
+        requires { HasRoom self.old newfid }
+        ensures ok { OnOk result (Becomes self.old self.new newfid (Some (fresh (at_rest node)))) }
+        ensures err { OnErr result (self.new ≡ self.old) }
+    {
+        let state = FidState { node, mode: None };
+        self.held.insert(newfid, Fid { state, next: 0 })?;
+        Ok(())
     }
 
     /// Open: whether the fid may be opened in this mode, and the file. It changes nothing and takes no memory.
@@ -158,6 +174,25 @@ impl Fids {
         ensures err { OnErr result (self.new ≡ self.old) }
         ensures err_out { OnErr result (out.new ≡ out.old) }
     {
+        let end = self.may_read(fid, offset, count, out)?;
+        self.mark_read(fid, end);
+        Ok(())
+    }
+
+    /// The first half of a read of an open directory: appends the records, and answers the offset behind them. It
+    /// changes no fid.
+    pub fn may_read(
+        &self,
+        fid: u32,
+        offset: u64,
+        count: u32,
+        out: &mut Bytes,
+    ) -> Result<u64, FidFault>
+        requires { is_open_directory (state_at self.now fid) ≡ true }
+        ensures answer { Answers (dir_fault (next_at self.now fid) offset) (dir_end (node_of (state_at self.now fid)) offset count) result }
+        ensures given { OnOk result (out.new ≡ out.old ++ dir_bytes (node_of (state_at self.now fid)) offset count) }
+        ensures err { OnErr result (out.new ≡ out.old) }
+    {
         let Some(held) = self.held.get(&fid) else {
             return Err(FidFault::UnknownFid);
         };
@@ -165,10 +200,16 @@ impl Fids {
             return Err(fault);
         }
         let end = put_directory(held.state.node, offset, count, out)?;
+        Ok(end)
+    }
+
+    /// The second half: the next read of the fid may begin at this offset. It takes no memory.
+    pub fn mark_read(&mut self, fid: u32, end: u64)
+        ensures { Becomes self.old self.new fid (read_to end (fid_at self.old fid)) }
+    {
         if let Some(held) = self.held.get_mut(&fid) {
             held.next = end;
         }
-        Ok(())
     }
 
     /// Stat: appends the record of what the fid names.
