@@ -127,6 +127,10 @@ open_fault fid mode = first_refusal (
     ∷ (is_denied (node_of fid) mode, Denied)
     ∷ [])
 
+-- the modes in which a file may be opened: reading; and where it is written, writing and both, each also with OTRUNC
+abbrev pub opens : Node → ℕ → Bool
+opens node mode = mode == 0 || ((file node).written && (mode == 1 || mode == 2 || mode == 0x11 || mode == 0x12))
+
 abbrev pub opened : ℕ → Option FidState → Option FidState
 opened mode None = None
 opened mode (Some state) = Some (record { node = state.node; mode = Some mode })

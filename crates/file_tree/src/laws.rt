@@ -4,7 +4,7 @@ ghost use Rattle.file_tree.specs.declared.tree.Node.{Node};
 ghost use Rattle.file_tree.specs.declared.tree.Node.TheVariants.{Root};
 ghost use Rattle.file_tree.specs.declared.tree.FidState.{FidState};
 ghost use Rattle.file_tree.specs.Tree.{file, files_in, is_directory, lead_to, parent, step, visited};
-ghost use Rattle.file_tree.specs.Calls.{node_of, walked};
+ghost use Rattle.file_tree.specs.Calls.{at_rest, node_of, open_fault, opens, walked};
 ghost use Rattle.file_tree.specs.Directories.{dir_bytes, files_read, read_on, records, size_of};
 
 /// Each file but the root is found by its name in the directory in which it stands; `..` leads from a directory to
@@ -32,6 +32,12 @@ pub fn a_walk_moves_only_to_its_end()
 /// A walk by names comes to where walks by some of them and then by the others come.
 pub fn a_walk_may_be_made_in_parts()
     ensures { (node : Node) (names others : List (List ℕ)) → lead_to node (names ++ others) ≡ option_and_then (λ next. lead_to next others) (lead_to node names) }
+{}
+
+/// A file that isn't open is opened in reading; and where it is written also in writing and in both, each of these also
+/// with OTRUNC; and in no other mode of a byte.
+pub fn a_file_is_opened_in_these_modes()
+    ensures { (node : Node) (mode : ℕ) → mode < 256 → (open_fault (Some (at_rest node)) mode ≡ None) ↔ (opens node mode ≡ true) }
 {}
 
 /// Reads of a directory from 0 on, each from where the one before it ended, give its files from the first on, in their
