@@ -8,9 +8,12 @@ use std::process::Abort;
 use std::test::Fail;
 use wire_base::{Bytes, Text, TextList};
 
-// What bench/vectors/tree.py prints: the way from the root to a file, the names of a walk from there, the names of
-// the files that it comes to, and the text that refuses it.
-const WALKS: [(&str, &str, &str, &str); 98] = [
+// The way from the root to a file, the names of a walk from there, the names of the files that it comes to, and the
+// text that refuses it.
+type Walk = (&'static str, &'static str, &'static str, &'static str);
+
+// What bench/vectors/tree.py prints.
+const WALKS: [Walk; 98] = [
     ("", "", "", ""),
     ("", "..", "/", ""),
     ("", "factotum", "factotum", ""),
@@ -188,10 +191,14 @@ fn walks(
     Ok(())
 }
 
+// How many names stand there.
+fn count_of(words: &str) -> usize {
+    words.split(' ').filter(|name| !name.is_empty()).count()
+}
+
 // The file to which all names lead: the last that a walk comes to, if it comes to as many.
-fn end_of(fids: &Fids, words: usize, visited: &str) -> Option<Node> {
-    let count = visited.split(' ').filter(|name| !name.is_empty()).count();
-    if count < words {
+fn end_of(fids: &Fids, words: &str, visited: &str) -> Option<Node> {
+    if count_of(visited) < count_of(words) {
         return None;
     }
     match visited.split(' ').last() {
@@ -205,41 +212,52 @@ fn end_of(fids: &Fids, words: usize, visited: &str) -> Option<Node> {
     }
 }
 
+// Onto a new fid: it names the end where all names are there, and nothing else has changed.
+fn walk_onto_a_new_fid(rt: &impl Abort, alloc: Global, walk: Walk) -> Result<(), Fail> {
+    let (way, words, visited, refusal) = walk;
+    let mut fids = at(rt, alloc, way)?;
+    let start = fids.file_of(1);
+    let end = end_of(&fids, words, visited);
+    walks(rt, alloc, &mut fids, 2, words, visited, refusal)?;
+    let now = end.map_or(Err(FidFault::UnknownFid), closed);
+    assert_eq!(rt; fids.file_of(2), now, "{way}: {words}");
+    assert_eq!(rt; fids.file_of(1), start, "{way}: {words}");
+    assert_eq!(rt; fids.file_of(0), closed(Node::Root), "{way}: {words}");
+    Ok(())
+}
+
+// Onto a fid that is held: it is refused, and nothing has changed.
+fn walk_onto_a_held_fid(rt: &impl Abort, alloc: Global, walk: Walk) -> Result<(), Fail> {
+    let (way, words, _, _) = walk;
+    let mut fids = at(rt, alloc, way)?;
+    let start = fids.file_of(1);
+    walks(rt, alloc, &mut fids, 0, words, "", "fid in use")?;
+    assert_eq!(rt; fids.file_of(0), closed(Node::Root), "{way}: {words}");
+    assert_eq!(rt; fids.file_of(1), start, "{way}: {words}");
+    Ok(())
+}
+
+// Onto itself: it names the end where all names are there, and else what it named.
+fn walk_onto_itself(rt: &impl Abort, alloc: Global, walk: Walk) -> Result<(), Fail> {
+    let (way, words, visited, refusal) = walk;
+    let mut fids = at(rt, alloc, way)?;
+    let start = fids.file_of(1);
+    let end = end_of(&fids, words, visited);
+    walks(rt, alloc, &mut fids, 1, words, visited, refusal)?;
+    assert_eq!(rt;
+        fids.file_of(1),
+        end.map_or(start, closed),
+        "{way}: {words}"
+    );
+    Ok(())
+}
+
 #[test]
 fn every_path_is_walked_from_every_file(rt: HostRuntime) -> Result<(), Fail> {
-    let alloc = rt.alloc();
-    for (way, words, visited, refusal) in WALKS {
-        let count = words.split(' ').filter(|name| !name.is_empty()).count();
-
-        let mut fids = at(&rt, alloc, way)?;
-        let start = fids.file_of(1);
-        let end = end_of(&fids, count, visited);
-        walks(&rt, alloc, &mut fids, 2, words, visited, refusal)?;
-        let now = end.map_or(Err(FidFault::UnknownFid), closed);
-        assert_eq!(rt; fids.file_of(2), now, "a new fid: {way}: {words}");
-        assert_eq!(rt; fids.file_of(1), start, "a new fid: {way}: {words}");
-        assert_eq!(rt;
-            fids.file_of(0),
-            closed(Node::Root),
-            "a new fid: {way}: {words}"
-        );
-
-        let mut fids = at(&rt, alloc, way)?;
-        walks(&rt, alloc, &mut fids, 0, words, "", "fid in use")?;
-        assert_eq!(rt;
-            fids.file_of(0),
-            closed(Node::Root),
-            "a held fid: {way}: {words}"
-        );
-        assert_eq!(rt; fids.file_of(1), start, "a held fid: {way}: {words}");
-
-        let mut fids = at(&rt, alloc, way)?;
-        walks(&rt, alloc, &mut fids, 1, words, visited, refusal)?;
-        assert_eq!(rt;
-            fids.file_of(1),
-            end.map_or(start, closed),
-            "the same fid: {way}: {words}"
-        );
+    for walk in WALKS {
+        walk_onto_a_new_fid(&rt, rt.alloc(), walk)?;
+        walk_onto_a_held_fid(&rt, rt.alloc(), walk)?;
+        walk_onto_itself(&rt, rt.alloc(), walk)?;
     }
     Ok(())
 }
@@ -292,104 +310,121 @@ fn a_257th_fid_is_refused(rt: HostRuntime) -> Result<(), Fail> {
     Ok(())
 }
 
-// Of two grounds the one that comes first in the manual's and this table's order is told, and nothing changes.
-#[test]
-fn the_first_ground_is_told(rt: HostRuntime) -> Result<(), Fail> {
-    let alloc = rt.alloc();
-    for (name, is_full, way, opened, newfid, words, refusal) in [
-        (
-            "open and in use",
-            false,
-            "factotum",
-            Some(0),
-            0,
-            "",
-            "already open",
-        ),
-        ("open and full", true, "", Some(2), 256, "", "already open"),
-        (
-            "open, onto itself, and a file",
-            false,
-            "factotum log",
-            Some(0),
-            1,
-            "..",
-            "already open",
-        ),
-        (
-            "in use and from a file",
-            false,
-            "factotum ctl",
-            None,
-            0,
-            "ctl",
-            "fid in use",
-        ),
-        (
-            "in use and not found",
-            false,
-            "factotum",
-            None,
-            0,
-            "nothing",
-            "fid in use",
-        ),
-        (
-            "full and from a file",
-            true,
-            "",
-            None,
-            256,
-            "ctl",
-            "too many fids",
-        ),
-        (
-            "a file and not found",
-            false,
-            "factotum proto",
-            None,
-            2,
-            "nothing",
-            "not a directory",
-        ),
-        (
-            "a file and not found, onto itself",
-            false,
-            "factotum proto",
-            None,
-            1,
-            "nothing",
-            "not a directory",
-        ),
-    ] {
-        let mut fids = if is_full {
-            full(&rt, alloc)?
-        } else {
-            at(&rt, alloc, way)?
-        };
-        if let Some(mode) = opened {
-            assert!(rt; open(&mut fids, 1, mode).is_ok(), "{name}");
-        }
-        let before = (fids.file_of(0), fids.file_of(1), fids.file_of(newfid));
-        walks(&rt, alloc, &mut fids, newfid, words, "", refusal)?;
-        assert_eq!(rt;
-            (fids.file_of(0), fids.file_of(1), fids.file_of(newfid)),
-            before,
-            "{name}"
-        );
-    }
+// A name, whether 256 fids are held, the way to fid 1, the mode in which it is open, and a walk from it that is refused.
+type Ground = (
+    &'static str,
+    bool,
+    &'static str,
+    Option<u8>,
+    u32,
+    &'static str,
+    &'static str,
+);
 
-    let mut fids = full(&rt, alloc)?;
+// Of two grounds to refuse a walk the first is told.
+const GROUNDS: [Ground; 8] = [
+    (
+        "open and in use",
+        false,
+        "factotum",
+        Some(0),
+        0,
+        "",
+        "already open",
+    ),
+    ("open and full", true, "", Some(2), 256, "", "already open"),
+    (
+        "open, from a file, onto itself",
+        false,
+        "factotum log",
+        Some(0),
+        1,
+        "..",
+        "already open",
+    ),
+    (
+        "in use and from a file",
+        false,
+        "factotum ctl",
+        None,
+        0,
+        "ctl",
+        "fid in use",
+    ),
+    (
+        "in use and not found",
+        false,
+        "factotum",
+        None,
+        0,
+        "nothing",
+        "fid in use",
+    ),
+    (
+        "full and from a file",
+        true,
+        "",
+        None,
+        256,
+        "ctl",
+        "too many fids",
+    ),
+    (
+        "from a file and not found",
+        false,
+        "factotum proto",
+        None,
+        2,
+        "nothing",
+        "not a directory",
+    ),
+    (
+        "the same, onto itself",
+        false,
+        "factotum proto",
+        None,
+        1,
+        "nothing",
+        "not a directory",
+    ),
+];
+
+// A walk that is refused changes no fid.
+fn refuse(rt: &impl Abort, alloc: Global, ground: Ground) -> Result<(), Fail> {
+    let (name, is_full, way, opened, newfid, words, refusal) = ground;
+    let mut fids = if is_full {
+        full(rt, alloc)?
+    } else {
+        at(rt, alloc, way)?
+    };
+    if let Some(mode) = opened {
+        assert!(rt; open(&mut fids, 1, mode).is_ok(), "{name}");
+    }
+    let (from, onto) = (fids.file_of(1), fids.file_of(newfid));
+    walks(rt, alloc, &mut fids, newfid, words, "", refusal)?;
+    assert_eq!(rt; fids.file_of(1), from, "{name}");
+    assert_eq!(rt; fids.file_of(newfid), onto, "{name}");
+    Ok(())
+}
+
+#[test]
+fn the_first_ground_refuses_a_walk(rt: HostRuntime) -> Result<(), Fail> {
+    for ground in GROUNDS {
+        refuse(&rt, rt.alloc(), ground)?;
+    }
+    let mut fids = full(&rt, rt.alloc())?;
+    let names = names_of(rt.alloc(), "nothing")?;
+    let unknown = fids.walk(rt.alloc(), 300, 1, names.as_slice()).err();
+    assert_eq!(rt; unknown, Some(FidFault::UnknownFid), "unknown and in use");
+    let unfound = fids.walk(rt.alloc(), 0, 300, names.as_slice()).err();
+    assert_eq!(rt; unfound, Some(FidFault::TooMany), "full and not found");
+    Ok(())
+}
+
+#[test]
+fn the_first_ground_refuses_an_attach_and_an_open(rt: HostRuntime) -> Result<(), Fail> {
+    let mut fids = full(&rt, rt.alloc())?;
     assert_eq!(rt; fids.attach(7), Err(FidFault::InUse), "in use and full");
-    let names = names_of(alloc, "nothing")?;
-    let unknown = fids
-        .walk(alloc, 300, 1, names.as_slice())
-        .map(|nodes| nodes.len());
-    assert_eq!(rt; unknown, Err(FidFault::UnknownFid), "unknown and in use");
-    let unfound = fids
-        .walk(alloc, 0, 300, names.as_slice())
-        .map(|nodes| nodes.len());
-    assert_eq!(rt; unfound, Err(FidFault::TooMany), "full and not found");
     assert_eq!(rt;
         fids.may_open(300, 4),
         Err(FidFault::UnknownFid),
@@ -453,47 +488,78 @@ fn ctl_is_told_and_given_up(rt: HostRuntime) -> Result<(), Fail> {
 }
 
 // Reads of one fid: its offset, the count, and how many bytes are given or what refuses it.
+const READS: [(u64, u32, Result<usize, FidFault>); 20] = [
+    (76, 81, Err(FidFault::BadOffset)),
+    (466, 81, Ok(0)),
+    (0, 75, Ok(0)),
+    (466, 81, Err(FidFault::BadOffset)),
+    (0, 76, Ok(76)),
+    (75, 81, Err(FidFault::BadOffset)),
+    (152, 81, Err(FidFault::BadOffset)),
+    (76, 79, Ok(76)),
+    (152, 79, Ok(0)),
+    (152, 160, Ok(160)),
+    (152, 160, Err(FidFault::BadOffset)),
+    (312, 81, Ok(78)),
+    (390, 0, Ok(0)),
+    (390, 75, Ok(0)),
+    (390, 8192, Ok(76)),
+    (466, 8192, Ok(0)),
+    (466, 8192, Ok(0)),
+    (0xffff_ffff_ffff_ffff, 81, Err(FidFault::BadOffset)),
+    (466, 0, Ok(0)),
+    (0, 8192, Ok(466)),
+];
+
+// A read gives what stands in the whole directory from its offset on.
+fn read_from(
+    rt: &impl Abort,
+    alloc: Global,
+    fids: &mut Fids,
+    whole: &[u8],
+    offset: u64,
+    count: u32,
+    given: Result<usize, FidFault>,
+) {
+    let mut out = Bytes::new(alloc);
+    let answer = read(fids, 1, offset, count, &mut out);
+    assert_eq!(rt; answer.map(|()| out.len()), given, "{count} from {offset}");
+    let from = offset.min(466) as usize;
+    let here = whole.get(from..).unwrap_or(&[]);
+    assert!(rt; here.starts_with(out.as_slice()), "{count} from {offset}");
+}
+
 #[test]
 fn a_directory_is_read_on_or_from_its_beginning(rt: HostRuntime) -> Result<(), Fail> {
-    let bad = Err(FidFault::BadOffset);
     let mut fids = at(&rt, rt.alloc(), "factotum")?;
     assert_eq!(rt; open(&mut fids, 1, 0), Ok(Node::Factotum));
-    assert_eq!(rt; open(&mut fids, 0, 0), Ok(Node::Root));
     let mut whole = Bytes::new(rt.alloc());
     assert_eq!(rt; read(&mut fids, 1, 0, 8192, &mut whole), Ok(()));
     assert_eq!(rt; whole.len(), 466);
-    for (offset, count, given) in [
-        (76, 81, bad),
-        (466, 81, Ok(0)),
-        (0, 75, Ok(0)),
-        (466, 81, bad),
-        (0, 76, Ok(76)),
-        (75, 81, bad),
-        (152, 81, bad),
-        (76, 79, Ok(76)),
-        (152, 79, Ok(0)),
-        (152, 160, Ok(160)),
-        (152, 160, bad),
-        (312, 81, Ok(78)),
-        (390, 0, Ok(0)),
-        (390, 75, Ok(0)),
-        (390, 8192, Ok(76)),
-        (466, 8192, Ok(0)),
-        (466, 8192, Ok(0)),
-        (0xffff_ffff_ffff_ffff, 81, bad),
-        (466, 0, Ok(0)),
-        (0, 8192, Ok(466)),
-    ] {
-        let mut out = Bytes::new(rt.alloc());
-        let answer = read(&mut fids, 1, offset, count, &mut out);
-        assert_eq!(rt; answer.map(|()| out.len()), given, "{count} from {offset}");
-        let from = offset.min(466) as usize;
-        let here = whole.as_slice().get(from..).unwrap_or(&[]);
-        assert!(rt; here.starts_with(out.as_slice()), "{count} from {offset}");
+    for (offset, count, given) in READS {
+        read_from(
+            &rt,
+            rt.alloc(),
+            &mut fids,
+            whole.as_slice(),
+            offset,
+            count,
+            given,
+        );
     }
+    Ok(())
+}
+
+#[test]
+fn each_fid_has_an_offset_of_its_own(rt: HostRuntime) -> Result<(), Fail> {
+    let mut fids = at(&rt, rt.alloc(), "factotum")?;
+    assert_eq!(rt; open(&mut fids, 0, 0), Ok(Node::Root));
+    assert_eq!(rt; open(&mut fids, 1, 0), Ok(Node::Factotum));
     let mut out = Bytes::new(rt.alloc());
+    assert_eq!(rt; read(&mut fids, 1, 0, 76, &mut out), Ok(()));
+    out.clear();
     assert_eq!(rt;
-        read(&mut fids, 0, 81, 81, &mut out),
+        read(&mut fids, 0, 76, 81, &mut out),
         Err(FidFault::BadOffset)
     );
     assert_eq!(rt; read(&mut fids, 0, 0, 81, &mut out), Ok(()));

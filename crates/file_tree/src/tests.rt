@@ -1,6 +1,7 @@
 // The tree and what is told of it, beside records made by another program.
 use crate::{FidFault, Node, put_directory, put_record, record_size, walk_from};
 use std::alloc::Global;
+use std::process::Abort;
 use std::test::Fail;
 use wire_base::{Bytes, Text, TextList};
 
@@ -156,28 +157,41 @@ fn a_file_is_told_in_one_record(rt: HostRuntime) -> Result<(), Fail> {
     Ok(())
 }
 
+// What reads of a directory with one count give, from its beginning to the first that gives nothing.
+fn read_on(
+    rt: &impl Abort,
+    alloc: Global,
+    node: Node,
+    count: u32,
+    sizes: &[usize],
+) -> Result<Bytes, Fail> {
+    let mut offset = 0;
+    let mut out = Bytes::new(alloc);
+    for size in sizes {
+        let before = out.len();
+        offset = put_directory(node, offset, count, &mut out)?;
+        assert_eq!(rt; out.len().saturating_sub(before), *size, "count {count}");
+        assert_eq!(rt; offset, out.len() as u64, "count {count}");
+    }
+    Ok(out)
+}
+
+// The records of the files of a directory.
+fn records_in(alloc: Global, node: Node) -> Result<Bytes, Fail> {
+    let mut whole = Bytes::new(alloc);
+    for (child, digits) in RECORDS {
+        if node.files().contains(&child) {
+            whole.append(bytes_of(alloc, digits)?.as_slice())?;
+        }
+    }
+    Ok(whole)
+}
+
 #[test]
 fn a_directory_is_read_in_whole_records(rt: HostRuntime) -> Result<(), Fail> {
-    let alloc = rt.alloc();
     for (node, count, sizes) in READS {
-        let mut whole = Bytes::new(alloc);
-        for (child, digits) in RECORDS {
-            if node.files().contains(&child) {
-                whole.append(bytes_of(alloc, digits)?.as_slice())?;
-            }
-        }
-        let mut offset = 0;
-        let mut out = Bytes::new(alloc);
-        for size in sizes {
-            let before = out.len();
-            offset = put_directory(node, offset, count, &mut out)?;
-            assert_eq!(rt;
-                out.len().saturating_sub(before),
-                *size,
-                "count {count}, size {size}"
-            );
-            assert_eq!(rt; offset, out.len() as u64, "count {count}, size {size}");
-        }
+        let out = read_on(&rt, rt.alloc(), node, count, sizes)?;
+        let whole = records_in(rt.alloc(), node)?;
         assert!(rt;
             whole.as_slice().starts_with(out.as_slice()),
             "count {count}"
