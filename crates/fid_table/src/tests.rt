@@ -13,7 +13,7 @@ use wire_base::{Bytes, Text, TextList};
 type Walk = (&'static str, &'static str, &'static str, &'static str);
 
 // What bench/vectors/tree.py prints.
-const WALKS: [Walk; 98] = [
+static WALKS: [Walk; 98] = [
     ("", "", "", ""),
     ("", "..", "/", ""),
     ("", "factotum", "factotum", ""),
@@ -252,14 +252,18 @@ fn walk_onto_itself(rt: &impl Abort, alloc: Global, walk: Walk) -> Result<(), Fa
     Ok(())
 }
 
-#[test]
-fn every_path_is_walked_from_every_file(rt: HostRuntime) -> Result<(), Fail> {
-    for walk in WALKS {
-        walk_onto_a_new_fid(&rt, rt.alloc(), walk)?;
-        walk_onto_a_held_fid(&rt, rt.alloc(), walk)?;
-        walk_onto_itself(&rt, rt.alloc(), walk)?;
+fn walk_each(rt: &impl Abort, alloc: Global, walks: &[Walk]) -> Result<(), Fail> {
+    for walk in walks {
+        walk_onto_a_new_fid(rt, alloc, *walk)?;
+        walk_onto_a_held_fid(rt, alloc, *walk)?;
+        walk_onto_itself(rt, alloc, *walk)?;
     }
     Ok(())
+}
+
+#[test]
+fn every_path_is_walked_from_every_file(rt: HostRuntime) -> Result<(), Fail> {
+    walk_each(&rt, rt.alloc(), &WALKS)
 }
 
 // Opens a fid, if it may be opened.
