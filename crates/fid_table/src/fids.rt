@@ -1,5 +1,5 @@
 // The fids of one connection.
-ghost use Rattle.std.specs.Prelude.{◌≡◌, ◌≤◌, ◌<◌, [], ◌++◌, Some, None, ◌==◌, IfOk, OnOk, OnErr, true, option_map, ok_or, length};
+ghost use Rattle.std.specs.Prelude.{◌≡◌, ◌≤◌, [], ◌++◌, Some, None, ◌==◌, OnOk, OnErr, true, option_map, ok_or};
 ghost use Rattle.file_tree.specs.declared.fault.FidFault.TheVariants.{UnknownFid};
 ghost use Rattle.file_tree.specs.declared.tree.Node.TheVariants.{Root};
 ghost use Rattle.file_tree.specs.Tree.{lead_to, visited};
@@ -10,7 +10,7 @@ ghost use Rattle.file_tree.specs.Directories.{dir_bytes, dir_end};
 ghost use Rattle.fid_table.specs.Held.{fid_at, fresh, held_in, is_open_directory, moved, next_at, read_to, state_at, Becomes, HasRoom};
 
 use file_tree::{
-    FidFault, FidState, MOST_FIDS, Node, Nodes, attach_fault, dir_fault, open_fault, put_directory,
+    FidFault, FidState, Node, Nodes, attach_fault, dir_fault, open_fault, put_directory,
     put_record, walk_fault, walk_from,
 };
 use std::alloc::Global;

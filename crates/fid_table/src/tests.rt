@@ -1,8 +1,6 @@
 // Requests on the fids of one connection, one after the other.
-ghost use Rattle.std.specs.Prelude.{◌≡◌, true};
-ghost use Rattle.fid_table.specs.Held.{is_open_directory, state_at};
 
-use crate::{FidFault, FidState, Fids, Node, Nodes};
+use crate::{FidFault, FidState, Fids, Node};
 use std::alloc::Global;
 use std::process::Abort;
 use std::test::Fail;
