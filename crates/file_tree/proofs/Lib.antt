@@ -1,0 +1,4 @@
+pub mod RecordLaws
+pub mod DirectoryLaws
+pub mod WalkLaws
+pub mod OpenLaws

@@ -1,0 +1,5 @@
+pub mod Tree
+pub mod Stats
+pub mod Faults
+pub mod Calls
+pub mod Directories
