@@ -1,3 +1,4 @@
 mod FrontLaws
 mod Changes
 mod RuleKept
+mod SeatFacts
