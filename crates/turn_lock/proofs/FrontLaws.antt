@@ -166,3 +166,12 @@ module _ {E : Type 0} where
 
   pub longer_of : (ns ms : List ℕ) (a b log : Front E) → Grows ns a log → Grows ms b log → Longer ns ms a b log
   longer_of ns ms a b log g h = dite (dec_le (length a) (length b)) (λ le. longer_second ns ms a b log g h le) (λ no. longer_first ns ms a b log g h (let x : ℕ = length a in let y : ℕ = length b in omega arith))
+
+  -- what a turn adds is of its seat, and nothing else of what came is
+  pub own_after_turn : (ns : List ℕ) (event : Option E) (others front : Front E) (n : ℕ) → among ns n ≡ true → own ns others ≡ [] → own ns (made ns event ++ (others ++ front)) ≡ made ns event ++ own ns front
+  own_after_turn ns event others front n is_mine apart = own_append ns (made ns event) (others ++ front) ∙ (ap (λ z. z ++ own ns (others ++ front)) (made_of_own ns event (least_among ns n is_mine))
+      ∙ ap (λ z. made ns event ++ z) (own_append ns others front ∙ ap (λ z. z ++ own ns front) apart))
+
+  -- those of a front with these numbers are the same in all that goes on from it
+  pub own_of_grown : (ns : List ℕ) (front later : Front E) → Grows ns front later → own ns later ≡ own ns front
+  own_of_grown ns front later g = ap (own ns) g.goes_on ∙ (own_append ns g.more front ∙ ap (λ z. z ++ own ns front) g.of_others)

@@ -1,12 +1,11 @@
 -- What the calls say of seats, from what their steps tell.
 use Rattle.std.proofs.Common.{◌≡◌, ℕ, List, [], ◌∷◌, ◌++◌, Bool, true, false, Option, Some, sym, refl, ap, ◌∙◌, subst, true≢false, append-nil, option_to_list}
 use Rattle.std.proofs.lemmas.Bool.{false_from_ne_true}
-use Rattle.turn_lock.specs.declared.views.View.{View}
-use Rattle.turn_lock.specs.Fronts.{among, Front, events, own, made, Grows}
-use Rattle.turn_lock.specs.Rule.{sight, nothing, view, newcomer}
-use Rattle.turn_lock.specs.Steps.{told_of, kept, cut, after_turn, Mine, Took, Agree, Settled}
-use Rattle.turn_lock.specs.Seats.{SeatOf, front, numbers, Turned, Parted, Joined}
-use Rattle.turn_lock.proofs.FrontLaws.{among_itself, own_append_none}
+use Rattle.turn_lock.specs.Fronts.{among, Front, events, own, made}
+use Rattle.turn_lock.specs.Rule.{newcomer}
+use Rattle.turn_lock.specs.Steps.{told_of, kept, cut, Agree}
+use Rattle.turn_lock.specs.Seats.{SeatOf, front, numbers, Turned, Parted}
+use Rattle.turn_lock.proofs.FrontLaws.{among_itself, own_append_none, own_after_turn, made_events}
 
 module _ {S E : Type 0} where
   -- the seat with the new number
@@ -23,13 +22,7 @@ module _ {S E : Type 0} where
         no_entries = (own_append_none ns agree.seen.more (front seat) (ap (own ns) (sym agree.seen.goes_on) ∙ none_told)).1;
       }
 
-  -- one turn: its front grew by others' entries when it took the turn, and then by its own
-  pub turned : (stands : List E → S → Type 0) (event : Option E) (gives : List E → Type 0) (before after : SeatOf S E) (front' : Front E) → Grows (numbers before) (front before) front' → gives (events front')
-      → after.me.0.seen ≡ sight (made (numbers before) event ++ front') (numbers before) → Turned event gives before after
-  turned stands event gives before after front' g answers is = record {
-    others = g.more;
-    adds = ap (λ x. x.front) is ∙ ap (λ z. made (numbers before) event ++ z) g.goes_on;
-    of_others = g.of_others;
-    same_numbers = ap (λ x. x.numbers) is;
-    answers = subst (λ (z : Front E). gives (events z)) g.goes_on answers;
-  }
+  -- of the seat's own entries a turn adds the one of its event
+  pub own_turned : (event : Option E) (gives : List E → Type 0) (before after : SeatOf S E) (n : ℕ) → among (numbers before) n ≡ true → Turned event gives before after
+      → own (numbers before) (front after) ≡ made (numbers before) event ++ own (numbers before) (front before)
+  own_turned event gives before after n is_mine t = ap (own (numbers before)) t.adds ∙ own_after_turn (numbers before) event t.others (front before) n is_mine t.of_others

@@ -7,6 +7,8 @@ mod lock;
 mod logged;
 mod plays;
 mod seats;
+#[cfg(test)]
+mod tests;
 mod turn;
 mod views;
 
