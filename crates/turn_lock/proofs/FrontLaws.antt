@@ -27,6 +27,10 @@ pub among_left : (ns ms : List ℕ) (n : ℕ) → among ns n ≡ true → among 
 among_left [] ms n e = absurd (true≢false (sym e))
 among_left (m ∷ ns) ms n e = ⊎_elim (λ (t : (n == m) ≡ true). or_left (n == m) (among (ns ++ ms) n) t) (λ (t : among ns n ≡ true). among_rest m (ns ++ ms) n (among_left ns ms n t)) (or_cases (n == m) (among ns n) e)
 
+pub among_right : (ns ms : List ℕ) (n : ℕ) → among ms n ≡ true → among (ns ++ ms) n ≡ true
+among_right [] ms n e = e
+among_right (m ∷ ns) ms n e = among_rest m (ns ++ ms) n (among_right ns ms n e)
+
 least_one : (m n : ℕ) (ns : List ℕ) → among (n ∷ ns) (least_of n ns) ≡ true → among (m ∷ n ∷ ns) (min m (least_of n ns)) ≡ true
 least_one m n ns h = let k : ℕ = least_of n ns in dite (dec_le m k)
     (λ (le : m ≤ k). subst (λ (x : ℕ). among (m ∷ n ∷ ns) x ≡ true) (sym (min-eq_left le)) (among_itself m (n ∷ ns)))

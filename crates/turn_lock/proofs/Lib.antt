@@ -2,3 +2,4 @@ mod FrontLaws
 mod Changes
 mod RuleKept
 mod SeatFacts
+mod RuleTells

@@ -29,7 +29,7 @@ ticket_or n Outside = n
 ticket_or n (Waits t) = t
 ticket_or n (HasTurn t) = t
 
-abbrev some_or : ℕ → Option ℕ → ℕ
+abbrev pub some_or : ℕ → Option ℕ → ℕ
 some_or n None = n
 some_or n (Some m) = m
 
@@ -41,7 +41,7 @@ not_both t u e = true≢false (ap is_turn e)
     is_turn (Waits n) = false
     is_turn (HasTurn n) = true
 
-no_ticket : (t : ℕ) → ◌≡◌ {A = Option ℕ} None (Some t) → ⊥
+pub no_ticket : (t : ℕ) → ◌≡◌ {A = Option ℕ} None (Some t) → ⊥
 no_ticket t e = true≢false (sym (ap is_there e))
   where
     is_there : Option ℕ → Bool

@@ -1,6 +1,6 @@
 -- For the tests of this crate alone: a counter whose calls are numbered.
-use Rattle.std.specs.Prelude.{◌≡◌, ℕ, zero, suc, List, [], ◌∷◌, ◌++◌}
-use Rattle.turn_lock.specs.Fronts.{Front, events, own}
+use Rattle.std.specs.Prelude.{◌≡◌, ℕ, zero, suc, List, [], ◌∷◌, ◌++◌, true, false}
+use Rattle.turn_lock.specs.Fronts.{Front, among, events, own}
 
 -- the calls from 0 up to n, the newest first
 abbrev pub countdown : ℕ → List ℕ
@@ -12,5 +12,6 @@ pub record IsCountedByTwo (turns : ℕ) (numbers : List ℕ) (front : Front ℕ)
   pub one : List ℕ
   pub other : List ℕ
   pub all_numbers : numbers ≡ one ++ other
+  pub apart : (n : ℕ) → among one n ≡ true → among other n ≡ false
   pub by_one : events (own one front) ≡ countdown turns
   pub by_other : events (own other front) ≡ countdown turns

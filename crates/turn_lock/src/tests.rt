@@ -48,6 +48,24 @@ impl<'a> TurnCall<Counter> for Count<'a> {
     }
 }
 
+/// Reads the counter, which is no event.
+#[derive(Drop)]
+struct Read;
+
+impl TurnCall<Counter> for Read {
+    type Reply = u64;
+
+    ghost use Rattle.std.specs.Prelude.{◌≡◌, ◌%◌, ◌^◌, length, None};
+
+    ghost event = { λ _ _. None };
+
+    ghost gives = { λ _ history was _. was ≡ length history % 2 ^ 64 };
+
+    fn run(&mut self, state: &mut Counter) -> u64 {
+        state.count
+    }
+}
+
 // One turn: the call is the seat's own entry, and the counter was as many as there are entries before it.
 fn take_one_turn<R: Wait>(
     rt: &R,
@@ -109,4 +127,37 @@ fn count_by_two<R: Threads + Wait + Sync>(
     );
     let both = lock.join(one, other);
     Some((lock, both, a.wrapping_add(b)))
+}
+
+#[test]
+fn two_threads_count_each_call_once(rt: HostRuntime) -> Result<(), Fail> {
+    let Some((lock, both, sum)) = count_by_two(&rt, rt.alloc(), TURNS) else {
+        panic!(rt; "memory is short")
+    };
+    let (_seat, count) = lock.with_turn(&rt, both, &mut Read);
+    println!(rt; "{count} turns, whose replies add up to {sum}")?;
+    assert_eq!(rt; count, 4_000);
+    assert_eq!(rt; sum, 7_998_000);
+    Ok(())
+}
+
+#[test]
+fn seats_take_turns_and_are_split_and_joined(rt: HostRuntime) -> Result<(), Fail> {
+    let Ok((lock, seat)) = TurnLock::new(rt.alloc(), Counter { count: 0 }) else {
+        panic!(rt; "memory is short")
+    };
+    let (seat, was) = take_one_turn(&rt, &lock, seat, 7);
+    assert_eq!(rt; was, 0);
+    let (one, other) = lock.split(seat);
+    let (one, first) = take_one_turn(&rt, &lock, one, 8);
+    let (other, second) = take_one_turn(&rt, &lock, other, 9);
+    let (one, third) = take_one_turn(&rt, &lock, one, 10);
+    assert_eq!(rt; (first, second, third), (1, 2, 3));
+    let both = lock.join(one, other);
+    let (both, read) = lock.with_turn(&rt, both, &mut Read);
+    let (both, read_again) = lock.with_turn(&rt, both, &mut Read);
+    assert_eq!(rt; (read, read_again), (4, 4));
+    let (_both, last) = take_one_turn(&rt, &lock, both, 11);
+    assert_eq!(rt; last, 4);
+    Ok(())
 }
