@@ -80,13 +80,13 @@ module _ {E : Type 0} where
     pub at_set_view : (is : Stage → Type 0) (j : ℕ) → (is v.stage → is w.stage) → IsAt vs j is → IsAt (set vs id w) j is
     at_set_view is j stays (d, e, here) = dite (ℕ_discrete j id)
         (λ (same : j ≡ id). let was : get_elem? vs id ≡ some d = subst (λ (k : ℕ). get_elem? vs k ≡ some d) same e in let is_v : d ≡ v = same_at vs id d v was at in
-            subst (λ (k : ℕ). IsAt (set vs id w) k is) (sym same) (at_here is (stays (subst (λ (x : View E). is x.stage) is_v here))))
+        subst (λ (k : ℕ). IsAt (set vs id w) k is) (sym same) (at_here is (stays (subst (λ (x : View E). is x.stage) is_v here))))
         (λ (ne : j ≢ id). (d, set_else vs id j w ne ∙ e, here))
 
     pub seen_set : (log : Front E) → ((v.seen.front ≡ log) ⊎ (v.told.front ≡ log) → (w.seen.front ≡ log) ⊎ (w.told.front ≡ log)) → IsSeen log vs → IsSeen log (set vs id w)
     seen_set log stays (j, d, e, here) = dite (ℕ_discrete j id)
         (λ (same : j ≡ id). let was : get_elem? vs id ≡ some d = subst (λ (k : ℕ). get_elem? vs k ≡ some d) same e in let is_v : d ≡ v = same_at vs id d v was at in
-            (id, w, set_here vs id w (there vs id v at), stays (subst (λ (x : View E). (x.seen.front ≡ log) ⊎ (x.told.front ≡ log)) is_v here)))
+        (id, w, set_here vs id w (there vs id v at), stays (subst (λ (x : View E). (x.seen.front ≡ log) ⊎ (x.told.front ≡ log)) is_v here)))
         (λ (ne : j ≢ id). (j, d, set_else vs id j w ne ∙ e, here))
 
     pub seen_here : (log : Front E) → w.seen.front ≡ log → IsSeen log (set vs id w)

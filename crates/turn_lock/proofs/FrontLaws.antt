@@ -63,6 +63,7 @@ module _ {A : Type 0} where
       head : A → List A → A
       head d [] = d
       head d (x ∷ xs) = x
+
       tail : List A → List A
       tail [] = []
       tail (x ∷ xs) = xs

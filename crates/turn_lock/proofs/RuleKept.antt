@@ -145,9 +145,11 @@ module _ {S E : Type 0} (stands : List E → S → Type 0) where
   drawn_slot book homes views id v w k at outside false s = s
   drawn_slot book homes views id v w k at outside true (empty, (d, e, turn)) = let line : Line = book.line in
       let f = k.each_view (line.holder line.given) d e in let there' : InStage book.log line (line.holder line.given) d.seen.front (HasTurn line.given) = subst (InStage book.log line (line.holder line.given) d.seen.front) turn f.stage in
-      let high = there'.1 in let same : put line.holder line.drawn id line.given ≡ line.holder line.given = put_else line.holder line.drawn id line.given (λ e. omega (arith, high, e)) in
-      (empty, subst (λ (j : ℕ). IsAt (set views id w) j (λ stage. stage ≡ HasTurn line.given)) (sym same)
-          (at_set_view views id v w at (λ stage. stage ≡ HasTurn line.given) (line.holder line.given) (λ is. absurd (let c = ap ticket_of (sym outside ∙ is) in no_ticket line.given c)) (d, e, turn)))
+      let high = there'.1 in let same : put line.holder line.drawn id line.given ≡ line.holder line.given = put_else line.holder line.drawn id line.given (λ e. omega (arith, high, e)) in (
+        empty,
+        subst (λ (j : ℕ). IsAt (set views id w) j (λ stage. stage ≡ HasTurn line.given)) (sym same)
+            (at_set_view views id v w at (λ stage. stage ≡ HasTurn line.given) (line.holder line.given) (λ is. absurd (let c = ap ticket_of (sym outside ∙ is) in no_ticket line.given c)) (d, e, turn)),
+      )
 
   draws_it : (book : Book E) (homes : Homes) (views : List (View E)) (id : ℕ) (v : View E) → Kept stands book homes views → get_elem? views id ≡ some v → v.stage ≡ Outside → book.line.drawn + 1 < 2 ^ 64
       → Kept stands (record book { line = drawn_line book.line id }) homes (set views id (with_ticket v book.line.drawn))
@@ -160,9 +162,9 @@ module _ {S E : Type 0} (stands : List E → S → Type 0) where
             (λ j d ne e. let g = k.each_view j d e in record { seen = g.seen; told = g.told; apart = g.apart; stage = drawn_stage book.log d.seen.front line id j d.stage low g.stage });
         each_ticket = λ t from to. dite (ℕ_discrete t n)
             (λ (same : t ≡ n). subst (λ (j : ℕ). IsAt (set views id w) j (λ stage. ticket_of stage ≡ Some t)) (sym (ap (put line.holder n id) same ∙ put_here line.holder n id))
-                (at_here views id v w at (λ stage. ticket_of stage ≡ Some t) (ap (λ (x : ℕ). Some x) (sym same))))
+            (at_here views id v w at (λ stage. ticket_of stage ≡ Some t) (ap (λ (x : ℕ). Some x) (sym same))))
             (λ (ne : t ≢ n). subst (λ (j : ℕ). IsAt (set views id w) j (λ stage. ticket_of stage ≡ Some t)) (sym (put_else line.holder n id t ne))
-                (at_set_view views id v w at (λ stage. ticket_of stage ≡ Some t) (line.holder t) (λ is. absurd (no_ticket t (ap ticket_of (sym outside) ∙ is))) (k.each_ticket t from (omega arith))));
+            (at_set_view views id v w at (λ stage. ticket_of stage ≡ Some t) (line.holder t) (λ is. absurd (no_ticket t (ap ticket_of (sym outside) ∙ is))) (k.each_ticket t from (omega arith))));
         each_entry = k.each_entry;
         longest = seen_set views id v w at book.log (λ e. e) k.longest;
         slot = drawn_slot book homes views id v w k at outside line.out k.slot;
@@ -172,9 +174,14 @@ module _ {S E : Type 0} (stands : List E → S → Type 0) where
   pub draws : (slots id : ℕ) (me : Mine S E) (n : ℕ) → me.0.stage ≡ Outside → n + 1 < 2 ^ 64 → Allows Rule slots id me 0 (λ x. either (eqb x n) (n + 1) x) (drew (step slots 0 n (n + 1) none) me)
   draws slots id me n outside room = allows slots 0 id me (λ x. either (eqb x n) (n + 1) x) (drew (step slots 0 n (n + 1) none) me) (λ book homes views k at. let m : ℕ = book.line.drawn in
       exchanged m n (n + 1) (λ (x : ℕ). (w : View E) × (a : Act (Option S)) × Valid homes me.1 a × Rule record { words = x ∷ book.line.given ∷ []; homes = homes_after homes me.1 a; views = set views id w } × drew (step slots 0 n (n + 1) none) me m (w, carried_after me.1 a))
-          (λ (is : m ≡ n). (with_ticket me.0 m, keeps, tt, (record book { line = drawn_line book.line id }, (λ i. (sym is i + 1) ∷ book.line.given ∷ []), draws_it book homes views id me.0 k at outside (let e = is in omega (arith, e))),
-              (λ e. refl, λ ne. absurd (ne is))))
-          (λ (ne : m ≢ n). (me.0, keeps, tt, (book, refl, stays book homes views id me.0 k at), (λ e. absurd (ne e), λ e. refl))))
+      (λ (is : m ≡ n). (
+        with_ticket me.0 m,
+        keeps,
+        tt,
+        (record book { line = drawn_line book.line id }, (λ i. (sym is i + 1) ∷ book.line.given ∷ []), draws_it book homes views id me.0 k at outside (let e = is in omega (arith, e))),
+        (λ e. refl, λ ne. absurd (ne is)),
+      ))
+      (λ (ne : m ≢ n). (me.0, keeps, tt, (book, refl, stays book homes views id me.0 k at), (λ e. absurd (ne e), λ e. refl))))
 
   -- the line while a view has the turn
   abbrev out_line : Line → Line
@@ -198,8 +205,11 @@ module _ {S E : Type 0} (stands : List E → S → Type 0) where
         each_ticket = λ n from to. at_set_view views id v w at (λ stage. ticket_of stage ≡ Some n) (line.holder n) (λ is. ap ticket_of (sym waits) ∙ is) (k.each_ticket n from to);
         each_entry = k.each_entry;
         longest = seen_here views id v w at book.log refl;
-        slot = (empty, subst (λ (j : ℕ). IsAt (set views id w) j (λ stage. stage ≡ HasTurn line.given)) (sym stage.2 ∙ ap line.holder served)
-            (at_here views id v w at (λ stage. stage ≡ HasTurn line.given) (ap (λ (x : ℕ). HasTurn x) served)));
+        slot = (
+          empty,
+          subst (λ (j : ℕ). IsAt (set views id w) j (λ stage. stage ≡ HasTurn line.given)) (sym stage.2 ∙ ap line.holder served)
+              (at_here views id v w at (λ stage. stage ≡ HasTurn line.given) (ap (λ (x : ℕ). HasTurn x) served)),
+        );
       }
 
   -- a ticket that is served finds the slot at home
@@ -287,8 +297,11 @@ module _ {S E : Type 0} (stands : List E → S → Type 0) where
         after_turn v event,
         gives,
         tt,
-        (record book { log = made v.seen.numbers event ++ book.log; line = given_line line }, (λ i. line.drawn ∷ mod-eq_of_lt (let x : line.given + 1 < 2 ^ 64 = omega (arith, high, is, small) in x) i ∷ []),
-            gives_it book homes views id v t event state k at turn for_front (least_among v.seen.numbers n is_mine) (put_back homes me.1) home),
+        (
+          record book { log = made v.seen.numbers event ++ book.log; line = given_line line },
+          (λ i. line.drawn ∷ mod-eq_of_lt (let x : line.given + 1 < 2 ^ 64 = omega (arith, high, is, small) in x) i ∷ []),
+          gives_it book homes views id v t event state k at turn for_front (least_among v.seen.numbers n is_mine) (put_back homes me.1) home,
+        ),
         refl,
       ))
     where
@@ -301,24 +314,31 @@ module _ {S E : Type 0} (stands : List E → S → Type 0) where
   enters slots s r len small = let book : Book E = r.0 in let k = r.2 in let n : ℕ = book.count in let w : View E = newcomer n in let owner : ℕ → ℕ = hand_over book.owner (n ∷ []) n in
       let book' : Book E = record book { owner = owner; count = n + 1 } in
       let on : (j : ℕ) (seen : Sight E) → Sees book.log book.owner n j seen → Sees book.log owner (n + 1) j seen = λ j seen sees. sees_on book.log book.owner owner n (n + 1) j seen sees (λ m e.
-          (not_handed book.owner (n ∷ []) n m (false_from_ne_true (among (n ∷ []) m) (λ is. let same = among_one n m is in let below = (sees.owned m e).1 in omega (arith, same, below))), omega arith)) in
-      (w, (book', r.1, record {
-        behind = k.behind;
-        small = k.small;
-        counted = length-append s.views (w ∷ []) ∙ (let c = k.counted in ap (λ (x : ℕ). x + 1) c);
-        each_view = add_each (Fits book') s.views w
-            (subst (λ (j : ℕ). Fits book' j w) (sym k.counted) record {
-              seen = record { grows = grows_from_nothing (n ∷ []) book.log (own_of_new n book.log k.each_entry); owned = λ m e. (handed book.owner (n ∷ []) n m e, (let same = among_one n m e in omega (arith, same))) };
-              told = sees_nothing book.log owner (n + 1) n;
-              apart = none_apart (n ∷ []);
-              stage = tt;
-            })
-            (λ j d e. let g = k.each_view j d e in record { seen = on j d.seen g.seen; told = on j d.told g.told; apart = g.apart; stage = g.stage });
-        each_ticket = λ t from to. at_more s.views w (λ stage. ticket_of stage ≡ Some t) (book.line.holder t) (k.each_ticket t from to);
-        each_entry = All-weaker (λ (entry : Entry E). entry.seat < n) (λ (entry : Entry E). entry.seat < n + 1) (λ entry below. omega (arith, below)) book.log k.each_entry;
-        longest = seen_more s.views w book.log k.longest;
-        slot = slot_more book.line book.log s.homes s.views w book.line.out k.slot;
-      }), (n, refl))
+      (not_handed book.owner (n ∷ []) n m (false_from_ne_true (among (n ∷ []) m) (λ is. let same = among_one n m is in let below = (sees.owned m e).1 in omega (arith, same, below))), omega arith)) in (
+        w,
+        (
+          book',
+          r.1,
+          record {
+            behind = k.behind;
+            small = k.small;
+            counted = length-append s.views (w ∷ []) ∙ (let c = k.counted in ap (λ (x : ℕ). x + 1) c);
+            each_view = add_each (Fits book') s.views w
+                (subst (λ (j : ℕ). Fits book' j w) (sym k.counted) record {
+                  seen = record { grows = grows_from_nothing (n ∷ []) book.log (own_of_new n book.log k.each_entry); owned = λ m e. (handed book.owner (n ∷ []) n m e, (let same = among_one n m e in omega (arith, same))) };
+                  told = sees_nothing book.log owner (n + 1) n;
+                  apart = none_apart (n ∷ []);
+                  stage = tt;
+                })
+                (λ j d e. let g = k.each_view j d e in record { seen = on j d.seen g.seen; told = on j d.told g.told; apart = g.apart; stage = g.stage });
+            each_ticket = λ t from to. at_more s.views w (λ stage. ticket_of stage ≡ Some t) (book.line.holder t) (k.each_ticket t from to);
+            each_entry = All-weaker (λ (entry : Entry E). entry.seat < n) (λ (entry : Entry E). entry.seat < n + 1) (λ entry below. omega (arith, below)) book.log k.each_entry;
+            longest = seen_more s.views w book.log k.longest;
+            slot = slot_more book.line book.log s.homes s.views w book.line.out k.slot;
+          },
+        ),
+        (n, refl),
+      )
     where
       slot_more : (line : Line) (log : Front E) (homes : Homes) (views : List (View E)) (w : View E) (out : Bool) → IsSlot stands log line homes views out → IsSlot stands log line homes (views ++ w ∷ []) out
       slot_more line log homes views w false h = h
@@ -331,52 +351,60 @@ module _ {S E : Type 0} (stands : List E → S → Type 0) where
       let was : get_elem? s.views other ≡ some w = sym (set_else s.views id other both ne) ∙ at' in let f = k.each_view id v at in let g = k.each_view other w was in
       let apart : (m : ℕ) → among v.seen.numbers m ≡ true → among ns m ≡ false = λ m e. not_among book.log book.owner n other w.seen m g.seen (λ o. ne (sym o ∙ (f.seen.owned m e).0)) in
       let on : (j : ℕ) (seen : Sight E) → j ≢ other → Sees book.log book.owner n j seen → Sees book.log owner n j seen = λ j seen far sees. sees_on book.log book.owner owner n n j seen sees
-          (λ m e. (not_handed book.owner ns id m (not_among book.log book.owner n other w.seen m g.seen (λ o. far (sym (sees.owned m e).0 ∙ o))), le_refl n)) in
-      let near : id ≢ other = λ e. ne (sym e) in
-      (book', r.1, record {
-        behind = k.behind;
-        small = k.small;
-        counted = length-set vs other spent ∙ (length-set s.views id both ∙ k.counted);
-        each_view = set_each (Fits book') vs other spent
-            record { seen = sees_nothing book.log owner n other; told = sees_nothing book.log owner n other; apart = λ m e. refl; stage = tt }
-            (λ j d far e. set_each (λ i x. i ≢ other → Fits book' i x) s.views id both
-                (λ _. record {
-                  seen = on id v.seen near f.seen;
-                  told = record { grows = g.seen.grows; owned = λ m e. (handed book.owner ns id m e, (g.seen.owned m e).1) };
-                  apart = apart;
-                  stage = tt;
-                })
-                (λ i x ne' e' far'. let h = k.each_view i x e' in record { seen = on i x.seen far' h.seen; told = on i x.told far' h.told; apart = h.apart; stage = h.stage })
-                j d e far);
-        each_ticket = λ t from to. two (λ stage. ticket_of stage ≡ Some t) (book.line.holder t) s.views at at' (λ is. absurd (no_ticket t (ap ticket_of (sym outside) ∙ is))) (λ is. absurd (no_ticket t (ap ticket_of (sym outside') ∙ is)))
-            (k.each_ticket t from to);
-        each_entry = k.each_entry;
-        longest = seen_two book.log s.views at at' was (λ e. no_back f.seen.grows.more v.seen.front (sym f.seen.grows.goes_on ∙ sym e) ∙ e) near k.longest;
-        slot = slot_two book.line book.log s.homes s.views at at' book.line.out k.slot;
-      })
+      (λ m e. (not_handed book.owner ns id m (not_among book.log book.owner n other w.seen m g.seen (λ o. far (sym (sees.owned m e).0 ∙ o))), le_refl n)) in
+      let near : id ≢ other = λ e. ne (sym e) in (
+        book',
+        r.1,
+        record {
+          behind = k.behind;
+          small = k.small;
+          counted = length-set vs other spent ∙ (length-set s.views id both ∙ k.counted);
+          each_view = set_each (Fits book') vs other spent
+              record { seen = sees_nothing book.log owner n other; told = sees_nothing book.log owner n other; apart = λ m e. refl; stage = tt }
+              (λ j d far e. set_each (λ i x. i ≢ other → Fits book' i x) s.views id both
+              (λ _. record {
+                seen = on id v.seen near f.seen;
+                told = record { grows = g.seen.grows; owned = λ m e. (handed book.owner ns id m e, (g.seen.owned m e).1) };
+                apart = apart;
+                stage = tt;
+              })
+              (λ i x ne' e' far'. let h = k.each_view i x e' in record { seen = on i x.seen far' h.seen; told = on i x.told far' h.told; apart = h.apart; stage = h.stage })
+              j d e far);
+          each_ticket = λ t from to. two (λ stage. ticket_of stage ≡ Some t) (book.line.holder t) s.views at at' (λ is. absurd (no_ticket t (ap ticket_of (sym outside) ∙ is))) (λ is. absurd (no_ticket t (ap ticket_of (sym outside') ∙ is)))
+              (k.each_ticket t from to);
+          each_entry = k.each_entry;
+          longest = seen_two book.log s.views at at' was (λ e. no_back f.seen.grows.more v.seen.front (sym f.seen.grows.goes_on ∙ sym e) ∙ e) near k.longest;
+          slot = slot_two book.line book.log s.homes s.views at at' book.line.out k.slot;
+        },
+      )
     where
       two : (is : Stage → Type 0) (j : ℕ) (views : List (View E)) → get_elem? views id ≡ some v → get_elem? (set views id (told_of v w)) other ≡ some w → (is v.stage → is Outside) → (is w.stage → is Outside) → IsAt views j is
           → IsAt (set (set views id (told_of v w)) other spent) j is
       two is j views at at' one one' h = at_set_view (set views id (told_of v w)) other w spent at' is j one' (at_set_view views id v (told_of v w) at is j one h)
+
       slot_two : (line : Line) (log : Front E) (homes : Homes) (views : List (View E)) → get_elem? views id ≡ some v → get_elem? (set views id (told_of v w)) other ≡ some w → (out : Bool) → IsSlot stands log line homes views out
           → IsSlot stands log line homes (set (set views id (told_of v w)) other spent) out
       slot_two line log homes views at at' false h = h
-      slot_two line log homes views at at' true h = (h.0, two (λ stage. stage ≡ HasTurn line.given) (line.holder line.given) views at at' (λ is. absurd (no_ticket line.given (ap ticket_of (sym outside ∙ is))))
-          (λ is. absurd (no_ticket line.given (ap ticket_of (sym outside' ∙ is)))) h.1)
+      slot_two line log homes views at at' true h = (
+        h.0,
+        two (λ stage. stage ≡ HasTurn line.given) (line.holder line.given) views at at' (λ is. absurd (no_ticket line.given (ap ticket_of (sym outside ∙ is))))
+            (λ is. absurd (no_ticket line.given (ap ticket_of (sym outside' ∙ is)))) h.1,
+      )
+
       -- the front of the seat that was taken in is what the other one was told
       seen_two : (log : Front E) (views : List (View E)) → get_elem? views id ≡ some v → get_elem? (set views id (told_of v w)) other ≡ some w → get_elem? views other ≡ some w → ([] ≡ log → v.seen.front ≡ log) → id ≢ other
           → IsSeen log views → IsSeen log (set (set views id (told_of v w)) other spent)
       seen_two log views at at' was of_none near (j, d, e, here) = let both : View E = told_of v w in
           let now : get_elem? (set (set views id both) other spent) id ≡ some both = set_else (set views id both) other id spent near ∙ set_here views id both (there views id v at) in
           let by_v : (v.seen.front ≡ log) ⊎ (v.told.front ≡ log) → IsSeen log (set (set views id both) other spent) = λ h.
-              (id, both, now, inl (⊎_elim (λ (t : v.seen.front ≡ log). t) (λ (t : v.told.front ≡ log). of_none (sym (ap (λ (x : Sight E). x.front) untold) ∙ t)) h)) in
+          (id, both, now, inl (⊎_elim (λ (t : v.seen.front ≡ log). t) (λ (t : v.told.front ≡ log). of_none (sym (ap (λ (x : Sight E). x.front) untold) ∙ t)) h)) in
           let by_w : (w.seen.front ≡ log) ⊎ (w.told.front ≡ log) → IsSeen log (set (set views id both) other spent) = λ h.
-              (id, both, now, ⊎_elim (λ (t : w.seen.front ≡ log). inr t) (λ (t : w.told.front ≡ log). inl (of_none (sym (ap (λ (x : Sight E). x.front) untold') ∙ t))) h) in
+          (id, both, now, ⊎_elim (λ (t : w.seen.front ≡ log). inr t) (λ (t : w.told.front ≡ log). inl (of_none (sym (ap (λ (x : Sight E). x.front) untold') ∙ t))) h) in
           dite (ℕ_discrete j id)
-              (λ (same : j ≡ id). by_v (subst (λ (x : View E). (x.seen.front ≡ log) ⊎ (x.told.front ≡ log)) (same_at views id d v (subst (λ (i : ℕ). get_elem? views i ≡ some d) same e) at) here))
-              (λ (ne : j ≢ id). dite (ℕ_discrete j other)
-                  (λ (same : j ≡ other). by_w (subst (λ (x : View E). (x.seen.front ≡ log) ⊎ (x.told.front ≡ log)) (same_at views other d w (subst (λ (i : ℕ). get_elem? views i ≡ some d) same e) was) here))
-                  (λ (ne' : j ≢ other). (j, d, set_else (set views id both) other j spent ne' ∙ (set_else views id j both ne ∙ e), here)))
+          (λ (same : j ≡ id). by_v (subst (λ (x : View E). (x.seen.front ≡ log) ⊎ (x.told.front ≡ log)) (same_at views id d v (subst (λ (i : ℕ). get_elem? views i ≡ some d) same e) at) here))
+          (λ (ne : j ≢ id). dite (ℕ_discrete j other)
+          (λ (same : j ≡ other). by_w (subst (λ (x : View E). (x.seen.front ≡ log) ⊎ (x.told.front ≡ log)) (same_at views other d w (subst (λ (i : ℕ). get_elem? views i ≡ some d) same e) was) here))
+          (λ (ne' : j ≢ other). (j, d, set_else (set views id both) other j spent ne' ∙ (set_else views id j both ne ∙ e), here)))
 
   -- the numbers that a view was told are cut off for a new seat
   pub cuts : (id : ℕ) (v : View E) → v.stage ≡ Outside → v.told.front ≡ [] → Splits Rule id v (kept v) (cut v)
@@ -385,52 +413,62 @@ module _ {S E : Type 0} (stands : List E → S → Type 0) where
       let none_told : own ns book.log ≡ [] = ap (own ns) (subst (λ (z : Front E). book.log ≡ f.told.grows.more ++ z) empty f.told.grows.goes_on ∙ append-nil f.told.grows.more) ∙ f.told.grows.of_others in
       let none_more : own ns f.seen.grows.more ≡ [] = (own_append_none ns f.seen.grows.more v.seen.front (ap (own ns) (sym f.seen.grows.goes_on) ∙ none_told)).0 in
       let on : (j : ℕ) (seen : Sight E) → ((m : ℕ) → among seen.numbers m ≡ true → among ns m ≡ false) → Sees book.log book.owner n j seen → Sees book.log owner (n + 1) j seen = λ j seen far sees.
-          sees_on book.log book.owner owner n (n + 1) j seen sees (λ m e. (not_handed book.owner ns n m (far m e), omega arith)) in
+      sees_on book.log book.owner owner n (n + 1) j seen sees (λ m e. (not_handed book.owner ns n m (far m e), omega arith)) in
       let others : (j : ℕ) (seen : Sight E) → j ≢ id → Sees book.log book.owner n j seen → Sees book.log owner (n + 1) j seen = λ j seen ne sees.
-          on j seen (λ m e. not_among book.log book.owner n id v.told m f.told (λ o. ne (sym (sees.owned m e).0 ∙ o))) sees in
-      let long : length vs ≡ n = length-set s.views id (kept v) ∙ k.counted in
-      (book', r.1, record {
-        behind = k.behind;
-        small = k.small;
-        counted = length-append vs (cut v ∷ []) ∙ ap (λ (x : ℕ). x + 1) long;
-        each_view = add_each (Fits book') vs (cut v)
-            (subst (λ (j : ℕ). Fits book' j (cut v)) (sym long) record {
-              seen = record { grows = record { more = f.seen.grows.more; goes_on = f.seen.grows.goes_on; of_others = none_more }; owned = λ m e. (handed book.owner ns n m e, (let below = (f.told.owned m e).1 in omega (arith, below))) };
-              told = sees_nothing book.log owner (n + 1) n;
-              apart = none_apart ns;
-              stage = tt;
-            })
-            (set_each (Fits book') s.views id (kept v)
-                record { seen = on id v.seen f.apart f.seen; told = sees_nothing book.log owner (n + 1) id; apart = none_apart v.seen.numbers; stage = tt }
-                (λ j d ne e. let h = k.each_view j d e in record { seen = others j d.seen ne h.seen; told = others j d.told ne h.told; apart = h.apart; stage = h.stage }));
-        each_ticket = λ t from to. at_more vs (cut v) (λ stage. ticket_of stage ≡ Some t) (book.line.holder t)
-            (at_set_view s.views id v (kept v) at (λ stage. ticket_of stage ≡ Some t) (book.line.holder t) (λ is. absurd (no_ticket t (ap ticket_of (sym outside) ∙ is))) (k.each_ticket t from to));
-        each_entry = All-weaker (λ (entry : Entry E). entry.seat < n) (λ (entry : Entry E). entry.seat < n + 1) (λ entry below. omega (arith, below)) book.log k.each_entry;
-        longest = seen_more vs (cut v) book.log (seen_set s.views id v (kept v) at book.log (λ e. ⊎_elim (λ (t : v.seen.front ≡ book.log). inl t) (λ (t : v.told.front ≡ book.log). inr (sym empty ∙ t)) e) k.longest);
-        slot = slot_cut book.line book.log s.homes s.views at book.line.out k.slot;
-      })
+      on j seen (λ m e. not_among book.log book.owner n id v.told m f.told (λ o. ne (sym (sees.owned m e).0 ∙ o))) sees in
+      let long : length vs ≡ n = length-set s.views id (kept v) ∙ k.counted in (
+        book',
+        r.1,
+        record {
+          behind = k.behind;
+          small = k.small;
+          counted = length-append vs (cut v ∷ []) ∙ ap (λ (x : ℕ). x + 1) long;
+          each_view = add_each (Fits book') vs (cut v)
+              (subst (λ (j : ℕ). Fits book' j (cut v)) (sym long) record {
+                seen = record { grows = record { more = f.seen.grows.more; goes_on = f.seen.grows.goes_on; of_others = none_more }; owned = λ m e. (handed book.owner ns n m e, (let below = (f.told.owned m e).1 in omega (arith, below))) };
+                told = sees_nothing book.log owner (n + 1) n;
+                apart = none_apart ns;
+                stage = tt;
+              })
+              (set_each (Fits book') s.views id (kept v)
+              record { seen = on id v.seen f.apart f.seen; told = sees_nothing book.log owner (n + 1) id; apart = none_apart v.seen.numbers; stage = tt }
+              (λ j d ne e. let h = k.each_view j d e in record { seen = others j d.seen ne h.seen; told = others j d.told ne h.told; apart = h.apart; stage = h.stage }));
+          each_ticket = λ t from to. at_more vs (cut v) (λ stage. ticket_of stage ≡ Some t) (book.line.holder t)
+              (at_set_view s.views id v (kept v) at (λ stage. ticket_of stage ≡ Some t) (book.line.holder t) (λ is. absurd (no_ticket t (ap ticket_of (sym outside) ∙ is))) (k.each_ticket t from to));
+          each_entry = All-weaker (λ (entry : Entry E). entry.seat < n) (λ (entry : Entry E). entry.seat < n + 1) (λ entry below. omega (arith, below)) book.log k.each_entry;
+          longest = seen_more vs (cut v) book.log (seen_set s.views id v (kept v) at book.log (λ e. ⊎_elim (λ (t : v.seen.front ≡ book.log). inl t) (λ (t : v.told.front ≡ book.log). inr (sym empty ∙ t)) e) k.longest);
+          slot = slot_cut book.line book.log s.homes s.views at book.line.out k.slot;
+        },
+      )
     where
       slot_cut : (line : Line) (log : Front E) (homes : Homes) (views : List (View E)) → get_elem? views id ≡ some v → (out : Bool) → IsSlot stands log line homes views out → IsSlot stands log line homes (set views id (kept v) ++ cut v ∷ []) out
       slot_cut line log homes views at false h = h
-      slot_cut line log homes views at true h = (h.0, at_more (set views id (kept v)) (cut v) (λ stage. stage ≡ HasTurn line.given) (line.holder line.given)
-          (at_set_view views id v (kept v) at (λ stage. stage ≡ HasTurn line.given) (line.holder line.given) (λ is. absurd (no_ticket line.given (ap ticket_of (sym outside ∙ is)))) h.1))
+      slot_cut line log homes views at true h = (
+        h.0,
+        at_more (set views id (kept v)) (cut v) (λ stage. stage ≡ HasTurn line.given) (line.holder line.given)
+            (at_set_view views id v (kept v) at (λ stage. stage ≡ HasTurn line.given) (line.holder line.given) (λ is. absurd (no_ticket line.given (ap ticket_of (sym outside ∙ is)))) h.1),
+      )
 
   -- the table at the start
   pub starts : (state : S) → stands [] state → Rule (opening (0 ∷ 0 ∷ []) (Some state ∷ []) (newcomer 0))
-  starts state for_none = (record { log = []; line = record { drawn = 0; given = 0; holder = λ n. 0; out = false }; owner = λ n. 0; count = 1 }, refl, record {
-    behind = omega arith;
-    small = omega arith;
-    counted = refl;
-    each_view = λ j d e. ⊎_elim (λ (t : get_elem? [] j ≡ some d). absurd (some-ne-none d (sym t)))
-        (λ (t : (j ≡ 0) × (newcomer 0 ≡ d)). subst (λ (x : ℕ × View E). Fits (record { log = []; line = record { drawn = 0; given = 0; holder = λ n. 0; out = false }; owner = λ n. 0; count = 1 }) x.0 x.1) (λ i. (sym t.0 i, t.1 i)) record {
-          seen = record { grows = grows_from_itself (0 ∷ []) []; owned = λ n e. (refl, (let same = among_one 0 n e in omega (arith, same))) };
-          told = sees_nothing [] (λ n. 0) 1 0;
-          apart = none_apart (0 ∷ []);
-          stage = tt;
-        })
-        (at_end [] (newcomer 0) d j e);
-    each_ticket = λ t from to. absurd (omega (arith, to));
-    each_entry = All-nil (λ (entry : Entry E). entry.seat < 1);
-    longest = (0, newcomer 0, refl, inl refl);
-    slot = (state, refl, for_none);
-  })
+  starts state for_none = (
+    record { log = []; line = record { drawn = 0; given = 0; holder = λ n. 0; out = false }; owner = λ n. 0; count = 1 },
+    refl,
+    record {
+      behind = omega arith;
+      small = omega arith;
+      counted = refl;
+      each_view = λ j d e. ⊎_elim (λ (t : get_elem? [] j ≡ some d). absurd (some-ne-none d (sym t)))
+          (λ (t : (j ≡ 0) × (newcomer 0 ≡ d)). subst (λ (x : ℕ × View E). Fits (record { log = []; line = record { drawn = 0; given = 0; holder = λ n. 0; out = false }; owner = λ n. 0; count = 1 }) x.0 x.1) (λ i. (sym t.0 i, t.1 i)) record {
+            seen = record { grows = grows_from_itself (0 ∷ []) []; owned = λ n e. (refl, (let same = among_one 0 n e in omega (arith, same))) };
+            told = sees_nothing [] (λ n. 0) 1 0;
+            apart = none_apart (0 ∷ []);
+            stage = tt;
+          })
+          (at_end [] (newcomer 0) d j e);
+      each_ticket = λ t from to. absurd (omega (arith, to));
+      each_entry = All-nil (λ (entry : Entry E). entry.seat < 1);
+      longest = (0, newcomer 0, refl, inl refl);
+      slot = (state, refl, for_none);
+    },
+  )

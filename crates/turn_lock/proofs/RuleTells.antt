@@ -70,7 +70,7 @@ module _ {S E : Type 0} (stands : List E → S → Type 0) (s : State (Option S)
   pub entries_made : (j : ℕ) (v : View E) → IsView s j v → All (λ (entry : Entry E). entry.seat < length s.views) v.seen.front
   entries_made j v at = let g = (r.2.each_view j v at).seen.grows in
       all_back (λ (entry : Entry E). entry.seat < length s.views) g.more v.seen.front
-          (subst (λ (z : Front E). All (λ (entry : Entry E). entry.seat < length s.views) z) g.goes_on (subst (λ (n : ℕ). All (λ (entry : Entry E). entry.seat < n) r.0.log) (sym r.2.counted) r.2.each_entry))
+      (subst (λ (z : Front E). All (λ (entry : Entry E). entry.seat < length s.views) z) g.goes_on (subst (λ (n : ℕ). All (λ (entry : Entry E). entry.seat < n) r.0.log) (sym r.2.counted) r.2.each_entry))
 
   pub held : (t : ℕ) → slice_index s.words 1 ≤ t → t < slice_index s.words 0 → (j : ℕ) × HoldsTicket s j t
   held t from to = (r.0.line.holder t, r.2.each_ticket t (let b = given_is in omega (arith, b, from)) (let a = drawn_is in omega (arith, a, to)))
@@ -139,6 +139,7 @@ module _ {S E : Type 0} (stands : List E → S → Type 0) (s : State (Option S)
     where
       by : (j : ℕ) (v : View E) → IsView s j v → (v.seen.front ≡ r.0.log) ⊎ (v.told.front ≡ r.0.log) → Begins r.0.log log
       by j v at is = ⊎_elim (λ (e : v.seen.front ≡ r.0.log). subst (λ (z : Front E). Begins z log) e (l.begun j v at).0) (λ (e : v.told.front ≡ r.0.log). subst (λ (z : Front E). Begins z log) e (l.begun j v at).1) is
+
       back : (j : ℕ) (v : View E) → IsView s j v → (v.seen.front ≡ log) ⊎ (v.told.front ≡ log) → Begins log r.0.log
       back j v at is = ⊎_elim (λ (e : v.seen.front ≡ log). subst (λ (z : Front E). Begins z r.0.log) e (log_longest.begun j v at).0) (λ (e : v.told.front ≡ log). subst (λ (z : Front E). Begins z r.0.log) e (log_longest.begun j v at).1) is
 

@@ -56,7 +56,7 @@ pub fn the_value_at_home_stands_for_the_longest_front<S: Logged>()
 
 /// Of the seat's own entries a turn adds the one of its event, if there is one, and changes no other.
 pub fn a_turn_adds_its_own_entry_alone<S: Logged, C: TurnCall<S>>()
-    ensures { (call after : C) (reply : C.Reply) (came went : SeatOf S S.Event) (n : ℕ) → among (numbers came) n ≡ true → Turned (C.event call reply) (λ history. C.gives call history reply after) came went → own (numbers came) (front went) ≡ made (numbers came) (C.event call reply) ++ own (numbers came) (front came) }
+    ensures { (call after : C) (reply : C.Reply) (came went : SeatOf S S.Event) (n : ℕ) → among (numbers came) n ≡ true → Turned (C.entry call reply) (λ history. C.gives call history reply after) came went → own (numbers came) (front went) ≡ made (numbers came) (C.entry call reply) ++ own (numbers came) (front came) }
 {}
 
 /// A joined seat has the own entries of both seats, and they are the same that each had.

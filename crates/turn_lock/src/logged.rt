@@ -15,8 +15,8 @@ pub trait TurnCall<S: Logged> {
 
     ghost use Rattle.std.specs.Prelude.{◌≡◌, List, ◌++◌, Option, option_to_list};
 
-    // The event that it made, by the call before and its reply.
-    ghost event: { Self → Self.Reply → Option S.Event };
+    // The entry that it makes, if it makes one: its event, by the call before and the reply.
+    ghost entry: { Self → Self.Reply → Option S.Event };
 
     // What the reply and the call after it are, for the call before, on a value that stands for these events. A call
     // that has a `&mut` in it says here that the loan stays the same one.
@@ -24,6 +24,6 @@ pub trait TurnCall<S: Logged> {
 
     /// Does it. Afterwards the value stands for the event made and those before.
     fn run(&mut self, state: &mut S) -> Self::Reply
-        ensures stands { (history : List S.Event) → S.stands history state.old → S.stands (option_to_list (event self.old result) ++ history) state.new }
+        ensures stands { (history : List S.Event) → S.stands history state.old → S.stands (option_to_list (entry self.old result) ++ history) state.new }
         ensures gives { (history : List S.Event) → S.stands history state.old → gives self.old history result self.new };
 }

@@ -1,4 +1,4 @@
-ghost use Rattle.std.specs.Prelude.{◌≡◌, ℕ, ◌%◌, ◌^◌, [], ◌++◌, length, IfSome, Some};
+ghost use Rattle.std.specs.Prelude.{◌≡◌, ℕ, ◌%◌, ◌^◌, [], ◌++◌, length, IfSome, Some, None};
 ghost use Rattle.turn_lock.specs.Counting.{countdown, IsCountedByTwo};
 ghost use Rattle.turn_lock.specs.Fronts.{events, own};
 ghost use Rattle.turn_lock.specs.Seats.{front, numbers, IsSeatOf, Turned};
@@ -26,48 +26,51 @@ impl Logged for Counter {
     ghost stands = { λ history counter. counter.count ≡ length history % 2 ^ 64 };
 }
 
-/// Counts one up, and puts what the counter was into `was`. Its event is the call's own number.
+/// Counts one up, and answers what the counter was. Its event is the call's own number.
 #[derive(Drop)]
-struct Count<'a> {
+struct Count {
     call: u64,
-    was: &'a mut u64,
 }
 
-impl<'a> TurnCall<Counter> for Count<'a> {
-    type Reply = ();
+impl TurnCall<Counter> for Count {
+    type Reply = u64;
 
     ghost use Rattle.std.specs.Prelude.{◌≡◌, ◌%◌, ◌^◌, length, Some};
 
-    ghost event = { λ count _. Some count.call };
+    ghost entry = { λ count _. Some count.call };
 
-    ghost gives = { λ count history _ after. (after.call ≡ count.call) × (after.was.ghost_name ≡ count.was.ghost_name) × (after.was.now ≡ length history % 2 ^ 64) };
+    ghost gives = { λ count history was after. (was ≡ length history % 2 ^ 64) × (after ≡ count) };
 
-    fn run(&mut self, state: &mut Counter) {
-        *self.was = state.count;
-        state.count = state.count.wrapping_add(1);
+    fn run(&mut self, state: &mut Counter) -> u64 {
+        let was = state.count;
+        state.count = was.wrapping_add(1);
+        was
     }
 }
 
-/// Reads the counter, which is no event.
+/// Reads the counter into a place of the caller's, which is no event.
 #[derive(Drop)]
-struct Read;
+struct Read<'a> {
+    into: &'a mut u64,
+}
 
-impl TurnCall<Counter> for Read {
-    type Reply = u64;
+impl<'a> TurnCall<Counter> for Read<'a> {
+    type Reply = ();
 
     ghost use Rattle.std.specs.Prelude.{◌≡◌, ◌%◌, ◌^◌, length, None};
 
-    ghost event = { λ _ _. None };
+    ghost entry = { λ _ _. None };
 
-    ghost gives = { λ _ history was _. was ≡ length history % 2 ^ 64 };
+    // The place stays the same one.
+    ghost gives = { λ read history _ after. (after.into.ghost_name ≡ read.into.ghost_name) × (after.into.now ≡ length history % 2 ^ 64) };
 
-    fn run(&mut self, state: &mut Counter) -> u64 {
-        state.count
+    fn run(&mut self, state: &mut Counter) {
+        *self.into = state.count;
     }
 }
 
 // One turn: the call is the seat's own entry, and the counter was as many as there are entries before it.
-fn take_one_turn<R: Wait>(
+fn count_one<R: Wait>(
     rt: &R,
     lock: &TurnLock<Counter>,
     seat: Seat<Counter>,
@@ -77,13 +80,19 @@ fn take_one_turn<R: Wait>(
     ensures seat { IsSeatOf lock.now result.0 }
     ensures turned { Turned (Some call) (λ history. result.1 ≡ length history % 2 ^ 64) seat result.0 }
 {
-    let mut was = 0;
-    let mut count = Count {
-        call,
-        was: &mut was,
-    };
-    let (seat, ()) = lock.with_turn(rt, seat, &mut count);
-    (seat, was)
+    lock.with_turn(rt, seat, &mut Count { call })
+}
+
+// One turn without an entry of the seat's own.
+fn read_one<R: Wait>(rt: &R, lock: &TurnLock<Counter>, seat: Seat<Counter>) -> (Seat<Counter>, u64)
+    requires { IsSeatOf lock.now seat }
+    ensures seat { IsSeatOf lock.now result.0 }
+    ensures turned { Turned None (λ history. result.1 ≡ length history % 2 ^ 64) seat result.0 }
+{
+    let mut count = 0;
+    let mut call = Read { into: &mut count };
+    let (seat, ()) = lock.with_turn(rt, seat, &mut call);
+    (seat, count)
 }
 
 // Takes so many turns, and answers the sum of what the counter was. The seat's own entries are then the calls, each
@@ -101,7 +110,7 @@ fn take_turns<R: Wait>(
 {
     let mut sum = 0u64;
     for call in 0..turns {
-        let (next, was) = take_one_turn(rt, lock, seat, call);
+        let (next, was) = count_one(rt, lock, seat, call);
         seat = next;
         sum = sum.wrapping_add(was);
     }
@@ -134,7 +143,7 @@ fn two_threads_count_each_call_once(rt: HostRuntime) -> Result<(), Fail> {
     let Some((lock, both, sum)) = count_by_two(&rt, rt.alloc(), TURNS) else {
         panic!(rt; "memory is short")
     };
-    let (_seat, count) = lock.with_turn(&rt, both, &mut Read);
+    let (_seat, count) = read_one(&rt, &lock, both);
     println!(rt; "{count} turns, whose replies add up to {sum}")?;
     assert_eq!(rt; count, 4_000);
     assert_eq!(rt; sum, 7_998_000);
@@ -146,18 +155,18 @@ fn seats_take_turns_and_are_split_and_joined(rt: HostRuntime) -> Result<(), Fail
     let Ok((lock, seat)) = TurnLock::new(rt.alloc(), Counter { count: 0 }) else {
         panic!(rt; "memory is short")
     };
-    let (seat, was) = take_one_turn(&rt, &lock, seat, 7);
+    let (seat, was) = count_one(&rt, &lock, seat, 7);
     assert_eq!(rt; was, 0);
     let (one, other) = lock.split(seat);
-    let (one, first) = take_one_turn(&rt, &lock, one, 8);
-    let (other, second) = take_one_turn(&rt, &lock, other, 9);
-    let (one, third) = take_one_turn(&rt, &lock, one, 10);
+    let (one, first) = count_one(&rt, &lock, one, 8);
+    let (other, second) = count_one(&rt, &lock, other, 9);
+    let (one, third) = count_one(&rt, &lock, one, 10);
     assert_eq!(rt; (first, second, third), (1, 2, 3));
     let both = lock.join(one, other);
-    let (both, read) = lock.with_turn(&rt, both, &mut Read);
-    let (both, read_again) = lock.with_turn(&rt, both, &mut Read);
-    assert_eq!(rt; (read, read_again), (4, 4));
-    let (_both, last) = take_one_turn(&rt, &lock, both, 11);
+    let (both, found) = read_one(&rt, &lock, both);
+    let (both, found_again) = read_one(&rt, &lock, both);
+    assert_eq!(rt; (found, found_again), (4, 4));
+    let (_both, last) = count_one(&rt, &lock, both, 11);
     assert_eq!(rt; last, 4);
     Ok(())
 }

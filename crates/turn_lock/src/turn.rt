@@ -59,7 +59,7 @@ impl<S: Logged> TurnLock<S> {
         requires value { HoldsValue S.stands seat.old (events (front seat.old)) }
         ensures same { IsSame seat.old seat.new }
         ensures view { seat.new.me.0 ≡ seat.old.me.0 }
-        ensures value { HoldsValue S.stands seat.new (option_to_list (C.event call.old result) ++ events (front seat.old)) }
+        ensures value { HoldsValue S.stands seat.new (option_to_list (C.entry call.old result) ++ events (front seat.old)) }
         ensures gives { C.gives call.old (events (front seat.old)) result call.new }
     {
         let mut state = self.table.shared.exchange(seat, VALUE, None).unwrap();
@@ -78,11 +78,11 @@ impl<S: Logged> TurnLock<S> {
         _reply: &C::Reply,
     )
         requires table { seat.old.table_id ≡ self.now.table.shared.table_id }
-        requires event { N.event ≡ C.event _before.now.value _reply.now }
-        requires value { HoldsValue S.stands seat.old (option_to_list (C.event _before.now.value _reply.now) ++ events (front seat.old)) }
+        requires event { N.event ≡ C.entry _before.now.value _reply.now }
+        requires value { HoldsValue S.stands seat.old (option_to_list (C.entry _before.now.value _reply.now) ++ events (front seat.old)) }
         requires numbered { (number : ℕ) × (among (numbers seat.old) number ≡ true) }
         ensures same { IsSame seat.old seat.new }
-        ensures gave { seat.new.me ≡ (after_turn seat.old.me.0 (C.event _before.now.value _reply.now), []) }
+        ensures gave { seat.new.me ≡ (after_turn seat.old.me.0 (C.entry _before.now.value _reply.now), []) }
     {
         self.table.shared.fetch_add::<Give<N>>(seat, GIVEN, 1);
         self.table.shared.wake_all(GIVEN);
@@ -100,7 +100,7 @@ impl<S: Logged> TurnLock<S> {
     ) -> (Seat<S>, C::Reply)
         requires { IsSeatOf self.now seat }
         ensures seat { IsSeatOf self.now result.0 }
-        ensures turned { Turned (C.event call.old result.1) (λ history. C.gives call.old history result.1 call.new) seat result.0 }
+        ensures turned { Turned (C.entry call.old result.1) (λ history. C.gives call.old history result.1 call.new) seat result.0 }
     {
         let ticket = self.draw(rt, &mut seat);
         self.await_turn(rt, &mut seat, ticket);

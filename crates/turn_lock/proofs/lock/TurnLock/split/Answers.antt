@@ -8,9 +8,13 @@ pub load_new_seat-note-requires : goal.load_new_seat-note-requires
 load_new_seat-note-requires g c = (search rules, enters _ _)
 
 pub join_seat-requires : goal.join_seat-requires
-join_seat-requires g c = let came = c.load_new_seat-note.ensures.2 in
-    (search rules, search rules, search rules, search rules,
-        tells _ _ c.args.seat.me.0 _ c.load_new_seat-note.result.1.me.0 c.requires.no_ticket (ap (λ v. v.stage) came.1) c.requires.nothing_told (ap (λ v. v.told) came.1))
+join_seat-requires g c = let came = c.load_new_seat-note.ensures.2 in (
+  search rules,
+  search rules,
+  search rules,
+  search rules,
+  tells _ _ c.args.seat.me.0 _ c.load_new_seat-note.result.1.me.0 c.requires.no_ticket (ap (λ v. v.stage) came.1) c.requires.nothing_told (ap (λ v. v.told) came.1),
+)
 
 pub load-requires : goal.load-requires
 load-requires g c = (search rules, search rules, weighs _ _ _ c.join_seat.new.seat.me)
