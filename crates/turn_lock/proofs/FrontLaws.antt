@@ -1,9 +1,9 @@
 -- Fronts of one history, and whose entries stand in them.
-use Rattle.std.proofs.Common.{◌≡◌, ◌≢◌, ℕ, suc, zero, ◌+◌, ◌<◌, ◌≤◌, List, [], ◌∷◌, ◌++◌, map, length, filter, All, Bool, true, false, cond, ◌||◌, ◌==◌, min, Option, Some, None, option_to_list, sym, refl, ap, ◌∙◌, subst, ⊎_elim, ◌⊎◌, inl, inr, arith, append_assoc, append-nil, length-append, true≢false, eq-eqb, eqb-true}
+use Rattle.std.proofs.Common.{◌≡◌, ℕ, ◌<◌, ◌≤◌, List, [], ◌∷◌, ◌++◌, length, All, true, false, cond, ◌==◌, min, Option, Some, None, option_to_list, sym, refl, ap, ◌∙◌, subst, ⊎_elim, ◌⊎◌, inl, inr, arith, append_assoc, append-nil, length-append, true≢false, eq-eqb, eqb-true, le_of_eq, le_trans}
 use mathlib.Core.Logic.{dite}
 use native.Mathlib.Decide.{dec_le}
-use Rattle.std.proofs.Math.Nat.{min-eq_left, min-eq_right}
-use Rattle.std.proofs.lemmas.Bool.{cases_Bool, or_left, or_right, or_from, or_parts, or_cases, false_from_ne_true}
+use Rattle.std.proofs.Math.Nat.{min-eq_left, min-eq_right, min-le_left, min-le_right}
+use Rattle.std.proofs.lemmas.Bool.{cases_Bool, or_left, or_right, or_cases, false_from_ne_true}
 use Rattle.std.proofs.lemmas.List.Elements.{All-head, All-tail, filter-append}
 use Rattle.turn_lock.specs.declared.views.Entry.{Entry}
 use Rattle.turn_lock.specs.Fronts.{among, least_of, least, Front, events, own, made, Grows}
@@ -44,6 +44,16 @@ least_of_among m (n ∷ ns) = least_one m n ns (least_of_among n ns)
 pub least_among : (ns : List ℕ) (n : ℕ) → among ns n ≡ true → among ns (least ns) ≡ true
 least_among [] n e = absurd (true≢false (sym e))
 least_among (m ∷ ns) n e = least_of_among m ns
+
+least_of_under : (m : ℕ) (ns : List ℕ) (n : ℕ) → among (m ∷ ns) n ≡ true → least_of m ns ≤ n
+least_of_under m [] n e = le_of_eq (sym (among_one m n e))
+least_of_under m (k ∷ ns) n e = ⊎_elim (λ (t : (n == m) ≡ true). le_trans (min-le_left m (least_of k ns)) (le_of_eq (sym (eqb-true n m t))))
+    (λ (t : among (k ∷ ns) n ≡ true). le_trans (min-le_right m (least_of k ns)) (least_of_under k ns n t)) (or_cases (n == m) (among (k ∷ ns) n) e)
+
+-- none of some numbers is less than the least
+pub least_under : (ns : List ℕ) (n : ℕ) → among ns n ≡ true → least ns ≤ n
+least_under [] n e = absurd (true≢false (sym e))
+least_under (m ∷ ns) n e = least_of_under m ns n e
 
 module _ {A : Type 0} where
   pub no_front : (xs ys : List A) → xs ++ ys ≡ [] → xs ≡ []

@@ -1,24 +1,24 @@
 -- Each atomic step keeps the rule of the turn lock.
-use Rattle.std.proofs.Common.{◌≡◌, ◌≢◌, ℕ, suc, zero, ◌+◌, ◌%◌, ◌^◌, ◌<◌, ◌≤◌, eqb, List, [], ◌∷◌, ◌++◌, length, map, set, get_or, All, Bool, true, false, cond, Option, Some, None, sym, refl, ap, ◌∙◌, subst, ⊎_elim, ◌⊎◌, inl, inr, arith, append-nil, length-append, length-set, mod-eq_of_lt, true≢false, le_refl}
+use Rattle.std.proofs.Common.{◌≡◌, ◌≢◌, ℕ, ◌+◌, ◌%◌, ◌^◌, ◌<◌, ◌≤◌, eqb, List, [], ◌∷◌, ◌++◌, length, set, get_or, All, Bool, true, false, Option, Some, None, sym, refl, ap, ◌∙◌, subst, ⊎_elim, ◌⊎◌, inl, inr, arith, append-nil, length-append, length-set, mod-eq_of_lt, true≢false, le_refl}
 use mathlib.Core.Logic.{dite}
 use mathlib.Core.Option.{some, none, some-injective, some-ne-none}
 use mathlib.Core.Option as maybe
 use native.Mathlib.Decide.{ℕ_discrete}
 use lib.ListN.{get_elem?}
 use prog.Atomic.{either}
-use Rattle.atomic_table.specs.Table.{State, Me, Step, step, Act, keeps, takes, gives, Valid, carried_after, homes_after, put_back, rest, stepped, Allows, Enters, Splits, Joins, opening}
+use Rattle.atomic_table.specs.Table.{State, step, Act, keeps, takes, gives, Valid, carried_after, homes_after, put_back, Allows, Enters, Splits, Joins, opening}
 use Rattle.atomic_table.proofs.Lists.{set_here, set_else, set_again, exchanged}
-use Rattle.std.proofs.lemmas.Bool.{cases_Bool, false_from_ne_true}
+use Rattle.std.proofs.lemmas.Bool.{false_from_ne_true}
 use Rattle.std.proofs.lemmas.List.Elements.{All-cons, All-weaker, All-nil}
 use Rattle.turn_lock.specs.declared.views.Entry.{Entry}
 use Rattle.turn_lock.specs.declared.views.Sight.{Sight}
 use Rattle.turn_lock.specs.declared.views.Stage.{Stage}
 use Rattle.turn_lock.specs.declared.views.Stage.TheVariants.{Outside, Waits, HasTurn}
 use Rattle.turn_lock.specs.declared.views.View.{View}
-use Rattle.turn_lock.specs.Fronts.{among, least, Front, events, own, made, Grows}
-use Rattle.turn_lock.specs.Rule.{sight, nothing, view, newcomer, spent, Line, Book, Sees, InStage, Fits, ticket_of, IsAt, IsSeen, AreHeld, IsSlot, Kept, Ruled}
-use Rattle.turn_lock.specs.Steps.{Mine, with_ticket, with_turn, after_turn, told_of, kept, cut, Agree, Settled, entered, drew, gave, weighed, settled, Took, looked}
-use Rattle.turn_lock.proofs.FrontLaws.{among_itself, among_one, among_append, least_among, no_back, own_of_none, own_append_none, own_of_new, made_of_others, grows_from_itself, grows_from_nothing, grows_more, Longer, longer_of}
+use Rattle.turn_lock.specs.Fronts.{among, least, Front, events, own, made}
+use Rattle.turn_lock.specs.Rule.{sight, nothing, view, newcomer, spent, Line, Book, Sees, InStage, Fits, ticket_of, IsAt, IsSeen, IsSlot, Kept, Ruled}
+use Rattle.turn_lock.specs.Steps.{Mine, with_ticket, with_turn, after_turn, told_of, kept, cut, entered, drew, gave, weighed, settled, looked}
+use Rattle.turn_lock.proofs.FrontLaws.{among_one, among_append, least_among, no_back, own_of_none, own_append_none, own_of_new, made_of_others, grows_from_itself, grows_from_nothing, grows_more, longer_of}
 use Rattle.turn_lock.proofs.Changes.{put, put_here, put_else, hand_over, handed, not_handed, there, at_end, same_at, set_each, add_each, at_here, at_set_view, seen_set, seen_here, at_more, seen_more}
 
 none_apart : (ns : List ℕ) (n : ℕ) → among ns n ≡ true → among [] n ≡ false

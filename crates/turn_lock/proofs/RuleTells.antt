@@ -1,10 +1,9 @@
 -- What the rule says of any two views, of tickets, and of the slot.
-use Rattle.std.proofs.Common.{◌≡◌, ◌≢◌, ℕ, ◌+◌, ◌<◌, ◌≤◌, ◌↔◌, List, [], ◌∷◌, ◌++◌, length, All, Bool, true, false, Option, Some, None, slice_index, sym, refl, ap, ◌∙◌, subst, ⊎_elim, ◌⊎◌, inl, inr, arith, true≢false, length-append}
+use Rattle.std.proofs.Common.{◌≡◌, ◌≢◌, ℕ, ◌<◌, ◌≤◌, ◌↔◌, List, [], ◌∷◌, ◌++◌, length, All, Bool, true, false, Option, Some, None, slice_index, sym, ap, ◌∙◌, subst, ⊎_elim, ◌⊎◌, inl, inr, arith, true≢false, length-append}
 use mathlib.Core.Logic.{dite}
 use mathlib.Core.Option.{some, none, some-injective, some-ne-none}
 use mathlib.Core.Option as maybe
 use native.Mathlib.Decide.{dec_le}
-use lib.ListN.{get_elem?}
 use Rattle.atomic_table.specs.Table.{State}
 use Rattle.std.proofs.lemmas.List.Elements.{All-tail}
 use Rattle.turn_lock.specs.declared.views.Entry.{Entry}
@@ -12,7 +11,7 @@ use Rattle.turn_lock.specs.declared.views.Stage.{Stage}
 use Rattle.turn_lock.specs.declared.views.Stage.TheVariants.{Outside, Waits, HasTurn}
 use Rattle.turn_lock.specs.declared.views.View.{View}
 use Rattle.turn_lock.specs.Fronts.{among, Front, events, own, Grows}
-use Rattle.turn_lock.specs.Rule.{Line, Book, InStage, Fits, ticket_of, IsSlot, Kept, Ruled}
+use Rattle.turn_lock.specs.Rule.{Line, InStage, ticket_of, IsSlot, Ruled}
 use Rattle.turn_lock.specs.Sentences.{Begins, IsView, HoldsTicket, IsLongest}
 use Rattle.turn_lock.proofs.FrontLaws.{backs, whole, own_append, own_of_grown, among_append, among_left, among_right}
 use Rattle.turn_lock.proofs.RuleKept.{no_ticket, some_or}

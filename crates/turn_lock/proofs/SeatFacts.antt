@@ -1,11 +1,11 @@
 -- What the calls say of seats, from what their steps tell.
-use Rattle.std.proofs.Common.{◌≡◌, ℕ, List, [], ◌∷◌, ◌++◌, Bool, true, false, Option, Some, sym, refl, ap, ◌∙◌, subst, true≢false, append-nil, option_to_list}
+use Rattle.std.proofs.Common.{◌≡◌, ℕ, List, [], ◌∷◌, ◌++◌, true, Option, sym, ap, ◌∙◌, true≢false, append-nil}
 use Rattle.std.proofs.lemmas.Bool.{false_from_ne_true}
-use Rattle.turn_lock.specs.Fronts.{among, Front, events, own, made}
+use Rattle.turn_lock.specs.Fronts.{among, Front, own, made}
 use Rattle.turn_lock.specs.Rule.{newcomer}
 use Rattle.turn_lock.specs.Steps.{told_of, kept, cut, Agree}
 use Rattle.turn_lock.specs.Seats.{SeatOf, front, numbers, Turned, Parted}
-use Rattle.turn_lock.proofs.FrontLaws.{among_itself, own_append_none, own_after_turn, made_events}
+use Rattle.turn_lock.proofs.FrontLaws.{among_itself, own_append_none, own_after_turn}
 
 module _ {S E : Type 0} where
   -- the seat with the new number

@@ -1,6 +1,6 @@
 -- The history of all callers is a list of entries, the newest first, and isn't stored. A front is the part of it that
 -- a seat has seen: what the history was at that time. So the history goes on from a front by entries put before it.
-use Rattle.std.specs.Prelude.{◌≡◌, ℕ, List, [], ◌∷◌, ◌++◌, map, filter, Bool, true, false, ◌||◌, ◌==◌, min, Option, Some, None}
+use Rattle.std.specs.Prelude.{◌≡◌, ℕ, List, [], ◌∷◌, ◌++◌, map, filter, Bool, false, ◌||◌, ◌==◌, min, Option, Some, None}
 use Rattle.turn_lock.specs.declared.views.Entry.{Entry}
 
 -- n is one of the numbers

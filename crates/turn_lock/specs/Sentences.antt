@@ -1,15 +1,20 @@
 -- Words for the laws of the rule: what is said there of views and fronts in a state of the lock's table.
-use Rattle.std.specs.Prelude.{◌≡◌, ℕ, List, ◌++◌, Option, Some, ◌⊎◌}
+use Rattle.std.specs.Prelude.{◌≡◌, ℕ, ◌≤◌, List, [], ◌∷◌, ◌++◌, true, Option, Some, ◌⊎◌}
 use mathlib.Core.Option.{some}
 use lib.ListN.{get_elem?}
 use Rattle.atomic_table.specs.Table.{State}
+use Rattle.turn_lock.specs.declared.views.Entry.{Entry}
 use Rattle.turn_lock.specs.declared.views.View.{View}
-use Rattle.turn_lock.specs.Fronts.{Front}
+use Rattle.turn_lock.specs.Fronts.{Front, among}
 use Rattle.turn_lock.specs.Rule.{ticket_of}
 
 -- the later list goes on from the front by what was put before it
 abbrev pub Begins : {A : Type 0} → List A → List A → Type 0
 Begins {A} front later = (more : List A) × (later ≡ more ++ front)
+
+-- this is one entry, whose number is one of these, and none of these is less
+abbrev pub IsLeast : {E : Type 0} → List ℕ → Front E → Type 0
+IsLeast {E} numbers front = (entry : Entry E) × (front ≡ entry ∷ []) × (among numbers entry.seat ≡ true) × ((n : ℕ) → among numbers n ≡ true → entry.seat ≤ n)
 
 module _ {S E : Type 0} (s : State (Option S) (View E)) where
   -- the view of the seat j

@@ -1,6 +1,6 @@
 -- What each atomic step tells the seat that makes it. `m` is the seat before the step and `m'` after it: its view, and
 -- the slots that it has; `found` is the word that was found.
-use Rattle.std.specs.Prelude.{◌≡◌, ◌≢◌, ℕ, List, [], ◌∷◌, ◌++◌, true, false, Option, Some, ◌⊎◌}
+use Rattle.std.specs.Prelude.{◌≡◌, ◌≢◌, ℕ, List, ◌∷◌, ◌++◌, true, false, Option, Some, ◌⊎◌}
 use Rattle.atomic_table.specs.Table.{Me, Step, rest}
 use Rattle.turn_lock.specs.declared.views.Stage.TheVariants.{Outside, Waits, HasTurn}
 use Rattle.turn_lock.specs.declared.views.View.{View}

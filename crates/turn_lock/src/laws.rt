@@ -10,7 +10,7 @@ ghost use Rattle.turn_lock.specs.declared.views.View.{View};
 ghost use Rattle.turn_lock.specs.Fronts.{Front, among, events, made, own};
 ghost use Rattle.turn_lock.specs.Rule.{Ruled};
 ghost use Rattle.turn_lock.specs.Seats.{SeatOf, front, numbers, Turned, Joined};
-ghost use Rattle.turn_lock.specs.Sentences.{Begins, IsView, HoldsTicket, IsLongest};
+ghost use Rattle.turn_lock.specs.Sentences.{Begins, IsView, HoldsTicket, IsLongest, IsLeast};
 
 use crate::logged::{Logged, TurnCall};
 
@@ -52,6 +52,11 @@ pub fn one_view_has_the_turn<S: Logged>()
 pub fn the_value_at_home_stands_for_the_longest_front<S: Logged>()
     ensures at_home { (s : State (Option S) (View S.Event)) → Ruled S.stands s → ((j t : ℕ) (v : View S.Event) → IsView s j v → v.stage ≢ HasTurn t) → (state : S) × (s.homes ≡ some (Some state) ∷ []) }
     ensures stands { (s : State (Option S) (View S.Event)) (state : S) (log : Front S.Event) → Ruled S.stands s → s.homes ≡ some (Some state) ∷ [] → IsLongest s log → S.stands (events log) state }
+{}
+
+/// An entry is made with the least of its seat's numbers.
+pub fn an_entry_has_the_least_number<S: Logged>()
+    ensures { (ns : List ℕ) (n : ℕ) (event : S.Event) → among ns n ≡ true → IsLeast ns (made ns (Some event)) }
 {}
 
 /// Of the seat's own entries a turn adds the one of its event, if there is one, and changes no other.

@@ -40,6 +40,8 @@ impl<S: Logged> TurnLock<S> {
         ensures other { IsSeatOf self.now result.1 }
         ensures parted { Parted seat result.0 result.1 }
     {
+        // No step sees how many seats there are, so the number is made by a seat that comes. It is noted in this one,
+        // which learns that the number is new and has no entries; then it is cut off again, with the front.
         let (_, note) = self.table.shared.load_new_seat::<Enter>(DRAWN);
         self.table.shared.join_seat::<Tell>(&mut seat, note);
         self.table.shared.load::<Weigh>(&mut seat, DRAWN);

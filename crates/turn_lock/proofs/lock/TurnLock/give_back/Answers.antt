@@ -1,5 +1,5 @@
 use Rattle.std.proofs.Common.{rules, ◌++◌, [], option_to_list, sym, ap, ◌∙◌, subst}
-use Rattle.turn_lock.specs.Fronts.{events, made}
+use Rattle.turn_lock.specs.Fronts.{events}
 use Rattle.turn_lock.proofs.FrontLaws.{made_events}
 use Rattle.turn_lock.proofs.RuleKept.{gives_back}
 use Rattle.turn_lock.proofs.lock.TurnLock.give_back.Goals as goal

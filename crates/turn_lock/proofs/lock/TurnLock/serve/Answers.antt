@@ -1,4 +1,4 @@
-use Rattle.std.proofs.Common.{rules, ◌≡◌, ◌∷◌, [], Some, sym, ap, ◌∙◌, subst, refl, true}
+use Rattle.std.proofs.Common.{rules, ◌∷◌, Some, sym, ap, ◌∙◌}
 use Rattle.atomic_table.specs.Table.{rest}
 use Rattle.turn_lock.proofs.lock.TurnLock.serve.Goals as goal
 
