@@ -16,8 +16,8 @@ mod views;
 pub use laws::{
     a_joined_seat_owns_the_entries_of_both, a_number_is_in_one_view,
     a_turn_adds_its_own_entry_alone, a_view_has_all_entries_of_its_numbers,
-    each_ticket_is_held_once, fronts_are_of_one_history, one_view_has_the_turn,
-    the_value_at_home_stands_for_the_longest_front,
+    an_entry_has_the_least_number, each_ticket_is_held_once, fronts_are_of_one_history,
+    one_view_has_the_turn, the_value_at_home_stands_for_the_longest_front,
 };
 pub use lock::{Seat, TurnLock};
 pub use logged::{Logged, TurnCall};

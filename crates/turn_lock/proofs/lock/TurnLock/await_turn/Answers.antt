@@ -7,4 +7,4 @@ load-given-requires g c = (search rules, search rules, looks _ _ _ c.loop.seat.m
 
 pub loop-preserved : goal.loop-preserved
 loop-preserved g c = let i = c.loop.invariant in let did = c.load-given.ensures in let same = (did.2 c.args.ticket (ap (λ m. m.0.stage) i.1 ∙ c.requires.1)).1 c.if-given-ticket.false in
-    ((did.0 ∙ i.0.0, did.1 ∙ i.0.1), same ∙ i.1)
+    ((search rules, search rules), search rules)
