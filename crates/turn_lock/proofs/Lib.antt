@@ -1,0 +1,5 @@
+mod FrontLaws
+mod Changes
+mod RuleKept
+mod SeatFacts
+mod RuleTells

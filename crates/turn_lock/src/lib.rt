@@ -1,0 +1,24 @@
+//! The turn lock: one value behind a lock, whose callers take turns in the order of tickets, and one history of what
+//! they did. The history isn't stored. Each caller has a seat, a token without bytes, which says what of the history
+//! this caller has seen, and which entries of it are the caller's own.
+#![tactic(auto)]
+
+mod laws;
+mod lock;
+mod logged;
+mod plays;
+mod seats;
+#[cfg(test)]
+mod tests;
+mod turn;
+mod views;
+
+pub use laws::{
+    a_joined_seat_owns_the_entries_of_both, a_number_is_in_one_view,
+    a_turn_adds_its_own_entry_alone, a_view_has_all_entries_of_its_numbers,
+    an_entry_has_the_least_number, each_ticket_is_held_once, fronts_are_of_one_history,
+    one_view_has_the_turn, the_value_at_home_stands_for_the_longest_front,
+};
+pub use lock::{Seat, TurnLock};
+pub use logged::{Logged, TurnCall};
+pub use views::{Entry, Sight, Stage, Turns, View};
