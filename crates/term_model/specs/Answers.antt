@@ -1,8 +1,14 @@
--- What the calls that spell answer.
-use Rattle.std.specs.Prelude.{◌≡◌, ℕ, List, ◌++◌, ◌==◌, length, take, Result, Ok, Err, Option, Some, None, OnOk, OnErr, if◌then◌else◌}
+-- What a reading holds, and what the calls that spell answer.
+use Rattle.std.specs.Prelude.{◌≡◌, ℕ, List, ◌++◌, ◌==◌, length, take, Result, Ok, Err, Option, Some, None, OnOk, OnErr, map, if◌then◌else◌}
+use Rattle.term_model.specs.declared.reading.Reading.{Reading}
 use Rattle.term_trees.specs.declared.spelling.SpellFault.{SpellFault}
 use Rattle.term_trees.specs.declared.spelling.SpellFault.TheVariants.{NoAtom, BadSeal}
-use Rattle.term_trees.specs.Spellings.{Spelling}
+use Rattle.term_trees.specs.Views.{tree}
+use Rattle.term_trees.specs.Spellings.{Atoms, Spelling}
+
+-- the atoms of a reading with their bytes
+abbrev pub atoms_of : Reading → Atoms
+atoms_of reading = map (λ entry. (tree entry.atom, entry.bytes)) reading.list.items
 
 -- a spelling with these bytes in front
 abbrev pub behind : List ℕ → Spelling → Spelling

@@ -53,10 +53,16 @@ fn conclude_step(
     }
 }
 
+fn term_at(terms: &[Term], place: u32) -> Option<&Term>
+    ensures { option_map (λ term. tree term.now) result ≡ slice_get (map tree terms.now) place }
+{
+    terms.get(place as usize)
+}
+
 fn copy_at(alloc: Global, terms: &[Term], place: u32) -> Result<Option<Term>, NoMemory>
     ensures { IfOk result (λ found. option_map tree found ≡ slice_get (map tree terms.now) place) }
 {
-    match terms.get(place as usize) {
+    match term_at(terms, place) {
         Some(term) => Ok(Some(term.copy(alloc)?)),
         None => Ok(None),
     }
@@ -78,37 +84,82 @@ fn join(alloc: Global, done: &[Term], places: &[u32]) -> Result<Option<Term>, No
 fn take_part(alloc: Global, done: &[Term], of: u32, index: u32) -> Result<Option<Term>, NoMemory>
     ensures { IfOk result (λ found. option_map tree found ≡ option_and_then (λ t. part_of t index) (slice_get (map tree done.now) of)) }
 {
-    match done.get(of as usize) {
-        Some(Term::Cat(pieces)) => copy_at(alloc, pieces.as_slice(), index),
-        _ => Ok(None),
+    match term_at(done, of) {
+        Some(whole) => copy_part(alloc, whole, index),
+        None => Ok(None),
+    }
+}
+
+fn copy_part(alloc: Global, whole: &Term, index: u32) -> Result<Option<Term>, NoMemory>
+    ensures { IfOk result (λ found. option_map tree found ≡ part_of (tree whole.now) index) }
+{
+    match whole {
+        Term::Cat(pieces) => copy_at(alloc, pieces.as_slice(), index),
+        Term::Pub(_)
+        | Term::Nonce(_)
+        | Term::AsChal(_)
+        | Term::LKey(_)
+        | Term::SKey(_)
+        | Term::Junk(_)
+        | Term::Pw(_)
+        | Term::Seal(_, _)
+        | Term::Mac(_, _, _) => Ok(None),
     }
 }
 
 fn seal_up(alloc: Global, done: &[Term], key: u32, body: u32) -> Result<Option<Term>, NoMemory>
     ensures { IfOk result (λ found. option_map tree found ≡ option_and_then (λ k. option_map (seal k) (slice_get (map tree done.now) body)) (slice_get (map tree done.now) key)) }
 {
-    match done.get(key as usize) {
+    match term_at(done, key) {
         None => Ok(None),
-        Some(key) => match done.get(body as usize) {
+        Some(key) => match term_at(done, body) {
             None => Ok(None),
-            Some(body) => Ok(Some(Term::Seal(
-                Box::new(alloc, key.copy(alloc)?)?,
-                Box::new(alloc, body.copy(alloc)?)?,
-            ))),
+            Some(body) => Ok(Some(seal_of(alloc, key, body)?)),
+        },
+    }
+}
+
+fn seal_of(alloc: Global, key: &Term, body: &Term) -> Result<Term, NoMemory>
+    ensures { IfOk result (λ term. tree term ≡ seal (tree key.now) (tree body.now)) }
+{
+    let key = Box::new(alloc, key.copy(alloc)?)?;
+    let body = Box::new(alloc, body.copy(alloc)?)?;
+    Ok(Term::Seal(key, body))
+}
+
+fn open_up(alloc: Global, done: &[Term], sealed: u32, key: u32) -> Result<Option<Term>, NoMemory>
+    ensures { IfOk result (λ found. option_map tree found ≡ option_and_then (λ s. option_and_then (body_of s) (slice_get (map tree done.now) key)) (slice_get (map tree done.now) sealed)) }
+{
+    match term_at(done, sealed) {
+        None => Ok(None),
+        Some(sealed) => match term_at(done, key) {
+            None => Ok(None),
+            Some(key) => copy_body(alloc, sealed, key),
         },
     }
 }
 
 // A seal opens with its own key alone.
-fn open_up(alloc: Global, done: &[Term], seal: u32, key: u32) -> Result<Option<Term>, NoMemory>
-    ensures { IfOk result (λ found. option_map tree found ≡ option_and_then (λ s. option_and_then (body_of s) (slice_get (map tree done.now) key)) (slice_get (map tree done.now) seal)) }
+fn copy_body(alloc: Global, sealed: &Term, key: &Term) -> Result<Option<Term>, NoMemory>
+    ensures { IfOk result (λ found. option_map tree found ≡ body_of (tree sealed.now) (tree key.now)) }
 {
-    match done.get(seal as usize) {
-        Some(Term::Seal(own_key, body)) => match done.get(key as usize) {
-            Some(key) if own_key.same(key) => Ok(Some(body.copy(alloc)?)),
-            _ => Ok(None),
-        },
-        _ => Ok(None),
+    match sealed {
+        Term::Seal(own_key, body) => {
+            if own_key.same(key) {
+                Ok(Some(body.copy(alloc)?))
+            } else {
+                Ok(None)
+            }
+        }
+        Term::Pub(_)
+        | Term::Nonce(_)
+        | Term::AsChal(_)
+        | Term::LKey(_)
+        | Term::SKey(_)
+        | Term::Junk(_)
+        | Term::Pw(_)
+        | Term::Cat(_)
+        | Term::Mac(_, _, _) => Ok(None),
     }
 }
 
@@ -121,15 +172,19 @@ fn digest_up(
 ) -> Result<Option<Term>, NoMemory>
     ensures { IfOk result (λ found. option_map tree found ≡ option_and_then (λ p. option_map (digest kind p) (slice_get (map tree done.now) body)) (slice_get (map tree done.now) secret)) }
 {
-    match done.get(secret as usize) {
+    match term_at(done, secret) {
         None => Ok(None),
-        Some(secret) => match done.get(body as usize) {
+        Some(secret) => match term_at(done, body) {
             None => Ok(None),
-            Some(body) => Ok(Some(Term::Mac(
-                kind,
-                Box::new(alloc, secret.copy(alloc)?)?,
-                Box::new(alloc, body.copy(alloc)?)?,
-            ))),
+            Some(body) => Ok(Some(digest_of(alloc, kind, secret, body)?)),
         },
     }
+}
+
+fn digest_of(alloc: Global, kind: MacKind, secret: &Term, text: &Term) -> Result<Term, NoMemory>
+    ensures { IfOk result (λ term. tree term ≡ digest kind (tree secret.now) (tree text.now)) }
+{
+    let secret = Box::new(alloc, secret.copy(alloc)?)?;
+    let text = Box::new(alloc, text.copy(alloc)?)?;
+    Ok(Term::Mac(kind, secret, text))
 }

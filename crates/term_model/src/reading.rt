@@ -1,11 +1,11 @@
 // Readings: what bytes the atoms have.
-ghost use Rattle.std.specs.Prelude.{◌≡◌, [], Ok, true, false, IfOk, OnErr, IfSome, IsSome, option_map};
-ghost use Rattle.term_trees.specs.Trees.{is_atom};
+ghost use Rattle.std.specs.Prelude.{◌≡◌, [], Ok, true, false, IfOk, OnErr, position, option_map};
+ghost use Rattle.term_trees.specs.Trees.{is_atom, same_tree};
 ghost use Rattle.term_trees.specs.Spellings.{bytes_of, with_atom};
 ghost use Rattle.term_trees.specs.Views.{tree};
+ghost use Rattle.term_model.specs.Answers.{atoms_of};
 
 use std::alloc::Global;
-use std::marker::Model;
 use term_trees::Term;
 use wire_base::{Bytes, NoMemory};
 
@@ -16,26 +16,16 @@ struct Entry {
     bytes: Bytes,
 }
 
-/// What bytes the atoms of terms have: a list of atoms with their bytes, as contracts see it.
+/// What bytes the atoms of terms have. Contracts see its atoms with their bytes, `atoms_of`.
 #[derive(Drop)]
 pub struct Reading {
     list: Vec<Entry>,
 }
 
-impl Model for Reading {
-    ghost use Rattle.std.specs.Prelude.{map};
-    ghost use Rattle.term_trees.specs.Spellings.{Atoms};
-    ghost use Rattle.term_trees.specs.Views.{tree};
-
-    ghost Value = { Atoms };
-
-    ghost view = { λ r. map (λ entry. (tree entry.atom, entry.bytes)) r.list.items };
-}
-
 impl Reading {
     /// No atom has bytes. It takes no memory.
     pub fn new(alloc: Global) -> Reading
-        ensures { result ≡ [] }
+        ensures { atoms_of result ≡ [] }
     {
         Reading {
             list: Vec::new(alloc),
@@ -46,9 +36,9 @@ impl Reading {
     /// nothing changes.
     pub fn set(&mut self, atom: Term, spelled: Bytes) -> Result<bool, NoMemory>
         ensures exactly { IfOk result (λ taken. taken ≡ is_atom (tree atom)) }
-        ensures changed { result ≡ Ok true → self.new ≡ with_atom (tree atom) spelled self.old }
-        ensures kept { result ≡ Ok false → self.new ≡ self.old }
-        ensures err { OnErr result (self.new ≡ self.old) }
+        ensures changed { result ≡ Ok true → atoms_of self.new ≡ with_atom (tree atom) spelled (atoms_of self.old) }
+        ensures kept { result ≡ Ok false → atoms_of self.new ≡ atoms_of self.old }
+        ensures err { OnErr result (atoms_of self.new ≡ atoms_of self.old) }
     {
         if !atom.is_atom() {
             return Ok(false);
@@ -65,13 +55,14 @@ impl Reading {
 
     /// The bytes of an atom. None exactly where it has none.
     pub fn bytes_of(&self, atom: &Term) -> Option<&[u8]>
-        ensures { option_map (λ bytes. bytes.now) result ≡ bytes_of self.now (tree atom.now) }
+        ensures { option_map (λ bytes. bytes.now) result ≡ bytes_of (atoms_of self.now) (tree atom.now) }
     {
         let place = self.place_of(atom)?;
         Some(self.list[place].bytes.as_slice())
     }
 
     fn place_of(&self, atom: &Term) -> Option<usize>
+        ensures { result ≡ position (λ entry. same_tree (tree entry.atom) (tree atom.now)) self.now.list.items }
     {
         self.list.iter().position(|entry| entry.atom.same(atom))
     }

@@ -4,7 +4,7 @@ ghost use Rattle.term_trees.specs.declared.spelling.SpellFault.TheVariants.{NoAt
 ghost use Rattle.term_trees.specs.Spellings.{spelling, spelling_all, atom_bytes, bytes_of, seal_bytes, digest_bytes};
 ghost use Rattle.term_trees.specs.Trees.{seal, digest};
 ghost use Rattle.term_trees.specs.Views.{tree, trees_of};
-ghost use Rattle.term_model.specs.Answers.{behind, key_option, Writes};
+ghost use Rattle.term_model.specs.Answers.{atoms_of, behind, key_option, Writes};
 
 use crate::reading::Reading;
 use md5_answers::{apop_answer, cram_answer};
@@ -17,9 +17,9 @@ use wire_base::Bytes;
 /// seven bytes or whose body is shorter than eight. The first fault from the left is told, the key before the body and
 /// an atom before the seal that holds it. After a refusal `out` is as before.
 pub fn spell(reading: &Reading, term: &Term, out: &mut Bytes) -> Result<(), SpellFault>
-    ensures ok { OnOk result (behind out.old (spelling reading.now (tree term.now)) ≡ Ok out.new) }
-    ensures no_atom { result ≡ Err NoAtom → spelling reading.now (tree term.now) ≡ Err NoAtom }
-    ensures bad_seal { result ≡ Err BadSeal → spelling reading.now (tree term.now) ≡ Err BadSeal }
+    ensures ok { OnOk result (behind out.old (spelling (atoms_of reading.now) (tree term.now)) ≡ Ok out.new) }
+    ensures no_atom { result ≡ Err NoAtom → spelling (atoms_of reading.now) (tree term.now) ≡ Err NoAtom }
+    ensures bad_seal { result ≡ Err BadSeal → spelling (atoms_of reading.now) (tree term.now) ≡ Err BadSeal }
     ensures err { OnErr result (out.new ≡ out.old) }
 {
     let mut list = mem::replace(out, Bytes::new(reading.allocator())).into_vec();
@@ -35,7 +35,7 @@ pub fn spell(reading: &Reading, term: &Term, out: &mut Bytes) -> Result<(), Spel
 // Appends the bytes of a term. After a refusal more may stand behind what stood.
 #[cycle(write)]
 fn write_term(reading: &Reading, term: &Term, list: &mut Vec<u8>) -> Result<(), SpellFault>
-    ensures { Writes (spelling reading.now (tree term.now)) list.old.items result list.new.items }
+    ensures { Writes (spelling (atoms_of reading.now) (tree term.now)) list.old.items result list.new.items }
 {
     match term {
         Term::Pub(bytes) => put(list, bytes.as_slice()),
@@ -52,7 +52,7 @@ fn write_term(reading: &Reading, term: &Term, list: &mut Vec<u8>) -> Result<(), 
 }
 
 fn write_atom(reading: &Reading, atom: &Term, list: &mut Vec<u8>) -> Result<(), SpellFault>
-    ensures { Writes (atom_bytes (bytes_of reading.now (tree atom.now))) list.old.items result list.new.items }
+    ensures { Writes (atom_bytes (bytes_of (atoms_of reading.now) (tree atom.now))) list.old.items result list.new.items }
 {
     match reading.bytes_of(atom) {
         Some(bytes) => put(list, bytes),
@@ -62,7 +62,7 @@ fn write_atom(reading: &Reading, atom: &Term, list: &mut Vec<u8>) -> Result<(), 
 
 #[cycle(write)]
 fn write_pieces(reading: &Reading, pieces: &[Term], list: &mut Vec<u8>) -> Result<(), SpellFault>
-    ensures { Writes (spelling_all reading.now (trees_of (map tree pieces.now))) list.old.items result list.new.items }
+    ensures { Writes (spelling_all (atoms_of reading.now) (trees_of (map tree pieces.now))) list.old.items result list.new.items }
 {
     for piece in pieces {
         write_term(reading, piece, list)?;
@@ -78,7 +78,7 @@ fn write_seal(
     body: &Term,
     list: &mut Vec<u8>,
 ) -> Result<(), SpellFault>
-    ensures { Writes (spelling reading.now (seal (tree key.now) (tree body.now))) list.old.items result list.new.items }
+    ensures { Writes (spelling (atoms_of reading.now) (seal (tree key.now) (tree body.now))) list.old.items result list.new.items }
 {
     let from = list.len();
     write_term(reading, key, list)?;
@@ -96,7 +96,7 @@ fn write_digest(
     text: &Term,
     list: &mut Vec<u8>,
 ) -> Result<(), SpellFault>
-    ensures { Writes (spelling reading.now (digest kind (tree secret.now) (tree text.now))) list.old.items result list.new.items }
+    ensures { Writes (spelling (atoms_of reading.now) (digest kind (tree secret.now) (tree text.now))) list.old.items result list.new.items }
 {
     let from = list.len();
     write_term(reading, secret, list)?;

@@ -2,10 +2,11 @@
 use Rattle.std.proofs.Common.{◌≡◌, ℕ, zero, suc, ◌+◌, ◌<◌, ◌≤◌, [], ◌∷◌, ◌++◌, length, map, drop, List, Bool, true, false, ◌&&◌, nat_eq, eqb, refl, sym, ap, ◌∙◌, arith, slice_index_or}
 use Rattle.std.proofs.lemmas.List.{map-append, drop_all}
 use Rattle.std.proofs.lemmas.Bool.{and_parts, and_left}
-use Rattle.term_trees.specs.declared.term.Term.{Term}
-use Rattle.term_trees.specs.declared.term.Term.TheOpen.{Terms-F}
+use Rattle.term_trees.specs.declared.term.Term.{Term, Cat, fold-roll-Term}
+use Rattle.term_trees.specs.declared.term.Term.TheVariants.{rolls-Cat}
+use Rattle.term_trees.specs.declared.term.Term.TheOpen.{Term-F, Terms-F}
 use Rattle.term_trees.specs.declared.term.Terms.{Terms, out-Terms, roll-Terms, fold_out-Terms, fold-roll-Terms}
-use Rattle.term_trees.specs.Trees.{Tree, Trees, none, piece, same_tree, same_trees}
+use Rattle.term_trees.specs.Trees.{Tree, Trees, none, piece, joined, same_tree, same_trees}
 use Rattle.term_trees.specs.Views.{tree, trees, trees_of, and_last, view_step, list_step}
 
 pub trees_of-last : (ts : List Tree) (t : Tree) → trees_of (ts ++ t ∷ []) ≡ and_last (trees_of ts) t
@@ -15,6 +16,10 @@ trees_of-last (x ∷ xs) t = rw (trees_of-last xs t) refl
 -- the pieces of a list of terms are the trees of its items
 pub trees-opened : (ts : Terms) → trees ts ≡ trees_of (map tree (out-Terms ts).list.items)
 trees-opened ts = fold_out-Terms Tree Trees view_step list_step ts
+
+-- a joined term is its pieces
+pub tree-joined : (p : Terms) → tree (Cat p) ≡ joined (trees p)
+tree-joined p = ap tree (sym (rolls-Cat p)) ∙ fold-roll-Term Tree Trees view_step list_step (Term-F.Cat p)
 
 pub trees-made : (x : Terms-F Term Terms) → trees (roll-Terms x) ≡ trees_of (map tree x.list.items)
 trees-made x = fold-roll-Terms Tree Trees view_step list_step x
