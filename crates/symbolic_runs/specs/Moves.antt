@@ -36,71 +36,50 @@ pub record Own : Type 0 where
 
 -- a ticket with whole names
 pub record AreNames (cuid suid : List ℕ) : Type 0 where
-  pub cuid : length cuid ≡ 28
-  pub suid : length suid ≡ 28
+  pub client_whole : length cuid ≡ 28
+  pub server_whole : length suid ≡ 28
 
 pub data Row (own : Own) : Role → List Move → Move → Type 0 where
   -- p9sk1's client: its challenge, the server's request, the question, the answer, the ticket handed on with an
   -- authenticator, the server's authenticator
   client_challenge : Row own client [] (gives own.word)
   client_request : {t : Tree} → Row own client (gives own.word ∷ []) (takes t)
-  client_question : {fields asked : Fields} {chal : Tree} → AreFields fields →
+  client_question : (fields asked : Fields) {chal : Tree} → AreFields fields →
       Row own client (takes (request ticket_request fields chal) ∷ gives own.word ∷ []) (asks (request ticket_request asked chal))
-  client_answer : {asked : Fields} {chal t : Tree} {before : List Move} →
+  client_answer : (asked : Fields) {chal t : Tree} {before : List Move} →
       Row own client (asks (request ticket_request asked chal) ∷ before) (hears t)
-  client_ticket : {asked : Fields} {chal key handed : Tree} {cuid suid : List ℕ} {before : List Move} → AreNames cuid suid →
+  client_ticket : (asked : Fields) {chal key handed : Tree} {cuid suid : List ℕ} {before : List Move} → AreNames cuid suid →
       Row own client (hears (tickets (seal own.key (ticket for_client chal cuid suid key)) handed) ∷ asks (request ticket_request asked chal) ∷ before) (gives (client_message handed key chal))
   client_proof : {chal key handed t : Tree} {before : List Move} →
       Row own client (gives (client_message handed key chal) ∷ before) (takes t)
-  client_accepts : {asked : Fields} {chal key handed : Tree} {cuid suid : List ℕ} {before : List Move} →
+  client_accepts : {chal key handed : Tree} {cuid suid : List ℕ} {before : List Move} →
       Row own client (takes (server_message key own.word) ∷ gives (client_message handed key chal) ∷ hears (tickets (seal own.key (ticket for_client chal cuid suid key)) handed) ∷ before) (accepts suid)
-
   -- p9sk1's server: the client's challenge, the request, the ticket with an authenticator, its own authenticator
   server_challenge : {t : Tree} → Row own server [] (takes t)
-  server_request : {y : Tree} {fields : Fields} →
+  server_request : {y : Tree} (fields : Fields) →
       Row own server (takes y ∷ []) (gives (request ticket_request fields own.word))
-  server_ticket : {y t : Tree} {fields : Fields} →
+  server_ticket : {y t : Tree} (fields : Fields) →
       Row own server (gives (request ticket_request fields own.word) ∷ takes y ∷ []) (takes t)
-  server_accepts : {y key : Tree} {fields : Fields} {cuid suid : List ℕ} → AreNames cuid suid →
+  server_accepts : {y key : Tree} (fields : Fields) {cuid suid : List ℕ} → AreNames cuid suid →
       Row own server (takes (pair (seal own.key (ticket for_server own.word cuid suid key)) (seal key (authenticator by_client own.word))) ∷ gives (request ticket_request fields own.word) ∷ takes y ∷ []) (accepts suid)
-  server_proof : {y key : Tree} {fields : Fields} {cuid suid : List ℕ} →
+  server_proof : {y key : Tree} (fields : Fields) {cuid suid : List ℕ} →
       Row own server (accepts suid ∷ takes (pair (seal own.key (ticket for_server own.word cuid suid key)) (seal key (authenticator by_client own.word))) ∷ gives (request ticket_request fields own.word) ∷ takes y ∷ []) (gives (server_message key y))
-
   -- a mail client: the challenge, and its digest
   mail_client_challenge : {kind : MacKind} {t : Tree} → Row own (mail_client kind) [] (takes t)
   mail_client_answer : {kind : MacKind} {t : Tree} → Row own (mail_client kind) (takes t ∷ []) (gives (digest kind own.password t))
-
   -- a mail server: the question for a challenge and its answer, the challenge handed on, the user, the digest, the
   -- question whether it is right and its answer
-  mail_question : {kind : MacKind} {fields : Fields} → Row own (mail_server kind) [] (asks (request (mail_request kind) fields own.word))
+  mail_question : {kind : MacKind} (fields : Fields) → Row own (mail_server kind) [] (asks (request (mail_request kind) fields own.word))
   mail_answer : {kind : MacKind} {q t : Tree} → Row own (mail_server kind) (asks q ∷ []) (hears t)
   mail_challenge_on : {kind : MacKind} {q t : Tree} {head : List ℕ} → length head ≡ 6 →
       Row own (mail_server kind) (hears (pair (plain head) t) ∷ asks q ∷ []) (gives t)
   mail_user : {kind : MacKind} {q a t u : Tree} → Row own (mail_server kind) (gives t ∷ hears a ∷ asks q ∷ []) (takes u)
   mail_digest : {kind : MacKind} {q a t r : Tree} {user : List ℕ} → Row own (mail_server kind) (takes (plain user) ∷ gives t ∷ hears a ∷ asks q ∷ []) (takes r)
-  mail_second_question : {kind : MacKind} {q a t r : Tree} {user : List ℕ} {fields : Fields} →
+  mail_second_question : {kind : MacKind} {q a t r : Tree} {user : List ℕ} (fields : Fields) →
       Row own (mail_server kind) (takes r ∷ takes (plain user) ∷ gives t ∷ hears a ∷ asks q ∷ []) (asks (pair (request (mail_request kind) fields own.word) r))
   mail_second_answer : {kind : MacKind} {q a t r u v : Tree} {user : List ℕ} →
       Row own (mail_server kind) (asks v ∷ takes r ∷ takes (plain user) ∷ gives t ∷ hears a ∷ asks q ∷ []) (hears u)
-  mail_accepts : {kind : MacKind} {q a t r key : Tree} {user u : List ℕ} {fields : Fields} → AreNames u u → fields.uid ≡ u →
+  mail_accepts : {kind : MacKind} {q a t r key : Tree} {user u : List ℕ} (fields : Fields) → AreNames u u → fields.uid ≡ u →
       Row own (mail_server kind) (hears (vouch (seal own.key (ticket for_server own.word u u key)) (seal key (authenticator by_client own.word))) ∷ asks (pair (request (mail_request kind) fields own.word) r) ∷ takes r ∷ takes (plain user) ∷ gives t ∷ hears a ∷ asks q ∷ []) (accepts u)
-
   -- a test failed behind what came, or none followed: nothing comes behind this
   breaks : {role : Role} {before : List Move} → Row own role before fails
-
--- what an authentication server used at a request: the names whose keys seal the tickets for server and client, none
--- where it made the key up; or the name whose key seals the ticket for the server, and the name of the password
-pub data Used : Type 0 where
-  keys : Option (List ℕ) → Option (List ℕ) → Used
-  key_and_password : Option (List ℕ) → List ℕ → Used
-
-pub data Deed : Type 0 where
-  -- a request came, under this number
-  got : ℕ → Tree → Deed
-  gave : Tree → Deed
-
-pub record Request : Type 0 where
-  pub used : Used
-  pub speakers : List (List ℕ)
-  -- the domain that its challenges name, with `@` in front and `>` behind
-  pub domain : List ℕ

@@ -1,13 +1,10 @@
-// A library with one function.
+//! Runs of the authentication protocols as an attacker sees them who has the whole network in hands, and the laws that
+//! hold of every such run.
 #![tactic(auto)]
 
-ghost use Rattle.std.specs.Prelude.{◌≡◌};
-ghost use Rattle.symbolic_runs.specs.Echo.{echo_of};
+mod laws;
 
-// The `ensures` clause is the contract: what `echo` returns is `echo_of` of its argument, a definition
-// in `specs/Echo.antt`, which a caller's clause can cite too.
-pub fn echo(x: usize) -> usize
-    ensures { result ≡ echo_of x }
-{
-    x
-}
+pub use laws::{
+    a_cram_login_is_a_run, a_p9any_login_is_a_run, a_p9sk1_login_is_a_run, digests_have_an_origin,
+    guarded_terms_are_closed, seals_have_an_origin, symbolic_secrecy,
+};

@@ -1,8 +1,8 @@
 -- Pieces that are gathered one after the other, and conclusions likewise.
-use Rattle.std.proofs.Common.{◌≡◌, zero, suc, ◌+◌, ◌<◌, [], ◌∷◌, ◌++◌, length, map, drop, List, refl, sym, ap, ◌∙◌, Option, Some, None, option_map, option_and_then, ◌≤◌, slice_index_or, is_some, true, Bool, ℕ, arith}
+use Rattle.std.proofs.Common.{◌≡◌, zero, suc, ◌+◌, ◌<◌, [], ◌∷◌, ◌++◌, length, map, drop, List, refl, sym, ap, ◌∙◌, Option, Some, None, option_map, option_and_then, ◌≤◌, slice_index_or, is_some, true, Bool, ℕ}
 use Rattle.std.proofs.lemmas.List.{at_drop_more, drop_all}
 use Rattle.std.specs.List.{slice_get}
-use Rattle.term_trees.specs.Trees.{Tree, Trees, none, piece, piece_at, joined}
+use Rattle.term_trees.specs.Trees.{Tree, Trees, none, piece, piece_at}
 use Rattle.term_trees.specs.declared.proof.ProofStep.{ProofStep}
 use Rattle.term_trees.specs.declared.term.Term.{Term, Cat}
 use Rattle.term_trees.specs.declared.term.Terms.{Terms}

@@ -1,11 +1,11 @@
 -- The place of an atom in a reading.
-use Rattle.std.proofs.Common.{◌≡◌, ℕ, zero, suc, ◌<◌, ◌+◌, [], ◌∷◌, ◌++◌, length, map, List, Bool, true, false, refl, sym, ap, ◌∙◌, Option, Some, None, inl, inr, slice_index_or, slice_set, position, ltb, ◌≤◌, subst, arith}
+use Rattle.std.proofs.Common.{◌≡◌, ℕ, zero, suc, ◌<◌, ◌+◌, [], ◌∷◌, ◌++◌, length, map, List, Bool, true, false, refl, ap, ◌∙◌, Some, None, inl, inr, slice_index_or, slice_set, position, ltb, ◌≤◌, subst, arith}
 use Rattle.std.specs.List.{position_or_len}
 use Rattle.std.proofs.lemmas.List.Quantifiers.{position-Some}
 use Rattle.std.proofs.lemmas.Bool.{cases_Bool, ltb-false}
 use Rattle.term_trees.specs.Trees.{Tree, same_tree}
 use Rattle.term_trees.specs.Views.{tree}
-use Rattle.term_trees.specs.Spellings.{Atoms, bytes_of, with_atom}
+use Rattle.term_trees.specs.Spellings.{bytes_of, with_atom}
 use Rattle.term_trees.proofs.EqualityLaws.{equal_trees}
 use Rattle.term_model.specs.declared.reading.Entry.{Entry}
 

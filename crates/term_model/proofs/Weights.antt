@@ -1,8 +1,8 @@
 -- How large a tree is, by which the spelling of a term ends.
-use Rattle.std.proofs.Common.{◌≡◌, ℕ, zero, suc, ◌+◌, ◌<◌, ◌≤◌, [], ◌∷◌, length, map, List, slice_index_or, arith, refl, ap, sym, ◌∙◌}
+use Rattle.std.proofs.Common.{◌≡◌, ℕ, zero, suc, ◌+◌, ◌<◌, ◌≤◌, [], ◌∷◌, length, map, List, slice_index_or, arith, ap, ◌∙◌}
 use Rattle.term_trees.specs.declared.term.Term.{Term, Cat}
 use Rattle.term_trees.specs.declared.term.Terms.{Terms}
-use Rattle.term_trees.specs.Trees.{Tree, plain, nonce, challenge, long_key, ticket_key, junk_key, password, joined, seal, digest, Trees, none, piece}
+use Rattle.term_trees.specs.Trees.{Tree, joined, seal, digest, Trees, none, piece}
 use Rattle.term_trees.specs.Views.{tree, trees, trees_of}
 use Rattle.term_trees.proofs.TreeLemmas.{tree-joined}
 

@@ -1,5 +1,5 @@
 -- What a call that appends a spelling has written, part by part.
-use Rattle.std.proofs.Common.{◌≡◌, ℕ, zero, suc, ◌+◌, ◌-◌, ◌<◌, ◌≤◌, [], ◌∷◌, ◌++◌, length, map, take, drop, List, refl, sym, ap, ◌∙◌, subst, Option, Some, None, Result, Ok, Err, slice_index_or, arith, append_assoc}
+use Rattle.std.proofs.Common.{◌≡◌, ℕ, ◌+◌, ◌-◌, ◌<◌, ◌≤◌, ◌++◌, length, map, take, drop, List, refl, sym, ap, ◌∙◌, subst, Option, Result, Ok, Err, slice_index_or, arith, append_assoc}
 use Rattle.std.proofs.Math.Seq.{take-append_seam, drop-append_seam}
 use Rattle.std.proofs.lemmas.List.{take-append-le, at_drop_more, length-append, length-take, length-drop, take_all}
 use Rattle.term_trees.specs.declared.kind.MacKind.{MacKind}

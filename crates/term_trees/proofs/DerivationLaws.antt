@@ -1,13 +1,12 @@
 -- What a derivation written down concludes follows from what is known, and it holds step by step.
-use Rattle.std.proofs.Common.{◌≡◌, ℕ, zero, suc, ◌+◌, ◌<◌, ◌≤◌, [], ◌∷◌, ◌++◌, length, take, List, Bool, true, false, refl, sym, ap, ◌∙◌, inl, inr, ◌⊎◌, Option, Some, None, option_map, option_and_then, arith, subst}
+use Rattle.std.proofs.Common.{◌≡◌, ℕ, zero, suc, [], ◌∷◌, ◌++◌, List, refl, sym, inl, inr, ◌⊎◌, Option, Some, None, option_map, option_and_then, subst}
 use Rattle.std.proofs.lemmas.Option.{option_and_then_some}
 use Rattle.std.proofs.lemmas.Bool.{cases_Bool}
 use Rattle.std.specs.List.{slice_get}
-use Rattle.term_trees.specs.declared.kind.MacKind.{MacKind}
 use Rattle.term_trees.specs.declared.proof.ProofStep.{ProofStep}
 use Rattle.term_trees.specs.declared.proof.ProofStep.TheVariants.{Known, Public, Join, Part, SealUp, OpenUp, MacUp}
-use Rattle.term_trees.specs.Trees.{Tree, plain, nonce, challenge, long_key, ticket_key, junk_key, password, joined, seal, digest, Trees, none, piece, piece_at, same_tree}
-use Rattle.term_trees.specs.Derivations.{Derives, DerivesAll, by_knowing, in_public, by_joining, by_parting, by_sealing, by_opening, by_digesting, each_none, each_piece, pieces_at, part_of, body_of, conclusion, conclusions, conclusions_after, IsProof}
+use Rattle.term_trees.specs.Trees.{Tree, plain, nonce, challenge, long_key, ticket_key, junk_key, password, joined, seal, digest, Trees, none, piece, same_tree}
+use Rattle.term_trees.specs.Derivations.{Derives, DerivesAll, by_knowing, in_public, by_joining, by_parting, by_sealing, by_opening, by_digesting, each_none, each_piece, pieces_at, part_of, body_of, conclusion, conclusions, conclusions_after}
 use Rattle.term_trees.proofs.EqualityLaws.{equal_trees}
 
 pub Some_injective : {A : Type 0} (x y : A) → Some x ≡ Some y → x ≡ y

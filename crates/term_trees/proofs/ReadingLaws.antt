@@ -1,5 +1,5 @@
 -- A reading in which one atom is given bytes.
-use Rattle.std.proofs.Common.{◌≡◌, ℕ, [], ◌∷◌, List, Bool, true, false, refl, sym, ap, ◌∙◌, inl, inr, Option, Some, None, if◌then◌else◌}
+use Rattle.std.proofs.Common.{◌≡◌, ℕ, [], ◌∷◌, List, true, false, refl, sym, ap, ◌∙◌, inl, inr, Some, if◌then◌else◌}
 use Rattle.std.proofs.lemmas.Bool.{cases_Bool, false_from_ne_true, true≢false}
 use Rattle.term_trees.specs.Spellings.{Atoms, bytes_of, with_atom}
 use Rattle.term_trees.specs.Trees.{Tree, same_tree}

@@ -1,5 +1,5 @@
 -- A derivation holds exactly where each step concludes its tree from those before it.
-use Rattle.std.proofs.Common.{◌≡◌, ℕ, zero, suc, ◌+◌, ◌<◌, ◌≤◌, [], ◌∷◌, ◌++◌, length, take, List, refl, sym, ap, ◌∙◌, Option, Some, None, option_and_then, arith, subst, append_assoc}
+use Rattle.std.proofs.Common.{◌≡◌, ℕ, zero, suc, [], ◌∷◌, ◌++◌, length, take, List, refl, sym, ap, ◌∙◌, Some, option_and_then, arith, subst, append_assoc}
 use Rattle.std.proofs.lemmas.Option.{option_and_then_some}
 use Rattle.std.specs.List.{slice_get}
 use Rattle.term_trees.specs.declared.proof.ProofStep.{ProofStep}
@@ -49,7 +49,7 @@ joins known (step ∷ steps) done (t ∷ new) goes =
     let found : conclusion known done step ≡ Some t = subst (λ (d : List Tree). conclusion known d step ≡ Some t) (append_none done) (goes.each 0 step t refl refl) in
     let rest = joins known steps (done ++ t ∷ []) new (record {
       one_each = omega (arith, goes.one_each);
-      each = λ index s x e f. subst (λ (d : List Tree). conclusion known d s ≡ Some x) (sym (append_assoc done (t ∷ []) (take index new))) (goes.each (suc index) s x e f)
+      each = λ index s x e f. subst (λ (d : List Tree). conclusion known d s ≡ Some x) (sym (append_assoc done (t ∷ []) (take index new))) (goes.each (suc index) s x e f);
     }) in
     ap (option_and_then (λ x. conclusions_after known (done ++ x ∷ []) steps)) found ∙ rest ∙ ap Some (append_assoc done (t ∷ []) new)
 

@@ -1,12 +1,12 @@
 -- Lists of terms, and the pieces that they stand for.
-use Rattle.std.proofs.Common.{◌≡◌, ℕ, zero, suc, ◌+◌, ◌<◌, ◌≤◌, [], ◌∷◌, ◌++◌, length, map, drop, List, Bool, true, false, ◌&&◌, nat_eq, eqb, refl, sym, ap, ◌∙◌, arith, slice_index_or}
+use Rattle.std.proofs.Common.{◌≡◌, ℕ, zero, suc, ◌<◌, ◌≤◌, [], ◌∷◌, ◌++◌, length, map, drop, List, true, false, ◌&&◌, refl, sym, ap, ◌∙◌, arith, slice_index_or}
 use Rattle.std.proofs.lemmas.List.{map-append, drop_all}
 use Rattle.std.proofs.lemmas.Bool.{and_parts, and_left}
 use Rattle.term_trees.specs.declared.term.Term.{Term, Cat, fold-roll-Term}
 use Rattle.term_trees.specs.declared.term.Term.TheVariants.{rolls-Cat}
 use Rattle.term_trees.specs.declared.term.Term.TheOpen.{Term-F, Terms-F}
 use Rattle.term_trees.specs.declared.term.Terms.{Terms, out-Terms, roll-Terms, fold_out-Terms, fold-roll-Terms}
-use Rattle.term_trees.specs.Trees.{Tree, Trees, none, piece, joined, same_tree, same_trees}
+use Rattle.term_trees.specs.Trees.{Tree, Trees, joined, same_tree, same_trees}
 use Rattle.term_trees.specs.Views.{tree, trees, trees_of, and_last, view_step, list_step}
 
 pub trees_of-last : (ts : List Tree) (t : Tree) → trees_of (ts ++ t ∷ []) ≡ and_last (trees_of ts) t

@@ -1,11 +1,11 @@
 -- What follows from what is known, by the rules of the symbolic attacker (Dolev and Yao, 1983): it may join and take
 -- apart, seal and digest with what it has, and open a seal whose key it has.
-use Rattle.std.specs.Prelude.{◌≡◌, ℕ, List, [], ◌∷◌, ◌++◌, take, length, Bool, true, false, Option, Some, None, option_map, option_and_then, is_some, if◌then◌else◌}
+use Rattle.std.specs.Prelude.{◌≡◌, ℕ, List, [], ◌∷◌, ◌++◌, take, length, Option, Some, None, option_map, option_and_then, if◌then◌else◌}
 use Rattle.std.specs.List.{slice_get}
 use Rattle.term_trees.specs.declared.proof.ProofStep.{ProofStep}
 use Rattle.term_trees.specs.declared.proof.ProofStep.TheVariants.{Known, Public, Join, Part, SealUp, OpenUp, MacUp}
 use Rattle.term_trees.specs.declared.kind.MacKind.{MacKind}
-use Rattle.term_trees.specs.Trees.{Tree, plain, nonce, challenge, long_key, ticket_key, junk_key, password, joined, seal, digest, Trees, none, piece, piece_at, same_tree}
+use Rattle.term_trees.specs.Trees.{Tree, plain, joined, seal, digest, Trees, none, piece, piece_at, same_tree}
 
 mutual
   pub data Derives (known : List Tree) : Tree → Type 0 where

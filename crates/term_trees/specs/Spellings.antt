@@ -1,14 +1,14 @@
 -- What bytes a term stands for. A reading gives each atom its bytes; a joined term is its pieces in order, a seal is the
 -- body sealed under the key (Plan 9's encrypt(2)), a digest its 32 digits (RFC 1939, RFC 2195). The first fault from the
 -- left is told, the key before the body and the secret before the text.
-use Rattle.std.specs.Prelude.{ℕ, List, [], ◌∷◌, ◌++◌, length, Bool, true, false, not, ◌&&◌, ◌||◌, ◌==◌, nat_lt, Option, Some, None, Result, Ok, Err, if◌then◌else◌}
+use Rattle.std.specs.Prelude.{ℕ, List, [], ◌∷◌, ◌++◌, length, not, ◌&&◌, ◌==◌, nat_lt, Option, Some, None, Result, Ok, Err, if◌then◌else◌}
 use Rattle.seal_mode.specs.Sealing.{sealed}
 use Rattle.md5_answers.specs.Answer.{apop_digits, cram_digits}
 use Rattle.term_trees.specs.declared.kind.MacKind.{MacKind}
 use Rattle.term_trees.specs.declared.kind.MacKind.TheVariants.{Apop, Cram}
 use Rattle.term_trees.specs.declared.spelling.SpellFault.{SpellFault}
 use Rattle.term_trees.specs.declared.spelling.SpellFault.TheVariants.{NoAtom, BadSeal}
-use Rattle.term_trees.specs.Trees.{Tree, plain, nonce, challenge, long_key, ticket_key, junk_key, password, joined, seal, digest, Trees, none, piece, same_tree}
+use Rattle.term_trees.specs.Trees.{Tree, plain, joined, seal, digest, Trees, none, piece, same_tree}
 
 -- atoms with their bytes
 abbrev pub Atoms : Type 0

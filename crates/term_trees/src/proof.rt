@@ -60,11 +60,20 @@ pub enum ProofStep {
     /// The conclusions of these steps, one behind the other.
     Join(Places),
     /// The piece at a place of a `Cat`.
-    Part { of: u32, index: u32 },
+    Part {
+        of: u32,
+        index: u32,
+    },
     /// The seal of a body under a key.
-    SealUp { key: u32, body: u32 },
+    SealUp {
+        key: u32,
+        body: u32,
+    },
     /// The body of a seal whose key is there.
-    OpenUp { seal: u32, key: u32 },
+    OpenUp {
+        seal: u32,
+        key: u32,
+    },
     /// The digest of a body under a secret.
     MacUp {
         kind: MacKind,

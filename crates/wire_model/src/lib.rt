@@ -1,13 +1,18 @@
-// A library with one function.
+//! The record of a network: one step for each message, question and answer of several agents and an authentication
+//! server, and its text. The laws of all runs are those of symbolic_runs.
 #![tactic(auto)]
 
-ghost use Rattle.std.specs.Prelude.{◌≡◌};
-ghost use Rattle.wire_model.specs.Echo.{echo_of};
+mod line;
+mod print;
+mod step;
+#[cfg(test)]
+mod tests;
+mod wire;
 
-// The `ensures` clause is the contract: what `echo` returns is `echo_of` of its argument, a definition
-// in `specs/Echo.antt`, which a caller's clause can cite too.
-pub fn echo(x: usize) -> usize
-    ensures { result ≡ echo_of x }
-{
-    x
-}
+pub use print::print_step;
+pub use step::{Protocol, Role, Step};
+pub use symbolic_runs::{
+    a_cram_login_is_a_run, a_p9any_login_is_a_run, a_p9sk1_login_is_a_run, digests_have_an_origin,
+    guarded_terms_are_closed, seals_have_an_origin, symbolic_secrecy,
+};
+pub use wire::Wire;

@@ -1,4 +1,4 @@
-use Rattle.std.proofs.Common.{◌≡◌, map, true, Ok}
+use Rattle.std.proofs.Common.{map}
 use Rattle.term_trees.specs.Views.{tree}
 use Rattle.term_model.proofs.ConcludeLemmas.{proved}
 use Rattle.term_model.proofs.derivation.check_derivation.Goals as goal

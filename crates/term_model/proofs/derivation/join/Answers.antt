@@ -1,4 +1,4 @@
-use Rattle.std.proofs.Common.{◌≡◌, ◌++◌, ◌∷◌, ◌+◌, [], sym, ap, ◌∙◌, subst, map, drop, Some, option_map}
+use Rattle.std.proofs.Common.{◌≡◌, ◌∷◌, ◌+◌, [], sym, ap, ◌∙◌, subst, map, drop, Some, option_map}
 use Rattle.std.proofs.lemmas.List.{map-append}
 use Rattle.term_trees.specs.Derivations.{pieces_at}
 use Rattle.term_trees.specs.Trees.{joined}

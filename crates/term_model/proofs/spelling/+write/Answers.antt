@@ -1,8 +1,8 @@
-use Rattle.std.proofs.Common.{◌≡◌, ◌+◌, ◌<◌, ◌-◌, length, take, drop, map, arith, sym, ap, ◌∙◌, Some, option_map}
+use Rattle.std.proofs.Common.{◌-◌, length, take, drop, arith, ap, ◌∙◌, option_map}
 use Rattle.term_trees.specs.Spellings.{spelling}
-use Rattle.term_trees.specs.Views.{tree, trees_of}
+use Rattle.term_trees.specs.Views.{tree}
 use Rattle.term_model.specs.Answers.{atoms_of, key_option}
-use Rattle.term_model.proofs.Weights.{weight, weight_all, lighter_piece, lighter_pieces}
+use Rattle.term_model.proofs.Weights.{lighter_piece, lighter_pieces}
 use Rattle.term_model.proofs.WriteLemmas.{seal_written, digest_written, piece_behind, still_in_front}
 use Rattle.term_model.proofs.spelling.+write.Goals as goal
 
@@ -17,9 +17,10 @@ write_digest-returns t c =
     (ap (λ l. take (c.len-middle.result - c.len-from.result) (drop c.len-from.result l)) c.deref.ensures.value) (ap (λ l. take (length l - c.len-middle.result) (drop c.len-middle.result l)) c.deref-2.ensures.value) c.digest_of-digits.ensures c.truncate.ensures.items c.put.ensures
 
 pub write_pieces-loop-piece-preserved : goal.write_pieces-loop-piece-preserved
-write_pieces-loop-piece-preserved t c =
-    (piece_behind (atoms_of c.args.reading.now) c.args.pieces.now c.loop-piece.piece-index c.piece-item.result c.loop-piece.list.items c.write_term.new.list.items c.loop-piece-test.true c.piece-item.is c.in_ok-write_term.ensures.done ∙ c.loop-piece.invariant.0
-    , still_in_front c.args.list.now.items c.loop-piece.list.items c.write_term.new.list.items (spelling (atoms_of c.args.reading.now) (tree c.piece-item.result)) c.loop-piece.invariant.1 c.in_ok-write_term.ensures.done)
+write_pieces-loop-piece-preserved t c = (
+  piece_behind (atoms_of c.args.reading.now) c.args.pieces.now c.loop-piece.piece-index c.piece-item.result c.loop-piece.list.items c.write_term.new.list.items c.loop-piece-test.true c.piece-item.is c.in_ok-write_term.ensures.done ∙ c.loop-piece.invariant.0,
+  still_in_front c.args.list.now.items c.loop-piece.list.items c.write_term.new.list.items (spelling (atoms_of c.args.reading.now) (tree c.piece-item.result)) c.loop-piece.invariant.1 c.in_ok-write_term.ensures.done,
+)
 
 pub write_pieces-write_term-requires : goal.write_pieces-write_term-requires
 write_pieces-write_term-requires t c = (omega (arith, c.decreases, lighter_piece c.args.pieces.now c.loop-piece.piece-index c.piece-item.result c.loop-piece-test.true c.piece-item.is), tt)

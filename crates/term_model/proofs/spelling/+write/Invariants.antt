@@ -1,5 +1,4 @@
 use Rattle.std.proofs.Common.{◌≡◌, ◌+◌, length, take, drop, map}
-use Rattle.term_trees.specs.Trees.{seal, digest}
 use Rattle.term_trees.specs.Spellings.{spelling_all}
 use Rattle.term_trees.specs.Views.{tree, trees_of}
 use Rattle.term_model.specs.Answers.{atoms_of, behind}
@@ -21,6 +20,6 @@ decreases-write_digest l = 1 + weight (tree l.secret.now) + weight (tree l.text.
 -- what is spelled so far and what is left are all of it
 abbrev pub invariant-write_pieces-loop-piece : goal.invariant-write_pieces-loop-piece
 invariant-write_pieces-loop-piece l =
-  (behind l.list.items (spelling_all (atoms_of l.reading) (trees_of (map tree (drop l.piece-index l.pieces))))
-  ≡ behind l.initial.list.items (spelling_all (atoms_of l.reading) (trees_of (map tree l.pieces))))
-  × (take (length l.initial.list.items) l.list.items ≡ l.initial.list.items)
+    (behind l.list.items (spelling_all (atoms_of l.reading) (trees_of (map tree (drop l.piece-index l.pieces))))
+    ≡ behind l.initial.list.items (spelling_all (atoms_of l.reading) (trees_of (map tree l.pieces))))
+    × (take (length l.initial.list.items) l.list.items ≡ l.initial.list.items)

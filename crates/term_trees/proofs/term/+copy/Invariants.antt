@@ -1,4 +1,4 @@
-use Rattle.std.proofs.Common.{◌≡◌, map, take, length}
+use Rattle.std.proofs.Common.{◌≡◌, map, take}
 use Rattle.term_trees.specs.Views.{tree}
 use Rattle.term_trees.proofs.term.+copy.Given as goal
 

@@ -1,7 +1,7 @@
-use Rattle.std.proofs.Common.{◌≡◌, ℕ, ◌+◌, ◌<◌, ◌≤◌, length, Bool, true, false, ◌&&◌, List, sym, map, ◌∙◌, arith, refl}
+use Rattle.std.proofs.Common.{◌≡◌, sym, map, ◌∙◌, arith, refl}
 use Rattle.std.proofs.lemmas.Bool.{false_from_ne_true}
 use Rattle.term_trees.specs.declared.term.Terms.{Terms, out-Terms}
-use Rattle.term_trees.specs.Trees.{same_tree, same_trees}
+use Rattle.term_trees.specs.Trees.{same_trees}
 use Rattle.term_trees.specs.Views.{tree, trees, trees_of}
 use Rattle.term_trees.proofs.TreeLemmas.{trees-opened, same_length_terms, differ_from, same_at_end}
 use Rattle.term_trees.proofs.term.+same.Goals as goal

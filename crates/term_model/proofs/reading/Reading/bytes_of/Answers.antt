@@ -1,4 +1,4 @@
-use Rattle.std.proofs.Common.{◌≡◌, sym, ap, ◌∙◌, Some, option_map}
+use Rattle.std.proofs.Common.{sym, ap, ◌∙◌, Some, option_map}
 use Rattle.std.proofs.lemmas.List.Quantifiers.{position-Some}
 use Rattle.term_trees.specs.Views.{tree}
 use Rattle.term_model.proofs.ReadingLemmas.{holds, bytes_at, no_bytes_found}

@@ -1,6 +1,6 @@
-use Rattle.std.proofs.Common.{◌≡◌, sym, ap, ◌∙◌, Some, refl, map}
+use Rattle.std.proofs.Common.{sym, ap, ◌∙◌, refl, map}
 use Rattle.term_trees.specs.Views.{tree}
-use Rattle.term_model.proofs.ReadingLemmas.{holds, pair_of, changed_where_found, put_where_none_found}
+use Rattle.term_model.proofs.ReadingLemmas.{pair_of, changed_where_found, put_where_none_found}
 use Rattle.term_model.proofs.reading.Reading.set.Goals as goal
 
 pub returns-in-Some-clause-changed : goal.returns-in-Some-clause-changed

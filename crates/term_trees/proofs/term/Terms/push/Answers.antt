@@ -1,5 +1,5 @@
-use Rattle.std.proofs.Common.{◌≡◌, ap, sym, ◌∙◌, map}
-use Rattle.term_trees.specs.Views.{tree, trees, and_last, trees_of}
+use Rattle.std.proofs.Common.{ap, sym, ◌∙◌, map}
+use Rattle.term_trees.specs.Views.{tree, and_last, trees_of}
 use Rattle.term_trees.proofs.TreeLemmas.{trees-made, trees-opened, last_term}
 use Rattle.term_trees.proofs.term.Terms.push.Goals as goal
 
