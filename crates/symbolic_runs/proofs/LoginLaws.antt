@@ -89,20 +89,20 @@ p9any_is_run login offers choice offered asked names =
 
 pub cram_is_run : (login : MailLogin) → AreFields login.first → AreFields login.second → AreNames login.second.uid login.second.uid → length login.head ≡ 6 → IsRun (mail_setting login.user login.host login.domain) (cram_login login)
 cram_is_run login first second names six =
-    then_moves (
-    then_moves (
+    then_moves {conv = 1} (
+    then_moves {conv = 1} (
     then_serves (
     then_serves (
-    then_moves (
-    then_moves (
-    then_moves (
-    then_moves (
-    then_moves (
-    then_moves (
-    then_moves (
+    then_moves {conv = 1} (
+    then_moves {conv = 1} (
+    then_moves {conv = 1} (
+    then_moves {conv = 0} (
+    then_moves {conv = 0} (
+    then_moves {conv = 1} (
+    then_moves {conv = 1} (
     then_serves (
     then_serves (
-    then_moves (
+    then_moves {conv = 1} (
     then_starts (
     then_starts (
     begins

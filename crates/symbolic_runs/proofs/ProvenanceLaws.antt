@@ -43,9 +43,9 @@ mutual
   traced s run terms g h whole (in_public bytes) = tt
   traced s run terms g h whole (by_joining {ts} d) = traced_all s run terms g h ts d
   traced s run terms g h whole (by_parting {ts} {t} index e d) = piece_traced s run ts index t (traced s run terms g h (joined ts) d) e
-  traced s run terms g h whole (by_sealing {k} {t} d e) = ((λ no. absurd (no (guarded s terms g k d))), (λ _. traced s run terms g h t e))
+  traced s run terms g h whole (by_sealing {k} {t} d e) = ((λ unknown. absurd (unknown (guarded s terms g k d))), (λ _. traced s run terms g h t e))
   traced s run terms g h whole (by_opening {k} {t} d e) = (traced s run terms g h (seal k t) d).1 (guarded s terms g k e)
-  traced s run terms g h whole (by_digesting {kind} {p} {t} d e) = λ no. absurd (no (guarded s terms g p d))
+  traced s run terms g h whole (by_digesting {kind} {p} {t} d e) = λ unknown. absurd (unknown (guarded s terms g p d))
 
   pub traced_all : (s : Setting) (run : Run) (terms : List Tree) → AllGuarded s terms → ((index : ℕ) (t : Tree) → slice_get terms index ≡ Some t → Traced s run t) → (ts : Trees) → DerivesAll terms ts → TracedAll s run ts
   traced_all s run terms g h pieces each_none = tt
@@ -56,55 +56,55 @@ abbrev pub PartOf : Run → Run → Type 0
 PartOf run past = (later : Run) × (run ≡ later ++ past)
 
 -- what a move gives is traced where all before it is
-moved_traced : (s : Setting) (run past : Run) (conv : ℕ) (role : Role) (before : List Move) (move : Move) → PartOf run (moves conv move ∷ past) → s.role conv ≡ role → moves_of conv past ≡ before →
-    Row (own_of s conv) role before move → OfMoves (Traced s run) before → Each (Traced s run) (move_labels move)
-moved_traced s run past conv role before move at r m client_challenge g = (tt, tt)
-moved_traced s run past conv role before move at r m client_request g = tt
-moved_traced s run past conv role before move at r m (client_question fields asked whole) g = ((tt, (tt, (tt, (g.0.1.1.1.0, (tt, (tt, tt)))))), tt)
-moved_traced s run past conv role before move at r m (client_answer asked) g = tt
-moved_traced s run past conv role before move at r m (client_ticket asked {chal} {key} {handed} {cuid} {suid} {more} names) g =
-    ((g.0.1.1.0, (((λ no. record { later = at.0; event = moves conv move; past = past; place = at.1; made = client_seals asked cuid suid more r m }), (λ k. (tt, (g.1.0.1.1.1.0, (tt, tt))))), tt)), tt)
-moved_traced s run past conv role before move at r m client_proof g = tt
-moved_traced s run past conv role before move at r m client_accepts g = tt
-moved_traced s run past conv role before move at r m server_challenge g = tt
-moved_traced s run past conv role before move at r m (server_request fields) g = ((tt, (tt, (tt, (tt, (tt, (tt, tt)))))), tt)
-moved_traced s run past conv role before move at r m (server_ticket fields) g = tt
-moved_traced s run past conv role before move at r m (server_accepts fields names) g = tt
-moved_traced s run past conv role before move at r m (server_proof {y} {key} fields {cuid} {suid}) g =
-    (((λ no. record { later = at.0; event = moves conv move; past = past; place = at.1; made = server_seals fields cuid suid r m }), (λ k. (tt, (g.1.1.1.0, (tt, tt))))), tt)
-moved_traced s run past conv role before move at r m mail_client_challenge g = tt
-moved_traced s run past conv role before move at r m mail_client_answer g = ((λ no. record { later = at.0; event = moves conv move; past = past; place = at.1; made = client_digests r m }), tt)
-moved_traced s run past conv role before move at r m (mail_question fields) g = ((tt, (tt, (tt, (tt, (tt, (tt, tt)))))), tt)
-moved_traced s run past conv role before move at r m mail_answer g = tt
-moved_traced s run past conv role before move at r m (mail_challenge_on six) g = (g.0.1.0, tt)
-moved_traced s run past conv role before move at r m mail_user g = tt
-moved_traced s run past conv role before move at r m mail_digest g = tt
-moved_traced s run past conv role before move at r m (mail_second_question fields) g = (((tt, (tt, (tt, (tt, (tt, (tt, tt)))))), (g.0, tt)), tt)
-moved_traced s run past conv role before move at r m mail_second_answer g = tt
-moved_traced s run past conv role before move at r m (mail_accepts fields names field) g = tt
-moved_traced s run past conv role before move at r m breaks g = tt
+moved_traced : (s : Setting) (run past : Run) (conv : ℕ) (role : Role) (history : List Move) (move : Move) → PartOf run (moves conv move ∷ past) → s.role conv ≡ role → moves_of conv past ≡ history →
+    Row (own_of s conv) role history move → OfMoves (Traced s run) history → Each (Traced s run) (move_labels move)
+moved_traced s run past conv role history move at r m client_challenge g = (tt, tt)
+moved_traced s run past conv role history move at r m client_request g = tt
+moved_traced s run past conv role history move at r m (client_question fields asked whole) g = ((tt, (tt, (tt, (g.0.1.1.1.0, (tt, (tt, tt)))))), tt)
+moved_traced s run past conv role history move at r m (client_answer asked) g = tt
+moved_traced s run past conv role history move at r m (client_ticket asked {chal} {key} {handed} {cuid} {suid} {before} names) g =
+    ((g.0.1.1.0, (((λ unknown. record { later = at.0; event = moves conv move; past = past; place = at.1; made = client_seals asked cuid suid before r m }), (λ k. (tt, (g.1.0.1.1.1.0, (tt, tt))))), tt)), tt)
+moved_traced s run past conv role history move at r m client_proof g = tt
+moved_traced s run past conv role history move at r m client_accepts g = tt
+moved_traced s run past conv role history move at r m server_challenge g = tt
+moved_traced s run past conv role history move at r m (server_request fields) g = ((tt, (tt, (tt, (tt, (tt, (tt, tt)))))), tt)
+moved_traced s run past conv role history move at r m (server_ticket fields) g = tt
+moved_traced s run past conv role history move at r m (server_accepts fields names) g = tt
+moved_traced s run past conv role history move at r m (server_proof {y} {key} fields {cuid} {suid}) g =
+    (((λ unknown. record { later = at.0; event = moves conv move; past = past; place = at.1; made = server_seals fields cuid suid r m }), (λ k. (tt, (g.1.1.1.0, (tt, tt))))), tt)
+moved_traced s run past conv role history move at r m mail_client_challenge g = tt
+moved_traced s run past conv role history move at r m mail_client_answer g = ((λ unknown. record { later = at.0; event = moves conv move; past = past; place = at.1; made = client_digests r m }), tt)
+moved_traced s run past conv role history move at r m (mail_question fields) g = ((tt, (tt, (tt, (tt, (tt, (tt, tt)))))), tt)
+moved_traced s run past conv role history move at r m mail_answer g = tt
+moved_traced s run past conv role history move at r m (mail_challenge_on six) g = (g.0.1.0, tt)
+moved_traced s run past conv role history move at r m mail_user g = tt
+moved_traced s run past conv role history move at r m mail_digest g = tt
+moved_traced s run past conv role history move at r m (mail_second_question fields) g = (((tt, (tt, (tt, (tt, (tt, (tt, tt)))))), (g.0, tt)), tt)
+moved_traced s run past conv role history move at r m mail_second_answer g = tt
+moved_traced s run past conv role history move at r m (mail_accepts fields names field) g = tt
+moved_traced s run past conv role history move at r m breaks g = tt
 
 -- what the authentication server gives is traced where all before it is
 served_traced : (s : Setting) (run past : Run) (session : ℕ) (before : List Deed) (deed : Deed) → PartOf run (serves session deed ∷ past) → SessionRow s.domain s.grants (deeds_of session past) deed →
     SessionRow s.domain s.grants before deed → OfDeeds (Traced s run) s before → Each (Traced s run) (deed_labels s.domain s.grants deed)
 served_traced s run past session before deed at row (comes idle) g = tt
-served_traced s run past session before deed at row (grants_tickets {done} {number} fields server client whole used speaks) g = (
+served_traced s run past session before deed at row (grants_tickets {number} fields server client whole used speaks) g = (
   (
     tt,
     (
-      ((λ no. record { later = at.0; event = serves session deed; past = past; place = at.1; made = ticket_for_client row }), (λ k. (tt, (g.0.1.1.1.0, (tt, (tt, (tt, tt))))))),
-      (((λ no. record { later = at.0; event = serves session deed; past = past; place = at.1; made = ticket_for_server row }), (λ k. (tt, (g.0.1.1.1.0, (tt, (tt, (tt, tt))))))), tt),
+      ((λ unknown. record { later = at.0; event = serves session deed; past = past; place = at.1; made = ticket_for_client row }), (λ k. (tt, (g.0.1.1.1.0, (tt, (tt, (tt, tt))))))),
+      (((λ unknown. record { later = at.0; event = serves session deed; past = past; place = at.1; made = ticket_for_server row }), (λ k. (tt, (g.0.1.1.1.0, (tt, (tt, (tt, tt))))))), tt),
     ),
   ),
   tt,
 )
 served_traced s run past session before deed at row (challenges fields whole free six) g = ((tt, ((tt, (tt, (tt, tt))), tt)), tt)
-served_traced s run past session before deed at row (vouches {done} {number} fields server name first whole used speaks holds) g = (
+served_traced s run past session before deed at row (vouches {number} fields server name first whole used speaks holds) g = (
   (
     tt,
     (
-      ((λ no. record { later = at.0; event = serves session deed; past = past; place = at.1; made = vouched_ticket row }), (λ k. (tt, (g.0.0.1.1.1.0, (tt, (tt, (tt, tt))))))),
-      (((λ no. record { later = at.0; event = serves session deed; past = past; place = at.1; made = vouched_proof row }), (λ k. (tt, (g.0.0.1.1.1.0, (tt, tt))))), tt),
+      ((λ unknown. record { later = at.0; event = serves session deed; past = past; place = at.1; made = vouched_ticket row }), (λ k. (tt, (g.0.0.1.1.1.0, (tt, (tt, (tt, tt))))))),
+      (((λ unknown. record { later = at.0; event = serves session deed; past = past; place = at.1; made = vouched_proof row }), (λ k. (tt, (g.0.0.1.1.1.0, (tt, tt))))), tt),
     ),
   ),
   tt,
@@ -144,17 +144,17 @@ each_first A B (t ∷ ts) p = (p.0.0, each_first A B ts p.1)
 
 of_deed_first : (A B : Tree → Type 0) (s : Setting) (deed : Deed) → OfDeed (λ t. A t × B t) s deed → OfDeed A s deed
 of_deed_first A B s (got number t) p = p.0
-of_deed_first A B s (gives_tickets number chal cuid suid) p = each_first A B _ p
-of_deed_first A B s (gives_challenge kind number head) p = each_first A B _ p
-of_deed_first A B s (gives_vouch kind number chal user) p = each_first A B _ p
-of_deed_first A B s (refuses bytes) p = each_first A B _ p
+of_deed_first A B s (gives_tickets number chal cuid suid) p = each_first A B (deed_labels s.domain s.grants (gives_tickets number chal cuid suid)) p
+of_deed_first A B s (gives_challenge kind number head) p = each_first A B (deed_labels s.domain s.grants (gives_challenge kind number head)) p
+of_deed_first A B s (gives_vouch kind number chal user) p = each_first A B (deed_labels s.domain s.grants (gives_vouch kind number chal user)) p
+of_deed_first A B s (refuses bytes) p = each_first A B (deed_labels s.domain s.grants (refuses bytes)) p
 
 of_deed_second : (A B : Tree → Type 0) (s : Setting) (deed : Deed) → OfDeed (λ t. A t × B t) s deed → OfDeed B s deed
 of_deed_second A B s (got number t) p = p.1
-of_deed_second A B s (gives_tickets number chal cuid suid) p = each_second A B _ p
-of_deed_second A B s (gives_challenge kind number head) p = each_second A B _ p
-of_deed_second A B s (gives_vouch kind number chal user) p = each_second A B _ p
-of_deed_second A B s (refuses bytes) p = each_second A B _ p
+of_deed_second A B s (gives_tickets number chal cuid suid) p = each_second A B (deed_labels s.domain s.grants (gives_tickets number chal cuid suid)) p
+of_deed_second A B s (gives_challenge kind number head) p = each_second A B (deed_labels s.domain s.grants (gives_challenge kind number head)) p
+of_deed_second A B s (gives_vouch kind number chal user) p = each_second A B (deed_labels s.domain s.grants (gives_vouch kind number chal user)) p
+of_deed_second A B s (refuses bytes) p = each_second A B (deed_labels s.domain s.grants (refuses bytes)) p
 
 of_deeds_first : (A B : Tree → Type 0) (s : Setting) (before : List Deed) → OfDeeds (λ t. A t × B t) s before → OfDeeds A s before
 of_deeds_first A B s [] p = tt
@@ -175,7 +175,7 @@ shrinks run event past at = (at.0 ++ event ∷ [], at.1 ∙ sym (append_assoc at
 kept_holds : (s : Setting) (run : Run) → Holds (Kept s run) (PartOf run) s
 kept_holds s run = record {
   shrinks = shrinks run;
-  betrayed = let parts = betrayed_traced s run s.compromised in each_both (Guarded s) (Traced s run) _ (guarded_holds s).betrayed (each_append (Traced s run) (map long_key s.compromised) (map password s.compromised) parts.0 parts.1);
+  betrayed = let parts = betrayed_traced s run s.compromised in each_both (Guarded s) (Traced s run) (map long_key s.compromised ++ map password s.compromised) (guarded_holds s).betrayed (each_append (Traced s run) (map long_key s.compromised) (map password s.compromised) parts.0 parts.1);
   public = λ bytes. (tt, tt);
   derived = λ terms k t d.
       let g = each_at (Guarded s) terms (each_first (Guarded s) (Traced s run) terms k) in
@@ -195,7 +195,7 @@ known_traced s run r t d =
     traced s run (known s run) g (each_at (Traced s run) (known s run) (each_second (Guarded s) (Traced s run) (known s run) k)) t d
 
 pub seal_origin : (s : Setting) (run : Run) → IsRun s run → (k t : Tree) → Derives (known s run) (seal k t) → (Guarded s k → ⊥) → Origin (Seals s) run (seal k t)
-seal_origin s run r k t d no = (known_traced s run r (seal k t) d).0 no
+seal_origin s run r k t d unknown = (known_traced s run r (seal k t) d).0 unknown
 
 pub digest_origin : (s : Setting) (run : Run) → IsRun s run → (kind : MacKind) (p t : Tree) → Derives (known s run) (digest kind p t) → (Guarded s p → ⊥) → Origin (Digests s) run (digest kind p t)
-digest_origin s run r kind p t d no = known_traced s run r (digest kind p t) d no
+digest_origin s run r kind p t d unknown = known_traced s run r (digest kind p t) d unknown

@@ -74,10 +74,10 @@ client_exposed s (key_and_password server user) number g = absurd g
 -- what the authentication server gives is guarded where all before it is
 served_guarded : (s : Setting) (before : List Deed) (deed : Deed) → SessionRow s.domain s.grants before deed → OfDeeds (Guarded s) s before → Each (Guarded s) (deed_labels s.domain s.grants deed)
 served_guarded s before deed (comes idle) g = tt
-served_guarded s before deed (grants_tickets {done} {number} fields server client whole used speaks) g =
+served_guarded s before deed (grants_tickets {number} fields server client whole used speaks) g =
     ((tt, ((λ k. (tt, (g.0.1.1.1.0, (tt, (tt, (client_exposed s (s.grants number).used number k, tt)))))), ((λ k. (tt, (g.0.1.1.1.0, (tt, (tt, (server_exposed s (s.grants number).used number k, tt)))))), tt))), tt)
 served_guarded s before deed (challenges fields whole free six) g = ((tt, ((tt, (tt, (tt, tt))), tt)), tt)
-served_guarded s before deed (vouches {done} {number} fields server name first whole used speaks holds) g =
+served_guarded s before deed (vouches {number} fields server name first whole used speaks holds) g =
     ((tt, ((λ k. (tt, (g.0.0.1.1.1.0, (tt, (tt, (server_exposed s (s.grants number).used number k, tt)))))), ((λ _. (tt, (g.0.0.1.1.1.0, (tt, tt)))), tt))), tt)
 served_guarded s before deed refusal g = (tt, tt)
 

@@ -27,7 +27,7 @@ pub(crate) fn put_number(out: &mut Bytes, number: u32) -> Result<(), NoMemory>
 }
 
 /// Appends bytes as hexadecimal digits in lower case; no bytes are an empty word.
-#[tactic(auto, using(crate::proofs::LineLemmas::kept_then))]
+#[tactic(auto, using(crate::proofs::LineLemmas::kept_then, crate::proofs::LineLemmas::encode_more))]
 pub(crate) fn put_digits(out: &mut Bytes, bytes: &[u8]) -> Result<(), NoMemory>
     ensures ok { OnOk result (out.new ≡ out.old ++ word (encode_lower bytes.now)) }
     ensures err { OnErr result (take (length out.old) out.new ≡ out.old) }
