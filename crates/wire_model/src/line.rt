@@ -43,7 +43,7 @@ fn digits_of(byte: u8) -> [u8; 2]
     ensures { result ≡ encode_lower (byte ∷ []) }
 {
     let mut digits = [0; 2];
-    hex::encode_to_slice([byte], &mut digits).unwrap();
+    hex::encode_to_slice(&[byte], &mut digits).unwrap();
     digits
 }
 
