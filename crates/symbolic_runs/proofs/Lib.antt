@@ -1,0 +1,4 @@
+pub mod Labels
+pub mod SecrecyLaws
+pub mod ProvenanceLaws
+pub mod LoginLaws

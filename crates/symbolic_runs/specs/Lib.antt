@@ -1,0 +1,9 @@
+pub use Rattle.term_trees.specs.Trees
+pub use Rattle.term_trees.specs.Derivations
+pub mod Forms
+pub mod Moves
+pub mod Sessions
+pub mod Runs
+pub mod Secrets
+pub mod Origins
+pub mod Logins

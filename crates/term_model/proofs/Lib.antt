@@ -1,0 +1,4 @@
+pub mod ConcludeLemmas
+pub mod ReadingLemmas
+pub mod Weights
+pub mod WriteLemmas
