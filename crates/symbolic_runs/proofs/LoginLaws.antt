@@ -1,11 +1,11 @@
 -- Logins written out are runs, step by step.
-use Rattle.std.proofs.Common.{◌≡◌, ℕ, ◌<◌, ◌^◌, [], ◌∷◌, List, Some, length, refl, arith}
+use Rattle.std.proofs.Common.{◌≡◌, ℕ, List, Some, length, refl, arith}
 use Rattle.term_trees.specs.Derivations.{by_knowing, in_public}
-use Rattle.symbolic_runs.specs.Forms.{Fields, AreFields}
+use Rattle.symbolic_runs.specs.Forms.{AreFields}
 use Rattle.symbolic_runs.specs.Moves.{AreNames, client_challenge, client_request, client_question, client_answer, client_ticket, client_proof, client_accepts, server_challenge, server_request, server_ticket, server_accepts, server_proof, mail_client_challenge, mail_client_answer, mail_question, mail_answer, mail_challenge_on, mail_user, mail_digest, mail_second_question, mail_second_answer, mail_accepts}
 use Rattle.symbolic_runs.specs.Sessions.{comes, grants_tickets, challenges, vouches}
-use Rattle.symbolic_runs.specs.Runs.{Setting, Run, starts, talks, IsRun, IsSymbolicRun, begins, then_starts, then_talks, then_moves, then_serves, started, moves_of}
-use Rattle.symbolic_runs.specs.Logins.{Login, p9sk1_setting, p9sk1_login, p9sk1_login_after, p9any_login, MailLogin, mail_setting, cram_login}
+use Rattle.symbolic_runs.specs.Runs.{IsRun, begins, then_starts, then_talks, then_moves, then_serves}
+use Rattle.symbolic_runs.specs.Logins.{Login, p9sk1_setting, p9sk1_login, p9any_login, MailLogin, mail_setting, cram_login}
 
 pub p9sk1_is_run : (login : Login) → AreFields login.offered → AreFields login.asked → AreNames login.cuid login.suid → IsRun (p9sk1_setting login.user login.host) (p9sk1_login login)
 p9sk1_is_run login offered asked names =

@@ -1,15 +1,15 @@
 -- Every seal under a key that may not be known, and every digest under such a secret, was made by a row.
-use Rattle.std.proofs.Common.{◌≡◌, ℕ, zero, suc, [], ◌∷◌, ◌++◌, List, Bool, true, false, refl, sym, ap, ◌∙◌, inl, inr, Option, Some, None, map, subst, append_assoc}
+use Rattle.std.proofs.Common.{◌≡◌, ℕ, zero, suc, [], ◌∷◌, ◌++◌, List, refl, sym, ◌∙◌, Some, map, subst, append_assoc}
 use Rattle.std.specs.List.{slice_get}
 use Rattle.term_trees.specs.declared.kind.MacKind.{MacKind}
-use Rattle.term_trees.specs.Trees.{Tree, plain, nonce, challenge, long_key, ticket_key, junk_key, password, joined, seal, digest, Trees, none, piece, piece_at}
+use Rattle.term_trees.specs.Trees.{Tree, long_key, password, joined, seal, digest, Trees, none, piece, piece_at}
 use Rattle.term_trees.specs.Derivations.{Derives, DerivesAll, by_knowing, in_public, by_joining, by_parting, by_sealing, by_opening, by_digesting, each_none, each_piece}
-use Rattle.symbolic_runs.specs.Moves.{Role, Move, takes, hears, gives, asks, accepts, fails, Own, Row, client_challenge, client_request, client_question, client_answer, client_ticket, client_proof, client_accepts, server_challenge, server_request, server_ticket, server_accepts, server_proof, mail_client_challenge, mail_client_answer, mail_question, mail_answer, mail_challenge_on, mail_user, mail_digest, mail_second_question, mail_second_answer, mail_accepts, breaks}
-use Rattle.symbolic_runs.specs.Sessions.{Used, keys, key_and_password, Grant, Deed, got, gives_tickets, gives_challenge, gives_vouch, refuses, deed_labels, key_for_server, key_for_client, SessionRow, comes, grants_tickets, challenges, vouches, refusal}
-use Rattle.symbolic_runs.specs.Runs.{Setting, Event, Run, starts, talks, moves, serves, own_of, moves_of, deeds_of, move_labels, given, known, IsRun}
-use Rattle.symbolic_runs.specs.Secrets.{Guarded, GuardedAll}
+use Rattle.symbolic_runs.specs.Moves.{Role, Move, takes, hears, gives, asks, accepts, fails, Row, client_challenge, client_request, client_question, client_answer, client_ticket, client_proof, client_accepts, server_challenge, server_request, server_ticket, server_accepts, server_proof, mail_client_challenge, mail_client_answer, mail_question, mail_answer, mail_challenge_on, mail_user, mail_digest, mail_second_question, mail_second_answer, mail_accepts, breaks}
+use Rattle.symbolic_runs.specs.Sessions.{Deed, got, gives_tickets, gives_challenge, gives_vouch, refuses, deed_labels, SessionRow, comes, grants_tickets, challenges, vouches, refusal}
+use Rattle.symbolic_runs.specs.Runs.{Setting, Event, Run, moves, serves, own_of, moves_of, deeds_of, move_labels, known, IsRun}
+use Rattle.symbolic_runs.specs.Secrets.{Guarded}
 use Rattle.symbolic_runs.specs.Origins.{Seals, client_seals, server_seals, ticket_for_client, ticket_for_server, vouched_ticket, vouched_proof, Digests, client_digests, Origin}
-use Rattle.symbolic_runs.proofs.Labels.{Each, each_at, each_append, OfMove, OfMoves, OfDeed, OfDeeds, OfRun, Holds, of_all, of_known}
+use Rattle.symbolic_runs.proofs.Labels.{Each, each_at, each_append, OfMoves, OfDeed, OfDeeds, Holds, of_all, of_known}
 use Rattle.symbolic_runs.proofs.SecrecyLaws.{guarded, guarded_holds}
 
 -- a seal whose key may not be known has an origin; of one whose key may be known the same holds of its body; digests

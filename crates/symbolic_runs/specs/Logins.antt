@@ -1,12 +1,12 @@
 -- Logins written out as runs, so that the laws of runs speak of something. The conversation with number 0 is the
 -- client's, that with number 1 the server's. The newest event stands first.
-use Rattle.std.specs.Prelude.{ℕ, List, [], ◌∷◌, ◌++◌, ◌==◌, Some, length, if◌then◌else◌}
+use Rattle.std.specs.Prelude.{ℕ, List, [], ◌∷◌, ◌==◌, Some, if◌then◌else◌}
 use Rattle.term_trees.specs.declared.kind.MacKind.TheVariants.{Cram}
 use Rattle.term_trees.specs.Trees.{Tree, plain, nonce, long_key, ticket_key, password, seal, digest}
-use Rattle.symbolic_runs.specs.Forms.{ticket_request, for_server, for_client, by_client, mail_request, Fields, pair, request, ticket, authenticator, client_message, server_message, mail_challenge}
+use Rattle.symbolic_runs.specs.Forms.{ticket_request, for_server, mail_request, Fields, pair, request, ticket, client_message, server_message, mail_challenge}
 use Rattle.symbolic_runs.specs.Moves.{client, server, mail_client, mail_server, takes, hears, gives, asks, accepts}
 use Rattle.symbolic_runs.specs.Sessions.{keys, key_and_password, got, gives_tickets, gives_challenge, gives_vouch, tickets_given, vouch_given}
-use Rattle.symbolic_runs.specs.Runs.{Setting, Event, starts, talks, moves, serves, Run}
+use Rattle.symbolic_runs.specs.Runs.{Setting, starts, talks, moves, serves, Run}
 
 -- the client holds the key of the user, the server its own; nobody is compromised
 abbrev pub p9sk1_setting : List ℕ → List ℕ → Setting

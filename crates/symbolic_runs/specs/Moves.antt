@@ -5,7 +5,7 @@
 use Rattle.std.specs.Prelude.{◌≡◌, ℕ, List, [], ◌∷◌, length}
 use Rattle.term_trees.specs.declared.kind.MacKind.{MacKind}
 use Rattle.term_trees.specs.Trees.{Tree, plain, seal, digest}
-use Rattle.symbolic_runs.specs.Forms.{ticket_request, for_server, for_client, by_client, by_server, mail_request, Fields, AreFields, pair, request, ticket, authenticator, tickets, client_message, server_message, vouch}
+use Rattle.symbolic_runs.specs.Forms.{ticket_request, for_server, for_client, by_client, mail_request, Fields, AreFields, pair, request, ticket, authenticator, tickets, client_message, server_message, vouch}
 
 pub data Role : Type 0 where
   -- a p9sk1 client, for itself or speaking for another

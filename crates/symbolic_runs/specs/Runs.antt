@@ -1,10 +1,10 @@
 -- Symbolic runs: what conversations and an authentication server do while the whole network is an attacker's. What
 -- comes to them is whatever derives from the keys and passwords that were betrayed and from all that was given before.
-use Rattle.std.specs.Prelude.{◌≡◌, ℕ, ◌+◌, ◌^◌, ◌<◌, List, [], ◌∷◌, ◌++◌, length, map, Bool, true, false, ◌==◌, if◌then◌else◌}
+use Rattle.std.specs.Prelude.{◌≡◌, ℕ, ◌+◌, ◌^◌, ◌<◌, List, [], ◌∷◌, ◌++◌, length, map, ◌==◌, if◌then◌else◌}
 use Rattle.term_trees.specs.Trees.{Tree, plain, nonce, long_key, password}
 use Rattle.term_trees.specs.Derivations.{Derives}
-use Rattle.symbolic_runs.specs.Moves.{Role, Move, takes, hears, gives, asks, accepts, fails, Own, Row}
-use Rattle.symbolic_runs.specs.Sessions.{Grant, Deed, got, gives_tickets, gives_challenge, gives_vouch, refuses, deed_labels, SessionRow}
+use Rattle.symbolic_runs.specs.Moves.{Role, Move, takes, hears, gives, asks, Own, Row}
+use Rattle.symbolic_runs.specs.Sessions.{Grant, Deed, got, deed_labels, SessionRow}
 
 -- the setting of a run: the names whose keys and passwords are betrayed, the authentication server's domain as its
 -- challenges name it, the role and the holder of each conversation by the number of its start, and what was used at each

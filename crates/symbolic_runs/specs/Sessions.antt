@@ -1,6 +1,6 @@
 -- What an authentication server answers, as trees (authsrv(6) of the Plan 9 manual). A session holds the challenge that
 -- it gave until a right answer or a challenge of the other kind, so that one challenge has at most one right answer.
-use Rattle.std.specs.Prelude.{◌≡◌, ℕ, suc, ◌+◌, ◌*◌, List, [], ◌∷◌, length, Contains, Bool, true, false, Option, Some, None, if◌then◌else◌}
+use Rattle.std.specs.Prelude.{◌≡◌, ℕ, ◌+◌, ◌*◌, List, [], ◌∷◌, length, Contains, Bool, true, false, Option, Some, None, if◌then◌else◌}
 use Rattle.term_trees.specs.declared.kind.MacKind.{MacKind}
 use Rattle.term_trees.specs.Trees.{Tree, plain, long_key, ticket_key, junk_key, password, seal, digest, same_kind}
 use Rattle.symbolic_runs.specs.Forms.{ticket_request, for_server, for_client, by_client, mail_request, Fields, AreFields, pair, request, ticket, authenticator, tickets, vouch, mail_challenge}
