@@ -3,10 +3,10 @@
 .PHONY: help build demo test bench clean
 
 help:
-	@echo 'make build   proves the program and leaves it as bin/factotum'
+	@echo 'make build   proves the programs and leaves them as bin/factotum and bin/nine_show'
 	@echo 'make demo    runs a conversation through it and shows each request and reply'
 	@echo 'make test    runs the gate: every proof, wrong body, test and program'
-	@echo 'make bench   measures it beside a plain C program, and the ciphers beside OpenSSL'
+	@echo 'make bench   measures it and its codec beside plain C programs, and the ciphers beside OpenSSL'
 	@echo 'make clean   removes what the others made'
 
 build:
@@ -14,7 +14,9 @@ build:
 	@mkdir -p bin
 	@cd crates/factotum && rt run -- pipe </dev/null >/dev/null
 	@cp crates/factotum/out/factotum bin/factotum
-	@echo 'bin/factotum is built'
+	@cd crates/nine_show && rt run </dev/null >/dev/null
+	@cp crates/nine_show/out/nine_show bin/nine_show
+	@echo 'bin/factotum and bin/nine_show are built'
 
 demo: build
 	@scripts/demo
@@ -25,6 +27,7 @@ test:
 
 bench: build
 	@bench/pipe
+	@bench/codec
 	@bench/ciphers
 
 clean:

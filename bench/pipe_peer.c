@@ -1,5 +1,5 @@
 /* The peer of bench/pipe. `pipe_peer stream N` writes a 9P connection of N frames: a conversation that opens ctl and adds
- * a key, and then reads of ctl and frames that aren't served in turn. `pipe_peer answer` reads such a stream frame by
+ * a key, and then reads of ctl and clunks of a fid that isn't held in turn. `pipe_peer answer` reads such a stream frame by
  * frame, looks at each size and type, and writes a fixed reply of the length that the agent's has. It keeps nothing. */
 #include <stdio.h>
 #include <stdlib.h>
@@ -16,11 +16,11 @@ static const unsigned char opening[] = {
 };
 enum { opening_frames = 5 };
 
-/* a read of ctl from 0, and a frame of a type that isn't served */
+/* a read of ctl from 0, and a clunk of a fid that isn't held */
 static const unsigned char read_ctl[] = {
 	0x17, 0, 0, 0, 0x74, 5, 0, 1, 0, 0, 0, 0, 0, 0, 0, 0, 0, 0, 0, 0x64, 0, 0, 0
 };
-static const unsigned char not_served[] = { 0x0b, 0, 0, 0, 0x7c, 6, 0, 1, 0, 0, 0 };
+static const unsigned char unknown_fid[] = { 0x0b, 0, 0, 0, 0x78, 6, 0, 9, 0, 0, 0 };
 
 static int stream(long frames)
 {
@@ -29,7 +29,7 @@ static int stream(long frames)
 		if (i % 2)
 			fwrite(read_ctl, 1, sizeof read_ctl, stdout);
 		else
-			fwrite(not_served, 1, sizeof not_served, stdout);
+			fwrite(unknown_fid, 1, sizeof unknown_fid, stdout);
 	}
 	return fflush(stdout) != 0;
 }
@@ -43,7 +43,7 @@ static size_t reply_length(int type)
 	case 112: return 24;
 	case 116: return 44;
 	case 118: return 11;
-	default: return 19;
+	default: return 20;
 	}
 }
 

@@ -33,17 +33,24 @@ def literal(text: bytes) -> str:
 
 
 ALPHABET = b"abcdefghijklmnopqrstuvwxyz01"
-print("const PREFIX_KEYS: [(usize, [u8; 7]); 11] = [")
-for n in [0, 1, 7, 8, 9, 15, 16, 17, 26, 27, 28]:
-    print(f"    ({n}, {literal(pass_to_key(ALPHABET[:n]))}),")
-print("];")
-print("const PASSWORD_KEYS: [(&[u8], [u8; 7]); 4] = [")
-for name, password in [('b"password"', b"password"), ("&[0x61; 27]", b"a" * 27), ("&[0x61; 28]", b"a" * 28), ("&[0xff; 20]", b"\xff" * 20)]:
-    print(f"    ({name}, {literal(pass_to_key(password))}),")
-print("];")
-print("const EXPANDED: [([u8; 7], [u8; 8]); 4] = [")
-for key in [bytes(7), b"\xff" * 7, bytes.fromhex("f0f07c7e7fcbc9"), bytes.fromhex("0123456789abcd")]:
-    print(f"    ({literal(key)}, {literal(expand(key))}),")
-print("];")
-for n in [8, 13, 72]:
-    print(f"const SEALED_{n}: [u8; {n}] = {literal(seal(bytes.fromhex('f0f07c7e7fcbc9'), bytes(range(n))))};")
+
+
+def main() -> None:
+    print("const PREFIX_KEYS: [(usize, [u8; 7]); 11] = [")
+    for n in [0, 1, 7, 8, 9, 15, 16, 17, 26, 27, 28]:
+        print(f"    ({n}, {literal(pass_to_key(ALPHABET[:n]))}),")
+    print("];")
+    print("const PASSWORD_KEYS: [(&[u8], [u8; 7]); 4] = [")
+    for name, password in [('b"password"', b"password"), ("&[0x61; 27]", b"a" * 27), ("&[0x61; 28]", b"a" * 28), ("&[0xff; 20]", b"\xff" * 20)]:
+        print(f"    ({name}, {literal(pass_to_key(password))}),")
+    print("];")
+    print("const EXPANDED: [([u8; 7], [u8; 8]); 4] = [")
+    for key in [bytes(7), b"\xff" * 7, bytes.fromhex("f0f07c7e7fcbc9"), bytes.fromhex("0123456789abcd")]:
+        print(f"    ({literal(key)}, {literal(expand(key))}),")
+    print("];")
+    for n in [8, 13, 72]:
+        print(f"const SEALED_{n}: [u8; {n}] = {literal(seal(bytes.fromhex('f0f07c7e7fcbc9'), bytes(range(n))))};")
+
+
+if __name__ == "__main__":
+    main()

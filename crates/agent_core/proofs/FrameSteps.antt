@@ -1,55 +1,136 @@
 -- From what a request does to what a frame does.
-use Rattle.std.proofs.Common.{◌≡◌, ℕ, List, ◌++◌, Bool, true, false, Option, Some, None, refl, ap}
-use Rattle.std.specs.Prelude.{option_and_then}
+use Rattle.std.proofs.Common.{◌≡◌, ℕ, ◌≤◌, List, ◌++◌, Bool, true, false, ◌&&◌, not, length, Option, Some, None, Result, Ok, Err, refl, sym, ap, subst, ◌∙◌, ◌⊎◌, inl, inr, arith}
+use Rattle.std.specs.Prelude.{codes}
 use Rattle.nine_messages.specs.declared.message.TMsg.{TMsg}
-use Rattle.nine_messages.specs.declared.message.RMsg.{RMsg}
-use Rattle.nine_messages.specs.declared.message.RBody.{RBody}
-use Rattle.nine_messages.specs.Messages.{r_frame}
-use Rattle.agent_history.specs.Deeds.{Deed}
-use Rattle.agent_history.specs.Table.{deed_of, reply_of, answered, body_for, refusal, taken_as, deed_by, reply_to, tag_of}
+use Rattle.nine_messages.specs.declared.message.TBody.{TBody}
+use Rattle.nine_messages.specs.declared.message.TBody.TheVariants as t
+use Rattle.nine_messages.specs.Messages.{frame, t_kind, t_fields, IsRequest}
+use Rattle.nine_messages.specs.Decoding.{request_of}
+use Rattle.fid_table.specs.Held.{Table, fid_at, held_in}
+use Rattle.agent_history.specs.Deeds.{Deed, msize_of}
+use Rattle.agent_history.specs.Requests.{refusal, granted, after_frame, reply_to, is_over, comes_first, has_version, tag_of}
 use Rattle.agent_core.specs.declared.connection.Connection.{Connection}
-use Rattle.agent_core.specs.Connections.{Tried}
+use Rattle.agent_core.specs.declared.shared.Shared.{Shared}
+use Rattle.agent_core.specs.declared.refused.Reply.{Reply}
+use Rattle.agent_core.specs.declared.refused.Reply.TheVariants as y
+use Rattle.agent_core.specs.declared.refused.Refusal.{Refusal}
+use Rattle.agent_core.specs.declared.refused.Refusal.TheVariants as f
+use Rattle.agent_core.specs.declared.refused.Refused.{Refused}
+use Rattle.agent_core.specs.declared.refused.Refused.TheVariants as e
+use Rattle.agent_core.specs.Connections.{Keeps, SameKept, text_in, Shares, Told, Served, FrameServed, WritesAtMost, refusal_of, refusal_text}
 
-answered-tried : (d : Option Deed) (done : List Deed) (conn tag : ℕ) (body : RBody) (old new : Connection) (before after : List ℕ) (served : Bool) → Tried d done conn (record { tag = tag; body = body }) old new before after served → Tried d done conn (record { tag = tag; body = answered body d }) old new before after served
-answered-tried None done conn tag body old new before after served h = h
-answered-tried (Some d) done conn tag body old new before after served h = h
+-- ---- what refuses a frame
 
--- a frame that is a request does what the request does
-pub deed_by-some : (done : List Deed) (conn : ℕ) (frame : List ℕ) (m : TMsg) → taken_as done conn frame ≡ Some m → deed_by done conn frame ≡ deed_of done conn m.body
-unfolding deed_by
-deed_by-some done conn frame m e = rw e refl
+pub frame_over : (done : List Deed) (conn : ℕ) (bytes : List ℕ) → is_over (msize_of done conn) bytes ≡ true → granted done conn bytes ≡ Err (codes "message over msize")
+unfolding granted
+frame_over done conn bytes over = rw over refl
 
-pub deed_by-none : (done : List Deed) (conn : ℕ) (frame : List ℕ) → taken_as done conn frame ≡ None → deed_by done conn frame ≡ None
-unfolding deed_by
-deed_by-none done conn frame e = rw e refl
+pub frame_none : (done : List Deed) (conn : ℕ) (bytes : List ℕ) → is_over (msize_of done conn) bytes ≡ false → request_of bytes ≡ None → granted done conn bytes ≡ Err (codes "bad message")
+unfolding granted
+frame_none done conn bytes over none = rw (over, none) refl
 
-pub tried-some : (done : List Deed) (conn : ℕ) (frame : List ℕ) (m : TMsg) (tag : ℕ) (old new : Connection) (before after : List ℕ) (served : Bool) → taken_as done conn frame ≡ Some m → tag ≡ tag_of frame
-    → Tried (deed_of done conn m.body) done conn (record { tag = tag; body = reply_of done conn m.body }) old new before after served
-    → Tried (deed_by done conn frame) done conn (reply_to done conn frame) old new before after served
-unfolding deed_by reply_to
-tried-some done conn frame m tag old new before after served e same h =
-    rw (e, ← same) (answered-tried (deed_of done conn m.body) done conn tag (reply_of done conn m.body) old new before after served h)
+pub frame_unversioned : (done : List Deed) (conn : ℕ) (bytes : List ℕ) (m : TMsg) → is_over (msize_of done conn) bytes ≡ false → request_of bytes ≡ Some m → (not (comes_first m.body) && not (has_version done conn)) ≡ true
+    → granted done conn bytes ≡ Err (codes "no version")
+unfolding granted
+frame_unversioned done conn bytes m over is lacks = rw (over, is, lacks) refl
 
--- a frame that is none does nothing
-pub tried-none : (done : List Deed) (conn : ℕ) (frame : List ℕ) (c : Connection) (before : List ℕ) → taken_as done conn frame ≡ None → Tried (deed_by done conn frame) done conn (reply_to done conn frame) c c before before false
-tried-none done conn frame c before e = rw (deed_by-none done conn frame e) (refl, refl, refl)
+abbrev unless_refused : TBody → Option (List ℕ) → Result TBody (List ℕ)
+unless_refused body o = elim o [ Some text ↦ Err text | None ↦ Ok body ]
 
-no_deed : (done : List Deed) (conn : ℕ) (o : Option TMsg) → option_and_then (λ m. deed_of done conn m.body) o ≡ None → body_for done conn o ≡ refusal
-no_deed done conn None e = refl
-no_deed done conn (Some m) e = ap (answered (reply_of done conn m.body)) e
+frame_through : (done : List Deed) (conn : ℕ) (bytes : List ℕ) (m : TMsg) → is_over (msize_of done conn) bytes ≡ false → request_of bytes ≡ Some m → (not (comes_first m.body) && not (has_version done conn)) ≡ false
+    → granted done conn bytes ≡ unless_refused m.body (refusal done conn m.body)
+unfolding granted
+frame_through done conn bytes m over is lacks = rw (over, is, lacks) refl
 
-pub refused_reply : (done : List Deed) (conn : ℕ) (frame : List ℕ) → deed_by done conn frame ≡ None → reply_to done conn frame ≡ record { tag = tag_of frame; body = refusal }
-unfolding deed_by reply_to
-refused_reply done conn frame e = ap (λ (body : RBody). record { tag = tag_of frame; body = body }) (no_deed done conn (taken_as done conn frame) e)
+-- a refusal that is told
+pub refused_told : (g : Result TBody (List ℕ)) (S : Reply → Type 0) (why : Refusal) → g ≡ Err (refusal_text why) → Told (refusal_of g) S (Err (e.For why))
+refused_told g S why is = subst (λ (r : Result TBody (List ℕ)). Told (refusal_of r) S (Err (e.For why))) (sym is) refl
 
--- what wasn't carried out left the output as it was
-tried_left : (d : Option Deed) (done : List Deed) (conn : ℕ) (reply : RMsg) (old new : Connection) (before after : List ℕ) → Tried d done conn reply old new before after false → (d ≡ None) × (after ≡ before)
-tried_left None done conn reply old new before after h = (refl, h.2)
-tried_left (Some d) done conn reply old new before after h = absurd (let f : false ≡ true = h.0 in (cc))
+served_frame : (done : List Deed) (conn : ℕ) (bytes : List ℕ) (body : TBody) (c : Connection) (s : Shared) (reply : Reply) → granted done conn bytes ≡ Ok body → Served done conn (tag_of bytes) body c s reply → FrameServed done conn bytes c s reply
+unfolding after_frame reply_to
+served_frame done conn bytes body c s reply is h = record { keeps = rw is h.keeps; shares = rw is h.shares; said = rw is h.said }
 
-pub refused : (done : List Deed) (conn : ℕ) (frame : List ℕ) (old new : Connection) (before after out : List ℕ) (served : Bool) → served ≡ false
-    → Tried (deed_by done conn frame) done conn (reply_to done conn frame) old new before after served
-    → out ≡ after ++ r_frame (record { tag = tag_of frame; body = refusal }) → out ≡ before ++ r_frame (reply_to done conn frame)
-refused done conn frame old new before after out served is h e =
-    let l = tried_left (deed_by done conn frame) done conn (reply_to done conn frame) old new before after (rw is at h) in
-    rw (refused_reply done conn frame l.0, ← l.1) e
+-- want of memory is told whatever refuses
+told_memory : (o : Option (List ℕ)) (S : Reply → Type 0) → Told o S (Err e.NoMemory)
+told_memory None S = tt
+told_memory (Some text) S = tt
+
+-- a frame that isn't read
+pub unread_told : (g : Result TBody (List ℕ)) (S : Reply → Type 0) (why : Refused) (Unread : Type 0) → ((why ≡ e.NoMemory) ⊎ ((why ≡ e.For f.BadMessage) × Unread)) → (Unread → g ≡ Err (codes "bad message")) → Told (refusal_of g) S (Err why)
+unread_told g S why Unread (inl memory) is = subst (λ (w : Refused). Told (refusal_of g) S (Err w)) (sym memory) (told_memory (refusal_of g) S)
+unread_told g S why Unread (inr bad) is = subst (λ (w : Refused). Told (refusal_of g) S (Err w)) (sym bad.0) (refused_told g S f.BadMessage (is bad.1))
+
+told_frame : (done : List Deed) (conn : ℕ) (bytes : List ℕ) (body : TBody) (c : Connection) (s : Shared) (result : Result Reply Refused) (o : Option (List ℕ)) → granted done conn bytes ≡ unless_refused body o
+    → Told o (Served done conn (tag_of bytes) body c s) result → Told (refusal_of (granted done conn bytes)) (FrameServed done conn bytes c s) result
+told_frame done conn bytes body c s (Ok reply) None is h = subst (λ (r : Result TBody (List ℕ)). Told (refusal_of r) (FrameServed done conn bytes c s) (Ok reply)) (sym is) (served_frame done conn bytes body c s reply is h)
+told_frame done conn bytes body c s (Ok reply) (Some text) is h = absurd h
+told_frame done conn bytes body c s (Err (e.For why)) None is h = absurd h
+told_frame done conn bytes body c s (Err (e.For why)) (Some text) is h = subst (λ (r : Result TBody (List ℕ)). Told (refusal_of r) (FrameServed done conn bytes c s) (Err (e.For why))) (sym is) h
+told_frame done conn bytes body c s (Err e.NoMemory) o is h = told_memory (refusal_of (granted done conn bytes)) (FrameServed done conn bytes c s)
+
+pub frame_told : (done : List Deed) (conn : ℕ) (bytes : List ℕ) (m : TMsg) (c : Connection) (s : Shared) (result : Result Reply Refused) → is_over (msize_of done conn) bytes ≡ false → request_of bytes ≡ Some m
+    → (not (comes_first m.body) && not (has_version done conn)) ≡ false → Told (refusal done conn m.body) (Served done conn (tag_of bytes) m.body c s) result → Told (refusal_of (granted done conn bytes)) (FrameServed done conn bytes c s) result
+frame_told done conn bytes m c s result over is lacks h = told_frame done conn bytes m.body c s result (refusal done conn m.body) (frame_through done conn bytes m over is lacks) h
+
+refused_is : (g : Result TBody (List ℕ)) (S : Reply → Type 0) (why : Refusal) → Told (refusal_of g) S (Err (e.For why)) → g ≡ Err (refusal_text why)
+refused_is (Ok body) S why h = absurd h
+refused_is (Err text) S why h = ap Err (sym h)
+
+-- the reply to a frame that is refused, which changes nothing
+refused_frame : (done : List Deed) (conn : ℕ) (bytes : List ℕ) (c : Connection) (s : Shared) (why : Refusal) → Keeps done conn c → Shares done s → granted done conn bytes ≡ Err (refusal_text why) → FrameServed done conn bytes c s (y.Refusal (tag_of bytes) why)
+unfolding after_frame reply_to
+refused_frame done conn bytes c s why k h is = record { keeps = rw is k; shares = rw is h; said = rw is refl }
+
+pub answered_frame : (done : List Deed) (conn : ℕ) (bytes : List ℕ) (c : Connection) (s : Shared) (S : Reply → Type 0) (why : Refusal) → Keeps done conn c → Shares done s → Told (refusal_of (granted done conn bytes)) S (Err (e.For why)) → FrameServed done conn bytes c s (y.Refusal (tag_of bytes) why)
+answered_frame done conn bytes c s S why k h told = refused_frame done conn bytes c s why k h (refused_is (granted done conn bytes) S why told)
+
+-- ---- what stays the same
+
+pub keeps_still : (done : List Deed) (conn : ℕ) (c d : Connection) → SameKept c d → Keeps done conn c → Keeps done conn d
+keeps_still done conn c d s k = record {
+  msize = s.msize ∙ k.msize;
+  fids = λ fid. ap (λ (table : Table). fid_at table fid) s.fids ∙ k.fids fid;
+  held = ap held_in s.fids ∙ k.held;
+  texts = λ fid. ap text_in (s.texts fid) ∙ k.texts fid;
+}
+
+-- ---- a write is no longer than its frame
+
+fields_hold : (body : TBody) → WritesAtMost (length (t_fields body)) body
+fields_hold (t.Write fid offset content) = omega arith
+fields_hold (t.Version msize version) = tt
+fields_hold (t.Auth afid uname aname) = tt
+fields_hold (t.Attach fid afid uname aname) = tt
+fields_hold (t.Flush oldtag) = tt
+fields_hold (t.Walk fid newfid wname) = tt
+fields_hold (t.Open fid mode) = tt
+fields_hold (t.Create fid name perm mode) = tt
+fields_hold (t.Read fid offset count) = tt
+fields_hold (t.Clunk fid) = tt
+fields_hold (t.Remove fid) = tt
+fields_hold (t.Stat fid) = tt
+fields_hold (t.Wstat fid stat) = tt
+
+at_most : (n most : ℕ) (body : TBody) → WritesAtMost n body → (comes_first body ≡ false → n ≤ most) → WritesAtMost most body
+at_most n most (t.Write fid offset content) h le = omega (arith, h, le refl)
+at_most n most (t.Version msize version) h le = tt
+at_most n most (t.Auth afid uname aname) h le = tt
+at_most n most (t.Attach fid afid uname aname) h le = tt
+at_most n most (t.Flush oldtag) h le = tt
+at_most n most (t.Walk fid newfid wname) h le = tt
+at_most n most (t.Open fid mode) h le = tt
+at_most n most (t.Create fid name perm mode) h le = tt
+at_most n most (t.Read fid offset count) h le = tt
+at_most n most (t.Clunk fid) h le = tt
+at_most n most (t.Remove fid) h le = tt
+at_most n most (t.Stat fid) h le = tt
+at_most n most (t.Wstat fid stat) h le = tt
+
+fields_in : (kind tag : ℕ) (fields : List ℕ) → length fields ≤ length (frame kind tag fields)
+unfolding frame
+fields_in kind tag fields = omega arith
+
+pub writes_few : (bytes : List ℕ) (m : TMsg) (most : ℕ) → IsRequest bytes m → (comes_first m.body ≡ false → length bytes ≤ most) → WritesAtMost most m.body
+writes_few bytes m most is le =
+    let inside : length (t_fields m.body) ≤ length bytes = rw is.spelling (fields_in (t_kind m.body) m.tag (t_fields m.body)) in
+    at_most (length (t_fields m.body)) most m.body (fields_hold m.body) (λ first. omega (arith, inside, le first))

@@ -1,2 +1,4 @@
+pub mod TreeLemmas
+pub mod RequestSteps
 pub mod FrameSteps
 pub mod Steps

@@ -1,6 +1,5 @@
 -- What is told of a history after one more event, against what is kept.
 use Rattle.std.proofs.Common.{◌≡◌, ℕ, ◌+◌, ◌≤◌, ◌<◌, List, [], ◌∷◌, ◌++◌, length, get_or, drop, map, reverse, Bool, true, false, cond, eqb, ltb, Equal, Greater, ◌&&◌, not, Option, Some, None, refl, sym, ap, subst, ◌∙◌, inl, inr, arith}
-use Rattle.std.specs.Prelude.{option_to_list}
 use Rattle.std.specs.Ordering.{nat_cmp, is_eq}
 use Rattle.std.specs.BTreeMap.{is_at}
 use Rattle.std.proofs.lemmas.Bool.{cases_Bool, eq-eqb, eqb-true, ne_eqb, ltb-true, ltb-false, false≢true}
@@ -9,15 +8,17 @@ use Rattle.nine_messages.specs.declared.message.RMsg.{RMsg}
 use Rattle.nine_messages.specs.Messages.{r_frame}
 use Rattle.agent_history.specs.declared.event.Event.{Event}
 use Rattle.agent_history.specs.declared.event.Event.TheVariants.{Request, Hang, Answer, NoAnswer, NoRoom, Take, TakeAsk}
-use Rattle.agent_history.specs.Deeds.{Deed, Hung, fid_of, keys_of, text_of}
-use Rattle.agent_history.specs.Table.{deed_by, reply_to}
+use Rattle.agent_history.specs.Deeds.{Deed, Hung, fid_of, next_of, text_of}
+use Rattle.agent_history.specs.Requests.{after_frame, reply_to}
 use Rattle.agent_history.specs.Histories.{History, has_stopped, was_opened, was_hung, is_gone, deeds, replies, taken, untaken, answer, first_reply}
-use Rattle.agent_history.specs.declared.event.StepAnswer.TheVariants.{Reply, NoReply, Gone}
-use Rattle.attr_tuples.specs.declared.attr.Attr.{Attr}
-use Rattle.agent_history.proofs.DeedLaws.{SameFor, same_for, same_for_none, same_by_frame}
-use Rattle.agent_history.proofs.HistoryLaws.{hung_opened, taken_given}
+use Rattle.agent_history.specs.declared.event.StepAnswer.TheVariants as a
+use Rattle.agent_history.proofs.DeedLaws.{SameFor, same_for_none, elsewhere}
+use Rattle.agent_history.proofs.HistoryLaws.{or_right, hung_opened, taken_given}
 use Rattle.agent_core.specs.declared.connection.Connection.{Connection}
-use Rattle.agent_core.specs.Connections.{IsFresh, Keeps, kept_fid}
+use Rattle.agent_core.specs.declared.shared.Shared.{Shared}
+use Rattle.agent_core.specs.declared.refused.Reply.{Reply}
+use Rattle.agent_core.specs.Connections.{IsFresh, IsHungUp, Keeps, Shares, kept_fid, kept_text, text_in, reply_bytes}
+use Rattle.fid_table.specs.Held.{Table, fid_at, held_in}
 use Rattle.agent_core.specs.Agents.{opened_at, KeepsAt, Stands}
 
 same : (a : ℕ) → eqb a a ≡ true
@@ -25,15 +26,16 @@ same a = eq-eqb a a refl
 
 -- ---- connections that the event isn't on
 
-keeps_same : (before after : List Deed) (conn : ℕ) (o : Option Connection) → SameFor before after conn → KeepsAt before conn o → KeepsAt after conn o
+keeps_same : (before after : List Deed) (conn : ℕ) (o : Option Connection) → SameFor before conn after → KeepsAt before conn o → KeepsAt after conn o
 keeps_same before after conn None s h = (s.msize ∙ h.0, λ fid. s.fids fid ∙ h.1 fid, s.held ∙ h.2)
 keeps_same before after conn (Some c) s h = record {
   msize = h.msize ∙ sym s.msize;
-  fids = λ fid. h.fids fid ∙ sym (ap (λ f. kept_fid f (text_of after conn fid)) (s.fids fid) ∙ ap (kept_fid (fid_of before conn fid)) (s.texts fid));
+  fids = λ fid. h.fids fid ∙ sym (ap (λ f. kept_fid f (next_of after conn fid)) (s.fids fid) ∙ ap (kept_fid (fid_of before conn fid)) (s.nexts fid));
   held = h.held ∙ sym s.held;
+  texts = λ fid. h.texts fid ∙ sym (ap (λ f. kept_text f (text_of after conn fid)) (s.fids fid) ∙ ap (kept_text (fid_of before conn fid)) (s.texts fid));
 }
 
-stands_same : (H : History) (e : Event) (conn : ℕ) (o : Option Connection) → was_opened (e ∷ H) conn ≡ was_opened H conn → was_hung (e ∷ H) conn ≡ was_hung H conn → SameFor (deeds H) (deeds (e ∷ H)) conn → untaken (e ∷ H) conn ≡ untaken H conn → Stands H conn o → Stands (e ∷ H) conn o
+stands_same : (H : History) (e : Event) (conn : ℕ) (o : Option Connection) → was_opened (e ∷ H) conn ≡ was_opened H conn → was_hung (e ∷ H) conn ≡ was_hung H conn → SameFor (deeds H) conn (deeds (e ∷ H)) → untaken (e ∷ H) conn ≡ untaken H conn → Stands H conn o → Stands (e ∷ H) conn o
 stands_same H e conn o opened hung deeds-same left s = record {
   opened = s.opened ∙ sym opened;
   hung = s.hung ∙ sym hung;
@@ -42,21 +44,13 @@ stands_same H e conn o opened hung deeds-same left s = record {
 }
 
 pub request_others : (H : History) (at : ℕ) (frame word : List ℕ) (conn : ℕ) (o : Option Connection) → eqb at conn ≡ false → Stands H conn o → Stands (Request at frame word ∷ H) conn o
-request_others H at frame word conn o e s = stands_same H (Request at frame word) conn o (rw e refl) refl (same_deeds (is_gone H at)) (rw e refl) s
-  where
-    same_deeds : (gone : Bool) → SameFor (deeds H) (cond gone (deeds H) (option_to_list (deed_by (deeds H) at frame) ++ deeds H)) conn
-    same_deeds true = same_for_none (deeds H) conn
-    same_deeds false = same_by_frame (deeds H) at conn frame e
+request_others H at frame word conn o e s = stands_same H (Request at frame word) conn o (rw e refl) refl (elsewhere (Request at frame word) H conn e) (rw e refl) s
 
 pub take_others : (H : History) (at conn : ℕ) (o : Option Connection) → eqb at conn ≡ false → Stands H conn o → Stands (Take at ∷ H) conn o
 take_others H at conn o e s = stands_same H (Take at) conn o (rw e refl) refl (same_for_none (deeds H) conn) (rw e refl) s
 
 pub hang_others : (H : History) (at conn : ℕ) (o : Option Connection) → eqb at conn ≡ false → Stands H conn o → Stands (Hang at ∷ H) conn o
-hang_others H at conn o e s = stands_same H (Hang at) conn o refl (rw e refl) (same_deeds (not (is_gone H at) && was_opened H at)) refl s
-  where
-    same_deeds : (b : Bool) → SameFor (deeds H) (cond b (Hung at ∷ deeds H) (deeds H)) conn
-    same_deeds true = same_for (Hung at) (deeds H) conn e
-    same_deeds false = same_for_none (deeds H) conn
+hang_others H at conn o e s = stands_same H (Hang at) conn o refl (rw e refl) (elsewhere (Hang at) H conn e) refl s
 
 -- ---- a request
 
@@ -70,11 +64,11 @@ untaken_more n xs x le =
 
 -- what is kept doesn't depend on the flag
 pub keeps_opened : (done : List Deed) (conn : ℕ) (c : Connection) → Keeps done conn c → Keeps done conn (record c { opened = true })
-keeps_opened done conn c h = record { msize = h.msize; fids = h.fids; held = h.held }
+keeps_opened done conn c h = record { msize = h.msize; fids = h.fids; held = h.held; texts = h.texts }
 
 pub request_live : (H : History) (at : ℕ) (frame word : List ℕ) (c d : Connection) → has_stopped H ≡ false → was_hung H at ≡ false → Stands H at (Some c)
-    → d.opened ≡ true → d.hung ≡ c.hung → Keeps (option_to_list (deed_by (deeds H) at frame) ++ deeds H) at d
-    → d.replies.items ≡ c.replies.items ++ r_frame (reply_to (deeds H) at frame) ∷ []
+    → d.opened ≡ true → d.hung ≡ c.hung → Keeps (after_frame (deeds H) at frame) at d
+    → map reply_bytes d.replies.items ≡ map reply_bytes c.replies.items ++ r_frame (reply_to (deeds H) at frame) ∷ []
     → Stands (Request at frame word ∷ H) at (Some d)
 request_live H at frame word c d stopped hung s opened same-hung keeps more =
     let live = not_gone H at stopped hung in
@@ -96,20 +90,25 @@ request_hung H at frame word o hung s = record {
   replies = λ h. absurd (false≢true (sym h ∙ hung));
 }
 
--- the keys after a frame: on a connection that was hung up they stay
-pub keys_hung : (H : History) (at : ℕ) (frame word : List ℕ) (keys : List (List Attr)) → has_stopped H ≡ false → was_hung H at ≡ true → keys ≡ keys_of (deeds H) → keys ≡ keys_of (deeds (Request at frame word ∷ H))
-keys_hung H at frame word keys stopped hung e = rw (stopped, hung) e
+-- what is shared after a frame: on a connection that was hung up it stays
+pub shares_hung : (H : History) (at : ℕ) (frame word : List ℕ) (s : Shared) → has_stopped H ≡ false → was_hung H at ≡ true → Shares (deeds H) s → Shares (deeds (Request at frame word ∷ H)) s
+shares_hung H at frame word s stopped hung h = rw (stopped, hung) h
 
-pub keys_live : (H : History) (at : ℕ) (frame word : List ℕ) (keys : List (List Attr)) → has_stopped H ≡ false → was_hung H at ≡ false → keys ≡ keys_of (option_to_list (deed_by (deeds H) at frame) ++ deeds H) → keys ≡ keys_of (deeds (Request at frame word ∷ H))
-keys_live H at frame word keys stopped hung e = rw (not_gone H at stopped hung) e
+pub shares_live : (H : History) (at : ℕ) (frame word : List ℕ) (s : Shared) → has_stopped H ≡ false → was_hung H at ≡ false → Shares (after_frame (deeds H) at frame) s → Shares (deeds (Request at frame word ∷ H)) s
+shares_live H at frame word s stopped hung h = rw (not_gone H at stopped hung) h
 
 -- a connection that is made and knows nothing
 pub fresh_stands : (H : History) (conn : ℕ) (c : Connection) → IsFresh c → Stands H conn None → Stands H conn (Some c)
 fresh_stands H conn c f s = record {
   opened = f.opened ∙ s.opened;
   hung = f.hung ∙ s.hung;
-  keeps = λ h. let k = s.keeps h in record { msize = f.msize ∙ sym k.0; fids = λ fid. f.fids fid ∙ ap (λ g. kept_fid g (text_of (deeds H) conn fid)) (sym (k.1 fid)); held = f.held ∙ sym k.2 };
-  replies = λ h. f.replies ∙ s.replies h;
+  keeps = λ h. let k = s.keeps h in record {
+    msize = f.msize ∙ sym k.0;
+    fids = λ fid. ap (λ (table : Table). fid_at table fid) f.fids ∙ ap (λ g. kept_fid g (next_of (deeds H) conn fid)) (sym (k.1 fid));
+    held = ap held_in f.fids ∙ sym k.2;
+    texts = λ fid. ap text_in (f.texts fid) ∙ ap (λ g. kept_text g (text_of (deeds H) conn fid)) (sym (k.1 fid));
+  };
+  replies = λ h. ap (map reply_bytes) f.replies ∙ s.replies h;
 }
 
 -- ---- a take
@@ -130,13 +129,17 @@ drop_one : (ms : List RMsg) → drop 1 (map r_frame ms) ≡ map r_frame (drop 1 
 drop_one [] = refl
 drop_one (m ∷ ms) = refl
 
+bytes_one : (rs : List Reply) → map reply_bytes (drop 1 rs) ≡ drop 1 (map reply_bytes rs)
+bytes_one [] = refl
+bytes_one (x ∷ rs) = refl
+
 pub take_live : (H : History) (at : ℕ) (c d : Connection) → has_stopped H ≡ false → was_hung H at ≡ false → Stands H at (Some c)
     → d.opened ≡ true → d.hung ≡ c.hung → Keeps (deeds H) at d → d.replies.items ≡ drop 1 c.replies.items → Stands (Take at ∷ H) at (Some d)
 take_live H at c d stopped hung s opened same-hung keeps rest = record {
   opened = opened ∙ rw (same at) refl;
   hung = same-hung ∙ s.hung;
   keeps = λ h. keeps;
-  replies = λ h. rest ∙ ap (drop 1) (s.replies hung) ∙ drop_one (untaken H at) ∙ ap (λ (ms : List RMsg). map r_frame ms) (sym (untaken_taken H at stopped hung));
+  replies = λ h. ap (map reply_bytes) rest ∙ bytes_one c.replies.items ∙ ap (drop 1) (s.replies hung) ∙ drop_one (untaken H at) ∙ ap (λ (ms : List RMsg). map r_frame ms) (sym (untaken_taken H at stopped hung));
 }
 
 pub take_hung : (H : History) (at : ℕ) (o : Option Connection) → was_hung H at ≡ true → Stands H at o → Stands (Take at ∷ H) at o
@@ -148,36 +151,47 @@ take_hung H at o hung s = record {
 }
 
 -- the queue by its front
-pub front_is : (xs : List (List ℕ)) (x : List ℕ) → 0 < length xs → x ≡ get_or xs 0 x → xs ≡ x ∷ drop 1 xs
+pub front_is : (xs : List Reply) (x : Reply) → 0 < length xs → x ≡ get_or xs 0 x → xs ≡ x ∷ drop 1 xs
 front_is [] x lt e = absurd (omega arith)
-front_is (y ∷ ys) x lt e = ap (λ (z : List ℕ). z ∷ ys) (sym e)
+front_is (y ∷ ys) x lt e = ap (λ (z : Reply). z ∷ ys) (sym e)
 
 -- what a take answers
-pub answer_hung : (H : History) (at : ℕ) → was_hung H at ≡ true → has_stopped H ≡ false → answer H (Take at) ≡ (Gone, [])
+pub answer_hung : (H : History) (at : ℕ) → was_hung H at ≡ true → has_stopped H ≡ false → answer H (Take at) ≡ (a.Gone, [])
 answer_hung H at hung stopped = rw (stopped, hung) refl
 
-first_some : (ms : List RMsg) (x : List ℕ) (xs : List (List ℕ)) → x ∷ xs ≡ map r_frame ms → first_reply ms ≡ (Reply, x)
+first_some : (ms : List RMsg) (x : List ℕ) (xs : List (List ℕ)) → x ∷ xs ≡ map r_frame ms → first_reply ms ≡ (a.Reply, x)
 first_some [] x xs e = absurd (cc)
-first_some (m ∷ ms) x xs e = ap (λ (t : List ℕ). (Reply, t)) (let h : x ≡ r_frame m = (cc) in sym h)
+first_some (m ∷ ms) x xs e = ap (λ (t : List ℕ). (a.Reply, t)) (let h : x ≡ r_frame m = (cc) in sym h)
 
-first_none : (ms : List RMsg) (rs : List (List ℕ)) → rs ≡ [] → rs ≡ map r_frame ms → first_reply ms ≡ (NoReply, [])
+first_none : (ms : List RMsg) (rs : List (List ℕ)) → rs ≡ [] → rs ≡ map r_frame ms → first_reply ms ≡ (a.NoReply, [])
 first_none [] rs none e = refl
 first_none (m ∷ ms) rs none e = absurd (let h : [] ≡ r_frame m ∷ map r_frame ms = sym none ∙ e in (cc))
 
-pub answer_some : (H : History) (at : ℕ) (c : Connection) (x : List ℕ) (xs : List (List ℕ)) → has_stopped H ≡ false → was_hung H at ≡ false → Stands H at (Some c) → c.replies.items ≡ x ∷ xs → answer H (Take at) ≡ (Reply, x)
-answer_some H at c x xs stopped hung s e = rw (not_gone H at stopped hung) (first_some (untaken H at) x xs (sym e ∙ s.replies hung))
+pub answer_some : (H : History) (at : ℕ) (c : Connection) (x : Reply) (xs : List Reply) → has_stopped H ≡ false → was_hung H at ≡ false → Stands H at (Some c) → c.replies.items ≡ x ∷ xs → answer H (Take at) ≡ (a.Reply, reply_bytes x)
+answer_some H at c x xs stopped hung s e = rw (not_gone H at stopped hung) (first_some (untaken H at) (reply_bytes x) (map reply_bytes xs) (sym (ap (map reply_bytes) e) ∙ s.replies hung))
 
-pub answer_none : (H : History) (at : ℕ) (c : Connection) → has_stopped H ≡ false → was_hung H at ≡ false → Stands H at (Some c) → c.replies.items ≡ [] → answer H (Take at) ≡ (NoReply, [])
-answer_none H at c stopped hung s e = rw (not_gone H at stopped hung) (first_none (untaken H at) c.replies.items e (s.replies hung))
+pub answer_none : (H : History) (at : ℕ) (c : Connection) → has_stopped H ≡ false → was_hung H at ≡ false → Stands H at (Some c) → c.replies.items ≡ [] → answer H (Take at) ≡ (a.NoReply, [])
+answer_none H at c stopped hung s e = rw (not_gone H at stopped hung) (first_none (untaken H at) (map reply_bytes c.replies.items) (ap (map reply_bytes) e) (s.replies hung))
 
 -- ---- a hang
 
-pub hang_live : (H : History) (at : ℕ) (c d : Connection) → Stands H at (Some c) → c.opened ≡ true → d.opened ≡ true → d.hung ≡ true → Stands (Hang at ∷ H) at (Some d)
-hang_live H at c d s was opened hung =
+pub hang_live : (H : History) (at : ℕ) (c d : Connection) → Stands H at (Some c) → c.opened ≡ true → IsHungUp d → Stands (Hang at ∷ H) at (Some d)
+hang_live H at c d s was up =
     let now : was_hung (Hang at ∷ H) at ≡ true = rw (same at, ← s.opened, was) refl in
     record {
-      opened = opened ∙ sym was ∙ s.opened;
-      hung = hung ∙ sym now;
+      opened = up.opened ∙ sym was ∙ s.opened;
+      hung = up.hung ∙ sym now;
+      keeps = λ h. absurd (false≢true (sym h ∙ now));
+      replies = λ h. absurd (false≢true (sym h ∙ now));
+    }
+
+-- a connection that was hung up before stays so
+pub hang_again : (H : History) (at : ℕ) (o : Option Connection) → was_hung H at ≡ true → Stands H at o → Stands (Hang at ∷ H) at o
+hang_again H at o hung s =
+    let now : was_hung (Hang at ∷ H) at ≡ true = or_right (eqb at at && was_opened H at) (was_hung H at) hung in
+    record {
+      opened = s.opened;
+      hung = s.hung ∙ hung ∙ sym now;
       keeps = λ h. absurd (false≢true (sym h ∙ now));
       replies = λ h. absurd (false≢true (sym h ∙ now));
     }
@@ -192,8 +206,22 @@ hang_unopened H at o closed s =
     and_false true = refl
     and_false false = refl
 
-    same_deeds : was_opened H at ≡ false → SameFor (deeds H) (deeds (Hang at ∷ H)) at
+    same_deeds : was_opened H at ≡ false → SameFor (deeds H) at (deeds (Hang at ∷ H))
     same_deeds none = rw (none, and_false (not (is_gone H at))) (same_for_none (deeds H) at)
+
+-- what is shared after a hang
+pub hang_shares : (H : History) (at : ℕ) (s u : Shared) → has_stopped H ≡ false → was_hung H at ≡ false → was_opened H at ≡ true → Shares (Hung at ∷ deeds H) u → Shares (deeds (Hang at ∷ H)) u
+hang_shares H at s u stopped hung opened h = rw (not_gone H at stopped hung, opened) h
+
+pub hang_shares_unopened : (H : History) (at : ℕ) (s : Shared) → was_opened H at ≡ false → Shares (deeds H) s → Shares (deeds (Hang at ∷ H)) s
+hang_shares_unopened H at s none h = rw (none, and_false (not (is_gone H at))) h
+  where
+    and_false : (b : Bool) → (b && false) ≡ false
+    and_false true = refl
+    and_false false = refl
+
+pub hang_shares_again : (H : History) (at : ℕ) (s : Shared) → has_stopped H ≡ false → was_hung H at ≡ true → Shares (deeds H) s → Shares (deeds (Hang at ∷ H)) s
+hang_shares_again H at s stopped hung h = rw (stopped, hung) h
 
 -- ---- the other events change nothing that is told of a connection
 

@@ -6,11 +6,11 @@ use Rattle.nine_messages.specs.Messages.{r_frame}
 use Rattle.nine_messages.specs.Decoding.{IsFrame}
 use Rattle.agent_history.specs.declared.event.Event.{Event}
 use Rattle.agent_history.specs.declared.event.Event.TheVariants.{Request, Answer, Take}
-use Rattle.agent_history.specs.Deeds.{Deed, msize_of, fid_of, held_by, keys_of}
+use Rattle.agent_history.specs.Deeds.{Deed, msize_of, fid_of, held_by}
 use Rattle.agent_history.specs.Histories.{History, has_stopped, most_events, was_opened, was_hung, deeds, untaken}
 use Rattle.agent_core.specs.declared.connection.Connection.{Connection}
 use Rattle.agent_core.specs.declared.agent.Agent.{Agent}
-use Rattle.agent_core.specs.Connections.{Keeps, SameKept, IsFresh}
+use Rattle.agent_core.specs.Connections.{Keeps, SameKept, Shares, IsFresh, reply_bytes}
 
 -- what the agent keeps of a connection; of one that it doesn't know, what it would keep of a fresh one
 abbrev pub opened_at : Option Connection → Bool
@@ -23,7 +23,7 @@ hung_at (Some c) = c.hung
 
 abbrev pub replies_at : Option Connection → List (List ℕ)
 replies_at None = []
-replies_at (Some c) = c.replies.items
+replies_at (Some c) = map reply_bytes c.replies.items
 
 abbrev pub KeepsAt : List Deed → ℕ → Option Connection → Type 0
 KeepsAt done conn None = (msize_of done conn ≡ None) × ((fid : ℕ) → fid_of done conn fid ≡ None) × (held_by done conn ≡ 0)
@@ -38,12 +38,12 @@ pub record Stands (history : History) (conn : ℕ) (o : Option Connection) : Typ
 
 -- the agent stopped, by a stop or since it carried out all its events
 abbrev pub stopped_at : Agent → Bool
-stopped_at agent = nat_le most_events agent.events || agent.stopped
+stopped_at agent = nat_le most_events agent.common.1 || agent.stopped
 
 -- of an agent that hasn't stopped
 pub record Lives (history : History) (agent : Agent) : Type 0 where
-  pub events : agent.events ≡ length history
-  pub keys : agent.keys.items ≡ keys_of (deeds history)
+  pub events : agent.common.1 ≡ length history
+  pub shares : Shares (deeds history) agent.common.0
   pub connections : (conn : ℕ) → Stands history conn (get nat_cmp agent.connections conn)
 
 -- the agent stands for the history
@@ -65,11 +65,11 @@ SameAt None (Some c) = IsFresh c
 SameAt (Some c) None = ⊥
 SameAt (Some c) (Some d) = SameConnection c d
 
--- two agents are the same: the events they counted, whether they stopped, their keys, and what is kept of each number
+-- two agents are the same: what the connections share, the events they counted, whether they stopped, and what is kept
+-- of each number
 pub record SameAgent (old new : Agent) : Type 0 where
-  pub events : new.events ≡ old.events
+  pub common : new.common ≡ old.common
   pub stopped : new.stopped ≡ old.stopped
-  pub keys : new.keys.items ≡ old.keys.items
   pub connections : (conn : ℕ) → SameAt (get nat_cmp old.connections conn) (get nat_cmp new.connections conn)
 
 -- an event that may come: a frame is whole, an answer of the authentication server has at most 160 bytes

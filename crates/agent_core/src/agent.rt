@@ -1,9 +1,9 @@
 // The agent, and its one step.
 
+use crate::common::Common;
 use crate::connection::Connection;
 use crate::step::{hang_at, request_at, take_at};
 use agent_history::{Event, StepAnswer};
-use attr_tuples::Tuple;
 use std::alloc::Global;
 use std::collections::BTreeMap;
 use wire_base::{Bytes, NoMemory};
@@ -11,22 +11,21 @@ use wire_base::{Bytes, NoMemory};
 /// How many events an agent carries out; the next one comes as after a stop.
 const MOST_EVENTS: u64 = 1 << 50;
 
-/// The agent: keys, and what it knows of each connection.
+/// The agent: what it knows of each connection, and what the connections share.
 #[derive(Drop)]
 pub struct Agent {
     alloc: Global,
     connections: BTreeMap<u64, Connection>,
-    keys: Vec<Tuple>,
-    events: u64,
+    common: Common,
     stopped: bool,
 }
 
 impl Agent {
-    ghost use Rattle.std.specs.Prelude.{◌≡◌, ◌++◌, ◌∷◌, ◌||◌, ℕ, [], false, IsOk, IfOk, OnOk, OnErr};
+    ghost use Rattle.std.specs.Prelude.{◌≡◌, ◌++◌, ◌∷◌, ◌||◌, ◌+◌, ◌<◌, ◌^◌, ℕ, [], false, IsOk, IfOk, OnOk, OnErr};
     ghost use Rattle.std.specs.Ordering.{nat_cmp};
     ghost use Rattle.std.specs.BTreeMap.{get};
-    ghost use Rattle.agent_history.specs.Deeds.{keys_of};
     ghost use Rattle.agent_history.specs.Histories.{History, has_stopped, is_stop, deeds, answer};
+    ghost use Rattle.agent_core.specs.Connections.{Shares};
     ghost use Rattle.agent_core.specs.Agents.{StandsFor, Lives, Stands, SameAgent, IsEvent, TakesOne, TakesNone, stopped_at};
 
     /// An agent without keys and connections.
@@ -36,27 +35,28 @@ impl Agent {
         Ok(Agent {
             alloc,
             connections: BTreeMap::new(alloc),
-            keys: Vec::new(alloc),
-            events: 0,
+            common: Common::new(alloc),
             stopped: false,
         })
     }
 
     // It stopped, by a stop or since it carried out all its events.
     fn has_stopped(&self) -> bool
-        ensures { result ≡ stopped_at self.now }
+        ensures stopped { result ≡ stopped_at self.now }
+        ensures room { result ≡ false → self.now.common.1 < 2 ^ 50 }
     {
-        self.events >= MOST_EVENTS || self.stopped
+        self.common.events() >= MOST_EVENTS || self.stopped
     }
 
     // What an event does while the agent runs.
     fn act(&mut self, event: &Event, out: &mut Bytes) -> Result<StepAnswer, NoMemory>
-        requires { IsEvent event.now }
+        requires event { IsEvent event.now }
+        requires room { self.old.common.1 < 2 ^ 50 }
         ensures answer { IfOk result (λ a. (H : History) → has_stopped H ≡ false → Lives H self.old → (a ≡ (answer H event.now).0) × (out.new ≡ out.old ++ (answer H event.now).1)) }
-        ensures keys { OnOk result ((H : History) → has_stopped H ≡ false → Lives H self.old → self.new.keys.items ≡ keys_of (deeds (event.now ∷ H))) }
+        ensures shares { OnOk result ((H : History) → has_stopped H ≡ false → Lives H self.old → Shares (deeds (event.now ∷ H)) self.new.common.0) }
         ensures connections { OnOk result ((H : History) → has_stopped H ≡ false → Lives H self.old → is_stop event.now ≡ false → (q : ℕ) → Stands (event.now ∷ H) q (get nat_cmp self.new.connections q)) }
         ensures stopped { OnOk result (self.new.stopped ≡ (self.old.stopped || is_stop event.now)) }
-        ensures events { self.new.events ≡ self.old.events }
+        ensures events { OnOk result (self.new.common.1 ≡ self.old.common.1 + 1) }
         ensures err { OnErr result (SameAgent self.old self.new) }
         ensures err_out { OnErr result (out.new ≡ out.old) }
         ensures fewer { IfOk result (λ a. a ≡ StepAnswer.Reply → TakesOne event.now self.old self.new) }
@@ -68,24 +68,34 @@ impl Agent {
                 request_at(
                     self.alloc,
                     &mut self.connections,
-                    &mut self.keys,
+                    &mut self.common,
                     *conn,
                     frame,
                 )?;
                 Ok(StepAnswer::Done)
             }
-            Event::Take { conn } => take_at(self.alloc, &mut self.connections, *conn, out),
+            Event::Take { conn } => {
+                let answer = take_at(self.alloc, &mut self.connections, *conn, out)?;
+                self.common.count();
+                Ok(answer)
+            }
             Event::Hang { conn } => {
-                hang_at(&mut self.connections, *conn);
+                hang_at(self.alloc, &mut self.connections, &mut self.common, *conn);
+                self.common.count();
                 Ok(StepAnswer::Done)
             }
-            Event::TakeAsk => Ok(StepAnswer::NoAsk),
+            Event::TakeAsk => {
+                self.common.count();
+                Ok(StepAnswer::NoAsk)
+            }
             Event::Answer { .. } | Event::NoAnswer { .. } | Event::NoRoom { .. } => {
+                self.common.count();
                 Ok(StepAnswer::Done)
             }
             Event::Stop => {
                 self.stopped = true;
                 self.connections.clear();
+                self.common.count();
                 Ok(StepAnswer::Done)
             }
         }
@@ -118,8 +128,6 @@ impl Agent {
                 _ => StepAnswer::Done,
             });
         }
-        let answer = self.act(event, out)?;
-        self.events += 1;
-        Ok(answer)
+        self.act(event, out)
     }
 }

@@ -1,15 +1,18 @@
-//! The agent: it holds keys, serves the files of one tree to any number of connections, and answers each event as
-//! the definitions say of the history of events before it.
+//! The agent: it answers each event as the definitions say of the history before.
 #![tactic(auto)]
 
 mod agent;
+mod common;
 mod connection;
-mod fid;
-mod list;
+mod fid_requests;
+mod file_requests;
+mod msize;
+mod refused;
+mod serve;
+mod shared;
 mod step;
-mod table;
 #[cfg(test)]
 mod tests;
 
 pub use agent::Agent;
-pub use agent_history::{Event, FidState, Node, Shape, StepAnswer};
+pub use agent_history::{Event, Shape, StepAnswer};

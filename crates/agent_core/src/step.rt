@@ -1,16 +1,16 @@
 // The steps on the connections of an agent, an event each.
-ghost use Rattle.std.specs.Prelude.{◌≡◌, ◌++◌, [], ◌∷◌, List, ℕ, true, false, IsSome, IsOk, IfOk, OnOk, OnErr, ◌+◌, length};
+ghost use Rattle.std.specs.Prelude.{◌≡◌, ◌++◌, [], ◌∷◌, ◌<◌, ◌^◌, List, ℕ, true, false, Some, IsSome, IsOk, IfOk, OnOk, OnErr, ◌+◌, length};
 ghost use Rattle.std.specs.Ordering.{nat_cmp};
 ghost use Rattle.std.specs.BTreeMap.{get};
 ghost use Rattle.nine_messages.specs.Decoding.{IsFrame};
 ghost use Rattle.agent_history.specs.declared.event.Event.TheVariants as events;
-ghost use Rattle.agent_history.specs.Deeds.{keys_of};
 ghost use Rattle.agent_history.specs.Histories.{History, has_stopped, deeds, answer};
+ghost use Rattle.agent_core.specs.Connections.{Shares};
 ghost use Rattle.agent_core.specs.Agents.{replies_at, Stands, SameConnection, SameAt};
 
+use crate::common::Common;
 use crate::connection::Connection;
 use agent_history::StepAnswer;
-use attr_tuples::Tuple;
 use std::alloc::Global;
 use std::collections::BTreeMap;
 use wire_base::{Bytes, NoMemory};
@@ -38,20 +38,24 @@ fn ensure_connection(
 // A frame on a connection: the connection is opened, and the frame is answered, unless it was hung up.
 fn request(
     alloc: Global,
+    conn: u64,
     connection: &mut Connection,
-    keys: &mut Vec<Tuple>,
+    common: &mut Common,
     frame: &[u8],
 ) -> Result<(), NoMemory>
-    requires { IsFrame frame.now }
-    ensures ok { OnOk result ((H : History) (conn : ℕ) (word : List ℕ) → has_stopped H ≡ false → keys.old.items ≡ keys_of (deeds H) → Stands H conn (Some connection.old)
-        → Stands (events.Request conn frame.now word ∷ H) conn (Some connection.new) × (keys.new.items ≡ keys_of (deeds (events.Request conn frame.now word ∷ H)))) }
+    requires whole { IsFrame frame.now }
+    requires room { common.old.1 < 2 ^ 50 }
+    ensures stands { OnOk result ((H : History) (word : List ℕ) → has_stopped H ≡ false → Shares (deeds H) common.old.0 → Stands H conn (Some connection.old) → Stands (events.Request conn frame.now word ∷ H) conn (Some connection.new)) }
+    ensures shares { OnOk result ((H : History) (word : List ℕ) → has_stopped H ≡ false → Shares (deeds H) common.old.0 → Stands H conn (Some connection.old) → Shares (deeds (events.Request conn frame.now word ∷ H)) common.new.0) }
+    ensures events { OnOk result (common.new.1 ≡ common.old.1 + 1) }
     ensures err { OnErr result (SameConnection connection.old connection.new) }
-    ensures err_keys { OnErr result (keys.new.items ≡ keys.old.items) }
+    ensures err_common { OnErr result (common.new ≡ common.old) }
 {
     if connection.hung {
+        common.count();
         return Ok(());
     }
-    connection.serve(alloc, keys, frame)?;
+    common.serve(alloc, conn, connection, frame)?;
     connection.opened = true;
     Ok(())
 }
@@ -71,20 +75,21 @@ fn take(connection: &mut Connection, out: &mut Bytes) -> Result<StepAnswer, NoMe
         connection.opened = true;
         return Ok(StepAnswer::NoReply);
     };
-    out.append(reply.as_slice())?;
+    reply.put(out)?;
     connection.opened = true;
     connection.replies.pop_front();
     Ok(StepAnswer::Reply)
 }
 
-// A hang: a connection that was opened is hung up, and what was kept of it is given up.
-fn hang(connection: &mut Connection)
-    ensures { (H : History) (conn : ℕ) → Stands H conn (Some connection.old) → Stands (events.Hang conn ∷ H) conn (Some connection.new) }
+// A hang: a connection that was opened is hung up, and the memory that was kept for it is given up.
+fn hang(alloc: Global, conn: u64, connection: &mut Connection, common: &mut Common)
+    ensures stands { (H : History) → Stands H conn (Some connection.old) → Stands (events.Hang conn ∷ H) conn (Some connection.new) }
+    ensures shares { (H : History) → has_stopped H ≡ false → Stands H conn (Some connection.old) → Shares (deeds H) common.old.0 → Shares (deeds (events.Hang conn ∷ H)) common.new.0 }
+    ensures events { common.new.1 ≡ common.old.1 }
 {
-    if connection.opened {
-        connection.hung = true;
-        connection.fids.clear();
-        connection.replies.clear();
+    if connection.opened && !connection.hung {
+        *connection = Connection::hung_up(alloc);
+        common.leave(conn);
     }
 }
 
@@ -92,21 +97,23 @@ fn hang(connection: &mut Connection)
 pub(crate) fn request_at(
     alloc: Global,
     connections: &mut Connections,
-    keys: &mut Vec<Tuple>,
+    common: &mut Common,
     conn: u64,
     frame: &[u8],
 ) -> Result<(), NoMemory>
-    requires { IsFrame frame.now }
-    ensures ok { OnOk result ((H : History) (word : List ℕ) → has_stopped H ≡ false → keys.old.items ≡ keys_of (deeds H) → ((q : ℕ) → Stands H q (get nat_cmp connections.old q))
-        → (keys.new.items ≡ keys_of (deeds (events.Request conn frame.now word ∷ H))) × ((q : ℕ) → Stands (events.Request conn frame.now word ∷ H) q (get nat_cmp connections.new q))) }
+    requires whole { IsFrame frame.now }
+    requires room { common.old.1 < 2 ^ 50 }
+    ensures stands { OnOk result ((H : History) (word : List ℕ) → has_stopped H ≡ false → Shares (deeds H) common.old.0 → ((q : ℕ) → Stands H q (get nat_cmp connections.old q)) → (q : ℕ) → Stands (events.Request conn frame.now word ∷ H) q (get nat_cmp connections.new q)) }
+    ensures shares { OnOk result ((H : History) (word : List ℕ) → has_stopped H ≡ false → Shares (deeds H) common.old.0 → ((q : ℕ) → Stands H q (get nat_cmp connections.old q)) → Shares (deeds (events.Request conn frame.now word ∷ H)) common.new.0) }
+    ensures events { OnOk result (common.new.1 ≡ common.old.1 + 1) }
     ensures err { OnErr result ((q : ℕ) → SameAt (get nat_cmp connections.old q) (get nat_cmp connections.new q)) }
-    ensures err_keys { OnErr result (keys.new.items ≡ keys.old.items) }
+    ensures err_common { OnErr result (common.new ≡ common.old) }
 {
     ensure_connection(alloc, connections, conn)?;
     let Some(connection) = connections.get_mut(&conn) else {
         unreachable!()
     };
-    request(alloc, connection, keys, frame)
+    request(alloc, conn, connection, common, frame)
 }
 
 // A take on a connection of this number.
@@ -131,10 +138,12 @@ pub(crate) fn take_at(
 }
 
 // A hang of a connection of this number.
-pub(crate) fn hang_at(connections: &mut Connections, conn: u64)
-    ensures { (H : History) → ((q : ℕ) → Stands H q (get nat_cmp connections.old q)) → (q : ℕ) → Stands (events.Hang conn ∷ H) q (get nat_cmp connections.new q) }
+pub(crate) fn hang_at(alloc: Global, connections: &mut Connections, common: &mut Common, conn: u64)
+    ensures stands { (H : History) → ((q : ℕ) → Stands H q (get nat_cmp connections.old q)) → (q : ℕ) → Stands (events.Hang conn ∷ H) q (get nat_cmp connections.new q) }
+    ensures shares { (H : History) → has_stopped H ≡ false → ((q : ℕ) → Stands H q (get nat_cmp connections.old q)) → Shares (deeds H) common.old.0 → Shares (deeds (events.Hang conn ∷ H)) common.new.0 }
+    ensures events { common.new.1 ≡ common.old.1 }
 {
     if let Some(connection) = connections.get_mut(&conn) {
-        hang(connection);
+        hang(alloc, conn, connection, common);
     }
 }

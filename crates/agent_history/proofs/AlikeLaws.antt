@@ -1,15 +1,14 @@
 -- Histories that look alike from the outside stay so, whatever happens next, and answer alike.
-use Rattle.std.proofs.Common.{◌≡◌, ℕ, suc, List, [], ◌∷◌, ◌++◌, length, map, Bool, true, false, cond, eqb, leb, ◌&&◌, ◌||◌, not, Option, Some, None, refl, sym, ap, ◌∙◌}
-use Rattle.std.specs.Prelude.{option_map, option_to_list}
+use Rattle.std.proofs.Common.{◌≡◌, ℕ, suc, List, [], ◌∷◌, ◌++◌, length, map, Bool, true, false, cond, eqb, leb, ◌&&◌, ◌||◌, not, refl, sym, ap, ◌∙◌}
 use Rattle.std.specs.List.{list_any}
 use Rattle.std.proofs.lemmas.Bool.{eqb-true}
 use Rattle.agent_history.specs.declared.event.Event.{Event}
 use Rattle.agent_history.specs.declared.event.Event.TheVariants.{Request, Hang, Answer, NoAnswer, NoRoom, Take, TakeAsk, Stop}
 use Rattle.agent_history.specs.Deeds.{Deed, Hung}
-use Rattle.agent_history.specs.Table.{deed_by, reply_to}
+use Rattle.agent_history.specs.Requests.{after_frame, reply_to}
 use Rattle.agent_history.specs.Histories.{History, is_stop, has_stopped, most_events, was_opened, was_hung, is_gone, deeds, replies, taken, answer}
-use Rattle.agent_history.specs.Laws.{hidden_deed, SameButSecrets}
-use Rattle.agent_history.proofs.SecretLaws.{deed_by_alike, reply_to_alike}
+use Rattle.agent_history.specs.Laws.{hidden_deed, all_open, SameButSecrets}
+use Rattle.agent_history.proofs.SecretLaws.{frame_alike, frame_open, reply_to_alike, deeds_open}
 
 -- what can be told of both from the outside is the same
 pub record LookAlike (A B : History) : Type 0 where
@@ -29,25 +28,16 @@ gone_alike A B conn s = ap (λ (b : Bool). b || was_hung A conn) (stopped_alike 
 
 -- ---- a request
 
-hidden_more : (gone : Bool) (deed : Option Deed) (done : List Deed) → map hidden_deed (cond gone done (option_to_list deed ++ done)) ≡ cond gone (map hidden_deed done) (option_to_list (option_map hidden_deed deed) ++ map hidden_deed done)
-hidden_more true deed done = refl
-hidden_more false None done = refl
-hidden_more false (Some deed) done = refl
-
--- a deed more, the same but for secrets
-done_more : (gone : Bool) (one other : Option Deed) (a b : List Deed) → option_map hidden_deed one ≡ option_map hidden_deed other → SameButSecrets a b
-    → SameButSecrets (cond gone a (option_to_list one ++ a)) (cond gone b (option_to_list other ++ b))
-done_more gone one other a b e s =
-    hidden_more gone one a
-    ∙ ap (λ (d : Option Deed). cond gone (map hidden_deed a) (option_to_list d ++ map hidden_deed a)) e
-    ∙ ap (λ (ds : List Deed). cond gone ds (option_to_list (option_map hidden_deed other) ++ ds)) s
-    ∙ sym (hidden_more gone other b)
+-- what was done, the same but for secrets, where anything was
+done_more : (gone : Bool) (a b one other : List Deed) → SameButSecrets a b → SameButSecrets one other → SameButSecrets (cond gone a one) (cond gone b other)
+done_more true a b one other s t = s
+done_more false a b one other s t = t
 
 -- two frames that do the same but for secrets and are answered alike
-pub request_alike : (A B : History) (at : ℕ) (one other word others : List ℕ) → LookAlike A B → option_map hidden_deed (deed_by (deeds A) at one) ≡ option_map hidden_deed (deed_by (deeds B) at other)
+pub request_alike : (A B : History) (at : ℕ) (one other word others : List ℕ) → LookAlike A B → SameButSecrets (after_frame (deeds A) at one) (after_frame (deeds B) at other)
     → reply_to (deeds A) at one ≡ reply_to (deeds B) at other → LookAlike (Request at one word ∷ A) (Request at other others ∷ B)
-request_alike A B at one other word others s same_deed same_reply = record {
-  done = rw (gone_alike A B at s) (done_more (is_gone B at) (deed_by (deeds A) at one) (deed_by (deeds B) at other) (deeds A) (deeds B) same_deed s.done);
+request_alike A B at one other word others s same_deeds same_reply = record {
+  done = rw (gone_alike A B at s) (done_more (is_gone B at) (deeds A) (deeds B) (after_frame (deeds A) at one) (after_frame (deeds B) at other) s.done same_deeds);
   many = ap suc s.many;
   stops = s.stops;
   opened = λ conn. ap (λ (b : Bool). eqb at conn || b) (s.opened conn);
@@ -76,7 +66,7 @@ hang_alike A B at s = record {
 }
   where
     hung_more : (b : Bool) → SameButSecrets (cond b (Hung at ∷ deeds A) (deeds A)) (cond b (Hung at ∷ deeds B) (deeds B))
-    hung_more true = ap (λ (ds : List Deed). Hung at ∷ ds) s.done
+    hung_more true = record { alike = ap (λ (ds : List Deed). Hung at ∷ ds) s.done.alike; open_deletes = s.done.open_deletes }
     hung_more false = s.done
 
 take_alike : (A B : History) (at : ℕ) → LookAlike A B → LookAlike (Take at ∷ A) (Take at ∷ B)
@@ -94,7 +84,7 @@ quiet_alike : (A B : History) (e : Event) → LookAlike A B → deeds (e ∷ A) 
     → ((conn : ℕ) (H : History) → was_opened (e ∷ H) conn ≡ was_opened H conn) → ((conn : ℕ) (H : History) → was_hung (e ∷ H) conn ≡ was_hung H conn)
     → ((conn : ℕ) (H : History) → replies (e ∷ H) conn ≡ replies H conn) → ((conn : ℕ) (H : History) → taken (e ∷ H) conn ≡ taken H conn) → LookAlike (e ∷ A) (e ∷ B)
 quiet_alike A B e s done-a done-b opened hung answers took = record {
-  done = ap (map hidden_deed) done-a ∙ s.done ∙ ap (map hidden_deed) (sym done-b);
+  done = record { alike = ap (map hidden_deed) done-a ∙ s.done.alike ∙ ap (map hidden_deed) (sym done-b); open_deletes = ap all_open done-a ∙ s.done.open_deletes };
   many = ap suc s.many;
   stops = ap (λ (b : Bool). is_stop e || b) s.stops;
   opened = λ conn. opened conn A ∙ s.opened conn ∙ sym (opened conn B);
@@ -104,7 +94,7 @@ quiet_alike A B e s done-a done-b opened hung answers took = record {
 }
 
 event_alike : (e : Event) (A B : History) → LookAlike A B → LookAlike (e ∷ A) (e ∷ B)
-event_alike (Request at frame word) A B s = request_alike A B at frame frame word word s (ap (option_map hidden_deed) (deed_by_alike (deeds A) (deeds B) s.done at frame)) (reply_to_alike (deeds A) (deeds B) s.done at frame)
+event_alike (Request at frame word) A B s = request_alike A B at frame frame word word s (frame_alike (deeds A) (deeds B) s.done at frame) (reply_to_alike (deeds A) (deeds B) s.done at frame)
 event_alike (Hang at) A B s = hang_alike A B at s
 event_alike (Take at) A B s = take_alike A B at s
 event_alike (Answer call bytes) A B s = quiet_alike A B (Answer call bytes) s refl refl (λ conn H. refl) (λ conn H. refl) (λ conn H. refl) (λ conn H. refl)
@@ -128,11 +118,12 @@ answer_alike (NoRoom call) A B s = refl
 answer_alike Stop A B s = refl
 
 itself_alike : (H : History) → LookAlike H H
-itself_alike H = record { done = refl; many = refl; stops = refl; opened = λ conn. refl; hung = λ conn. refl; answers = λ conn. refl; took = λ conn. refl }
+itself_alike H = record { done = record { alike = refl; open_deletes = deeds_open H }; many = refl; stops = refl; opened = λ conn. refl; hung = λ conn. refl; answers = λ conn. refl; took = λ conn. refl }
 
-pub no_answer_tells : (history more : History) (event : Event) (conn : ℕ) (one other word others : List ℕ) → option_map hidden_deed (deed_by (deeds history) conn one) ≡ option_map hidden_deed (deed_by (deeds history) conn other)
+pub no_answer_tells : (history more : History) (event : Event) (conn : ℕ) (one other word others : List ℕ) → map hidden_deed (after_frame (deeds history) conn one) ≡ map hidden_deed (after_frame (deeds history) conn other)
     → reply_to (deeds history) conn one ≡ reply_to (deeds history) conn other
     → answer (more ++ Request conn one word ∷ history) event ≡ answer (more ++ Request conn other others ∷ history) event
-no_answer_tells history more event conn one other word others same_deed same_reply =
+no_answer_tells history more event conn one other word others same_deeds same_reply =
+    let same : SameButSecrets (after_frame (deeds history) conn one) (after_frame (deeds history) conn other) = record { alike = same_deeds; open_deletes = frame_open (deeds history) conn one (deeds_open history) } in
     answer_alike event (more ++ Request conn one word ∷ history) (more ++ Request conn other others ∷ history)
-    (events_alike more (Request conn one word ∷ history) (Request conn other others ∷ history) (request_alike history history conn one other word others (itself_alike history) same_deed same_reply))
+    (events_alike more (Request conn one word ∷ history) (Request conn other others ∷ history) (request_alike history history conn one other word others (itself_alike history) same same_reply))

@@ -1,25 +1,18 @@
 -- The fids that a connection holds, as a list of numbers without an equal two, after every history.
-use Rattle.std.proofs.Common.{◌≡◌, ℕ, ◌+◌, ◌-◌, List, [], ◌∷◌, ◌++◌, length, Bool, true, false, cond, eqb, ltb, ◌&&◌, ◌||◌, not, Option, Some, None, refl, sym, ap, subst, ◌∙◌, inl, inr, arith}
-use Rattle.std.specs.Prelude.{option_to_list, option_and_then, is_some, ◌⊎◌}
+use Rattle.std.proofs.Common.{◌≡◌, ℕ, ◌+◌, ◌-◌, List, [], ◌∷◌, length, Bool, true, false, cond, eqb, ◌&&◌, ◌||◌, not, Option, Some, None, refl, sym, ap, subst, ◌∙◌, inl, inr, arith}
+use Rattle.std.specs.Prelude.{is_some}
 use Rattle.std.specs.List.{list_any, filter, IsDistinct, AllByRecursion}
-use Rattle.std.proofs.lemmas.Bool.{cases_Bool, eq-eqb, eqb-true, and_parts, or_parts, not-true}
+use Rattle.std.proofs.lemmas.Bool.{cases_Bool, eqb-true, or_parts}
 use Rattle.std.proofs.lemmas.Map.Keys.{IsDistinct-head, IsDistinct-tail, IsDistinct-cons}
-use Rattle.attr_tuples.specs.declared.attr.Attr.{Attr}
-use Rattle.attr_tuples.specs.PlainKeys.{key_line}
 use Rattle.attr_tuples.proofs.EqualityLemmas.{eqb_swap}
-use Rattle.nine_messages.specs.declared.message.TMsg.{TMsg}
-use Rattle.nine_messages.specs.declared.message.TBody.{TBody}
-use Rattle.nine_messages.specs.declared.message.TBody.TheVariants as t
-use Rattle.agent_history.specs.declared.event.Event.{Event}
-use Rattle.agent_history.specs.declared.event.Event.TheVariants.{Request, Hang, Answer, NoAnswer, NoRoom, Take, TakeAsk, Stop}
-use Rattle.agent_history.specs.declared.tree.Node.TheVariants.{Root, Ctl}
-use Rattle.agent_history.specs.declared.tree.FidState.{FidState}
-use Rattle.agent_history.specs.Deeds.{Deed, Attached, Walked, Opened, Clunked, Hung, fid_of, held_by, keys_of, closed}
-use Rattle.agent_history.specs.Table.{deed_of, deed_by, taken_as, where_true, adding, may_hold, has_version, has_ctl_open, is_empty, names_root, lead_to_ctl, nofid, most_fids}
-use Rattle.agent_history.specs.Histories.{History, is_gone, was_opened, deeds}
-use Rattle.agent_history.specs.Laws.{AreHeld, is_on}
-use Rattle.agent_history.proofs.DeedLaws.{SameFor}
-use Rattle.agent_history.proofs.FidLaws.{elsewhere}
+use Rattle.file_tree.specs.declared.tree.FidState.{FidState}
+use Rattle.file_tree.specs.declared.tree.Node.TheVariants.{Root}
+use Rattle.file_tree.specs.Calls.{at_rest, opened}
+use Rattle.agent_history.specs.Deeds.{Deed, Versioned, Attached, Walked, Opened, Listed, Browsed, Edited, Switched, Clunked, Hung, fid_of, held_by, one_more}
+use Rattle.agent_history.specs.Histories.{History, deeds}
+use Rattle.agent_history.specs.Laws.{AreHeld, conn_of}
+use Rattle.agent_history.proofs.DeedLaws.{SameFor, same_for}
+use Rattle.agent_history.proofs.GrowLaws.{Fits, history_grows}
 
 -- ---- numbers without an equal two
 
@@ -94,47 +87,54 @@ any_others fid f (x ∷ fids) = elim (cases_Bool (eqb fid x)) [
 -- ---- one deed more
 
 -- a connection holds some fids
-abbrev pub Holds : List Deed → ℕ → Type 0
-Holds done conn = (fids : List ℕ) × AreHeld done conn fids
+abbrev pub Holds : ℕ → List Deed → Type 0
+Holds conn done = (fids : List ℕ) × AreHeld done conn fids
 
-same : (a : ℕ) → eqb a a ≡ true
-same a = eq-eqb a a refl
-
-holds_same : (before after : List Deed) (conn : ℕ) → SameFor before after conn → Holds before conn → Holds after conn
-holds_same before after conn s h = (
+holds_same : (conn : ℕ) (before after : List Deed) → held_by after conn ≡ held_by before conn → ((fid : ℕ) → is_some (fid_of after conn fid) ≡ is_some (fid_of before conn fid)) → Holds conn before → Holds conn after
+holds_same conn before after held fids h = (
   h.0,
   record {
     distinct = h.1.distinct;
-    count = h.1.count ∙ sym s.held;
-    held = λ fid. ap is_some (s.fids fid) ∙ h.1.held fid;
+    count = h.1.count ∙ sym held;
+    held = λ fid. fids fid ∙ h.1.held fid;
   },
 )
 
 -- all fids are given up
-holds_none : (done : List Deed) (conn : ℕ) → held_by done conn ≡ 0 → ((fid : ℕ) → fid_of done conn fid ≡ None) → Holds done conn
+holds_none : (conn : ℕ) (done : List Deed) → held_by done conn ≡ 0 → ((fid : ℕ) → fid_of done conn fid ≡ None) → Holds conn done
 unfolding IsDistinct
-holds_none done conn none empty = ([], record { distinct = tt; count = sym none; held = λ fid. ap is_some (empty fid) })
+holds_none conn done none empty = ([], record { distinct = tt; count = sym none; held = λ fid. ap is_some (empty fid) })
 
 -- a fid more
-holds_more : (before after : List Deed) (conn fid : ℕ) (state : FidState) → is_some (fid_of before conn fid) ≡ false → held_by after conn ≡ held_by before conn + 1
-    → ((f : ℕ) → fid_of after conn f ≡ cond (eqb fid f) (Some state) (fid_of before conn f)) → Holds before conn → Holds after conn
-holds_more before after conn fid state free more fids h = (
+holds_more : (conn : ℕ) (before after : List Deed) (fid : ℕ) (state : FidState) → is_some (fid_of before conn fid) ≡ false → held_by after conn ≡ held_by before conn + 1
+    → ((f : ℕ) → fid_of after conn f ≡ cond (eqb fid f) (Some state) (fid_of before conn f)) → Holds conn before → Holds conn after
+holds_more conn before after fid state free more fids h = (
   fid ∷ h.0,
   record {
     distinct = IsDistinct-cons eqb fid h.0 (apart_any fid h.0 (sym (h.1.held fid) ∙ free)) h.1.distinct;
     count = omega (arith, h.1.count, more);
-    held = λ f. ap is_some (fids f) ∙ one_more f (eqb fid f) (eqb_swap f fid);
+    held = λ f. ap is_some (fids f) ∙ with_it f (eqb fid f) (eqb_swap f fid);
   },
 )
   where
-    one_more : (f : ℕ) (b : Bool) → eqb f fid ≡ b → is_some (cond b (Some state) (fid_of before conn f)) ≡ (eqb f fid || list_any (eqb f) h.0)
-    one_more f true e = rw e refl
-    one_more f false e = rw e (h.1.held f)
+    with_it : (f : ℕ) (b : Bool) → eqb f fid ≡ b → is_some (cond b (Some state) (fid_of before conn f)) ≡ (eqb f fid || list_any (eqb f) h.0)
+    with_it f true e = rw e refl
+    with_it f false e = rw e (h.1.held f)
+
+-- a fid that comes to a file is one more where it wasn't held
+holds_set : (conn : ℕ) (before after : List Deed) (fid : ℕ) (state : FidState) (o : Option FidState) → fid_of before conn fid ≡ o → held_by after conn ≡ one_more o (held_by before conn)
+    → ((f : ℕ) → fid_of after conn f ≡ cond (eqb fid f) (Some state) (fid_of before conn f)) → Holds conn before → Holds conn after
+holds_set conn before after fid state None is held fids h = holds_more conn before after fid state (ap is_some is) held fids h
+holds_set conn before after fid state (Some old) is held fids h = holds_same conn before after held (λ f. ap is_some (fids f) ∙ set_again f (eqb fid f) refl) h
+  where
+    set_again : (f : ℕ) (b : Bool) → eqb fid f ≡ b → is_some (cond b (Some state) (fid_of before conn f)) ≡ is_some (fid_of before conn f)
+    set_again f true e = sym (ap (λ (n : ℕ). is_some (fid_of before conn n)) (sym (eqb-true fid f e)) ∙ ap is_some is)
+    set_again f false e = refl
 
 -- a fid fewer
-holds_fewer : (before after : List Deed) (conn fid : ℕ) → is_some (fid_of before conn fid) ≡ true → held_by after conn ≡ held_by before conn - 1
-    → ((f : ℕ) → fid_of after conn f ≡ cond (eqb fid f) None (fid_of before conn f)) → Holds before conn → Holds after conn
-holds_fewer before after conn fid held fewer fids h = (
+holds_fewer : (conn : ℕ) (before after : List Deed) (fid : ℕ) → is_some (fid_of before conn fid) ≡ true → held_by after conn ≡ held_by before conn - 1
+    → ((f : ℕ) → fid_of after conn f ≡ cond (eqb fid f) None (fid_of before conn f)) → Holds conn before → Holds conn after
+holds_fewer conn before after fid held fewer fids h = (
   others fid h.0,
   record {
     distinct = distinct_others fid h.0 h.1.distinct;
@@ -148,84 +148,34 @@ holds_fewer before after conn fid held fewer fids h = (
     one_fewer f false = h.1.held f
 
 -- a fid that is opened names something or nothing as before
-opened_same : (before : List Deed) (conn fid mode f : ℕ) → is_some (fid_of (Opened conn fid mode ∷ before) conn f) ≡ is_some (fid_of before conn f)
-opened_same before conn fid mode f = rw (same conn) (elim (cases_Bool (eqb fid f)) [
-  | inl e ↦ rw e (elim (cases_fid (fid_of before conn f)) [
-    | inl none ↦ rw none refl
-    | inr some ↦ rw some.1 refl
-  ])
-  | inr e ↦ rw e refl
-])
-  where
-    cases_fid : (o : Option FidState) → (o ≡ None) ⊎ ((state : FidState) × (o ≡ Some state))
-    cases_fid None = inl refl
-    cases_fid (Some state) = inr (state, refl)
+opened_same : (b : Bool) (mode : ℕ) (o : Option FidState) → is_some (cond b (opened mode o) o) ≡ is_some o
+opened_same true mode None = refl
+opened_same true mode (Some state) = refl
+opened_same false mode o = refl
 
-holds_opened : (before : List Deed) (conn fid mode : ℕ) → Holds before conn → Holds (Opened conn fid mode ∷ before) conn
-holds_opened before conn fid mode h = (h.0, record { distinct = h.1.distinct; count = h.1.count; held = λ f. opened_same before conn fid mode f ∙ h.1.held f })
+-- ---- every deed
 
--- ---- a request
+holds_own : (conn : ℕ) (done : List Deed) (deed : Deed) → eqb (conn_of deed) conn ≡ true → Fits done deed → Holds conn done → Holds conn (deed ∷ done)
+holds_own conn done (Versioned at msize) own fits h = holds_none conn (Versioned at msize ∷ done) (rw own refl) (λ fid. rw own refl)
+holds_own conn done (Hung at) own fits h = holds_none conn (Hung at ∷ done) (rw own refl) (λ fid. rw own refl)
+holds_own conn done (Attached at fid) own fits h = holds_set conn done (Attached at fid ∷ done) fid (at_rest Root) (fid_of done conn fid) refl (rw own refl) (λ f. rw own refl) h
+holds_own conn done (Walked at fid node) own fits h = holds_set conn done (Walked at fid node ∷ done) fid (at_rest node) (fid_of done conn fid) refl (rw own refl) (λ f. rw own refl) h
+holds_own conn done (Opened at fid mode) own fits h = holds_same conn done (Opened at fid mode ∷ done) refl (λ f. opened_same (eqb at conn && eqb fid f) mode (fid_of done conn f)) h
+holds_own conn done (Clunked at fid) own fits h =
+    holds_fewer conn done (Clunked at fid ∷ done) fid (ap (λ (n : ℕ). is_some (fid_of done n fid)) (sym (eqb-true at conn own)) ∙ fits) (rw own refl) (λ f. rw own refl) h
+holds_own conn done (Listed at fid) own fits h = holds_same conn done (Listed at fid ∷ done) refl (λ f. refl) h
+holds_own conn done (Browsed at fid next) own fits h = holds_same conn done (Browsed at fid next ∷ done) refl (λ f. refl) h
+holds_own conn done (Edited at edit) own fits h = holds_same conn done (Edited at edit ∷ done) refl (λ f. refl) h
+holds_own conn done (Switched at) own fits h = holds_same conn done (Switched at ∷ done) refl (λ f. refl) h
 
-where_holds : (b : Bool) (deed : Deed) (done : List Deed) (conn : ℕ) → Holds done conn → (b ≡ true → Holds (deed ∷ done) conn) → Holds (option_to_list (where_true b deed) ++ done) conn
-where_holds true deed done conn h then_holds = then_holds refl
-where_holds false deed done conn h then_holds = h
+holds_elsewhere : (conn : ℕ) (done : List Deed) (deed : Deed) → SameFor done conn (deed ∷ done) → Holds conn done → Holds conn (deed ∷ done)
+holds_elsewhere conn done deed s h = holds_same conn done (deed ∷ done) s.held (λ f. ap is_some (s.fids f)) h
 
-adding_holds : (key : Option (List Attr)) (done : List Deed) (conn : ℕ) → Holds done conn → Holds (option_to_list (adding conn key) ++ done) conn
-adding_holds None done conn h = h
-adding_holds (Some key) done conn h = (h.0, record { distinct = h.1.distinct; count = h.1.count; held = h.1.held })
-
-choice_holds : (b : Bool) (deed : Option Deed) (done : List Deed) (conn : ℕ) → Holds done conn → Holds (option_to_list deed ++ done) conn → Holds (option_to_list (cond b deed None) ++ done) conn
-choice_holds true deed done conn h g = g
-choice_holds false deed done conn h g = h
-
-free_from : (done : List Deed) (conn fid : ℕ) → may_hold done conn fid ≡ true → is_some (fid_of done conn fid) ≡ false
-free_from done conn fid may = not-true (is_some (fid_of done conn fid)) (and_parts (not (is_some (fid_of done conn fid))) (ltb (held_by done conn) most_fids) may).0
-
-holds_body : (done : List Deed) (conn : ℕ) (body : TBody) → Holds done conn → Holds (option_to_list (deed_of done conn body) ++ done) conn
-holds_body done conn (t.Version msize version) h = where_holds _ _ done conn h (λ e. holds_none _ conn (rw (same conn) refl) (λ fid. rw (same conn) refl))
-holds_body done conn (t.Attach fid afid uname aname) h = where_holds _ _ done conn h (λ e.
-    let may = (and_parts (eqb afid nofid) (may_hold done conn fid) (and_parts (has_version done conn) (eqb afid nofid && may_hold done conn fid) e).1).1 in
-    holds_more done (Attached conn fid ∷ done) conn fid (closed Root) (free_from done conn fid may) (rw (same conn) refl) (λ f. rw (same conn) refl) h)
-holds_body done conn (t.Walk fid newfid wname) h = where_holds _ _ done conn h (λ e.
-    let may = (and_parts (may_hold done conn newfid) (lead_to_ctl wname) (and_parts (names_root (fid_of done conn fid)) (may_hold done conn newfid && lead_to_ctl wname) e).1).0 in
-    holds_more done (Walked conn newfid Ctl ∷ done) conn newfid (closed Ctl) (free_from done conn newfid may) (rw (same conn) refl) (λ f. rw (same conn) refl) h)
-holds_body done conn (t.Open fid mode) h = where_holds _ _ done conn h (λ e. holds_opened done conn fid mode h)
-holds_body done conn (t.Read fid offset count) h = where_holds _ _ done conn h (λ e. (h.0, record { distinct = h.1.distinct; count = h.1.count; held = h.1.held }))
-holds_body done conn (t.Write fid offset content) h = choice_holds (has_ctl_open (fid_of done conn fid) && is_empty (keys_of done)) (adding conn (key_line content)) done conn h (adding_holds (key_line content) done conn h)
-holds_body done conn (t.Clunk fid) h = where_holds _ _ done conn h (λ e.
-    holds_fewer done (Clunked conn fid ∷ done) conn fid e (rw (same conn) refl) (λ f. rw (same conn) refl) h)
-
-holds_request : (done : List Deed) (conn : ℕ) (o : Option TMsg) → Holds done conn → Holds (option_to_list (option_and_then (λ m. deed_of done conn m.body) o) ++ done) conn
-holds_request done conn None h = h
-holds_request done conn (Some m) h = holds_body done conn m.body h
-
-holds_frame : (done : List Deed) (conn : ℕ) (frame : List ℕ) → Holds done conn → Holds (option_to_list (deed_by done conn frame) ++ done) conn
-unfolding deed_by
-holds_frame done conn frame h = holds_request done conn (taken_as done conn frame) h
-
--- ---- an event
-
-gone_holds : (gone : Bool) (done : List Deed) (conn : ℕ) (frame : List ℕ) → Holds done conn → Holds (cond gone done (option_to_list (deed_by done conn frame) ++ done)) conn
-gone_holds true done conn frame h = h
-gone_holds false done conn frame h = holds_frame done conn frame h
-
-hang_holds : (b : Bool) (done : List Deed) (conn : ℕ) → Holds done conn → Holds (cond b (Hung conn ∷ done) done) conn
-hang_holds true done conn h = holds_none (Hung conn ∷ done) conn (rw (same conn) refl) (λ fid. rw (same conn) refl)
-hang_holds false done conn h = h
-
-holds_on : (e : Event) (H : History) (conn : ℕ) → is_on conn e ≡ true → Holds (deeds H) conn → Holds (deeds (e ∷ H)) conn
-holds_on (Request at frame word) H conn on h = rw (eqb-true at conn on) (gone_holds (is_gone H conn) (deeds H) conn frame h)
-holds_on (Hang at) H conn on h = rw (eqb-true at conn on) (hang_holds (not (is_gone H conn) && was_opened H conn) (deeds H) conn h)
-holds_on (Answer call bytes) H conn on h = absurd (cc)
-holds_on (NoAnswer call) H conn on h = absurd (cc)
-holds_on (NoRoom call) H conn on h = absurd (cc)
-holds_on (Take at) H conn on h = absurd (cc)
-holds_on TakeAsk H conn on h = absurd (cc)
-holds_on Stop H conn on h = absurd (cc)
-
-pub fids_held : (H : History) (conn : ℕ) → Holds (deeds H) conn
-fids_held [] conn = holds_none [] conn refl (λ fid. refl)
-fids_held (e ∷ H) conn = elim (cases_Bool (is_on conn e)) [
-  | inl on ↦ holds_on e H conn on (fids_held H conn)
-  | inr off ↦ holds_same (deeds H) (deeds (e ∷ H)) conn (elsewhere e H conn off) (fids_held H conn)
+holds_deed : (conn at : ℕ) (done : List Deed) (deed : Deed) → conn_of deed ≡ at → Fits done deed → Holds conn done → Holds conn (deed ∷ done)
+holds_deed conn at done deed own fits h = elim (cases_Bool (eqb (conn_of deed) conn)) [
+  | inl on ↦ holds_own conn done deed on fits h
+  | inr off ↦ holds_elsewhere conn done deed (same_for deed done conn off) h
 ]
+
+pub fids_held : (H : History) (conn : ℕ) → Holds conn (deeds H)
+fids_held H conn = history_grows (Holds conn) (holds_deed conn) (holds_none conn [] refl (λ fid. refl)) H

@@ -1,8 +1,13 @@
 pub mod HistoryLaws
+pub mod GrowLaws
 pub mod DeedLaws
-pub mod KeyLaws
 pub mod FidLaws
 pub mod ReplyLaws
-pub mod SecretLaws
 pub mod HeldLaws
+pub mod ExclusiveLaws
+pub mod TextLaws
+pub mod RefusalLaws
+pub mod HiddenLaws
+pub mod SecretLaws
 pub mod AlikeLaws
+pub mod WriteLaws

@@ -7,7 +7,7 @@ use Rattle.nine_messages.specs.declared.message.RMsg.{RMsg}
 use Rattle.nine_messages.specs.Messages.{r_frame}
 use Rattle.agent_history.specs.declared.event.Event.TheVariants.{Request, Hang, Answer, NoAnswer, NoRoom, Take, TakeAsk, Stop}
 use Rattle.agent_history.specs.declared.event.StepAnswer.TheVariants.{Gone}
-use Rattle.agent_history.specs.Table.{reply_to}
+use Rattle.agent_history.specs.Requests.{reply_to}
 use Rattle.agent_history.specs.Histories.{History, is_gone, deeds, replies, taken, untaken, answer, first_reply}
 use Rattle.agent_history.specs.Laws.{is_reply, gives, given, put_out}
 use Rattle.agent_history.proofs.HistoryLaws.{taken_given}

@@ -1,7 +1,7 @@
 -- A history of an agent, and what the agent answers after it. A history is a list of events, the newest first, so
 -- that what stands behind an event is the history before it. An entry is an event together with the number of the
 -- seat that made it; what is answered doesn't depend on seats.
-use Rattle.std.specs.Prelude.{ℕ, ◌+◌, List, [], ◌∷◌, ◌++◌, length, drop, map, reverse, Bool, true, false, not, ◌&&◌, ◌||◌, ◌==◌, nat_lt, nat_le, option_to_list, if◌then◌else◌}
+use Rattle.std.specs.Prelude.{ℕ, ◌+◌, List, [], ◌∷◌, length, drop, map, reverse, Bool, true, false, not, ◌&&◌, ◌||◌, ◌==◌, nat_lt, nat_le, if◌then◌else◌}
 use Rattle.std.specs.List.{list_any}
 use Rattle.nine_messages.specs.declared.message.RMsg.{RMsg}
 use Rattle.nine_messages.specs.Messages.{r_frame}
@@ -10,7 +10,7 @@ use Rattle.agent_history.specs.declared.event.Event.TheVariants.{Request, Hang, 
 use Rattle.agent_history.specs.declared.event.StepAnswer.{StepAnswer}
 use Rattle.agent_history.specs.declared.event.StepAnswer.TheVariants.{Done, Reply, NoReply, Gone, NoAsk, Stopped}
 use Rattle.agent_history.specs.Deeds.{Deed, Hung}
-use Rattle.agent_history.specs.Table.{deed_by, reply_to}
+use Rattle.agent_history.specs.Requests.{after_frame, reply_to}
 
 -- an entry: who made it, and what happened
 pub record Entry : Type 0 where
@@ -56,7 +56,7 @@ is_gone history conn = has_stopped history || was_hung history conn
 -- what a history did
 abbrev pub deeds : History → List Deed
 deeds [] = []
-deeds (Request at frame word ∷ before) = if is_gone before at then deeds before else option_to_list (deed_by (deeds before) at frame) ++ deeds before
+deeds (Request at frame word ∷ before) = if is_gone before at then deeds before else after_frame (deeds before) at frame
 deeds (Hang at ∷ before) = if not (is_gone before at) && was_opened before at then Hung at ∷ deeds before else deeds before
 deeds (event ∷ before) = deeds before
 

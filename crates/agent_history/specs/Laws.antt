@@ -1,66 +1,49 @@
--- Words in which the laws of the definitions are stated: the lines that added keys, the deeds that concern a fid, the
--- replies that were given, deeds that differ in secrets alone, and the fids that are held. After section 5 of the Plan
--- 9 manual (fids) and factotum(4) (ctl, whose keys are shown without their secrets).
-use Rattle.std.specs.Prelude.{◌≡◌, ℕ, List, [], ◌∷◌, ◌++◌, length, take, map, Bool, true, false, not, ◌&&◌, ◌==◌, nat_eq, Option, None, is_some, if◌then◌else◌}
+-- Words in which the laws of the definitions are stated: the connection of a deed, the deeds that concern a fid, the
+-- fids that are held, files that are open, lists that stood at one moment, lines up to the first refused one, the
+-- replies that were given, and deeds that differ in secrets alone. After section 5 of the Plan 9 manual (fids) and
+-- factotum(4) (ctl, whose keys are shown without their secrets).
+use Rattle.std.specs.Prelude.{◌≡◌, ℕ, List, [], ◌∷◌, ◌++◌, length, take, map, Bool, true, false, not, ◌&&◌, ◌==◌, nat_eq, is_some, None, Ok, Err, if◌then◌else◌}
 use Rattle.std.specs.List.{list_any, list_all, IsDistinct}
 use Rattle.nine_messages.specs.declared.message.RMsg.{RMsg}
+use Rattle.nine_messages.specs.declared.message.TBody.{TBody}
+use Rattle.nine_messages.specs.declared.message.TBody.TheVariants as t
 use Rattle.attr_tuples.specs.declared.attr.Attr.{Attr}
-use Rattle.attr_tuples.specs.Equality.{public_equal}
 use Rattle.attr_tuples.specs.Printing.{hidden}
+use Rattle.file_tree.specs.declared.tree.Node.{Node}
+use Rattle.file_tree.specs.Calls.{is_open}
+use Rattle.key_lists.specs.Lists.{KeyList, add_fault, tells_secret}
+use Rattle.key_lists.specs.Edits.{KeyEdit, Add, Delete}
+use Rattle.key_lists.specs.Listing.{list_text}
 use Rattle.agent_history.specs.declared.event.Event.{Event}
 use Rattle.agent_history.specs.declared.event.Event.TheVariants.{Request, Hang, Take}
 use Rattle.agent_history.specs.declared.event.StepAnswer.{StepAnswer}
 use Rattle.agent_history.specs.declared.event.StepAnswer.TheVariants.{Reply}
-use Rattle.agent_history.specs.Deeds.{Deed, Agreed, Attached, Walked, Opened, Added, Listed, Clunked, Hung, fid_of, held_by}
-use Rattle.agent_history.specs.Table.{deed_by, where_true}
-use Rattle.agent_history.specs.Histories.{History, is_gone, was_opened, deeds, untaken, answer}
-
--- ---- keys
-
--- the lines of ctl that added a key, as keys, the oldest first
-abbrev pub lines_of : List Deed → List (List Attr)
-lines_of [] = []
-lines_of (Added at key ∷ before) = lines_of before ++ key ∷ []
-lines_of (deed ∷ before) = lines_of before
-
--- of a list of keys, the oldest first, those that no later one is the same as in public, each where it stands
-abbrev pub latest : List (List Attr) → List (List Attr)
-latest [] = []
-latest (key ∷ later) = if list_any (λ other. public_equal other key) later then latest later else key ∷ latest later
+use Rattle.agent_history.specs.Deeds.{Deed, Versioned, Attached, Walked, Opened, Listed, Browsed, Edited, Switched, Clunked, Hung, fid_of, held_by, keys_of, names}
+use Rattle.agent_history.specs.Lines.{OnKeys, after_lines, line_by, lines_fault, read_line}
+use Rattle.agent_history.specs.Histories.{History, deeds, untaken, answer}
 
 -- ---- deeds
 
 -- the connection of a deed
 abbrev pub conn_of : Deed → ℕ
-conn_of (Agreed conn msize) = conn
+conn_of (Versioned conn msize) = conn
 conn_of (Attached conn fid) = conn
 conn_of (Walked conn fid node) = conn
 conn_of (Opened conn fid mode) = conn
-conn_of (Added conn key) = conn
-conn_of (Listed conn fid offset) = conn
+conn_of (Listed conn fid) = conn
+conn_of (Browsed conn fid next) = conn
+conn_of (Edited conn edit) = conn
+conn_of (Switched conn) = conn
 conn_of (Clunked conn fid) = conn
 conn_of (Hung conn) = conn
 
--- whether a deed concerns what a fid of a connection names: a version was agreed there, it was hung up, or the fid
--- itself was attached, walked to, opened or given up
-abbrev pub concerns : Deed → ℕ → ℕ → Bool
-concerns (Agreed at msize) conn fid = at == conn
-concerns (Hung at) conn fid = at == conn
-concerns (Attached at f) conn fid = at == conn && f == fid
-concerns (Walked at f node) conn fid = at == conn && f == fid
-concerns (Opened at f mode) conn fid = at == conn && f == fid
-concerns (Clunked at f) conn fid = at == conn && f == fid
-concerns deed conn fid = false
+-- each of these deeds is of the connection
+abbrev pub all_of : ℕ → List Deed → Bool
+all_of conn done = list_all (λ deed. conn_of deed == conn) done
 
--- none of these deeds concerns it
-abbrev pub none_concerns : List Deed → ℕ → ℕ → Bool
-none_concerns done conn fid = list_all (λ deed. not (concerns deed conn fid)) done
-
--- the deed that an event does after a history, if it does one
-abbrev pub deed_at : History → Event → Option Deed
-deed_at before (Request at frame word) = if is_gone before at then None else deed_by (deeds before) at frame
-deed_at before (Hang at) = where_true (not (is_gone before at) && was_opened before at) (Hung at)
-deed_at before event = None
+-- some deeds of the connection came to those that were done before, and nothing else changed
+abbrev pub AddsOwn : ℕ → List Deed → List Deed → Type 0
+AddsOwn conn before after = (more : List Deed) × (after ≡ more ++ before) × (all_of conn more ≡ true)
 
 -- whether an event is a request or a hang
 abbrev pub is_request_or_hang : Event → Bool
@@ -74,11 +57,67 @@ is_on conn (Request at frame word) = at == conn
 is_on conn (Hang at) = at == conn
 is_on conn event = false
 
+-- ---- fids
+
+-- whether a deed concerns what a fid of a connection names: a version was answered there, it was hung up, or the fid
+-- itself was attached, walked to, opened or given up
+abbrev pub concerns : Deed → ℕ → ℕ → Bool
+concerns (Versioned at msize) conn fid = at == conn
+concerns (Hung at) conn fid = at == conn
+concerns (Attached at f) conn fid = at == conn && f == fid
+concerns (Walked at f node) conn fid = at == conn && f == fid
+concerns (Opened at f mode) conn fid = at == conn && f == fid
+concerns (Clunked at f) conn fid = at == conn && f == fid
+concerns deed conn fid = false
+
+-- none of these deeds concerns it
+abbrev pub none_concerns : List Deed → ℕ → ℕ → Bool
+none_concerns done conn fid = list_all (λ deed. not (concerns deed conn fid)) done
+
 -- these numbers, no two of them equal, are the fids that a connection holds
 pub record AreHeld (done : List Deed) (conn : ℕ) (fids : List ℕ) : Type 0 where
   pub distinct : IsDistinct nat_eq fids
   pub count : length fids ≡ held_by done conn
   pub held : (fid : ℕ) → is_some (fid_of done conn fid) ≡ list_any (nat_eq fid) fids
+
+-- the fid of a connection has the file open
+abbrev pub has_open : List Deed → Node → ℕ → ℕ → Bool
+has_open done node conn fid = names node (fid_of done conn fid) && is_open (fid_of done conn fid)
+
+-- ---- ctl
+
+-- the text is the list of keys as it stood at one moment of the history, between two events of it or at an end
+abbrev pub StoodOnce : History → List ℕ → Type 0
+StoodOnce history text = (later earlier : History) × (history ≡ later ++ earlier) × (text ≡ list_text (keys_of (deeds earlier)))
+
+-- whether a deed sets the text that a fid of a connection reads of ctl
+abbrev pub sets_text : Deed → ℕ → ℕ → Bool
+sets_text (Listed at f) conn fid = at == conn && f == fid
+sets_text (Attached at f) conn fid = at == conn && f == fid
+sets_text (Walked at f node) conn fid = at == conn && f == fid
+sets_text deed conn fid = false
+
+-- none of these deeds sets it
+abbrev pub none_sets_text : List Deed → ℕ → ℕ → Bool
+none_sets_text done conn fid = list_all (λ deed. not (sets_text deed conn fid)) done
+
+-- of the lines of a write, with some deeds before it: those in front are carried out, and the one behind them is the first
+-- that is refused, by the text
+pub record IsFirstRefused (conn : ℕ) (done : List Deed) (lines front : List (List ℕ)) (line : List ℕ) (later : List (List ℕ)) (text : List ℕ) : Type 0 where
+  pub split : lines ≡ front ++ line ∷ later
+  pub carried_out : lines_fault conn front done ≡ None
+  pub refused : line_by conn (after_lines conn front done) line ≡ Err text
+
+-- some line is the first that is refused, by the text
+abbrev pub HasFirstRefused : ℕ → List Deed → List (List ℕ) → List ℕ → Type 0
+HasFirstRefused conn done lines text = (front : List (List ℕ)) × (line : List ℕ) × (later : List (List ℕ)) × IsFirstRefused conn done lines front line later text
+
+-- a request that may change something although its reply is an error: a remove gives the fid up, and a write's lines
+-- before the first refused one stand
+abbrev pub may_err_and_act : TBody → Bool
+may_err_and_act (t.Remove fid) = true
+may_err_and_act (t.Write fid offset content) = true
+may_err_and_act body = false
 
 -- ---- replies
 
@@ -106,11 +145,39 @@ put_out (event ∷ before) conn = put_out before conn
 
 -- ---- secrets
 
+-- a line with the secrets of its key hidden
+abbrev pub hidden_edit : KeyEdit → KeyEdit
+hidden_edit (Add key) = Add (map hidden key)
+hidden_edit (Delete template) = Delete template
+
 -- a deed with the secrets of its key hidden
 abbrev pub hidden_deed : Deed → Deed
-hidden_deed (Added conn key) = Added conn (map hidden key)
+hidden_deed (Edited conn edit) = Edited conn (hidden_edit edit)
 hidden_deed deed = deed
 
+-- a line doesn't delete by the value of a secret
+abbrev pub is_open_edit : KeyEdit → Bool
+is_open_edit (Add key) = true
+is_open_edit (Delete template) = not (list_any tells_secret template)
+
+abbrev pub is_open_deed : Deed → Bool
+is_open_deed (Edited conn edit) = is_open_edit edit
+is_open_deed deed = true
+
+-- none of these deeds deleted keys by the value of a secret
+abbrev pub all_open : List Deed → Bool
+all_open done = list_all is_open_deed done
+
 -- the same deeds in the same places, but for the values of the secrets of the keys added
-abbrev pub SameButSecrets : List Deed → List Deed → Type 0
-SameButSecrets a b = map hidden_deed a ≡ map hidden_deed b
+pub record SameButSecrets (a b : List Deed) : Type 0 where
+  pub alike : map hidden_deed a ≡ map hidden_deed b
+  pub open_deletes : all_open a ≡ true
+
+-- two lines of ctl add keys that are the same but for their secrets, and to some keys they are added or refused alike
+pub record AddAlike (keys : KeyList) (one other : List ℕ) : Type 0 where
+  pub key : List Attr
+  pub same : List Attr
+  pub one_adds : read_line one ≡ Ok (OnKeys (Add key))
+  pub other_adds : read_line other ≡ Ok (OnKeys (Add same))
+  pub alike : map hidden key ≡ map hidden same
+  pub alike_refused : add_fault key keys ≡ add_fault same keys

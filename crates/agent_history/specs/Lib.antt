@@ -1,4 +1,5 @@
 pub mod Deeds
-pub mod Table
+pub mod Lines
+pub mod Requests
 pub mod Histories
 pub mod Laws

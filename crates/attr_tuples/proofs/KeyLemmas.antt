@@ -11,8 +11,10 @@ use Rattle.std.proofs.lemmas.Slice.Eq.{bytes_eq-Decides}
 use Rattle.attr_tuples.specs.declared.attr.Attr.{Attr}
 use Rattle.attr_tuples.specs.declared.attr.Value.{Value}
 use Rattle.attr_tuples.specs.declared.attr.Value.TheVariants.{Is, Ask, Bare}
-use Rattle.attr_tuples.specs.Printing.{attr_text, ending_text, value_text, needs_quotes, quoted, ends_unquoted, printed_text}
-use Rattle.attr_tuples.specs.PlainKeys.{IsPlainKey, plain_key, key_line, is_plain_key, are_plain, names_apop, names_short_user, names_password, is_plain, is_given, is_plain_name, is_plain_value, is_plain_byte, is_plain_name_byte, is_named, is_named_once, is_apop, is_short_user, values_of, word_attr, words}
+use Rattle.attr_tuples.specs.Printing.{attr_text, ending_text, value_text, needs_quotes, printed_text}
+use Rattle.attr_words.specs.Words.{quoted, ends_unquoted}
+use Rattle.attr_tuples.specs.Attributes.{is_named}
+use Rattle.attr_tuples.specs.PlainKeys.{IsPlainKey, plain_key, key_line, is_plain_key, are_plain, names_apop, names_short_user, names_password, is_plain, is_given, is_plain_name, is_plain_value, is_plain_byte, is_plain_name_byte, is_named_once, is_apop, is_short_user, values_of, word_attr, words}
 use Rattle.attr_tuples.specs.Steps.{words_left}
 use Rattle.attr_tuples.proofs.CutLemmas.{Lacks, before_first-at, after_first-at, slice_split-Lacks, slice_split-at}
 use Rattle.attr_tuples.proofs.PlainLemmas.{list_all_middle, length-map}
@@ -128,7 +130,7 @@ key_from_test attrs h =
       password = (secret.0, password.1 ∙ ap (λ (v : Value). v ∷ []) secret.1);
     }
 
-test_from_key : (attrs : List Attr) → IsPlainKey attrs → is_plain_key attrs ≡ true
+pub test_from_key : (attrs : List Attr) → IsPlainKey attrs → is_plain_key attrs ≡ true
 test_from_key attrs k =
     and_from _ _ (and_from _ _ (le-leb (length attrs) 32 k.few) k.plain)
     (and_from _ _ (and_from _ _ (once_from (codes "proto") attrs _ k.proto) (any_given (codes "proto") (codes "apop") (λ text. bytes_eq text (codes "apop")) attrs k.proto refl))
@@ -175,7 +177,7 @@ words_again (w ∷ ws) h =
     let parts = and_parts (is_plain (word_attr w)) (list_all is_plain (map word_attr ws)) h in
     ap (λ (x : List ℕ). x ∷ map attr_text (map word_attr ws)) (word_again w parts.0) ∙ ap (λ (xs : List (List ℕ)). w ∷ xs) (words_again ws parts.1)
 
-lacks : (c : ℕ) (xs : List ℕ) → list_all (λ b. not (eqb b c)) xs ≡ true → Lacks c xs
+pub lacks : (c : ℕ) (xs : List ℕ) → list_all (λ b. not (eqb b c)) xs ≡ true → Lacks c xs
 lacks c xs h i lt e =
     let passes : not (eqb (get_or xs i 0) c) ≡ true = AllPass-from_list_all (λ b. not (eqb b c)) xs h i 0 lt in
     both_ways (eqb (get_or xs i 0) c) (not-true (eqb (get_or xs i 0) c) passes) (eq-eqb (get_or xs i 0) c e)

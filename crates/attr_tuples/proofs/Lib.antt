@@ -4,3 +4,10 @@ pub mod PlainLemmas
 pub mod TextLemmas
 pub mod PrintLemmas
 pub mod KeyLemmas
+pub mod MatchLemmas
+pub mod ParseLemmas
+pub mod AttrLemmas
+pub mod GrammarLemmas
+pub mod ToldLemmas
+pub mod PrintedLemmas
+pub mod MergeLemmas

@@ -5,10 +5,11 @@ use Rattle.std.specs.Str.{IsAscii}
 use Rattle.std.proofs.lemmas.Bool.{and_parts, and_from, leb-true, le-leb, ne_eqb, not_from_false, or_left}
 use Rattle.std.proofs.lemmas.Str.{IsUtf8-from_ascii, is_utf8-from_IsUtf8}
 use Rattle.wire_base.specs.Texts.{is_text}
+use Rattle.attr_words.specs.Lines.{is_line_byte}
 use Rattle.attr_tuples.specs.declared.attr.Attr.{Attr}
 use Rattle.attr_tuples.specs.declared.attr.Value.{Value}
 use Rattle.attr_tuples.specs.declared.attr.Value.TheVariants.{Is, Ask, Bare}
-use Rattle.attr_tuples.specs.Attributes.{is_attr, is_name, is_value, is_name_byte, is_value_byte, is_tuple}
+use Rattle.attr_tuples.specs.Attributes.{is_attr, is_name, is_value, is_name_byte, is_tuple}
 use Rattle.attr_tuples.specs.PlainKeys.{is_plain_byte, is_plain_name_byte, is_plain_name, is_plain_value, is_plain, is_given, is_plain_key, are_plain}
 
 plain_low : (b : ℕ) → is_plain_byte b ≡ true → 33 ≤ b
@@ -50,7 +51,7 @@ name_bytes (b ∷ bytes) h =
     let parts = and_parts (is_plain_name_byte b) (list_all is_plain_name_byte bytes) h in
     and_from (is_name_byte b) (list_all is_name_byte bytes) (name_byte b parts.0) (name_bytes bytes parts.1)
 
-pub value_bytes : (bytes : List ℕ) → list_all is_plain_byte bytes ≡ true → list_all is_value_byte bytes ≡ true
+pub value_bytes : (bytes : List ℕ) → list_all is_plain_byte bytes ≡ true → list_all is_line_byte bytes ≡ true
 value_bytes [] h = refl
 value_bytes (b ∷ bytes) h = and_from _ _ (or_left _ _ (le-leb 32 b (omega (arith, plain_low b (and_parts _ _ h).0)))) (value_bytes bytes (and_parts _ _ h).1)
 

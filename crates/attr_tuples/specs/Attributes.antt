@@ -1,9 +1,10 @@
 -- Attributes, as factotum(4) of the Plan 9 manual has them: a name, and a value, a question for one, or neither.
--- Which of them a line of text can give: a name can't be quoted, and a value can.
+-- And which of them a line of text can give.
 use Rattle.std.specs.Prelude.{ℕ, List, [], ◌∷◌, Bool, true, false, not, ◌&&◌, ◌||◌, ◌==◌, nat_lt, nat_le, length, codes}
 use Rattle.std.specs.List.{list_all}
 use Rattle.std.specs.Str.{bytes_eq}
 use Rattle.wire_base.specs.Texts.{is_text}
+use Rattle.attr_words.specs.Lines.{is_line_byte}
 use Rattle.attr_tuples.specs.declared.attr.Attr.{Attr}
 use Rattle.attr_tuples.specs.declared.attr.Value.{Value}
 use Rattle.attr_tuples.specs.declared.attr.Value.TheVariants.{Is, Ask, Bare}
@@ -17,6 +18,10 @@ is_secret (first ∷ rest) = first == 33
 abbrev pub is_public : Attr → Bool
 is_public a = not (is_secret a.name)
 
+-- whether an attribute has the name
+abbrev pub is_named : List ℕ → Attr → Bool
+is_named name a = bytes_eq a.name name
+
 -- a byte of a name: from 0x21 on, and none of `'`, `=` and `?`
 abbrev pub is_name_byte : ℕ → Bool
 is_name_byte b = nat_le 33 b && (not (b == 39) && (not (b == 61) && not (b == 63)))
@@ -25,13 +30,9 @@ is_name_byte b = nat_le 33 b && (not (b == 39) && (not (b == 61) && not (b == 63
 abbrev pub is_name : List ℕ → Bool
 is_name name = nat_lt 0 (length name) && (not (bytes_eq name (codes "!")) && (list_all is_name_byte name && is_text name))
 
--- a byte of a value: from 0x20 on, or a tab
-abbrev pub is_value_byte : ℕ → Bool
-is_value_byte b = nat_le 32 b || b == 9
-
--- a value: text of such bytes, if it is given
+-- a value: text of the bytes of a line, if it is given
 abbrev pub is_value : Value → Bool
-is_value (Is text) = list_all is_value_byte text && is_text text
+is_value (Is text) = list_all is_line_byte text && is_text text
 is_value Ask = true
 is_value Bare = true
 

@@ -1,5 +1,8 @@
 pub mod Attributes
 pub mod Printing
 pub mod Equality
+pub mod Matching
+pub mod Grammar
+pub mod Merging
 pub mod PlainKeys
 pub mod Steps

@@ -4,6 +4,7 @@
 use Rattle.std.specs.Prelude.{◌≡◌, ℕ, List, [], ◌∷◌, Bool, true, false, not, ◌&&◌, ◌==◌, ◌≤◌, nat_lt, nat_le, length, map, filter, take, drop, Option, Some, None, codes, if◌then◌else◌}
 use Rattle.std.specs.List.{list_all, list_any, slice_split, before_first, after_first}
 use Rattle.std.specs.Str.{bytes_eq}
+use Rattle.attr_tuples.specs.Attributes.{is_named}
 use Rattle.attr_tuples.specs.declared.attr.Attr.{Attr}
 use Rattle.attr_tuples.specs.declared.attr.Value.{Value}
 use Rattle.attr_tuples.specs.declared.attr.Value.TheVariants.{Is, Ask, Bare}
@@ -35,10 +36,6 @@ abbrev pub is_plain : Attr → Bool
 is_plain a = is_plain_name a.name && is_given is_plain_value a.value
 
 -- ---- what a plain key says
-
--- whether an attribute has the name
-abbrev pub is_named : List ℕ → Attr → Bool
-is_named name a = bytes_eq a.name name
 
 -- the values of the attributes of a name, in order
 abbrev pub values_of : List ℕ → List Attr → List Value

@@ -1,23 +1,12 @@
 -- Tuples as text, as factotum(4) of the Plan 9 manual writes attributes: words with one blank between, a value
 -- in quotes where a reader would cut it, and what is shown of a tuple with secrets.
 use Rattle.std.specs.Prelude.{ℕ, List, [], ◌∷◌, ◌++◌, Bool, ◌||◌, ◌==◌, length, map, if◌then◌else◌}
-use Rattle.std.specs.List.{list_any, flat_map, join_with_byte}
+use Rattle.std.specs.List.{list_any, join_with_byte}
+use Rattle.attr_words.specs.Words.{quoted, ends_unquoted}
 use Rattle.attr_tuples.specs.Attributes.{is_secret}
 use Rattle.attr_tuples.specs.declared.attr.Attr.{Attr}
 use Rattle.attr_tuples.specs.declared.attr.Value.{Value}
 use Rattle.attr_tuples.specs.declared.attr.Value.TheVariants.{Is, Ask, Bare}
-
--- a byte inside quotes: a `'` is doubled
-abbrev pub quoted_byte : ℕ → List ℕ
-quoted_byte b = if b == 39 then 39 ∷ 39 ∷ [] else b ∷ []
-
--- a value in quotes
-abbrev pub quoted : List ℕ → List ℕ
-quoted text = 39 ∷ flat_map quoted_byte text ++ 39 ∷ []
-
--- a byte at which an unquoted value would end: a blank, a tab or a `'`
-abbrev pub ends_unquoted : ℕ → Bool
-ends_unquoted b = b == 32 || (b == 9 || b == 39)
 
 -- a value stands in quotes exactly where it is empty or holds a blank, a tab or a `'`
 abbrev pub needs_quotes : List ℕ → Bool

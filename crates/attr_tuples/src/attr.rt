@@ -1,6 +1,8 @@
 // An attribute: its name, and what it says of its value.
-ghost use Rattle.std.specs.Prelude.{◌≡◌, IfOk};
+ghost use Rattle.std.specs.Prelude.{◌≡◌, true, IfOk};
+ghost use Rattle.wire_base.specs.Texts.{is_text};
 
+use std::alloc::Global;
 use wire_base::{NoMemory, Text};
 
 /// What an attribute says of its value.
@@ -43,5 +45,16 @@ impl Attr {
         let name = self.name.copy()?;
         let value = self.value.copy()?;
         Ok(Attr { name, value })
+    }
+}
+
+// A copy of bytes that are text.
+pub(crate) fn build_text(alloc: Global, bytes: &[u8]) -> Result<Text, NoMemory>
+    requires { is_text bytes.now ≡ true }
+    ensures { IfOk result (λ text. text ≡ bytes.now) }
+{
+    match Text::from_slice(alloc, bytes)? {
+        Some(text) => Ok(text),
+        None => unreachable!(),
     }
 }

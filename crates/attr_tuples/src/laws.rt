@@ -1,8 +1,11 @@
 // Laws of the definitions, each the contract of a function that does nothing.
-ghost use Rattle.std.specs.Prelude.{◌≡◌, ℕ, List, ◌↔◌, Some, true, map, count_by};
+ghost use Rattle.std.specs.Prelude.{◌≡◌, ℕ, List, ◌↔◌, Some, Ok, Err, true, map, count_by};
 ghost use Rattle.attr_tuples.specs.declared.attr.Attr.{Attr};
 ghost use Rattle.attr_tuples.specs.Printing.{hidden, printed_text, public_text};
 ghost use Rattle.attr_tuples.specs.Equality.{public_equal, public_part, same_attr};
+ghost use Rattle.attr_tuples.specs.Attributes.{is_tuple};
+ghost use Rattle.attr_tuples.specs.declared.fault.TupleFault.{TupleFault};
+ghost use Rattle.attr_tuples.specs.Grammar.{Reads, Refuses, tuple_of};
 ghost use Rattle.attr_tuples.specs.PlainKeys.{IsPlainKey, plain_key};
 
 /// A text is read as a plain key exactly where the key says what a plain key says and the text is how it is printed.
@@ -27,4 +30,21 @@ pub fn public_equal_compares()
     ensures counts { (a b : List Attr) → (public_equal a b ≡ true) ↔ ((x : Attr) → count_by (same_attr x) (public_part a) ≡ count_by (same_attr x) (public_part b)) }
     ensures itself { (a : List Attr) → public_equal a a ≡ true }
     ensures either_way { (a b : List Attr) → public_equal a b ≡ public_equal b a }
+{}
+
+/// A text is read as a tuple exactly where it is made of words that say it, and refused with a fault exactly where it
+/// has that fault behind what is well. So each text has one tuple or one fault.
+pub fn tuples_are_what_they_say()
+    ensures says { (text : List ℕ) (attrs : List Attr) → (tuple_of text ≡ Ok attrs) ↔ Reads text attrs }
+    ensures refuses { (text : List ℕ) (fault : TupleFault) → (tuple_of text ≡ Err fault) ↔ Refuses text fault }
+{}
+
+/// A tuple that is printed is read back as it was.
+pub fn printed_tuples_are_read()
+    ensures { (attrs : List Attr) → is_tuple attrs ≡ true → tuple_of (printed_text attrs) ≡ Ok attrs }
+{}
+
+/// A text that is a plain key is read as the same attributes by the whole grammar.
+pub fn plain_keys_are_tuples()
+    ensures { (text : List ℕ) (key : List Attr) → plain_key text ≡ Some key → tuple_of text ≡ Ok key }
 {}

@@ -2,7 +2,13 @@
 #![tactic(auto)]
 
 mod attr;
+mod compare;
+mod fault;
+#[cfg(test)]
+mod grammar_tests;
 mod laws;
+mod merging;
+mod parse;
 mod plain;
 mod print;
 #[cfg(test)]
@@ -10,10 +16,15 @@ mod tests;
 mod tuple;
 
 pub use attr::{Attr, Value};
+pub use compare::{matches, public_equal, value_of};
+pub use fault::{MergeFault, TupleFault};
 pub use laws::{
-    plain_keys_are_their_text, public_equal_compares, public_equal_hides_secrets,
-    public_text_hides_secrets,
+    plain_keys_are_their_text, plain_keys_are_tuples, printed_tuples_are_read,
+    public_equal_compares, public_equal_hides_secrets, public_text_hides_secrets,
+    tuples_are_what_they_say,
 };
+pub use merging::merge;
+pub use parse::parse_tuple;
 pub use plain::parse_key_line;
 pub use print::{print_public, print_tuple};
 pub use tuple::Tuple;

@@ -2,14 +2,14 @@
 ghost use Rattle.std.specs.Prelude.{◌≡◌, ◌==◌, ◌&&◌, ◌∷◌, ◌<◌, None, Ok, IfOk, IfSome, length, map, true, filter, position, nat_le, codes};
 ghost use Rattle.std.specs.List.{before_first, after_first, list_all, list_any};
 ghost use Rattle.std.specs.Str.{bytes_eq};
-ghost use Rattle.wire_base.specs.Texts.{is_text};
-ghost use Rattle.attr_tuples.specs.PlainKeys.{key_line, words, word_attr, is_plain_byte, is_plain_name_byte, is_plain_name, is_plain_value, is_plain, is_named, is_short_user, is_plain_key, is_apop, are_plain, names_apop, names_short_user, names_password};
+ghost use Rattle.attr_tuples.specs.Attributes.{is_named};
+ghost use Rattle.attr_tuples.specs.PlainKeys.{key_line, words, word_attr, is_plain_byte, is_plain_name_byte, is_plain_name, is_plain_value, is_plain, is_short_user, is_plain_key, is_apop, are_plain, names_apop, names_short_user, names_password};
 ghost use Rattle.attr_tuples.specs.Steps.{words_left};
 
-use crate::attr::{Attr, Value};
+use crate::attr::{Attr, Value, build_text};
 use crate::tuple::Tuple;
 use std::alloc::Global;
-use wire_base::{NoMemory, Text};
+use wire_base::NoMemory;
 
 const MOST_WORDS: usize = 32;
 
@@ -215,14 +215,4 @@ fn build_attr(alloc: Global, word: &[u8]) -> Result<Attr, NoMemory>
         name,
         value: Value::Is(value),
     })
-}
-
-fn build_text(alloc: Global, bytes: &[u8]) -> Result<Text, NoMemory>
-    requires { is_text bytes.now ≡ true }
-    ensures { IfOk result (λ text. text ≡ bytes.now) }
-{
-    match Text::from_slice(alloc, bytes)? {
-        Some(text) => Ok(text),
-        None => unreachable!(),
-    }
 }

@@ -1,11 +1,12 @@
 // Tuples as text.
 ghost use Rattle.std.specs.Prelude.{◌≡◌, ◌∷◌, ◌++◌, length, take, map, OnOk, OnErr};
 ghost use Rattle.std.specs.List.{list_any};
-ghost use Rattle.attr_tuples.specs.Attributes.{is_secret};
-ghost use Rattle.attr_tuples.specs.Printing.{quoted, needs_quotes, value_text, ending_text, attr_text, printed_text, public_text, quoted_byte, ends_unquoted};
+ghost use Rattle.attr_tuples.specs.Printing.{needs_quotes, value_text, ending_text, attr_text, printed_text, public_text};
+ghost use Rattle.attr_words.specs.Words.{quoted, quoted_byte, ends_unquoted};
 ghost use Rattle.attr_tuples.specs.Steps.{seen, others_text};
 
 use crate::attr::{Attr, Value};
+use crate::compare::check_secret;
 use crate::tuple::Tuple;
 use wire_base::{Bytes, NoMemory};
 
@@ -83,12 +84,6 @@ fn append_attr(attr: &Attr, secrets: Secrets, out: &mut Bytes) -> Result<(), NoM
         Secrets::Hidden if check_secret(attr.name.as_slice()) => out.push(b'?'),
         Secrets::Hidden | Secrets::Printed => append_ending(&attr.value, out),
     }
-}
-
-fn check_secret(name: &[u8]) -> bool
-    ensures { result ≡ is_secret name.now }
-{
-    matches!(name, [b'!', ..])
 }
 
 #[tactic(auto, using(crate::proofs::PrintLemmas::kept_then))]

@@ -1,14 +1,17 @@
 // A tuple: attributes in order, each such as a line of text can give.
 ghost use Rattle.std.specs.Prelude.{◌≡◌, [], ◌∷◌, ◌++◌, ◌&&◌, nat_lt, length, true, IfOk, OnErr, if◌then◌else◌};
 ghost use Rattle.std.specs.List.{list_all};
-ghost use Rattle.attr_tuples.specs.Attributes.{is_attr, is_tuple, is_name, is_value, is_name_byte, is_value_byte};
+ghost use Rattle.attr_words.specs.Lines.{is_line_byte};
+ghost use Rattle.wire_base.specs.Texts.{is_text};
+ghost use Rattle.attr_tuples.specs.Attributes.{is_attr, is_tuple, is_name, is_value, is_name_byte};
 
 use crate::attr::{Attr, Value};
+use attr_words::check_line_byte;
 use std::alloc::Global;
 use std::marker::Model;
 use wire_base::{NoMemory, Text};
 
-const MOST_ATTRIBUTES: usize = 36;
+pub(crate) const MOST_ATTRIBUTES: usize = 36;
 
 /// At most 36 attributes in order, as one line of text can give them.
 #[derive(Debug, Drop)]
@@ -34,28 +37,22 @@ fn check_name_byte(byte: u8) -> bool
     byte > b' ' && byte != b'\'' && byte != b'=' && byte != b'?'
 }
 
-fn check_value_byte(byte: u8) -> bool
-    ensures { result ≡ is_value_byte byte }
-{
-    byte >= b' ' || byte == b'\t'
-}
-
 fn check_name_bytes(bytes: &[u8]) -> bool
     ensures { result ≡ list_all is_name_byte bytes.now }
 {
     bytes.iter().all(|byte| check_name_byte(*byte))
 }
 
-fn check_value_bytes(bytes: &[u8]) -> bool
-    ensures { result ≡ list_all is_value_byte bytes.now }
+fn check_line_bytes(bytes: &[u8]) -> bool
+    ensures { result ≡ list_all is_line_byte bytes.now }
 {
-    bytes.iter().all(|byte| check_value_byte(*byte))
+    bytes.iter().all(|byte| check_line_byte(*byte))
 }
 
-fn check_name(name: &Text) -> bool
-    ensures { result ≡ is_name name.now }
+pub(crate) fn check_name(bytes: &[u8]) -> bool
+    requires { is_text bytes.now ≡ true }
+    ensures { result ≡ is_name bytes.now }
 {
-    let bytes = name.as_slice();
     !bytes.is_empty() && bytes != b"!".as_slice() && check_name_bytes(bytes)
 }
 
@@ -63,7 +60,7 @@ fn check_value(value: &Value) -> bool
     ensures { result ≡ is_value value.now }
 {
     match value {
-        Value::Is(text) => check_value_bytes(text.as_slice()),
+        Value::Is(text) => check_line_bytes(text.as_slice()),
         Value::Ask | Value::Bare => true,
     }
 }
@@ -71,7 +68,7 @@ fn check_value(value: &Value) -> bool
 fn check_attr(attr: &Attr) -> bool
     ensures { result ≡ is_attr attr.now }
 {
-    check_name(&attr.name) && check_value(&attr.value)
+    check_name(attr.name.as_slice()) && check_value(&attr.value)
 }
 
 impl Tuple {
@@ -90,6 +87,13 @@ impl Tuple {
         ensures { result ≡ list.items }
     {
         Tuple { list }
+    }
+
+    pub(crate) fn into_vec(self) -> Vec<Attr>
+        ensures same { result.items ≡ self }
+        ensures valid { is_tuple result.items ≡ true }
+    {
+        self.list
     }
 
     pub fn attrs(&self) -> &[Attr]

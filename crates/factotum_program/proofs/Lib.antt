@@ -1,3 +1,4 @@
 pub mod TakeLemmas
-pub mod InputLemmas
+pub mod PartLemmas
+pub mod PipeLemmas
 pub mod CommandLemmas

@@ -1,8 +1,8 @@
 -- Taking until there is no reply.
-use Rattle.std.proofs.Common.{◌≡◌, ℕ, zero, suc, ◌+◌, ◌-◌, ◌<◌, List, [], ◌∷◌, length, drop, Bool, true, false, refl, sym, ap, ◌∙◌, inl, inr, arith}
+use Rattle.std.proofs.Common.{◌≡◌, ℕ, zero, suc, ◌+◌, ◌-◌, ◌<◌, List, [], ◌∷◌, ◌++◌, length, drop, Option, append_assoc, append-nil, Bool, true, false, refl, sym, ap, ◌∙◌, inl, inr, arith}
 use Rattle.std.proofs.lemmas.Bool.{cases_Bool}
 use Rattle.nine_messages.specs.declared.message.RMsg.{RMsg}
-use Rattle.agent_history.specs.declared.event.Event.TheVariants.{Take}
+use Rattle.agent_history.specs.declared.event.Event.TheVariants.{Request, Take}
 use Rattle.agent_history.specs.declared.event.StepAnswer.{StepAnswer}
 use Rattle.agent_history.specs.declared.event.StepAnswer.TheVariants.{Done, Reply, NoReply, Gone, Ask, DropCall, NoAsk, Stopped}
 use Rattle.agent_history.specs.Histories.{History, has_stopped, was_hung, untaken, answer, first_reply, Answered}
@@ -10,16 +10,17 @@ use Rattle.agent_history.specs.Laws.{is_reply}
 use Rattle.agent_core.specs.declared.agent.Agent.{Agent}
 use Rattle.agent_core.specs.Agents.{StandsFor}
 use Rattle.agent_core.proofs.Steps.{untaken_taken, answer_hung}
-use Rattle.factotum_program.specs.Pipe.{take_until, text_of}
+use Rattle.wire_base.specs.Streams.{Gains}
+use Rattle.factotum_program.specs.Pipe.{zeros, take_until, after_frame, after_frames, text_of}
 
--- where a loop of takes stands: some takes after the history, and as many left to make as were said
-pub record Going (H : History) (n : ℕ) (agent : Agent) (text : List ℕ) : Type 0 where
+-- where a loop of takes stands: some takes after the history, as many left to make as were said, and what was written
+pub record Going (H : History) (n : ℕ) (agent : Agent) (origin held : Option (List ℕ)) : Type 0 where
   pub history : History
   pub left : ℕ
   pub stands : StandsFor history agent
   pub enough : length (untaken history 0) < left
   pub same : take_until left history ≡ take_until n H
-  pub told : text ≡ text_of history
+  pub told : Gains origin held (text_of history)
 
 first_left : (ms : List RMsg) → (first_reply ms).0 ≡ Reply → length (drop 1 ms) + 1 ≡ length ms
 first_left [] e = absurd (cc)
@@ -53,8 +54,9 @@ is_reply-true (DropCall conv) e = absurd (cc)
 is_reply-true NoAsk e = absurd (cc)
 is_reply-true Stopped e = absurd (cc)
 
-pub going_more : (H : History) (n : ℕ) (old new : Agent) (before after : List ℕ) (found : Bool) → (g : Going H n old before) → found ≡ true → found ≡ is_reply (answer g.history (Take 0)).0 → after ≡ text_of (Take 0 ∷ g.history) → StandsFor (Take 0 ∷ g.history) new → Going H n new after
-going_more H n old new before after found g reply said told stands =
+pub going_more : (H : History) (n : ℕ) (old new : Agent) (origin before after : Option (List ℕ)) (found : Bool) → (g : Going H n old origin before) → found ≡ true → found ≡ is_reply (answer g.history (Take 0)).0 → Gains origin after (text_of (Take 0 ∷ g.history)) → StandsFor (Take 0 ∷ g.history) new
+    → Going H n new origin after
+going_more H n old new origin before after found g reply said told stands =
     let is : is_reply (answer g.history (Take 0)).0 ≡ true = sym said ∙ reply in
     let less = reply_left g.history (is_reply-true (answer g.history (Take 0)).0 is) in
     record {
@@ -66,11 +68,40 @@ going_more H n old new before after found g reply said told stands =
       told = told;
     }
 
-pub going_ends : (H : History) (n : ℕ) (old new : Agent) (before after : List ℕ) (found : Bool) → (g : Going H n old before) → found ≡ false → found ≡ is_reply (answer g.history (Take 0)).0 → after ≡ text_of (Take 0 ∷ g.history) → StandsFor (Take 0 ∷ g.history) new → StandsFor (take_until n H) new × (after ≡ text_of (take_until n H))
-going_ends H n old new before after found g other said told stands =
+pub going_ends : (H : History) (n : ℕ) (old new : Agent) (origin before after : Option (List ℕ)) (found : Bool) → (g : Going H n old origin before) → found ≡ false → found ≡ is_reply (answer g.history (Take 0)).0 → Gains origin after (text_of (Take 0 ∷ g.history)) → StandsFor (Take 0 ∷ g.history) new
+    → StandsFor (take_until n H) new × Gains origin after (text_of (take_until n H))
+going_ends H n old new origin before after found g other said told stands =
     let end : take_until n H ≡ Take 0 ∷ g.history = sym g.same ∙ until_ends g.left g.history (omega (arith, g.enough)) (sym said ∙ other) in
     rw end (stands, told)
 
 -- before the first take
-pub going_starts : (H : History) (n : ℕ) (agent : Agent) (text : List ℕ) → StandsFor H agent → length (untaken H 0) < n → text ≡ text_of H → Going H n agent text
-going_starts H n agent text stands enough told = record { history = H; left = n; stands = stands; enough = enough; same = refl; told = told }
+pub going_starts : (H : History) (n : ℕ) (agent : Agent) (origin held : Option (List ℕ)) → StandsFor H agent → length (untaken H 0) < n → Gains origin held (text_of H) → Going H n agent origin held
+going_starts H n agent origin held stands enough told = record { history = H; left = n; stands = stands; enough = enough; same = refl; told = told }
+
+-- takes put out behind what was put out
+until_grows : (n : ℕ) (H : History) → (more : List ℕ) × (text_of (take_until n H) ≡ text_of H ++ more)
+until_grows zero H = ([], sym (append-nil (text_of H)))
+until_grows (suc n) H = elim (cases_Bool (is_reply (answer H (Take 0)).0)) [
+  | inl more ↦ let rest = until_grows n (Take 0 ∷ H) in ((answer H (Take 0)).1 ++ rest.0, rw more (rest.1 ∙ append_assoc (text_of H) (answer H (Take 0)).1 rest.0))
+  | inr none ↦ ((answer H (Take 0)).1, rw none refl)
+]
+
+-- a frame puts out behind what was put out
+pub frame_grows : (H : History) (frame : List ℕ) → (more : List ℕ) × (text_of (after_frame H frame) ≡ text_of H ++ more)
+unfolding after_frame
+frame_grows H frame = let asked : History = Request 0 frame zeros ∷ H in let rest = until_grows (suc (length (untaken asked 0))) asked in (rest.0, rest.1 ∙ ap (λ (t : List ℕ). t ++ rest.0) (append-nil (text_of H)))
+
+-- later frames put out behind what was put out
+pub frames_grow : (H : History) (frames : List (List ℕ)) → (more : List ℕ) × (text_of (after_frames H frames) ≡ text_of H ++ more)
+frames_grow H [] = ([], sym (append-nil (text_of H)))
+frames_grow H (frame ∷ frames) =
+    let here = frame_grows H frame in
+    let rest = frames_grow (after_frame H frame) frames in
+    (here.0 ++ rest.0, rest.1 ∙ ap (λ (t : List ℕ). t ++ rest.0) here.1 ∙ append_assoc (text_of H) here.0 rest.0)
+
+-- what the first of the takes that are left puts out stands in front of what all of them do
+pub going_grows : (H : History) (n : ℕ) (agent : Agent) (origin held : Option (List ℕ)) → (g : Going H n agent origin held) → (more : List ℕ) × (text_of (take_until n H) ≡ text_of (Take 0 ∷ g.history) ++ more)
+going_grows H n agent origin held g = elim (cases_Bool (is_reply (answer g.history (Take 0)).0)) [
+  | inl more ↦ let rest = until_grows (g.left - 1) (Take 0 ∷ g.history) in (rest.0, ap text_of (sym g.same ∙ until_more g.left g.history (omega (arith, g.enough)) more) ∙ rest.1)
+  | inr none ↦ ([], ap text_of (sym g.same ∙ until_ends g.left g.history (omega (arith, g.enough)) none) ∙ sym (append-nil (text_of (Take 0 ∷ g.history))))
+]

@@ -1,12 +1,14 @@
--- What a command does to its input and its output. Content is optional: the words on it hold where it is told.
-use Rattle.std.specs.Prelude.{◌≡◌, ◌<◌, ◌≤◌, ℕ, List, [], ◌∷◌, ◌++◌, length, Option, Bool, true, false, codes}
+-- What a command does to its input and its output, by the bytes that it read. Content is optional: the words on it hold
+-- where it is told.
+use Rattle.std.specs.Prelude.{◌≡◌, ◌<◌, ◌≤◌, ℕ, List, [], ◌∷◌, ◌++◌, length, drop, Option, Bool, true, false, codes}
+use Rattle.std.specs.List.{concat}
 use Rattle.std.specs.Str.{bytes_eq}
 use Rattle.std.specs.Io.KnownBytes.{Consumes, IsAtEnd}
-use Rattle.wire_base.specs.Causes.{Rose}
 use Rattle.wire_base.specs.Streams.{Gains}
+use Rattle.nine_frames.specs.Streams.{front, IsBad, IsShort, frames}
 use Rattle.factotum_program.specs.declared.status.Status.{Status}
-use Rattle.factotum_program.specs.declared.status.Status.TheVariants.{Fine, Usage, ReadFault, WriteFault, BadInput, NoMemory, Flood}
-use Rattle.factotum_program.specs.Pipe.{IsInput, pipe_text}
+use Rattle.factotum_program.specs.declared.status.Status.TheVariants.{Fine, Usage, ReadFault, WriteFault, BadFrame, Torn, NoMemory, Flood}
+use Rattle.factotum_program.specs.Pipe.{most_frame, replies_text, pipe_text}
 
 -- the words are the one word `pipe`
 abbrev pub is_pipe : List (List ℕ) → Bool
@@ -16,69 +18,92 @@ is_pipe words = false
 abbrev pub IsPipe : List (List ℕ) → Type 0
 IsPipe words = is_pipe words ≡ true
 
--- how many bytes of input a pipe takes: 2^22
+-- how many bytes of input a pipe takes: 2^40
 abbrev pub most_input : ℕ
-most_input = 4194304
+most_input = 1099511627776
 
--- the input was read to its end, and these are its bytes, not too many
-pub record Reads (old new : Option (List ℕ)) (input : List ℕ) : Type 0 where
-  pub taken : Consumes old new input
-  pub at_end : IsAtEnd new
+-- the whole frames of an input, up to the first bad size
+abbrev pub frames_in : List ℕ → List (List ℕ)
+frames_in input = frames most_frame input
+
+-- the input is whole frames, one behind the other, and nothing else
+abbrev pub IsWhole : List ℕ → Type 0
+IsWhole input = input ≡ concat (frames_in input)
+
+-- so far the whole frames of the input reach
+abbrev pub end_of : List ℕ → ℕ
+end_of input = length (concat (frames_in input))
+
+-- The bytes that were read: the input within the limit, and what was read behind it, which is something only where the
+-- input is as long as the limit.
+pub record Reads (old new : Option (List ℕ)) (input behind : List ℕ) : Type 0 where
+  pub taken : Consumes old new (input ++ behind)
   pub bounded : length input ≤ most_input
+  pub full : 0 < length behind → length input ≡ most_input
 
--- the input was read, it is whole frames, and what was written is the text of their pipe
+-- the input was read to its end, it is whole frames, and what was written is the text of their pipe
 pub record Answers (left_old left_new held_old held_new : Option (List ℕ)) : Type 0 where
   pub input : List ℕ
-  pub frames : List (List ℕ)
-  pub read : Reads left_old left_new input
-  pub cut : IsInput input frames
-  pub written : Gains held_old held_new (pipe_text frames)
+  pub read : Reads left_old left_new input []
+  pub at_end : IsAtEnd left_new
+  pub whole : IsWhole input
+  pub written : Gains held_old held_new (pipe_text (frames_in input))
 
--- the same, but only a front of the text was written, and some is missing
-pub record AnswersFront (left_old left_new held_old held_new : Option (List ℕ)) : Type 0 where
+-- a size that no frame has stands behind the whole frames, whose replies were written
+pub record MeetsBadFrame (at size : ℕ) (left_old left_new held_old held_new : Option (List ℕ)) : Type 0 where
   pub input : List ℕ
-  pub frames : List (List ℕ)
-  pub read : Reads left_old left_new input
-  pub cut : IsInput input frames
+  pub behind : List ℕ
+  pub read : Reads left_old left_new input behind
+  pub place : at ≡ end_of input
+  pub bad : front most_frame (drop at input) ≡ IsBad size
+  pub written : Gains held_old held_new (replies_text (frames_in input))
+
+-- the input was read to its end, which is inside the frame that begins behind the whole ones, whose replies were written
+pub record EndsInside (at : ℕ) (left_old left_new held_old held_new : Option (List ℕ)) : Type 0 where
+  pub input : List ℕ
+  pub read : Reads left_old left_new input []
+  pub at_end : IsAtEnd left_new
+  pub place : at ≡ end_of input
+  pub inside : at < length input
+  pub short : front most_frame (drop at input) ≡ IsShort
+  pub written : Gains held_old held_new (replies_text (frames_in input))
+
+-- more than the limit was read; the replies to the whole frames within it were written
+pub record Floods (left_old left_new held_old held_new : Option (List ℕ)) : Type 0 where
+  pub input : List ℕ
+  pub behind : List ℕ
+  pub read : Reads left_old left_new input behind
+  pub over : 0 < length behind
+  pub written : Gains held_old held_new (replies_text (frames_in input))
+
+-- the replies to the whole frames of what was read were written
+pub record RepliesSoFar (left_old left_new held_old held_new : Option (List ℕ)) : Type 0 where
+  pub input : List ℕ
+  pub read : Reads left_old left_new input []
+  pub written : Gains held_old held_new (replies_text (frames_in input))
+
+-- a front of a text was written; where a write failed some of the text is missing
+pub record GainsPart (status : Status) (old new : Option (List ℕ)) (text : List ℕ) : Type 0 where
   pub front : List ℕ
   pub rest : List ℕ
-  pub parts : pipe_text frames ≡ front ++ rest
-  pub missing : 0 < length rest
-  pub written : Gains held_old held_new front
+  pub parts : text ≡ front ++ rest
+  pub written : Gains old new front
+  pub missing : status ≡ WriteFault → 0 < length rest
 
--- the input was read to its end, and it isn't whole frames
-pub record ReadsNoFrames (old new : Option (List ℕ)) : Type 0 where
+-- a front of the replies to the whole frames of what was read was written
+pub record RepliesInPart (status : Status) (left_old left_new held_old held_new : Option (List ℕ)) : Type 0 where
   pub input : List ℕ
-  pub read : Reads old new input
-  pub no_frames : (frames : List (List ℕ)) → IsInput input frames → ⊥
+  pub behind : List ℕ
+  pub read : Reads left_old left_new input behind
+  pub written : GainsPart status held_old held_new (replies_text (frames_in input))
 
--- more than the limit was taken
-pub record Floods (old new : Option (List ℕ)) : Type 0 where
-  pub input : List ℕ
-  pub taken : Consumes old new input
-  pub over : most_input < length input
-
--- the text for an input that was read
-pub record Prepares (old new : Option (List ℕ)) (text : List ℕ) : Type 0 where
-  pub input : List ℕ
-  pub frames : List (List ℕ)
-  pub read : Reads old new input
-  pub cut : IsInput input frames
-  pub told : text ≡ pipe_text frames
-
--- why there is no text: the count of read faults rose, the input isn't frames, there was too much of it, or memory ran
--- out; no other status ends it
-abbrev pub HasCause : Option (List ℕ) → Option (List ℕ) → ℕ → ℕ → Status → Type 0
-HasCause old new before now ReadFault = Rose before now
-HasCause old new before now BadInput = ReadsNoFrames old new
-HasCause old new before now (Flood limit) = (limit ≡ most_input) × Floods old new
-HasCause old new before now NoMemory = Unit {0}
-HasCause old new before now Fine = ⊥
-HasCause old new before now Usage = ⊥
-HasCause old new before now WriteFault = ⊥
-
--- the statuses before which nothing is written
-abbrev pub IsSilent : Status → Type 0
-IsSilent Fine = ⊥
-IsSilent WriteFault = ⊥
-IsSilent status = Unit {0}
+-- what a pipe that ended so has read and written; no other status ends it
+abbrev pub EndsSo : Status → Option (List ℕ) → Option (List ℕ) → Option (List ℕ) → Option (List ℕ) → Type 0
+EndsSo Fine left_old left_new held_old held_new = Answers left_old left_new held_old held_new
+EndsSo Usage left_old left_new held_old held_new = ⊥
+EndsSo ReadFault left_old left_new held_old held_new = RepliesSoFar left_old left_new held_old held_new
+EndsSo WriteFault left_old left_new held_old held_new = RepliesInPart WriteFault left_old left_new held_old held_new
+EndsSo (BadFrame at size) left_old left_new held_old held_new = MeetsBadFrame at size left_old left_new held_old held_new
+EndsSo (Torn at) left_old left_new held_old held_new = EndsInside at left_old left_new held_old held_new
+EndsSo NoMemory left_old left_new held_old held_new = RepliesInPart NoMemory left_old left_new held_old held_new
+EndsSo (Flood limit) left_old left_new held_old held_new = (limit ≡ most_input) × Floods left_old left_new held_old held_new

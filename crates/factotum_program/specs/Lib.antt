@@ -1,4 +1,4 @@
 pub mod Pipe
-pub mod Asking
 pub mod Statuses
 pub mod Commands
+pub mod Sessions

@@ -1,21 +1,13 @@
--- One 9P connection over an input and an output: which inputs there are, the history that an input makes, and what is
--- written. The history is the agent's own; nothing of how the program goes over its input stands here.
-use Rattle.std.specs.Prelude.{◌≡◌, ℕ, zero, suc, ◌≤◌, List, [], ◌∷◌, ◌++◌, length, if◌then◌else◌}
-use Rattle.std.specs.List.{AllByRecursion, concat}
-use Rattle.nine_messages.specs.Decoding.{IsFrame}
+-- One 9P connection over an input and an output: the history that its frames make, and what is written. The history is
+-- the agent's own; nothing of how the program goes over its input stands here.
+use Rattle.std.specs.Prelude.{ℕ, zero, suc, List, [], ◌∷◌, ◌++◌, length, if◌then◌else◌}
 use Rattle.agent_history.specs.declared.event.Event.TheVariants.{Request, Hang, Take}
 use Rattle.agent_history.specs.Histories.{History, untaken, answer}
 use Rattle.agent_history.specs.Laws.{is_reply}
 
--- a whole frame: its size field is the number of its bytes, from 7 to 8216
-pub record IsWhole (frame : List ℕ) : Type 0 where
-  pub frame_is : IsFrame frame
-  pub size : length frame ≤ 8216
-
--- the input is these whole frames, one behind the other, and nothing else
-pub record IsInput (input : List ℕ) (frames : List (List ℕ)) : Type 0 where
-  pub whole : AllByRecursion IsWhole frames
-  pub joined : input ≡ concat frames
+-- the greatest size of a frame
+abbrev pub most_frame : ℕ
+most_frame = 8216
 
 -- the word that goes with each frame while nothing is drawn
 abbrev pub zeros : List ℕ
@@ -43,6 +35,10 @@ pipe frames = Hang 0 ∷ after_frames [] frames
 abbrev pub text_of : History → List ℕ
 text_of [] = []
 text_of (event ∷ before) = text_of before ++ (answer before event).1
+
+-- the replies to these frames
+abbrev pub replies_text : List (List ℕ) → List ℕ
+replies_text frames = text_of (after_frames [] frames)
 
 -- what is written for an input of these frames
 unfoldable pub pipe_text : List (List ℕ) → List ℕ

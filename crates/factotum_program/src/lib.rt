@@ -3,11 +3,11 @@
 #![tactic(auto)]
 
 mod command;
-mod cut;
+mod frames;
 mod pipe;
 mod status;
 #[cfg(test)]
 mod tests;
 
-pub use command::{an_input_is_cut_in_one_way, run_command};
+pub use command::run_command;
 pub use status::{Status, print_status};

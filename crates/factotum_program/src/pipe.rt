@@ -1,143 +1,158 @@
-// One connection of 9P on an input and an output.
-ghost use Rattle.std.specs.Prelude.{◌≡◌, ◌++◌, [], ◌∷◌, ◌+◌, ◌<◌, List, ℕ, true, length, IsErrOf, IfOk, IfErr, OnOk};
-ghost use Rattle.agent_history.specs.Histories.{History, untaken, answer};
-ghost use Rattle.agent_history.specs.Laws.{is_reply};
-ghost use Rattle.agent_core.specs.Agents.{StandsFor, kept_replies};
-ghost use Rattle.agent_history.specs.declared.event.Event.TheVariants.{Request, Hang, Take};
-ghost use Rattle.factotum_program.specs.Asking.{IsAsked};
-ghost use Rattle.factotum_program.specs.Pipe.{IsWhole, IsInput, zeros, take_until, after_frame, text_of, pipe_text};
-ghost use Rattle.factotum_program.specs.declared.pipe.PipeFault.TheVariants.{NoMemory};
+// One connection of 9P on an input and an output: a piece of the input is read, the frames that are whole with it are
+// answered, and then the next piece is read.
+ghost use Rattle.std.specs.Prelude.{◌≡◌, ◌++◌, ◌+◌, ◌<◌, ◌≤◌, List, ℕ, Option, true, false, length, IfOk, IfErr, OnOk};
+ghost use Rattle.std.specs.Io.KnownBytes.{Consumes, IsAtEnd};
+ghost use Rattle.wire_base.specs.Causes.{Rose};
+ghost use Rattle.factotum_program.specs.Commands.{most_input, Answers, EndsSo};
+ghost use Rattle.factotum_program.specs.Sessions.{AllHanded, Piped, StopsAt, taken_by};
 
-use crate::cut::cut;
-use agent_core::{Agent, Event, StepAnswer};
+use crate::frames::{CONNECTION, answer_frames};
+use crate::status::Status;
+use agent_core::{Agent, Event};
+use nine_frames::Framer;
 use std::alloc::Global;
-use wire_base::Bytes;
+use wire_base::{Bytes, Got, NoMemory, Sink, Source};
 
-/// The number of the one connection.
-const CONNECTION: u64 = 0;
+/// The greatest size of a frame.
+const MOST_FRAME: u32 = 8216;
 
-/// Why an input wasn't answered.
-#[derive(Clone, Copy, Debug, PartialEq, Eq)]
-pub(crate) enum PipeFault {
-    /// It isn't whole frames.
-    BadInput,
-    NoMemory,
+/// How many bytes of input a pipe takes.
+const MOST_INPUT: usize = 1 << 40;
+
+/// How many bytes one read asks for.
+const CHUNK: usize = 65536;
+
+/// The agent, the bytes that aren't answered yet, and a place for one reply.
+#[derive(Drop)]
+pub(crate) struct Session {
+    agent: Agent,
+    framer: Framer,
+    replies: Bytes,
 }
 
-impl From<wire_base::NoMemory> for PipeFault {
-    ghost from_gives = { λ _ e. e ≡ NoMemory };
-
-    fn from(_: wire_base::NoMemory) -> Self {
-        PipeFault::NoMemory
-    }
-}
-
-// One take; whether it found a reply.
-fn take_one(agent: &mut Agent, text: &mut Bytes) -> Result<bool, PipeFault>
-    ensures stands { OnOk result ((H : History) → StandsFor H agent.old → StandsFor (Take 0 ∷ H) agent.new) }
-    ensures reply { IfOk result (λ found. (H : History) → StandsFor H agent.old → found ≡ is_reply (answer H (Take 0)).0) }
-    ensures told { OnOk result ((H : History) → StandsFor H agent.old → text.old ≡ text_of H → text.new ≡ text_of (Take 0 ∷ H)) }
-    ensures fewer { IfOk result (λ found. found ≡ true → kept_replies agent.new 0 + 1 ≡ kept_replies agent.old 0) }
-    ensures err { IfErr result (λ e. e ≡ PipeFault.NoMemory) }
+// How many bytes of the input were taken.
+fn taken_by(session: &Session) -> usize
+    requires { taken_by session.now ≤ most_input }
+    ensures { result ≡ taken_by session.now }
 {
-    let answer = agent.step(&Event::Take { conn: CONNECTION }, text)?;
-    Ok(answer == StepAnswer::Reply)
+    session.framer.place() as usize + session.framer.held()
 }
 
-// Takes until there is no reply.
-fn take_all(agent: &mut Agent, text: &mut Bytes) -> Result<(), PipeFault>
-    ensures ok { OnOk result ((H : History) (n : ℕ) → StandsFor H agent.old → length (untaken H 0) < n → text.old ≡ text_of H
-        → StandsFor (take_until n H) agent.new × (text.new ≡ text_of (take_until n H))) }
-    ensures err { IfErr result (λ e. e ≡ PipeFault.NoMemory) }
+// Answers the frames that are whole with the next piece of the input.
+fn answer_bytes<W: Sink>(session: &mut Session, piece: &[u8], output: &mut W) -> Result<(), Status>
+    requires room { taken_by session.old + length piece.now ≤ most_input }
+    ensures ok { OnOk result ((origin : Option (List ℕ)) (stream : List ℕ) → AllHanded origin (W.holds output.old) stream session.old.framer session.old.agent → AllHanded origin (W.holds output.new) (stream ++ piece.now) session.new.framer session.new.agent) }
+    ensures err { IfErr result (λ status. (origin : Option (List ℕ)) (stream : List ℕ) → AllHanded origin (W.holds output.old) stream session.old.framer session.old.agent → StopsAt origin (W.holds output.new) (stream ++ piece.now) status) }
+    ensures taken { OnOk result (taken_by session.new ≡ taken_by session.old + length piece.now) }
+    ensures cause { IfErr result (λ status. status ≡ Status.WriteFault → Rose (W.faults output.old) (W.faults output.new)) }
+    ensures which { IfErr result (λ status. status ≡ Status.ReadFault → ⊥) }
+    ensures counted { W.faults output.old ≤ W.faults output.new }
 {
-    while take_one(agent, text)? {}
-    Ok(())
+    session.framer.feed(piece)?;
+    answer_frames(
+        &mut session.agent,
+        &mut session.framer,
+        &mut session.replies,
+        output,
+    )
 }
 
-// Puts a frame in the place of a request's frame, and keeps its memory.
-fn set_frame(request: &mut Event, bytes: &[u8]) -> Result<(), PipeFault>
-    requires { IsAsked request.old }
-    ensures ok { OnOk result (request.new ≡ Request 0 bytes.now zeros) }
-    ensures err { IfErr result (λ e. e ≡ PipeFault.NoMemory) }
+// Reads a piece of the input, and answers the frames that are whole with it. Whether the input may go on.
+fn answer_piece<R: Source, W: Sink>(
+    session: &mut Session,
+    chunk: &mut [u8],
+    input: &mut R,
+    output: &mut W,
+) -> Result<bool, Status>
+    requires room { 0 < length chunk.old }
+    requires few { taken_by session.old ≤ most_input }
+    ensures ok { OnOk result ((first origin : Option (List ℕ)) → Piped first (R.left input.old) origin (W.holds output.old) session.old → Piped first (R.left input.new) origin (W.holds output.new) session.new) }
+    ensures at_end { IfOk result (λ more. more ≡ false → IsAtEnd (R.left input.new)) }
+    ensures err { IfErr result (λ status. (first origin : Option (List ℕ)) → Piped first (R.left input.old) origin (W.holds output.old) session.old → EndsSo status first (R.left input.new) origin (W.holds output.new)) }
+    ensures few { OnOk result (taken_by session.new ≤ most_input) }
+    ensures more { IfOk result (λ more. more ≡ true → taken_by session.old < taken_by session.new) }
+    ensures read_fault { IfErr result (λ status. status ≡ Status.ReadFault → Rose (R.faults input.old) (R.faults input.new)) }
+    ensures write_fault { IfErr result (λ status. status ≡ Status.WriteFault → Rose (W.faults output.old) (W.faults output.new)) }
+    ensures counted_reads { R.faults input.old ≤ R.faults input.new }
+    ensures counted_writes { W.faults output.old ≤ W.faults output.new }
 {
-    match request {
-        Event::Request { frame, .. } => {
-            frame.clear();
-            frame.append(bytes)?;
-            Ok(())
-        }
-        _ => unreachable!(),
-    }
-}
-
-// Hands one frame to the agent.
-fn ask(
-    agent: &mut Agent,
-    frame: &[u8],
-    request: &mut Event,
-    text: &mut Bytes,
-) -> Result<(), PipeFault>
-    requires whole { IsWhole frame.now }
-    requires asked { IsAsked request.old }
-    ensures stands { OnOk result ((H : History) → StandsFor H agent.old → StandsFor (Request 0 frame.now zeros ∷ H) agent.new) }
-    ensures told { OnOk result ((H : History) → StandsFor H agent.old → text.old ≡ text_of H → text.new ≡ text_of (Request 0 frame.now zeros ∷ H)) }
-    ensures kept { OnOk result (IsAsked request.new) }
-    ensures err { IfErr result (λ e. e ≡ PipeFault.NoMemory) }
-{
-    set_frame(request, frame)?;
-    agent.step(request, text)?;
-    Ok(())
-}
-
-// Hands one frame to the agent, and takes what it answers.
-#[tactic(auto, unfolding(crate::specs::Pipe::after_frame))]
-fn answer_frame(
-    agent: &mut Agent,
-    frame: &[u8],
-    request: &mut Event,
-    text: &mut Bytes,
-) -> Result<(), PipeFault>
-    requires whole { IsWhole frame.now }
-    requires asked { IsAsked request.old }
-    ensures ok { OnOk result ((H : History) → StandsFor H agent.old → text.old ≡ text_of H
-        → StandsFor (after_frame H frame.now) agent.new × (text.new ≡ text_of (after_frame H frame.now))) }
-    ensures kept { OnOk result (IsAsked request.new) }
-    ensures err { IfErr result (λ e. e ≡ PipeFault.NoMemory) }
-{
-    ask(agent, frame, request, text)?;
-    take_all(agent, text)
-}
-
-// The end of the input: the connection is hung up.
-fn hang_up(agent: &mut Agent, text: &mut Bytes) -> Result<(), PipeFault>
-    ensures told { OnOk result ((H : History) → StandsFor H agent.old → text.old ≡ text_of H → text.new ≡ text_of (Hang 0 ∷ H)) }
-    ensures err { IfErr result (λ e. e ≡ PipeFault.NoMemory) }
-{
-    agent.step(&Event::Hang { conn: CONNECTION }, text)?;
-    Ok(())
-}
-
-/// What is written for an input, where it is whole frames.
-#[tactic(auto, unfolding(crate::specs::Pipe::pipe_text))]
-pub(crate) fn answer_input(alloc: Global, input: &[u8]) -> Result<Bytes, PipeFault>
-    ensures ok { IfOk result (λ text. (frames : List (List ℕ)) × IsInput input.now frames × (text ≡ pipe_text frames)) }
-    ensures bad { IsErrOf result PipeFault.BadInput → (frames : List (List ℕ)) → IsInput input.now frames → ⊥ }
-{
-    let mut agent = Agent::new(alloc)?;
-    let mut text = Bytes::new(alloc);
-    let mut request = Event::Request {
-        conn: CONNECTION,
-        frame: Bytes::new(alloc),
-        word: [0; 8],
+    let count = match input.read(chunk) {
+        Got::Bytes(count) => count,
+        Got::End => return Ok(false),
+        Got::Failed => return Err(Status::ReadFault),
     };
-    let mut rest = input;
-    while !rest.is_empty() {
-        let Some((frame, after)) = cut(rest) else {
-            return Err(PipeFault::BadInput);
-        };
-        answer_frame(&mut agent, frame, &mut request, &mut text)?;
-        rest = after;
+    let fits = count.min(MOST_INPUT - taken_by(session));
+    answer_bytes(session, &chunk[..fits], output)?;
+    if fits < count {
+        return Err(Status::Flood {
+            limit: MOST_INPUT as u64,
+        });
     }
-    hang_up(&mut agent, &mut text)?;
-    Ok(text)
+    Ok(true)
+}
+
+// The end of the input: the connection is hung up, where the input doesn't end inside a frame.
+fn end(session: &mut Session) -> Result<(), Status>
+    ensures ok { OnOk result ((first now origin held : Option (List ℕ)) → Piped first now origin held session.old → IsAtEnd now → Answers first now origin held) }
+    ensures err { IfErr result (λ status. (first now origin held : Option (List ℕ)) → Piped first now origin held session.old → IsAtEnd now → EndsSo status first now origin held) }
+    ensures which { IfErr result (λ status. (status ≡ Status.ReadFault → ⊥) × (status ≡ Status.WriteFault → ⊥)) }
+{
+    if session.framer.held() > 0 {
+        let at = session.framer.place();
+        return Err(Status::Torn { at });
+    }
+    session
+        .agent
+        .step(&Event::Hang { conn: CONNECTION }, &mut session.replies)?;
+    Ok(())
+}
+
+// Before the first read.
+fn begin(alloc: Global) -> Result<Session, NoMemory>
+    ensures begun { IfOk result (λ session. (first origin : Option (List ℕ)) → Piped first first origin origin session) }
+    ensures none { IfOk result (λ session. taken_by session ≡ 0) }
+{
+    Ok(Session {
+        agent: Agent::new(alloc)?,
+        framer: Framer::new(alloc, MOST_FRAME),
+        replies: Bytes::new(alloc),
+    })
+}
+
+// Reads the input to its end, and answers its frames.
+fn answer_pieces<R: Source, W: Sink>(
+    session: &mut Session,
+    input: &mut R,
+    output: &mut W,
+) -> Result<(), Status>
+    requires few { taken_by session.old ≤ most_input }
+    ensures ok { OnOk result ((first origin : Option (List ℕ)) → Piped first (R.left input.old) origin (W.holds output.old) session.old → Piped first (R.left input.new) origin (W.holds output.new) session.new) }
+    ensures at_end { OnOk result (IsAtEnd (R.left input.new)) }
+    ensures err { IfErr result (λ status. (first origin : Option (List ℕ)) → Piped first (R.left input.old) origin (W.holds output.old) session.old → EndsSo status first (R.left input.new) origin (W.holds output.new)) }
+    ensures read_fault { IfErr result (λ status. status ≡ Status.ReadFault → Rose (R.faults input.old) (R.faults input.new)) }
+    ensures write_fault { IfErr result (λ status. status ≡ Status.WriteFault → Rose (W.faults output.old) (W.faults output.new)) }
+    ensures counted_reads { R.faults input.old ≤ R.faults input.new }
+    ensures counted_writes { W.faults output.old ≤ W.faults output.new }
+{
+    let mut chunk = [0u8; CHUNK];
+    while answer_piece(session, &mut chunk, input, output)? {}
+    Ok(())
+}
+
+/// Answers the frames of the input to its end.
+pub(crate) fn answer_input<R: Source, W: Sink>(
+    alloc: Global,
+    input: &mut R,
+    output: &mut W,
+) -> Result<(), Status>
+    ensures ok { OnOk result (Answers (R.left input.old) (R.left input.new) (W.holds output.old) (W.holds output.new)) }
+    ensures err { IfErr result (λ status. EndsSo status (R.left input.old) (R.left input.new) (W.holds output.old) (W.holds output.new)) }
+    ensures read_fault { IfErr result (λ status. status ≡ Status.ReadFault → Rose (R.faults input.old) (R.faults input.new)) }
+    ensures write_fault { IfErr result (λ status. status ≡ Status.WriteFault → Rose (W.faults output.old) (W.faults output.new)) }
+    ensures counted_reads { R.faults input.old ≤ R.faults input.new }
+    ensures counted_writes { W.faults output.old ≤ W.faults output.new }
+{
+    let mut session = begin(alloc)?;
+    answer_pieces(&mut session, input, output)?;
+    end(&mut session)
 }

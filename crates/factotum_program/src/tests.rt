@@ -1,9 +1,10 @@
 // The command on objects in memory, by hand from section 5 of the Plan 9 manual and factotum(4), and its statuses.
 use crate::{Status, print_status, run_command};
 use std::alloc::Global;
+use std::io::{self, Read};
 use std::process::Abort;
 use std::test::Fail;
-use wire_base::{Bytes, MemSink, MemSource, Source, SteadySource, Text, TextList};
+use wire_base::{Bytes, MemSink, MemSource, ReadSource, Source, SteadySource, Text, TextList};
 
 const VERSION: &str = "13000000 64 ffff 18200000 0600 395032303030";
 
@@ -26,7 +27,11 @@ const KEY_REPLIES: &str = "13000000 65 ffff 18200000 0600 395032303030
     2c000000 75 0500 21000000 6b65792070726f746f3d61706f7020757365723d61202170617373776f72643f0a
     07000000 79 0600";
 
-const NOT_SERVED: &str = "13000000 6b 0100 0a00 6e6f7420736572766564";
+const UNKNOWN_VERSION: &str = "14000000 65 ffff 18200000 0700 756e6b6e6f776e";
+
+const MSIZE_TOO_SMALL: &str = "18000000 6b ffff 0f00 6d73697a6520746f6f20736d616c6c";
+
+const BAD_MESSAGE: &str = "14000000 6b 0100 0b00 626164206d657373616765";
 
 // The bytes of hexadecimal digits, of which all else parts words.
 fn bytes_of(alloc: Global, digits: &str) -> Result<Vec<u8>, Fail> {
@@ -74,116 +79,199 @@ fn expect_pipe(
 #[test]
 fn inputs_are_answered(rt: HostRuntime) -> Result<(), Fail> {
     let alloc = rt.alloc();
-    // The first are followed by so many zero bytes.
-    for (name, input, zeros, status, output) in [
-        ("no bytes", "", 0, Status::Fine, ""),
-        ("version", VERSION, 0, Status::Fine, VERSION_REPLY),
-        ("a key", KEY_CONVERSATION, 0, Status::Fine, KEY_REPLIES),
+    for (name, input, output) in [
+        ("no bytes", "", ""),
+        ("version", VERSION, VERSION_REPLY),
+        ("a key", KEY_CONVERSATION, KEY_REPLIES),
         (
-            "a frame of 7 bytes",
-            "07000000 78 0100",
-            0,
-            Status::Fine,
-            NOT_SERVED,
+            "version with a small msize",
+            "13000000 64 ffff 64000000 0600 395032303030",
+            MSIZE_TOO_SMALL,
         ),
         (
-            "a frame of 8216 bytes",
-            "18200000 78 0100",
-            8209,
-            Status::Fine,
-            NOT_SERVED,
+            "version of 1999",
+            "13000000 64 ffff 18200000 0600 395031393939",
+            UNKNOWN_VERSION,
         ),
         (
-            "a frame of 8217 bytes",
-            "19200000 78 0100",
-            8210,
-            Status::BadInput,
-            "",
+            "version 9P2000.u",
+            "15000000 64 ffff 18200000 0800 3950323030302e75",
+            VERSION_REPLY,
         ),
-        ("a size of 6", "06000000 78 01", 0, Status::BadInput, ""),
-        ("a size of 0", "00000000 78 0100", 0, Status::BadInput, ""),
-        (
-            "a size of 2^32 - 1",
-            "ffffffff 78 0100",
-            9000,
-            Status::BadInput,
-            "",
-        ),
-        ("3 bytes", "130000", 0, Status::BadInput, ""),
-        ("a head", "13000000 64 ffff", 0, Status::BadInput, ""),
-        (
-            "a byte too few",
-            "13000000 64 ffff 18200000 0600 3950323030",
-            0,
-            Status::BadInput,
-            "",
-        ),
-        (
-            "version, then a size of 6",
-            "13000000 64 ffff 18200000 0600 395032303030 06000000 78 01",
-            0,
-            Status::BadInput,
-            "",
-        ),
-        (
-            "version, then a byte",
-            "13000000 64 ffff 18200000 0600 395032303030 07",
-            0,
-            Status::BadInput,
-            "",
-        ),
+        ("a frame of 7 bytes", "07000000 78 0100", BAD_MESSAGE),
     ] {
-        let mut bytes = bytes_of(alloc, input)?;
-        for _ in 0..zeros {
-            bytes.push(0)?;
-        }
-        let output = bytes_of(alloc, output)?;
-        expect_pipe(&rt, alloc, name, bytes, (0, 0), status, output.as_slice())?;
+        let (input, output) = (bytes_of(alloc, input)?, bytes_of(alloc, output)?);
+        expect_pipe(
+            &rt,
+            alloc,
+            name,
+            input,
+            (0, 0),
+            Status::Fine,
+            output.as_slice(),
+        )?;
+    }
+    Ok(())
+}
+
+// Some bytes behind others, and so many zero bytes behind them.
+fn joined(alloc: Global, before: &str, bytes: &str, zeros: usize) -> Result<Vec<u8>, Fail> {
+    let mut all = bytes_of(alloc, before)?;
+    all.extend_from_slice(&bytes_of(alloc, bytes)?)?;
+    for _ in 0..zeros {
+        all.push(0)?;
+    }
+    Ok(all)
+}
+
+#[test]
+fn a_frame_has_at_most_8216_bytes(rt: HostRuntime) -> Result<(), Fail> {
+    let alloc = rt.alloc();
+    for (before, replies) in [("", ""), (VERSION, VERSION_REPLY)] {
+        let input = joined(alloc, before, "18200000 78 0100", 8209)?;
+        let output = joined(alloc, replies, BAD_MESSAGE, 0)?;
+        expect_pipe(
+            &rt,
+            alloc,
+            before,
+            input,
+            (0, 0),
+            Status::Fine,
+            output.as_slice(),
+        )?;
     }
     Ok(())
 }
 
 #[test]
-fn an_input_has_at_most_4194304_bytes(rt: HostRuntime) -> Result<(), Fail> {
+fn a_bad_size_is_told_with_its_place(rt: HostRuntime) -> Result<(), Fail> {
     let alloc = rt.alloc();
-    let flood = Status::Flood { limit: 4194304 };
-    for (name, more, status, replies) in [
-        ("at the limit", 0, Status::Fine, 512),
-        ("one byte over it", 1, flood, 0),
-        ("a frame over it", 8192, flood, 0),
+    for (name, input, zeros, size) in [
+        ("8217 bytes", "19200000 78 0100", 8210, 8217),
+        ("one over, alone", "19200000", 0, 8217),
+        ("one under", "06000000 78 01", 0, 6),
+        ("nothing", "00000000", 0, 0),
+        ("the most", "ffffffff 78 0100", 70000, 0xffff_ffff),
     ] {
-        // Frames of 8192 bytes, none of which is a request.
-        let head = bytes_of(alloc, "00200000 78 0100")?;
-        let zeros = vec![in alloc; 0u8; 8185]?;
-        let mut input = Vec::new(alloc);
-        for _ in 0..512 {
-            input.extend_from_slice(&head)?;
-            input.extend_from_slice(&zeros)?;
+        for (before, at, replies) in [("", 0, ""), (VERSION, 19, VERSION_REPLY)] {
+            let input = joined(alloc, before, input, zeros)?;
+            let output = bytes_of(alloc, replies)?;
+            let status = Status::BadFrame { at, size };
+            expect_pipe(&rt, alloc, name, input, (0, 0), status, output.as_slice())?;
         }
-        for _ in 0..more {
-            input.push(0)?;
-        }
-        let reply = bytes_of(alloc, NOT_SERVED)?;
-        let mut output = Vec::new(alloc);
-        for _ in 0..replies {
-            output.extend_from_slice(&reply)?;
-        }
-        expect_pipe(&rt, alloc, name, input, (0, 0), status, output.as_slice())?;
     }
     Ok(())
+}
+
+#[test]
+fn an_input_that_ends_inside_a_frame(rt: HostRuntime) -> Result<(), Fail> {
+    let alloc = rt.alloc();
+    for (name, input, zeros) in [
+        ("a byte", "07", 0),
+        ("3 bytes of a bad size", "060000", 0),
+        ("a size", "07000000", 0),
+        ("5 bytes of 11", "0b000000 78", 0),
+        ("10 bytes of 11", "0b000000 78 0600 010000", 0),
+        ("8215 bytes of 8216", "18200000 78 0100", 8208),
+    ] {
+        for (before, at, replies) in [("", 0, ""), (VERSION, 19, VERSION_REPLY)] {
+            let input = joined(alloc, before, input, zeros)?;
+            let output = bytes_of(alloc, replies)?;
+            let status = Status::Torn { at };
+            expect_pipe(&rt, alloc, name, input, (0, 0), status, output.as_slice())?;
+        }
+    }
+    Ok(())
+}
+
+// Two pieces, each handed out by reads of its own.
+#[derive(Drop)]
+struct Pieces {
+    bytes: Vec<u8>,
+    cut: usize,
+    at: usize,
+}
+
+impl Read for Pieces {
+    fn read(&mut self, buf: &mut [u8]) -> io::Result<usize> {
+        let end = if self.at < self.cut {
+            self.cut
+        } else {
+            self.bytes.len()
+        };
+        let count = end.saturating_sub(self.at).min(buf.len());
+        for (place, byte) in buf
+            .iter_mut()
+            .zip(self.bytes.iter().skip(self.at).take(count))
+        {
+            *place = *byte;
+        }
+        self.at = self.at.saturating_add(count);
+        Ok(count)
+    }
+}
+
+#[test]
+fn an_input_cut_anywhere_is_answered_alike(rt: HostRuntime) -> Result<(), Fail> {
+    let alloc = rt.alloc();
+    let input = bytes_of(alloc, KEY_CONVERSATION)?;
+    let output = bytes_of(alloc, KEY_REPLIES)?;
+    let words = words_of(alloc, "pipe")?;
+    for cut in 0..input.len() {
+        let mut source = ReadSource::new(Pieces {
+            bytes: input.clone()?,
+            cut,
+            at: 0,
+        });
+        let mut sink = MemSink::new(Vec::new(alloc), Vec::new(alloc));
+        let ended = run_command(alloc, words.as_slice(), &mut source, &mut sink);
+        assert_eq!(rt; ended, Status::Fine, "cut at {cut}");
+        assert_eq!(rt; sink.content(), output.as_slice(), "cut at {cut}");
+    }
+    Ok(())
+}
+
+#[test]
+fn an_input_may_be_long(rt: HostRuntime) -> Result<(), Fail> {
+    let alloc = rt.alloc();
+    // Frames of 8192 bytes, none of which is a request, over 2^22 bytes in all.
+    let head = bytes_of(alloc, "00200000 78 0100")?;
+    let zeros = vec![in alloc; 0u8; 8185]?;
+    let reply = bytes_of(alloc, BAD_MESSAGE)?;
+    let (mut input, mut output) = (Vec::new(alloc), Vec::new(alloc));
+    for _ in 0..520 {
+        input.extend_from_slice(&head)?;
+        input.extend_from_slice(&zeros)?;
+        output.extend_from_slice(&reply)?;
+    }
+    expect_pipe(
+        &rt,
+        alloc,
+        "long",
+        input,
+        (0, 0),
+        Status::Fine,
+        output.as_slice(),
+    )
 }
 
 #[test]
 fn calls_fail(rt: HostRuntime) -> Result<(), Fail> {
     let alloc = rt.alloc();
+    // One read gives both frames, and the next one the end; each reply is a write.
+    let mut both = bytes_of(alloc, VERSION_REPLY)?;
+    both.extend_from_slice(&bytes_of(alloc, BAD_MESSAGE)?)?;
+    let (none, first) = (Vec::new(alloc), bytes_of(alloc, VERSION_REPLY)?);
     for (name, failed, status, output) in [
-        ("the first read", (1, 0), Status::ReadFault, ""),
-        ("the second read", (2, 0), Status::ReadFault, ""),
-        ("no third read", (3, 0), Status::Fine, VERSION_REPLY),
-        ("the first write", (0, 1), Status::WriteFault, ""),
-        ("no second write", (0, 2), Status::Fine, VERSION_REPLY),
+        ("the first read", (1, 0), Status::ReadFault, &none),
+        ("the second read", (2, 0), Status::ReadFault, &both),
+        ("no third read", (3, 0), Status::Fine, &both),
+        ("the first write", (0, 1), Status::WriteFault, &none),
+        ("the second write", (0, 2), Status::WriteFault, &first),
+        ("no third write", (0, 3), Status::Fine, &both),
     ] {
-        let (input, output) = (bytes_of(alloc, VERSION)?, bytes_of(alloc, output)?);
+        let mut input = bytes_of(alloc, VERSION)?;
+        input.extend_from_slice(&bytes_of(alloc, "07000000 78 0100")?)?;
         expect_pipe(&rt, alloc, name, input, failed, status, output.as_slice())?;
     }
     Ok(())
@@ -215,15 +303,21 @@ fn statuses_have_numbers_and_lines(rt: HostRuntime) -> Result<(), Fail> {
         (Status::Usage, 1),
         (Status::ReadFault, 2),
         (Status::WriteFault, 3),
-        (Status::BadInput, 5),
+        (Status::BadFrame { at: 19, size: 6 }, 5),
+        (Status::Torn { at: 1234567890123 }, 6),
         (Status::NoMemory, 10),
-        (Status::Flood { limit: 4194304 }, 11),
+        (
+            Status::Flood {
+                limit: 1099511627776,
+            },
+            11,
+        ),
     ] {
         assert_eq!(rt; status.number(), number);
         print_status(alloc, &status, &mut lines)?;
     }
     let want =
-        "factotum: usage\nfactotum: read fault\nfactotum: write fault\nfactotum: bad input\nfactotum: out of memory\nfactotum: input over 4194304 bytes\n";
+        "factotum: usage\nfactotum: read fault\nfactotum: write fault\nfactotum: bad frame size 6 at 19\nfactotum: input ends inside the message at 1234567890123\nfactotum: out of memory\nfactotum: input over 1099511627776 bytes\n";
     assert_eq!(rt; lines.as_slice(), want.as_bytes());
     Ok(())
 }

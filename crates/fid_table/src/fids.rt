@@ -65,17 +65,27 @@ impl Fids {
     }
 
     /// Attach: the fid names the root from now on.
-    #[tactic(auto, unfolding(file_tree::specs::Calls::attach_fault))]
     pub fn attach(&mut self, fid: u32) -> Result<(), FidFault>
         ensures answer { Answers (attach_fault (state_at self.old fid) (held_in self.old)) tt result }
         ensures ok { OnOk result (Becomes self.old self.new fid (Some (fresh (at_rest Root)))) }
         ensures err { OnErr result (self.new ≡ self.old) }
     {
-        if let Some(fault) = attach_fault(self.state(fid), self.held.len()) {
-            return Err(fault);
-        }
+        self.may_attach(fid)?;
         self.mark_walked(fid, Node::Root)?;
         Ok(())
+    }
+
+    /// The first half of an attach: whether the fid may be attached. It changes nothing and takes no memory. The second
+    /// half is that of a walk to the root.
+    #[tactic(auto, unfolding(file_tree::specs::Calls::attach_fault))]
+    pub fn may_attach(&self, fid: u32) -> Result<(), FidFault>
+        ensures answer { result ≡ answered (attach_fault (state_at self.now fid) (held_in self.now)) tt }
+        ensures room { OnOk result (HasRoom self.now fid) }
+    {
+        match attach_fault(self.state(fid), self.held.len()) {
+            Some(fault) => Err(fault),
+            None => Ok(()),
+        }
     }
 
     /// Walk: gives the files that the names lead to, as far as they are there. Where all are, newfid names the last of

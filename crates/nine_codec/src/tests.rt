@@ -1,16 +1,18 @@
 // The bytes of a session over a ctl file, and frames that are no requests, each written out by hand from
 // section 5 of the Plan 9 manual.
-use crate::decode::decode_t;
-use crate::encode::{
-    encode_r, put_attach, put_clunk, put_error, put_open, put_read, put_version, put_walk,
-    put_write,
+ghost use Rattle.nine_messages.specs.Decoding.{IsFrame};
+
+use crate::frames::{COUNT, FRAMES, NO_FAULT};
+use crate::{
+    DecodeFault, decode_r, decode_t, encode_r, encode_t, put_attach, put_auth, put_clunk,
+    put_create, put_error, put_flush, put_open, put_read, put_remove, put_stat, put_version,
+    put_walk, put_write, put_wstat,
 };
-use crate::fault::DecodeFault;
 use nine_messages::{Qid, QidList, RBody, RMsg, TBody, TMsg};
 use std::alloc::Global;
 use std::process::Abort;
 use std::test::Fail;
-use wire_base::{Bytes, Text, u32_at};
+use wire_base::{Bytes, Text, get_u32, u32_at};
 
 const LINE: &[u8] = b"key proto=apop user=a !password=b";
 
@@ -138,8 +140,8 @@ fn reads_are_asked_for(rt: HostRuntime) -> Result<(), Fail> {
 const FAULTS: [(&str, &[u8], u32); 18] = [
     ("a reply's type", b"\x07\x00\x00\x00\x79\x06\x00", 4),
     (
-        "a type not served",
-        b"\x0b\x00\x00\x00\x7c\x07\x00\x01\x00\x00\x00",
+        "the type that is no message's",
+        b"\x07\x00\x00\x00\x6a\x07\x00",
         4,
     ),
     ("no fid", b"\x07\x00\x00\x00\x78\x01\x00", 7),
@@ -328,5 +330,125 @@ fn more_messages_are_encoded(rt: HostRuntime) -> Result<(), Fail> {
     let body = RBody::Error { ename };
     encode_r(&RMsg { tag: 7, body }, &mut out)?;
     check_reply(&rt, &mut out, 7);
+    Ok(())
+}
+
+// The other replies of a session.
+const OTHER_REPLIES: [&[u8]; 6] = [
+    b"\x14\x00\x00\x00\x67\x01\x00\x80\x00\x00\x00\x00\x00\x00\x00\x00\x00\x00\x00\x00",
+    b"\x07\x00\x00\x00\x6d\x08\x00",
+    b"\x18\x00\x00\x00\x73\x09\x00\x00\x00\x00\x00\x00\x03\x00\x00\x00\x00\x00\x00\x00\x00\x20\x00\x00",
+    b"\x07\x00\x00\x00\x7b\x0a\x00",
+    b"\x0c\x00\x00\x00\x7d\x0b\x00\x03\x00\x01\x00a",
+    b"\x07\x00\x00\x00\x7f\x0c\x00",
+];
+
+#[test]
+fn other_replies_are_appended(rt: HostRuntime) -> Result<(), Fail> {
+    let mut out = Bytes::from_slice(rt.alloc(), b"--")?;
+    put_auth(1, &ROOT, &mut out)?;
+    put_flush(8, &mut out)?;
+    put_create(9, &CTL, 8192, &mut out)?;
+    put_remove(10, &mut out)?;
+    put_stat(11, b"\x01\x00a", &mut out)?;
+    put_wstat(12, &mut out)?;
+    let mut want = Bytes::from_slice(rt.alloc(), b"--")?;
+    for reply in OTHER_REPLIES {
+        want.append(reply)?;
+    }
+    assert_eq!(rt; out.as_slice(), want.as_slice());
+    Ok(())
+}
+
+// A frame's bytes are its size.
+fn check_whole(rt: &impl Abort, frame: &[u8], number: usize)
+    ensures { IsFrame frame.now }
+{
+    match u32_at(frame, 0) {
+        Ok((size, 4)) => assert!(rt;
+            frame.len() >= 7 && size as usize == frame.len(),
+            "{number}"
+        ),
+        _ => panic!(rt; "{number}: no size"),
+    }
+}
+
+// A frame is a request, which is written as it was read, or has its first fault there.
+fn check_request(
+    rt: &impl Abort,
+    alloc: Global,
+    number: usize,
+    frame: &[u8],
+    at: Option<u32>,
+) -> Result<(), Fail> {
+    check_whole(rt, frame, number);
+    match decode_t(alloc, frame) {
+        Ok(message) => {
+            assert_eq!(rt; at, None, "{number}");
+            let mut out = Bytes::new(alloc);
+            encode_t(&message, &mut out)?;
+            assert_eq!(rt; out.as_slice(), frame, "{number}");
+        }
+        Err(DecodeFault::Bad { at: fault }) => assert_eq!(rt; at, Some(fault), "{number}"),
+        Err(DecodeFault::NoMemory) => panic!(rt; "{number}: no memory"),
+    }
+    Ok(())
+}
+
+// The same of a reply.
+fn check_a_reply(
+    rt: &impl Abort,
+    alloc: Global,
+    number: usize,
+    frame: &[u8],
+    at: Option<u32>,
+) -> Result<(), Fail> {
+    check_whole(rt, frame, number);
+    match decode_r(alloc, frame) {
+        Ok(message) => {
+            assert_eq!(rt; at, None, "{number}");
+            let mut out = Bytes::new(alloc);
+            encode_r(&message, &mut out)?;
+            assert_eq!(rt; out.as_slice(), frame, "{number}");
+        }
+        Err(DecodeFault::Bad { at: fault }) => assert_eq!(rt; at, Some(fault), "{number}"),
+        Err(DecodeFault::NoMemory) => panic!(rt; "{number}: no memory"),
+    }
+    Ok(())
+}
+
+// A frame is read in its own direction, and refused at its type byte in the other.
+fn check_frame(
+    rt: &impl Abort,
+    alloc: Global,
+    number: usize,
+    frame: &[u8],
+    at: Option<u32>,
+) -> Result<(), Fail> {
+    assert!(rt; frame.len() > 4, "{number}");
+    if frame[4] & 1 == 0 {
+        check_request(rt, alloc, number, frame, at)?;
+        check_a_reply(rt, alloc, number, frame, Some(4))
+    } else {
+        check_a_reply(rt, alloc, number, frame, at)?;
+        check_request(rt, alloc, number, frame, Some(4))
+    }
+}
+
+#[test]
+fn frames_from_outside_are_read(rt: HostRuntime) -> Result<(), Fail> {
+    let mut rest = FRAMES;
+    for number in 0..COUNT {
+        let at = get_u32(rest, 0).ok_or("no place")?;
+        let size = get_u32(rest, 4).ok_or("no size")? as usize;
+        assert!(rt; size < 10_000 && rest.len() >= 4 + size, "{number}");
+        let (row, behind) = rest.split_at(4 + size);
+        let (_, frame) = row.split_at(4);
+        let at = if at == NO_FAULT { None } else { Some(at) };
+        check_frame(&rt, rt.alloc(), number, frame, at)?;
+        rest = behind;
+    }
+    assert!(rt; rest.is_empty());
+    assert_eq!(rt; COUNT, 160);
     Ok(())
 }

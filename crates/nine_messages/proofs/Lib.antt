@@ -1,2 +1,4 @@
+pub mod FieldLaws
 pub mod RequestLaws
+pub mod ReplyLaws
 pub mod FaultPlaces

@@ -21,7 +21,8 @@ pub use fields::{get_str, get_u16, get_u32, get_u64, put_str, put_u16, put_u32, 
 pub use memory::{FaultPlan, MemSink, MemSource};
 pub use name::{AuthInfo, Name};
 pub use reader::{
-    BadField, CodecFault, block_at, end_at, string_at, text_at, u8_at, u16_at, u32_at, u64_at,
+    BadField, CodecFault, block_at, end_at, short_block_at, string_at, text_at, u8_at, u16_at,
+    u32_at, u64_at,
 };
 pub use sink::{Put, Sink};
 pub use source::{Got, Source};

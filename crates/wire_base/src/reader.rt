@@ -131,9 +131,9 @@ pub fn block_at(bytes: &[u8], at: usize) -> Result<(&[u8], usize), BadField>
     Ok((rest.split_at(length).0, next + length))
 }
 
-// A length of two bytes, and then that many bytes.
+/// A length of two bytes, and then that many bytes.
 #[tactic(auto, unfolding(crate::specs::Readers::block))]
-fn short_block_at(bytes: &[u8], at: usize) -> Result<(&[u8], usize), BadField>
+pub fn short_block_at(bytes: &[u8], at: usize) -> Result<(&[u8], usize), BadField>
     ensures { Finds (λ x. (x.0.now, x.1)) result (block w16 bytes.now at) }
 {
     let (length, next) = u16_at(bytes, at)?;
@@ -196,6 +196,7 @@ mod tests {
         assert_eq!(rt; u64_at(RECORD, 7), Ok((0x0f0e_0d0c_0b0a_0908, 15)));
         assert_eq!(rt; string_at(RECORD, 15), Ok((b"ann".as_slice(), 20)));
         assert_eq!(rt; block_at(RECORD, 20), Ok((b"\x00\xff".as_slice(), 26)));
+        assert_eq!(rt; short_block_at(RECORD, 15), Ok((b"ann".as_slice(), 20)));
         assert_eq!(rt; end_at(RECORD, 26), Ok(()));
         let (text, next) = text_at(rt.alloc(), RECORD, 15)?;
         assert_eq!(rt; text.as_slice(), b"ann".as_slice());
@@ -211,6 +212,15 @@ mod tests {
         assert_eq!(rt; u32_at(RECORD, 23), Err(bad(23)), "four bytes, one short");
         assert_eq!(rt; u64_at(RECORD, 19), Err(bad(19)), "eight bytes, one short");
         assert_eq!(rt; block_at(RECORD, 3), Err(bad(3)), "a block past the end");
+        assert_eq!(rt;
+            short_block_at(RECORD, 20),
+            Ok((b"\x00\x00".as_slice(), 24))
+        );
+        assert_eq!(rt;
+            short_block_at(RECORD, 23),
+            Err(bad(23)),
+            "a short block past the end"
+        );
         assert_eq!(rt; end_at(RECORD, 25), Err(bad(25)), "a byte left over");
         for (name, input, at) in [
             ("half a length", b"--\x01".as_slice(), 2),

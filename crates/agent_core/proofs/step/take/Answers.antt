@@ -16,7 +16,7 @@ returns-clause-ok c = λ H conn stopped s.
     let front = front_is c.args.connection.now.replies.items c.in-Some.reply.now some c.in-Some.ensures.lookup in
     let told = answer_some H conn c.args.connection.now c.in-Some.reply.now (drop 1 c.args.connection.now.replies.items) stopped hung s front in (
       take_live H conn c.args.connection.now (record c.args.connection.now { opened = true; replies = c.pop_front.new.self }) stopped hung s refl refl
-          (let k = s.keeps hung in record { msize = k.msize; fids = k.fids; held = k.held }) c.pop_front.ensures.rest,
+          (let k = s.keeps hung in record { msize = k.msize; fids = k.fids; held = k.held; texts = k.texts }) c.pop_front.ensures.rest,
       ap (λ (a : Answered). a.0) (sym told),
-      c.in_ok-append.ensures.ok ∙ ap (λ (r : List ℕ). c.args.out.now ++ r) c.as_slice.ensures ∙ ap (λ (a : Answered). c.args.out.now ++ a.1) (sym told),
+      c.in_ok-put.ensures.ok ∙ ap (λ (a : Answered). c.args.out.now ++ a.1) (sym told),
     )

@@ -1,7 +1,8 @@
 use Rattle.std.proofs.Common.{rules, tests, sym, ◌∙◌}
 use Rattle.std.proofs.lemmas.Iterator.Consumers.{count_from_yields_List, YieldsList-from_filter, YieldsList-at}
 use Rattle.std.proofs.lemmas.Iterator.Splits.{YieldsList-from_slice_split}
-use Rattle.attr_tuples.specs.PlainKeys.{words, is_named, word_attr}
+use Rattle.attr_tuples.specs.Attributes.{is_named}
+use Rattle.attr_tuples.specs.PlainKeys.{words, word_attr}
 use Rattle.attr_tuples.proofs.PlainLemmas.{length-filter-map}
 use Rattle.attr_tuples.proofs.plain.count_named.Goals as goal
 

@@ -1,6 +1,6 @@
 use Rattle.std.proofs.Common.{◌≡◌, [], ◌∷◌, ◌++◌, take}
 use Rattle.std.specs.List.{flat_map}
-use Rattle.attr_tuples.specs.Printing.{quoted_byte}
+use Rattle.attr_words.specs.Words.{quoted_byte}
 use Rattle.attr_tuples.proofs.print.append_quoted.Given as goal
 
 -- the opening quote and the bytes so far

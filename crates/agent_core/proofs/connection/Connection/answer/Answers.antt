@@ -1,9 +1,13 @@
-use Rattle.std.proofs.lemmas.Result.{on_ok_weaker}
-use Rattle.agent_core.proofs.FrameSteps.{refused}
+use Rattle.std.proofs.Common.{List, refl, sym, subst}
+use Rattle.agent_history.specs.Deeds.{Deed}
+use Rattle.agent_core.specs.declared.shared.Shared.{Shared}
+use Rattle.agent_core.specs.Connections.{Shares, FrameServed}
+use Rattle.agent_core.proofs.FrameSteps.{answered_frame, keeps_still}
 use Rattle.agent_core.proofs.connection.Connection.answer.Goals as goal
 
-pub returns-else-branch-clause-reply : goal.returns-else-branch-clause-reply
-returns-else-branch-clause-reply c =
-    on_ok_weaker c.put_error.result (λ e done conn keys keeps.
-    refused done conn c.args.frame.now c.args.self.now c.try_frame.new.self c.args.out.now c.try_frame.new.out c.put_error.new.out c.in_ok-try_frame.field-0
-    c.if-branch.false (c.in_ok-try_frame.ensures.tried done conn keys keeps) (rw (← c.tag_of.ensures) e)) c.put_error.ensures.ok
+pub returns-in-Err-For-clause-served : goal.returns-in-Err-For-clause-served
+returns-in-Err-For-clause-served c = λ done keeps shares.
+    rw c.tag_of-tag.ensures (answered_frame done c.args.conn c.args.frame.now c.try_frame.new.self c.try_frame.new.shared (FrameServed done c.args.conn c.args.frame.now c.try_frame.new.self c.try_frame.new.shared) c.in-Err-For.why
+    (keeps_still done c.args.conn c.args.self.now c.try_frame.new.self c.in-Err-For.ensures.err keeps)
+    (subst (λ (s : Shared). Shares done s) (sym c.in-Err-For.ensures.err_shared) shares)
+    (rw (← c.in-Err-For.field-0-is) (c.in-Err-For.ensures.tried done keeps shares)))

@@ -1,23 +1,25 @@
-use Rattle.std.proofs.Common.{sym, ◌∙◌}
-use Rattle.std.proofs.lemmas.Result.{IfOk-weaker, on_ok_weaker}
-use Rattle.agent_core.proofs.FrameSteps.{deed_by-some, deed_by-none, tried-some, tried-none}
+use Rattle.std.proofs.Common.{refl, sym, ◌∙◌, subst}
+use Rattle.agent_core.proofs.FrameSteps.{frame_over, frame_none, frame_unversioned, frame_told, refused_told, unread_told, writes_few}
 use Rattle.agent_core.proofs.connection.Connection.try_frame.Goals as goal
 
-pub returns-in-Some-clause-tried : goal.returns-in-Some-clause-tried
-returns-in-Some-clause-tried c =
-    IfOk-weaker c.carry_out.result _ _ (λ served h done conn keys keeps.
-    tried-some done conn c.args.frame.now c.in-Some.request c.tag_of-tag.result c.args.self.now c.carry_out.new.self c.args.out.now c.carry_out.new.out served
-    (sym (c.in_ok-request.ensures.request done conn keeps) ∙ c.in-Some.is) c.tag_of-tag.ensures (h done conn keys keeps)) c.carry_out.ensures.tried
+pub returns-then-is_over-clause-tried : goal.returns-then-is_over-clause-tried
+returns-then-is_over-clause-tried c = λ done keeps shares.
+    refused_told _ _ _ (frame_over done c.args.conn c.args.frame.now (sym (c.is_over.ensures.over done c.args.conn keeps) ∙ c.if-is_over.true))
 
-pub returns-in-Some-clause-keys : goal.returns-in-Some-clause-keys
-returns-in-Some-clause-keys c =
-    on_ok_weaker c.carry_out.result (λ h done conn keys keeps.
-    rw (deed_by-some done conn c.args.frame.now c.in-Some.request (sym (c.in_ok-request.ensures.request done conn keeps) ∙ c.in-Some.is)) (h done conn keys keeps)) c.carry_out.ensures.keys
+pub returns-in-Err-clause-tried : goal.returns-in-Err-clause-tried
+returns-in-Err-clause-tried c = λ done keeps shares.
+    unread_told _ _ _ _ c.in-Err.ensures.none (λ unread. frame_none done c.args.conn c.args.frame.now (sym (c.is_over.ensures.over done c.args.conn keeps) ∙ c.if-is_over.false) unread)
 
-pub returns-in-None-clause-tried : goal.returns-in-None-clause-tried
-returns-in-None-clause-tried c = λ done conn keys keeps.
-    tried-none done conn c.args.frame.now c.args.self.now c.args.out.now (sym (c.in_ok-request.ensures.request done conn keeps) ∙ c.in-None.is)
+pub returns-then-lacks_version-clause-tried : goal.returns-then-lacks_version-clause-tried
+returns-then-lacks_version-clause-tried c = λ done keeps shares.
+    refused_told _ _ _ (frame_unversioned done c.args.conn c.args.frame.now c.in-Ok.request (sym (c.is_over.ensures.over done c.args.conn keeps) ∙ c.if-is_over.false) c.in-Ok.ensures.request
+    (sym (c.lacks_version.ensures.lacks done c.args.conn keeps) ∙ c.if-lacks_version.true))
 
-pub returns-in-None-clause-keys : goal.returns-in-None-clause-keys
-returns-in-None-clause-keys c = λ done conn keys keeps.
-    rw (deed_by-none done conn c.args.frame.now (sym (c.in_ok-request.ensures.request done conn keeps) ∙ c.in-None.is)) keys
+pub carry_out-requires-clause-small : goal.carry_out-requires-clause-small
+carry_out-requires-clause-small c =
+    writes_few c.args.frame.now c.in-Ok.request 8216 c.in-Ok.ensures.spelled (λ first. c.is_over.ensures.small c.if-is_over.false (c.lacks_version.ensures.agreed c.if-lacks_version.false first))
+
+pub returns-clause-tried : goal.returns-clause-tried
+returns-clause-tried c = λ done keeps shares.
+    frame_told done c.args.conn c.args.frame.now c.in-Ok.request _ _ _ (sym (c.is_over.ensures.over done c.args.conn keeps) ∙ c.if-is_over.false) c.in-Ok.ensures.request
+    (sym (c.lacks_version.ensures.lacks done c.args.conn keeps) ∙ c.if-lacks_version.false) (rw (← c.tag_of.ensures) (c.carry_out.ensures.tried done keeps shares))

@@ -1,0 +1,309 @@
+#!/usr/bin/env python3
+"""Prints sessions with the agent, frame by frame, as the table of its test.
+
+Frames are put together from section 5 of the Plan 9 manual, and the replies are written down here by hand, after the
+order in which docs/DEFINITIONS.md has the tests of each request. Nothing of the project's own code is used.
+"""
+
+import struct
+import sys
+
+NOTAG, NOFID = 0xFFFF, 0xFFFFFFFF
+
+
+def frame(kind, tag, body=b""):
+    return struct.pack("<IBH", 7 + len(body), kind, tag) + body
+
+
+def text(s):
+    b = s if isinstance(s, bytes) else s.encode()
+    return struct.pack("<H", len(b)) + b
+
+
+def qid(kind, path):
+    return struct.pack("<BIQ", kind, 0, path)
+
+
+QIDS = {"/": qid(0x80, 0), "factotum": qid(0x80, 1), "rpc": qid(0, 2), "ctl": qid(0, 3), "confirm": qid(0x20, 4),
+        "needkey": qid(0x20, 5), "proto": qid(0, 6), "log": qid(0x20, 7)}
+MODES = {"/": 0x8000016D, "factotum": 0x8000016D, "rpc": 0x1B6, "ctl": 0x180, "confirm": 0x20000180,
+         "needkey": 0x20000180, "proto": 0x124, "log": 0x20000180}
+FILES = ["rpc", "ctl", "confirm", "needkey", "proto", "log"]
+
+
+def record(name):
+    body = struct.pack("<HI", 0, 0) + QIDS[name] + struct.pack("<IIIQ", MODES[name], 0, 0, 0)
+    body += text(name) + text("factotum") * 3
+    return struct.pack("<H", len(body)) + body
+
+
+# ---- requests
+def version(msize=8216, name="9P2000", tag=NOTAG):
+    return frame(100, tag, struct.pack("<I", msize) + text(name))
+
+
+def auth(tag=1):
+    return frame(102, tag, struct.pack("<I", 9) + text("ann") + text(""))
+
+
+def attach(fid, tag=1, afid=NOFID):
+    return frame(104, tag, struct.pack("<II", fid, afid) + text("ann") + text(""))
+
+
+def flush(oldtag, tag=1):
+    return frame(108, tag, struct.pack("<H", oldtag))
+
+
+def walk(fid, newfid, *names, tag=1):
+    return frame(110, tag, struct.pack("<IIH", fid, newfid, len(names)) + b"".join(text(n) for n in names))
+
+
+def open_(fid, mode, tag=1):
+    return frame(112, tag, struct.pack("<IB", fid, mode))
+
+
+def create(fid, tag=1):
+    return frame(114, tag, struct.pack("<I", fid) + text("new") + struct.pack("<IB", 0o600, 0))
+
+
+def read(fid, offset, count, tag=1):
+    return frame(116, tag, struct.pack("<IQI", fid, offset, count))
+
+
+def write(fid, content, tag=1, offset=0):
+    b = content if isinstance(content, bytes) else content.encode()
+    return frame(118, tag, struct.pack("<IQI", fid, offset, len(b)) + b)
+
+
+def clunk(fid, tag=1):
+    return frame(120, tag, struct.pack("<I", fid))
+
+
+def remove(fid, tag=1):
+    return frame(122, tag, struct.pack("<I", fid))
+
+
+def stat(fid, tag=1):
+    return frame(124, tag, struct.pack("<I", fid))
+
+
+def wstat(fid, tag=1):
+    return frame(126, tag, struct.pack("<IH", fid, 2) + b"\0\0")
+
+
+# ---- replies
+def rversion(msize=8216, name="9P2000", tag=NOTAG):
+    return frame(101, tag, struct.pack("<I", msize) + text(name))
+
+
+def rattach(tag=1):
+    return frame(105, tag, QIDS["/"])
+
+
+def error(why, tag=1):
+    return frame(107, tag, text(why))
+
+
+def rflush(tag=1):
+    return frame(109, tag)
+
+
+def rwalk(*names, tag=1):
+    return frame(111, tag, struct.pack("<H", len(names)) + b"".join(QIDS[n] for n in names))
+
+
+def ropen(name, tag=1):
+    return frame(113, tag, QIDS[name] + struct.pack("<I", 0))
+
+
+def rread(content, tag=1):
+    b = content if isinstance(content, bytes) else content.encode()
+    return frame(117, tag, struct.pack("<I", len(b)) + b)
+
+
+def rwrite(count, tag=1):
+    return frame(119, tag, struct.pack("<I", count))
+
+
+def rclunk(tag=1):
+    return frame(121, tag)
+
+
+def rstat(name, tag=1):
+    b = record(name)
+    return frame(125, tag, struct.pack("<H", len(b)) + b)
+
+
+# ---- sessions: each begins with an agent that knows nothing
+SESSIONS = []
+
+
+def session(name, *steps):
+    SESSIONS.append((name, [(s if len(s) == 3 else (0,) + s) for s in steps]))
+
+
+V = (version(), rversion())
+A = (attach(0), rattach())
+
+
+def at(fid, *names):
+    """Walks from the root to a file, from fid 0 to another."""
+    return (walk(0, fid, *names), rwalk(*names))
+
+
+def opened(fid, mode, *names):
+    """Walks there and opens it."""
+    return [at(fid, *names), (open_(fid, mode), ropen(names[-1] if names else "/"))]
+
+
+CTL = ["factotum", "ctl"]
+LOG = ["factotum", "log"]
+
+
+def on(conn, steps):
+    return [(conn,) + s for s in steps]
+
+
+session("a version is answered by the lesser size", (version(100), error("msize too small", NOTAG)),
+        (version(9000), rversion(8216)), (version(256), rversion(256)))
+session("another version", (version(8216, "9P1999"), rversion(8216, "unknown")), (attach(0), error("no version")),
+        (version(8216, "9P2000.u"), rversion()), A)
+session("a version gives up the fids", V, A, (version(255), error("msize too small", NOTAG)),
+        (stat(0), rstat("/")), (version(8216, "9P2000.L", 7), rversion(tag=7)), (stat(0), error("unknown fid")),
+        A, (version(8216, "9P", 8), rversion(8216, "unknown", 8)), (stat(0), error("no version")))
+session("over the size", (version(256), rversion(256)), (write(0, b"x" * 234), error("message over msize")),
+        (write(0, b"x" * 233), error("unknown fid")))
+session("over the size and no message", (version(256), rversion(256)),
+        (frame(120, 1, b"\0" * 250), error("message over msize")))
+session("no message", V, (bytes.fromhex("0c000000780100") + b"\0" * 5, error("bad message")),
+        (frame(106, 2), error("bad message", 2)), (frame(121, 3), error("bad message", 3)))
+session("no message and a small size", (version(100)[:4] + version(100)[4:], error("msize too small", NOTAG)),
+        (struct.pack("<I", 20) + version(100)[4:] + b"\0", error("bad message", NOTAG)))
+session("no message and no version", (bytes.fromhex("0c000000780100") + b"\0" * 5, error("bad message")))
+session("no version", (attach(0), error("no version")), (clunk(0), error("no version")),
+        (auth(), error("no version")), (flush(5), rflush()))
+session("auth", V, (auth(), error("authentication not required")))
+session("flush", V, (flush(7, 8), rflush(8)), (flush(8, 8), rflush(8)))
+session("attach", V, (attach(0, 1, 0), error("bad afid")), A, (attach(0, 1, 3), error("bad afid")),
+        (attach(0), error("fid in use")), (attach(NOFID), rattach()), (attach(NOFID, 2), error("fid in use", 2)))
+session("walk: unknown fid", V, A, (walk(7, 0), error("unknown fid")), (walk(7, 8, "x"), error("unknown fid")))
+session("walk: already open", V, A, *opened(1, 0, "factotum"), (walk(1, 0), error("already open")),
+        (walk(1, 2, "ctl"), error("already open")), (walk(1, 1, "nothing"), error("already open")))
+session("walk: fid in use", V, A, at(1, *CTL), (walk(0, 1), error("fid in use")), (walk(1, 0, "x"), error("fid in use")))
+session("walk: from a file", V, A, at(1, *CTL), (walk(1, 2, "x"), error("not a directory")),
+        (walk(1, 2, ".."), error("not a directory")), (walk(1, 2), rwalk()), (stat(2), rstat("ctl")))
+session("walk: not found", V, A, (walk(0, 1, "ctl"), error("file not found")), (stat(1), error("unknown fid")),
+        (walk(0, 1, "factotum", "nothing"), rwalk("factotum")), (stat(1), error("unknown fid")),
+        (walk(0, 1, "factotum", "ctl", ".."), rwalk("factotum", "ctl")), (stat(1), error("unknown fid")))
+session("walk: up and onto itself", V, A, (walk(0, 1, "..", "factotum", "..", ".."), rwalk("/", "factotum", "/", "/")),
+        (stat(1), rstat("/")), (walk(1, 1, "factotum", "proto"), rwalk("factotum", "proto")), (stat(1), rstat("proto")))
+session("open: what it is opened for", V, A, (open_(7, 0x84), error("unknown fid")), at(1, *CTL),
+        (open_(1, 4), error("bad open mode")), (open_(1, 0x44), error("bad open mode")),
+        (open_(1, 0x40), error("permission denied")), (open_(1, 3), error("permission denied")),
+        (open_(1, 0x10), error("permission denied")), (open_(1, 0x12), ropen("ctl")), (open_(1, 4), error("already open")),
+        (open_(1, 0), error("already open")), at(2, "factotum", "proto"), (open_(2, 1), error("permission denied")),
+        (open_(0, 2), error("permission denied")), (open_(2, 0), ropen("proto")))
+session("open: not served yet", V, A, at(1, "factotum", "rpc"), (open_(1, 2), error("not served")),
+        (open_(1, 0x42), error("permission denied")), (open_(1, 4), error("bad open mode")),
+        at(2, "factotum", "confirm"), (open_(2, 2), error("not served")), at(3, "factotum", "needkey"),
+        (open_(3, 0), error("not served")), (read(1, 0, 9), error("not open")))
+session("open: one fid alone", V, A, *opened(1, 0, *LOG), at(2, *LOG), (open_(2, 1), error("permission denied")),
+        (open_(2, 0), error("exclusive use file already open")), *on(1, [V, A, at(1, *LOG)]),
+        (1, open_(1, 0), error("exclusive use file already open")), (clunk(1), rclunk()), (1, open_(1, 0), ropen("log")),
+        (open_(2, 0), error("exclusive use file already open")), (1, version(), rversion()), (open_(2, 0), ropen("log")),
+        (remove(2), error("permission denied")), *on(1, [A, *opened(1, 0, *LOG)]))
+session("log isn't read yet", V, A, *opened(1, 0, *LOG), (read(1, 0, 9), error("not served")),
+        (write(1, "x"), error("not open for writing")))
+session("create and wstat", V, A, (create(7), error("unknown fid")), (create(0), error("permission denied")),
+        (wstat(7), error("unknown fid")), (wstat(0), error("permission denied")))
+session("remove", V, A, (remove(7), error("unknown fid")), (remove(0), error("permission denied")),
+        (stat(0), error("unknown fid")), A)
+session("clunk", V, A, (clunk(7), error("unknown fid")), (clunk(0), rclunk()), (clunk(0), error("unknown fid")))
+session("stat", V, A, (stat(7), error("unknown fid")), (stat(0), rstat("/")), at(1, "factotum"), (stat(1), rstat("factotum")),
+        *[s for i, f in enumerate(FILES) for s in (at(2 + i, "factotum", f), (stat(2 + i), rstat(f)))])
+session("read and write: unknown, not open, not for this", V, A, (read(7, 0, 9), error("unknown fid")),
+        (write(7, "x"), error("unknown fid")), at(1, *CTL), (read(1, 0, 9), error("not open")),
+        (write(1, "x"), error("not open")), (open_(1, 1), ropen("ctl")), (read(1, 0, 9), error("not open for reading")),
+        *opened(2, 0, *CTL), (write(2, "x"), error("not open for writing")), (open_(0, 0), ropen("/")),
+        (write(0, "x"), error("not open for writing")))
+ALL = b"".join(record(f) for f in FILES)
+ONE = len(record("rpc"))
+TWO = ONE + len(record("ctl"))
+THREE = TWO + len(record("confirm"))
+session("a directory", V, A, *opened(1, 0, "factotum"), (read(1, 3, 99), error("bad directory offset")),
+        (read(1, 0, 8192), rread(ALL)), (read(1, len(ALL), 8192), rread(b"")), (read(1, 0, TWO + 1), rread(ALL[:TWO])),
+        (read(1, ONE, 200), error("bad directory offset")), (read(1, TWO, 8192), rread(ALL[TWO:])),
+        (read(1, 0, ONE - 1), rread(b"")), (read(1, TWO, 99), error("bad directory offset")), (open_(0, 0), ropen("/")),
+        (read(0, 0, 8192), rread(record("factotum"))))
+session("a count is cut to the size agreed", (version(256), rversion(256)), A, *opened(1, 0, "factotum"),
+        (read(1, 0, 8192), rread(ALL[:THREE])), *opened(2, 0, "factotum", "proto"),
+        (read(2, 0, 9), rread("apop\ncram")), (read(2, 9, 99), rread("\np9any\np9sk1\n")), (read(2, 22, 9), rread("")),
+        (read(2, 1 << 63, 9), rread("")))
+
+KEY = "key proto=apop user=a !password=b"
+session("a key is written and listed", V, A, *opened(1, 2, *CTL), (read(1, 0, 99), rread("")),
+        (write(1, KEY), rwrite(len(KEY))), (read(1, 0, 99), rread("key proto=apop user=a !password?\n")), (clunk(1), rclunk()))
+S1 = "key proto=p9sk1 dom=x user=ann !password='it''s'"
+S2 = "key user=ann proto=p9sk1 dom=x !password=new"
+L1 = "key proto=p9sk1 dom=x user=ann !password?\n"
+L2 = "key user=ann proto=p9sk1 dom=x !password?\n"
+LA = "key proto=apop user=a !password?\n"
+session("a key replaces its equal and stands last", V, A, *opened(1, 2, *CTL), (write(1, S1), rwrite(len(S1))),
+        (read(1, 0, 99), rread(L1)), (write(1, KEY + "\n"), rwrite(len(KEY) + 1)), (write(1, S2), rwrite(len(S2))),
+        (read(1, 0, 200), rread(LA + L2)))
+session("a list is read as it stood", V, A, *opened(1, 0, *CTL), *on(1, [V, A, *opened(1, 1, *CTL)]),
+        (1, write(1, S1), rwrite(len(S1))), (read(1, 5, 99), rread("")), (read(1, 0, 5), rread(L1[:5])),
+        (1, write(1, "delkey user=ann"), rwrite(15)), (read(1, 5, 99), rread(L1[5:])), (read(1, 0, 99), rread("")),
+        (read(1, 5, 99), rread("")))
+session("lines before a refused one stand", V, A, *opened(1, 2, *CTL),
+        (write(1, KEY + "\n\nkey user=b\n" + S1), error("no proto")), (read(1, 0, 200), rread(LA)),
+        (write(1, "\n\n"), rwrite(2)), (write(1, ""), rwrite(0)), (write(1, "debug\n" + S1 + "\ndelkey !password?"),
+                                                                 rwrite(len("debug\n" + S1 + "\ndelkey !password?"))),
+        (read(1, 0, 200), rread("")))
+REFUSED = [
+    ("kex =b", "unknown ctl verb"), ("key", "unknown ctl verb"), ("delkey", "unknown ctl verb"), ("debug ", "unknown ctl verb"),
+    ("key =b a?", "bad tuple"), ("key a='b", "bad tuple"), ("key " + " ".join("a%d" % i for i in range(33)), "bad tuple"),
+    ("key a?", "question in key"), ("key a=b", "no proto"), ("key proto=x", "unknown proto"), ("key proto=apop proto=apop", "unknown proto"),
+    ("key proto=p9sk1", "no user"), ("key proto=p9sk1 user=''", "no dom"), ("key proto=apop user=''", "bad name"),
+    ("key proto=apop user=a", "no secret"), ("key proto=p9sk1 dom=x user=a !hex", "no secret"),
+    ("key proto=p9sk1 dom=x user=a !hex=0123456789abc", "bad hex"), ("delkey !x=1", "secret in template"),
+    ("delkey !x=''", "secret in template"), ("delkey a=b", "no key matched"), ("delkey ", "no key matched"),
+]
+session("lines that are refused", V, A, *opened(1, 2, *CTL), *[(write(1, l), error(why)) for l, why in REFUSED],
+        (read(1, 0, 99), rread("")))
+
+
+TABLES = [
+    ("fids", "version, fids and opens", "a version is answered", "open: not served yet"),
+    ("files", "opens of one fid alone, directories and the rest of the tree", "open: one fid alone", "a count is cut"),
+    ("ctl", "the keys of ctl", "a key is written", "lines that are refused"),
+]
+
+
+def table(about, sessions):
+    print("// Sessions with an agent about %s, made by bench/vectors/agent.py," % about)
+    print("// which also says what each shows. A line a step: 1 where a new agent begins a session and else 0, the connection,")
+    print("// a request, and its reply.")
+    print("pub const COUNT: usize = %d;" % sum(len(s) for _, s in sessions))
+    print()
+    print('pub const STEPS: &[u8] = b"\\')
+    lines = []
+    for _, steps in sessions:
+        for i, (conn, request, reply) in enumerate(steps):
+            step = bytes([1 if i == 0 else 0, conn]) + request + reply
+            lines.append("".join(chr(c) if 33 <= c < 127 and c not in (34, 92) else "\\x%02x" % c for c in step))
+    print("\\\n".join("    " + line for line in lines) + '";')
+
+
+def main():
+    """Prints the table that is named: fids, files or ctl."""
+    for name, about, first, last in TABLES:
+        if sys.argv[1:] == [name]:
+            names = [n for n, _ in SESSIONS]
+            begin = next(i for i, n in enumerate(names) if n.startswith(first))
+            end = next(i for i, n in enumerate(names) if n.startswith(last))
+            table(about, SESSIONS[begin:end + 1])
+
+
+if __name__ == "__main__":
+    main()

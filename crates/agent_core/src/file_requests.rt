@@ -1,0 +1,250 @@
+// Reads and writes of the files that are open.
+ghost use Rattle.std.specs.Prelude.{◌≡◌, ◌++◌, ◌∷◌, ◌≤◌, ◌<◌, ◌+◌, ◌-◌, ◌^◌, ◌==◌, List, ℕ, Some, true, length, option_map, OnOk, OnErr, IfOk, if◌then◌else◌};
+ghost use Rattle.nine_messages.specs.declared.message.TBody.TheVariants as t;
+ghost use Rattle.nine_messages.specs.declared.message.RBody.TheVariants as r;
+ghost use Rattle.nine_messages.specs.Messages.{r_frame};
+ghost use Rattle.file_tree.specs.declared.tree.FidState.{FidState};
+ghost use Rattle.file_tree.specs.Faults.{fault_text};
+ghost use Rattle.file_tree.specs.Calls.{dir_fault, node_of};
+ghost use Rattle.file_tree.specs.Directories.{dir_bytes, dir_end};
+ghost use Rattle.fid_table.specs.Held.{is_open_directory, next_at, state_at};
+ghost use Rattle.key_lists.specs.Listing.{list_text};
+ghost use Rattle.agent_history.specs.Deeds.{Deed, Browsed, Listed, fid_of, keys_of};
+ghost use Rattle.agent_history.specs.Requests.{ctl_text, effective, lets_read, lets_write, piece, written};
+ghost use Rattle.agent_history.specs.Lines.{lines_of, after_lines, lines_fault};
+ghost use Rattle.agent_core.specs.Connections.{Keeps, SameKept, SameElsewhere, Tries, Told, reply_bytes};
+
+use crate::connection::Connection;
+use crate::fid_requests::opens_later;
+use crate::msize::Msize;
+use crate::refused::{Refusal, Refused, Reply, refused_by};
+use crate::shared::Shared;
+use ctl_lines::write_ctl;
+use file_tree::Node;
+use nine_codec::{put_read, put_write};
+use std::alloc::Global;
+use wire_base::{Bytes, NoMemory};
+
+// The bytes of a reply to a read that aren't content.
+const READ_OVERHEAD: u32 = 24;
+
+const USUAL_REPLY: usize = 64;
+
+const ACCESS_BITS: u8 = 3;
+
+const WRITING: u8 = 1;
+
+const READING_AND_WRITING: u8 = 2;
+
+const PROTOCOLS: &[u8; 22] = b"apop\ncram\np9any\np9sk1\n";
+
+// The mode in which a fid is open lets it be read.
+fn lets_read(mode: Option<u8>) -> bool
+    ensures { result ≡ lets_read mode }
+{
+    match mode {
+        Some(mode) => mode & ACCESS_BITS != WRITING,
+        None => false,
+    }
+}
+
+// The mode in which a fid is open lets it be written.
+fn lets_write(mode: Option<u8>) -> bool
+    ensures { result ≡ lets_write mode }
+{
+    match mode {
+        Some(mode) => matches!(mode & ACCESS_BITS, WRITING | READING_AND_WRITING),
+        None => false,
+    }
+}
+
+// How many bytes a reply may hold of what is read.
+fn effective(count: u32, msize: Option<Msize>) -> u32
+    ensures most { result ≡ effective count msize }
+    ensures small { result ≤ 8216 }
+{
+    match msize {
+        Some(msize) => count.min(msize.bytes().saturating_sub(READ_OVERHEAD)),
+        None => 0,
+    }
+}
+
+// The bytes of a text from an offset on, at most so many.
+fn piece(text: &[u8], offset: u64, most: u32) -> &[u8]
+    ensures piece { result.now ≡ piece offset most text.now }
+    ensures short { length result.now ≤ most }
+{
+    let offset = offset.min(text.len() as u64) as usize;
+    let (_, rest) = text.split_at(offset);
+    let most = rest.len().min(most as usize);
+    rest.split_at(most).0
+}
+
+// The reply that hands over what was read.
+fn read_reply(alloc: Global, tag: u16, content: &[u8]) -> Result<Reply, NoMemory>
+    requires { length content.now ≤ 8216 }
+    ensures { IfOk result (λ reply. reply_bytes reply ≡ r_frame (record { tag = tag; body = r.Read content.now })) }
+{
+    let mut reply = Bytes::with_capacity(alloc, USUAL_REPLY + content.len())?;
+    put_read(tag, content, &mut reply)?;
+    Ok(Reply::Spelled(reply))
+}
+
+impl Connection {
+    // A read of a directory that the fid has open: as many whole records as fit.
+    fn read_directory(
+        &mut self,
+        alloc: Global,
+        tag: u16,
+        fid: u32,
+        offset: u64,
+        count: u32,
+    ) -> Result<Reply, Refused>
+        requires open { is_open_directory (state_at self.old.fids fid) ≡ true }
+        requires small { count ≤ 8216 }
+        ensures told { Told (option_map fault_text (dir_fault (next_at self.old.fids fid) offset)) (λ reply. reply_bytes reply ≡ r_frame (record { tag = tag; body = r.Read (dir_bytes (node_of (state_at self.old.fids fid)) offset count) })) result }
+        ensures keeps { OnOk result ((done : List Deed) (conn : ℕ) → Keeps done conn self.old → Keeps (Browsed conn fid (dir_end (node_of (state_at self.old.fids fid)) offset count) ∷ done) conn self.new) }
+        ensures elsewhere { SameElsewhere self.old self.new }
+        ensures err { OnErr result (SameKept self.old self.new) }
+    {
+        let mut records = Bytes::new(alloc);
+        let end = match self.fids.may_read(fid, offset, count, &mut records) {
+            Ok(end) => end,
+            Err(fault) => return Err(refused_by(fault)),
+        };
+        let reply = read_reply(alloc, tag, records.as_slice())?;
+        self.mark_read(fid, end);
+        Ok(reply)
+    }
+
+    // The next read of the fid may begin there.
+    fn mark_read(&mut self, fid: u32, end: u64)
+        ensures keeps { (done : List Deed) (conn : ℕ) → Keeps done conn self.old → Keeps (Browsed conn fid end ∷ done) conn self.new }
+        ensures elsewhere { SameElsewhere self.old self.new }
+    {
+        self.fids.mark_read(fid, end);
+    }
+
+    // A read of ctl: from 0 on the list of keys of this moment, which the fid then keeps; else what the fid has.
+    fn read_ctl(
+        &mut self,
+        alloc: Global,
+        shared: &Shared,
+        tag: u16,
+        fid: u32,
+        offset: u64,
+        count: u32,
+    ) -> Result<Reply, NoMemory>
+        requires { count ≤ 8216 }
+        ensures reply { IfOk result (λ reply. (done : List Deed) (conn : ℕ) (state : FidState) → Keeps done conn self.old → shared.now.ring ≡ keys_of done → fid_of done conn fid ≡ Some state → reply_bytes reply ≡ r_frame (record { tag = tag; body = r.Read (piece offset count (ctl_text done conn fid offset)) })) }
+        ensures keeps { OnOk result ((done : List Deed) (conn : ℕ) (state : FidState) → Keeps done conn self.old → shared.now.ring ≡ keys_of done → fid_of done conn fid ≡ Some state → Keeps (if offset == 0 then Listed conn fid ∷ done else done) conn self.new) }
+        ensures elsewhere { SameElsewhere self.old self.new }
+        ensures err { OnErr result (SameKept self.old self.new) }
+    {
+        if offset == 0 {
+            let mut text = Bytes::new(alloc);
+            shared.ring.list_text(&mut text)?;
+            let reply = read_reply(alloc, tag, piece(text.as_slice(), 0, count))?;
+            self.texts.insert(fid, text)?;
+            return Ok(reply);
+        }
+        match self.texts.get(&fid) {
+            Some(text) => read_reply(alloc, tag, piece(text.as_slice(), offset, count)),
+            None => read_reply(alloc, tag, &[]),
+        }
+    }
+
+    /// Read: of a directory, of ctl, or of the list of protocols.
+    #[tactic(auto, unfolding(agent_history::specs::Requests::refusal, agent_history::specs::Requests::after, agent_history::specs::Requests::reply_of, file_tree::specs::Calls::fid_fault))]
+    pub fn read(
+        &mut self,
+        alloc: Global,
+        shared: &Shared,
+        tag: u16,
+        fid: u32,
+        offset: u64,
+        count: u32,
+    ) -> Result<Reply, Refused>
+        ensures tried { (conn : ℕ) → Tries conn tag (t.Read fid offset count) self.old self.new shared.now shared.now result }
+        ensures elsewhere { SameElsewhere self.old self.new }
+        ensures err { OnErr result (SameKept self.old self.new) }
+    {
+        let state = match self.fids.file_of(fid) {
+            Ok(state) => state,
+            Err(fault) => return Err(refused_by(fault)),
+        };
+        if state.mode.is_none() {
+            return Err(Refused::For(Refusal::NotOpen));
+        }
+        if !lets_read(state.mode) {
+            return Err(Refused::For(Refusal::NotOpenForReading));
+        }
+        let most = effective(count, self.msize);
+        match state.node {
+            Node::Root | Node::Factotum => self.read_directory(alloc, tag, fid, offset, most),
+            Node::Ctl => Ok(self.read_ctl(alloc, shared, tag, fid, offset, most)?),
+            Node::Proto => Ok(read_reply(alloc, tag, piece(PROTOCOLS, offset, most))?),
+            Node::Rpc | Node::Confirm | Node::Needkey | Node::Log => {
+                Err(Refused::For(Refusal::NotServed))
+            }
+        }
+    }
+
+    /// Write of ctl: its lines are carried out, up to the first that is refused.
+    #[tactic(auto, unfolding(agent_history::specs::Requests::refusal, agent_history::specs::Requests::after, agent_history::specs::Requests::reply_of, file_tree::specs::Calls::fid_fault))]
+    pub fn write(
+        &self,
+        alloc: Global,
+        shared: &mut Shared,
+        tag: u16,
+        fid: u32,
+        content: &[u8],
+    ) -> Result<Reply, Refused>
+        requires small { length content.now ≤ 8216 }
+        requires room { shared.old.ring.ever_added + 8216 < 2 ^ 64 - 1 }
+        ensures tried { (conn offset : ℕ) → Tries conn tag (t.Write fid offset content.now) self.now self.now shared.old shared.new result }
+        ensures few { shared.new.ring.ever_added ≤ shared.old.ring.ever_added + 8216 }
+        ensures err { OnErr result (shared.new ≡ shared.old) }
+    {
+        let state = match self.fids.file_of(fid) {
+            Ok(state) => state,
+            Err(fault) => return Err(refused_by(fault)),
+        };
+        if state.mode.is_none() {
+            return Err(Refused::For(Refusal::NotOpen));
+        }
+        if !lets_write(state.mode) {
+            return Err(Refused::For(Refusal::NotOpenForWriting));
+        }
+        if opens_later(state.node) {
+            return Err(Refused::For(Refusal::NotServed));
+        }
+        Ok(write_lines(alloc, shared, tag, content)?)
+    }
+}
+
+// Carries the lines of a write of ctl out, and says how many bytes were written, or which line was refused first.
+fn write_lines(
+    alloc: Global,
+    shared: &mut Shared,
+    tag: u16,
+    content: &[u8],
+) -> Result<Reply, NoMemory>
+    requires small { length content.now ≤ 8216 }
+    requires room { shared.old.ring.ever_added + 8216 < 2 ^ 64 - 1 }
+    ensures said { IfOk result (λ reply. (done : List Deed) (conn : ℕ) → shared.old.ring ≡ keys_of done → reply_bytes reply ≡ r_frame (record { tag = tag; body = written content.now (lines_fault conn (lines_of content.now) done) })) }
+    ensures keys { OnOk result ((done : List Deed) (conn : ℕ) → shared.old.ring ≡ keys_of done → shared.new.ring ≡ keys_of (after_lines conn (lines_of content.now) done)) }
+    ensures holders { shared.new.holders ≡ shared.old.holders }
+    ensures few { shared.new.ring.ever_added ≤ shared.old.ring.ever_added + 8216 }
+    ensures err { OnErr result (shared.new ≡ shared.old) }
+{
+    let mut reply = Bytes::with_capacity(alloc, USUAL_REPLY)?;
+    put_write(tag, content.len() as u32, &mut reply)?;
+    match write_ctl(alloc, &mut shared.ring, content)? {
+        None => Ok(Reply::Spelled(reply)),
+        Some(fault) => Ok(Reply::Refusal {
+            tag,
+            why: Refusal::OfLine(fault),
+        }),
+    }
+}

@@ -1,0 +1,125 @@
+// Why a request is refused.
+ghost use Rattle.std.specs.Prelude.{◌≡◌, ◌<◌, ◌++◌, length, OnOk, OnErr};
+ghost use Rattle.agent_core.specs.Connections.{refusal_text, refused_by, reply_bytes};
+
+use ctl_lines::LineFault;
+use file_tree::FidFault;
+use nine_codec::put_error;
+use wire_base::{Bytes, NoMemory};
+
+/// Why a request is refused: nothing was changed.
+#[derive(Clone, Copy, Debug, PartialEq, Eq)]
+pub enum Refusal {
+    /// The frame is longer than the largest message that was agreed.
+    OverMsize,
+    /// The frame is no message.
+    BadMessage,
+    /// No version is agreed.
+    NoVersion,
+    /// The largest message that is offered has fewer than 256 bytes.
+    MsizeTooSmall,
+    /// Nobody is authenticated here.
+    NoAuthentication,
+    /// An attach comes with an afid.
+    BadAfid,
+    /// The file is open, and one fid alone may have it open.
+    ExclusiveUse,
+    /// It isn't served yet.
+    NotServed,
+    /// It isn't allowed on any file.
+    PermissionDenied,
+    /// The fid isn't open.
+    NotOpen,
+    /// The fid isn't open for reading.
+    NotOpenForReading,
+    /// The fid isn't open for writing.
+    NotOpenForWriting,
+    /// The fid, or the file that it names, doesn't allow it.
+    OfFid(FidFault),
+    /// A line of ctl is refused; those before it stand.
+    OfLine(LineFault),
+}
+
+impl Refusal {
+    /// The text of the reply that tells it.
+    pub fn text(self) -> &'static [u8]
+        ensures text { result.now ≡ refusal_text self }
+        ensures short { length result.now < 64 }
+    {
+        match self {
+            Refusal::OverMsize => b"message over msize",
+            Refusal::BadMessage => b"bad message",
+            Refusal::NoVersion => b"no version",
+            Refusal::MsizeTooSmall => b"msize too small",
+            Refusal::NoAuthentication => b"authentication not required",
+            Refusal::BadAfid => b"bad afid",
+            Refusal::ExclusiveUse => b"exclusive use file already open",
+            Refusal::NotServed => b"not served",
+            Refusal::PermissionDenied => b"permission denied",
+            Refusal::NotOpen => b"not open",
+            Refusal::NotOpenForReading => b"not open for reading",
+            Refusal::NotOpenForWriting => b"not open for writing",
+            Refusal::OfFid(fault) => fault.text(),
+            Refusal::OfLine(fault) => fault.text(),
+        }
+    }
+}
+
+/// Why a request wasn't carried out: nothing was changed.
+#[derive(Clone, Copy, Debug, PartialEq, Eq)]
+pub enum Refused {
+    For(Refusal),
+    NoMemory,
+}
+
+impl From<NoMemory> for Refused {
+    ghost use Rattle.std.specs.Prelude.{◌≡◌};
+    ghost use Rattle.agent_core.specs.declared.refused.Refused.TheVariants.{NoMemory};
+
+    ghost from_gives = { λ _ e. e ≡ NoMemory };
+
+    fn from(_: NoMemory) -> Self {
+        Refused::NoMemory
+    }
+}
+
+impl From<Refusal> for Refused {
+    ghost use Rattle.std.specs.Prelude.{◌≡◌};
+    ghost use Rattle.agent_core.specs.declared.refused.Refused.TheVariants.{For};
+
+    ghost from_gives = { λ r e. e ≡ For r };
+
+    fn from(refusal: Refusal) -> Self {
+        Refused::For(refusal)
+    }
+}
+
+// What a fault of a fid makes of a request.
+pub(crate) fn refused_by(fault: FidFault) -> Refused
+    ensures { result ≡ refused_by fault }
+{
+    match fault {
+        FidFault::NoMemory => Refused::NoMemory,
+        fault => Refused::For(Refusal::OfFid(fault)),
+    }
+}
+
+/// A reply that wasn't taken yet. A refusal takes no memory before it is taken.
+#[derive(Debug, Drop)]
+pub enum Reply {
+    Spelled(Bytes),
+    Refusal { tag: u16, why: Refusal },
+}
+
+impl Reply {
+    /// Appends the bytes of the reply.
+    pub fn put(&self, out: &mut Bytes) -> Result<(), NoMemory>
+        ensures ok { OnOk result (out.new ≡ out.old ++ reply_bytes self.now) }
+        ensures err { OnErr result (out.new ≡ out.old) }
+    {
+        match self {
+            Reply::Spelled(bytes) => out.append(bytes.as_slice()),
+            Reply::Refusal { tag, why } => put_error(*tag, why.text(), out),
+        }
+    }
+}

@@ -1,0 +1,246 @@
+-- How a request is answered: the tests that refuse it, in their order, each with its text; what it does where none of
+-- them holds; and what is replied. After section 5 of the Plan 9 manual and factotum(4); that these are the tests, their
+-- order and their texts are this project's.
+use Rattle.std.specs.Prelude.{ℕ, ◌-◌, min, List, [], ◌∷◌, ◌++◌, length, take, drop, map, Bool, true, false, not, ◌&&◌, ◌||◌, ◌==◌, nat_lt, Option, Some, None, is_some, Result, Ok, Err, option_map, codes, if◌then◌else◌}
+use Rattle.std.specs.Option.{option_or}
+use Rattle.std.specs.Int.{w16}
+use Rattle.std.specs.Str.{bytes_eq}
+use Rattle.wire_base.specs.Readers.{number, value_of}
+use Rattle.nine_messages.specs.declared.message.TBody.{TBody}
+use Rattle.nine_messages.specs.declared.message.TBody.TheVariants as t
+use Rattle.nine_messages.specs.declared.message.RMsg.{RMsg}
+use Rattle.nine_messages.specs.declared.message.RBody.{RBody}
+use Rattle.nine_messages.specs.declared.message.RBody.TheVariants as r
+use Rattle.nine_messages.specs.Decoding.{request_of}
+use Rattle.file_tree.specs.declared.tree.Node.{Node}
+use Rattle.file_tree.specs.declared.tree.Node.TheVariants.{Root, Factotum, Rpc, Ctl, Confirm, Needkey, Proto, Log}
+use Rattle.file_tree.specs.declared.fault.FidFault.{FidFault}
+use Rattle.file_tree.specs.Faults.{fault_text}
+use Rattle.file_tree.specs.Tree.{qid_of, is_directory, is_exclusive, visited, lead_to}
+use Rattle.file_tree.specs.Stats.{record_of}
+use Rattle.file_tree.specs.Directories.{dir_bytes, dir_end}
+use Rattle.file_tree.specs.Calls.{fid_fault, attach_fault, walk_fault, open_fault, dir_fault, node_of, mode_of, is_open, access, writes}
+use Rattle.key_lists.specs.Listing.{list_text}
+use Rattle.agent_history.specs.Deeds.{Deed, Versioned, Attached, Walked, Opened, Listed, Browsed, Clunked, msize_of, fid_of, held_by, next_of, holder_of, keys_of, text_of}
+use Rattle.agent_history.specs.Lines.{lines_of, after_lines, lines_fault}
+
+-- ---- the words of the tests
+
+-- the largest message that the agent agrees to, and the smallest
+abbrev pub most_msize : ℕ
+most_msize = 8216
+
+abbrev pub least_msize : ℕ
+least_msize = 256
+
+-- no fid
+abbrev pub nofid : ℕ
+nofid = 4294967295
+
+-- a version is agreed
+abbrev pub has_version : List Deed → ℕ → Bool
+has_version done conn = is_some (msize_of done conn)
+
+-- the version is 9P2000, or one of its dialects
+abbrev pub is_known : List ℕ → Bool
+is_known version = bytes_eq version (codes "9P2000") || bytes_eq (take 7 version) (codes "9P2000.")
+
+-- the mode in which a fid is open lets it be read, and written
+abbrev pub lets_read : Option ℕ → Bool
+lets_read None = false
+lets_read (Some mode) = not (access mode == 1)
+
+abbrev pub lets_write : Option ℕ → Bool
+lets_write None = false
+lets_write (Some mode) = writes mode
+
+-- a file whose opening isn't served yet
+abbrev pub opens_later : Node → Bool
+opens_later Rpc = true
+opens_later Confirm = true
+opens_later Needkey = true
+opens_later node = false
+
+-- a file whose reading isn't served yet
+abbrev pub reads_later : Node → Bool
+reads_later Log = true
+reads_later node = opens_later node
+
+-- a list of tests, each with the text that refuses by it: the first that holds decides
+abbrev pub Test : Type 0
+Test = Bool × List ℕ
+
+abbrev pub first_text : List Test → Option (List ℕ)
+first_text [] = None
+first_text (test ∷ tests) = if test.0 then Some test.1 else first_text tests
+
+-- ---- the tests, by type
+
+-- a fault of the fid first, then the tests
+abbrev pub fid_first : Option FidFault → List Test → Option (List ℕ)
+fid_first fault tests = option_or (option_map fault_text fault) (first_text tests)
+
+-- the offset of a read of a directory is neither 0 nor where the latest read of the fid ended
+abbrev pub is_elsewhere : Node → ℕ → ℕ → Bool
+is_elsewhere node next offset = is_directory node && is_some (dir_fault next offset)
+
+-- what refuses a request, if anything does
+unfoldable pub refusal : List Deed → ℕ → TBody → Option (List ℕ)
+refusal done conn (t.Version msize version) = first_text ((nat_lt msize least_msize, codes "msize too small") ∷ [])
+refusal done conn (t.Auth afid uname aname) = Some (codes "authentication not required")
+refusal done conn (t.Attach fid afid uname aname) =
+    option_or (first_text ((not (afid == nofid), codes "bad afid") ∷ [])) (option_map fault_text (attach_fault (fid_of done conn fid) (held_by done conn)))
+refusal done conn (t.Flush oldtag) = None
+refusal done conn (t.Walk fid newfid wname) =
+    option_map fault_text (walk_fault (fid_of done conn fid) (fid_of done conn newfid) (fid == newfid) (held_by done conn) wname)
+refusal done conn (t.Open fid mode) =
+    let node = node_of (fid_of done conn fid) in
+    fid_first (open_fault (fid_of done conn fid) mode) (
+    (is_exclusive node && is_some (holder_of done node), codes "exclusive use file already open")
+    ∷ (opens_later node, codes "not served")
+    ∷ [])
+refusal done conn (t.Create fid name perm mode) = fid_first (fid_fault (fid_of done conn fid)) ((true, codes "permission denied") ∷ [])
+refusal done conn (t.Read fid offset count) =
+    let node = node_of (fid_of done conn fid) in
+    fid_first (fid_fault (fid_of done conn fid)) (
+    (not (is_open (fid_of done conn fid)), codes "not open")
+    ∷ (not (lets_read (mode_of (fid_of done conn fid))), codes "not open for reading")
+    ∷ (is_elsewhere node (next_of done conn fid) offset, codes "bad directory offset")
+    ∷ (reads_later node, codes "not served")
+    ∷ [])
+refusal done conn (t.Write fid offset content) =
+    fid_first (fid_fault (fid_of done conn fid)) (
+    (not (is_open (fid_of done conn fid)), codes "not open")
+    ∷ (not (lets_write (mode_of (fid_of done conn fid))), codes "not open for writing")
+    ∷ (opens_later (node_of (fid_of done conn fid)), codes "not served")
+    ∷ [])
+refusal done conn (t.Clunk fid) = fid_first (fid_fault (fid_of done conn fid)) []
+refusal done conn (t.Remove fid) = fid_first (fid_fault (fid_of done conn fid)) []
+refusal done conn (t.Stat fid) = fid_first (fid_fault (fid_of done conn fid)) []
+refusal done conn (t.Wstat fid stat) = fid_first (fid_fault (fid_of done conn fid)) ((true, codes "permission denied") ∷ [])
+
+-- ---- what a request does where nothing refuses it
+
+-- the largest message that is agreed, if the version is known
+abbrev pub agreed : ℕ → List ℕ → Option ℕ
+agreed msize version = if is_known version then Some (min msize most_msize) else None
+
+-- a walk does something where all of its names are there
+abbrev pub walking : ℕ → ℕ → Option Node → List Deed → List Deed
+walking conn newfid None done = done
+walking conn newfid (Some node) done = Walked conn newfid node ∷ done
+
+-- how many bytes a reply may hold of what is read: the count asked for, or what a message of the size agreed holds
+abbrev pub effective : ℕ → Option ℕ → ℕ
+effective count None = 0
+effective count (Some msize) = min count (msize - 24)
+
+-- a read of ctl from 0 fixes its text, and one of a directory where the next may begin
+abbrev pub reading : List Deed → ℕ → ℕ → ℕ → ℕ → Node → List Deed
+reading done conn fid offset count Root = Browsed conn fid (dir_end Root offset count) ∷ done
+reading done conn fid offset count Factotum = Browsed conn fid (dir_end Factotum offset count) ∷ done
+reading done conn fid offset count Ctl = if offset == 0 then Listed conn fid ∷ done else done
+reading done conn fid offset count node = done
+
+-- the deeds after it
+unfoldable pub after : List Deed → ℕ → TBody → List Deed
+after done conn (t.Version msize version) = Versioned conn (agreed msize version) ∷ done
+after done conn (t.Attach fid afid uname aname) = Attached conn fid ∷ done
+after done conn (t.Walk fid newfid wname) = walking conn newfid (lead_to (node_of (fid_of done conn fid)) wname) done
+after done conn (t.Open fid mode) = Opened conn fid mode ∷ done
+after done conn (t.Read fid offset count) = reading done conn fid offset (effective count (msize_of done conn)) (node_of (fid_of done conn fid))
+after done conn (t.Write fid offset content) = after_lines conn (lines_of content) done
+after done conn (t.Clunk fid) = Clunked conn fid ∷ done
+after done conn (t.Remove fid) = Clunked conn fid ∷ done
+after done conn body = done
+
+-- ---- what is replied where nothing refuses it
+
+-- the text that a read of ctl finds: the list of this moment from 0 on, else the text that the fid has
+abbrev pub ctl_text : List Deed → ℕ → ℕ → ℕ → List ℕ
+ctl_text done conn fid offset = if offset == 0 then list_text (keys_of done) else text_of done conn fid
+
+-- the protocols
+abbrev pub proto_text : List ℕ
+proto_text = codes "apop\ncram\np9any\np9sk1\n"
+
+-- at most so many bytes of a text from an offset on
+abbrev pub piece : ℕ → ℕ → List ℕ → List ℕ
+piece offset count text = take count (drop offset text)
+
+-- what a read gives
+abbrev pub content_of : List Deed → ℕ → ℕ → ℕ → ℕ → Node → List ℕ
+content_of done conn fid offset count Root = dir_bytes Root offset count
+content_of done conn fid offset count Factotum = dir_bytes Factotum offset count
+content_of done conn fid offset count Ctl = piece offset count (ctl_text done conn fid offset)
+content_of done conn fid offset count Proto = piece offset count proto_text
+content_of done conn fid offset count node = []
+
+-- a write of ctl is answered by the number of its bytes, or by the first line that was refused
+abbrev pub written : List ℕ → Option (List ℕ) → RBody
+written content None = r.Write (length content)
+written content (Some text) = r.Error text
+
+unfoldable pub reply_of : List Deed → ℕ → TBody → RBody
+reply_of done conn (t.Version msize version) = r.Version (min msize most_msize) (if is_known version then codes "9P2000" else codes "unknown")
+reply_of done conn (t.Auth afid uname aname) = r.Error (codes "authentication not required")
+reply_of done conn (t.Attach fid afid uname aname) = r.Attach (qid_of Root)
+reply_of done conn (t.Flush oldtag) = r.Flush
+reply_of done conn (t.Walk fid newfid wname) = r.Walk (map qid_of (visited (node_of (fid_of done conn fid)) wname))
+reply_of done conn (t.Open fid mode) = r.Open (qid_of (node_of (fid_of done conn fid))) 0
+reply_of done conn (t.Create fid name perm mode) = r.Error (codes "permission denied")
+reply_of done conn (t.Read fid offset count) = r.Read (content_of done conn fid offset (effective count (msize_of done conn)) (node_of (fid_of done conn fid)))
+reply_of done conn (t.Write fid offset content) = written content (lines_fault conn (lines_of content) done)
+reply_of done conn (t.Clunk fid) = r.Clunk
+reply_of done conn (t.Remove fid) = r.Error (codes "permission denied")
+reply_of done conn (t.Stat fid) = r.Stat (record_of (node_of (fid_of done conn fid)))
+reply_of done conn (t.Wstat fid stat) = r.Error (codes "permission denied")
+
+-- ---- frames
+
+-- a version is agreed and the frame is longer than its msize
+abbrev pub is_over : Option ℕ → List ℕ → Bool
+is_over None frame = false
+is_over (Some msize) frame = nat_lt msize (length frame)
+
+-- a request that is answered before a version is agreed
+abbrev pub comes_first : TBody → Bool
+comes_first (t.Version msize version) = true
+comes_first (t.Flush oldtag) = true
+comes_first body = false
+
+-- the request, where a version is agreed or it needs none, and no test of its type refuses it; or the text that does
+abbrev pub granted_body : List Deed → ℕ → TBody → Result TBody (List ℕ)
+granted_body done conn body =
+    if not (comes_first body) && not (has_version done conn) then Err (codes "no version")
+    else elim (refusal done conn body) [ Some text ↦ Err text | None ↦ Ok body ]
+
+-- the request that a frame is, where nothing refuses it, or the text that does
+unfoldable pub granted : List Deed → ℕ → List ℕ → Result TBody (List ℕ)
+granted done conn frame =
+    if is_over (msize_of done conn) frame then Err (codes "message over msize")
+    else elim (request_of frame) [ None ↦ Err (codes "bad message") | Some m ↦ granted_body done conn m.body ]
+
+-- the deeds after a frame: a request that is refused changes nothing
+abbrev pub after_granted : List Deed → ℕ → Result TBody (List ℕ) → List Deed
+after_granted done conn (Err text) = done
+after_granted done conn (Ok body) = after done conn body
+
+unfoldable pub after_frame : List Deed → ℕ → List ℕ → List Deed
+after_frame done conn frame = after_granted done conn (granted done conn frame)
+
+-- the tag of a frame
+abbrev pub tag_of : List ℕ → ℕ
+tag_of frame = tag_in (value_of (number w16 frame 5))
+  where
+    tag_in : Option ℕ → ℕ
+    tag_in None = 0
+    tag_in (Some tag) = tag
+
+-- the reply to a frame
+abbrev pub body_for : List Deed → ℕ → Result TBody (List ℕ) → RBody
+body_for done conn (Err text) = r.Error text
+body_for done conn (Ok body) = reply_of done conn body
+
+unfoldable pub reply_to : List Deed → ℕ → List ℕ → RMsg
+reply_to done conn frame = record { tag = tag_of frame; body = body_for done conn (granted done conn frame) }

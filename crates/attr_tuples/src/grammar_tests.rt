@@ -1,0 +1,386 @@
+// The rules of reading, matching and merging, by hand.
+use crate::fault::{MergeFault, TupleFault};
+use crate::merging::merge;
+use crate::parse::parse_tuple;
+use crate::print::print_tuple;
+use crate::tuple::Tuple;
+use crate::{matches, public_equal, value_of};
+use std::alloc::Global;
+use std::test::Fail;
+use wire_base::Bytes;
+
+fn tuple_of(alloc: Global, text: &[u8]) -> Result<Tuple, Fail> {
+    match parse_tuple(alloc, text) {
+        Ok(tuple) => Ok(tuple),
+        Err(_) => Err("no tuple")?,
+    }
+}
+
+fn printed(alloc: Global, tuple: &Tuple) -> Result<Bytes, Fail> {
+    let mut out = Bytes::new(alloc);
+    print_tuple(tuple, &mut out)?;
+    Ok(out)
+}
+
+#[test]
+fn texts_are_read_as_tuples_or_refused(rt: HostRuntime) -> Result<(), Fail> {
+    let alloc = rt.alloc();
+    let cases = [
+        ("nothing", b"".as_slice(), Ok(b"".as_slice())),
+        (
+            "blanks and tabs alone",
+            b" \t ".as_slice(),
+            Ok(b"".as_slice()),
+        ),
+        (
+            "blanks and tabs between",
+            b"\ta=1  \tb=2\t".as_slice(),
+            Ok(b"a=1 b=2".as_slice()),
+        ),
+        (
+            "quotes around a value",
+            b"a='b c'".as_slice(),
+            Ok(b"a='b c'".as_slice()),
+        ),
+        (
+            "quotes inside a word",
+            b"a=b' 'c".as_slice(),
+            Ok(b"a='b c'".as_slice()),
+        ),
+        (
+            "quotes around a word",
+            b"'a=b c'".as_slice(),
+            Ok(b"a='b c'".as_slice()),
+        ),
+        (
+            "quotes in a name",
+            b"'a'b=c".as_slice(),
+            Ok(b"ab=c".as_slice()),
+        ),
+        (
+            "a quoted tab",
+            b"a='\t'".as_slice(),
+            Ok(b"a='\t'".as_slice()),
+        ),
+        (
+            "a doubled quote",
+            b"a='it''s'".as_slice(),
+            Ok(b"a='it''s'".as_slice()),
+        ),
+        (
+            "a doubled quote alone",
+            b"a=''''".as_slice(),
+            Ok(b"a=''''".as_slice()),
+        ),
+        (
+            "two runs are one",
+            b"a='b''c'".as_slice(),
+            Ok(b"a='b''c'".as_slice()),
+        ),
+        (
+            "two runs with a byte between",
+            b"a='b'x'c'".as_slice(),
+            Ok(b"a=bxc".as_slice()),
+        ),
+        (
+            "an open quote",
+            b"a=b c='d".as_slice(),
+            Err(TupleFault::Quote { at: 6 }),
+        ),
+        (
+            "an open quote that is doubled",
+            b"a='b''".as_slice(),
+            Err(TupleFault::Quote { at: 2 }),
+        ),
+        (
+            "a second run that is open",
+            b"a='b'c'd".as_slice(),
+            Err(TupleFault::Quote { at: 6 }),
+        ),
+        (
+            "a quote at the end",
+            b"a=b'".as_slice(),
+            Err(TupleFault::Quote { at: 3 }),
+        ),
+        ("no name", b"=b".as_slice(), Err(TupleFault::Name { at: 0 })),
+        (
+            "no name in the second word",
+            b"x =b".as_slice(),
+            Err(TupleFault::Name { at: 2 }),
+        ),
+        ("a question", b"a?".as_slice(), Ok(b"a?".as_slice())),
+        (
+            "a secret question",
+            b"!x?".as_slice(),
+            Ok(b"!x?".as_slice()),
+        ),
+        ("nothing behind =", b"a=".as_slice(), Ok(b"a=''".as_slice())),
+        ("an empty value", b"a=''".as_slice(), Ok(b"a=''".as_slice())),
+        ("two =", b"a=b=c".as_slice(), Ok(b"a=b=c".as_slice())),
+        ("a name alone", b"a".as_slice(), Ok(b"a".as_slice())),
+        (
+            "a secret name alone",
+            b"!x".as_slice(),
+            Ok(b"!x".as_slice()),
+        ),
+        (
+            "a quoted question",
+            b"'a?'".as_slice(),
+            Ok(b"a?".as_slice()),
+        ),
+        ("a quoted =", b"'a='b".as_slice(), Ok(b"a=b".as_slice())),
+        ("? in a value", b"a=?".as_slice(), Ok(b"a=?".as_slice())),
+        (
+            "a question alone",
+            b"?".as_slice(),
+            Err(TupleFault::Name { at: 0 }),
+        ),
+        ("two ?", b"a??".as_slice(), Err(TupleFault::Name { at: 0 })),
+        (
+            "? inside a name",
+            b"a?b".as_slice(),
+            Err(TupleFault::Name { at: 0 }),
+        ),
+        (
+            "? at the end of a name",
+            b"a?=b".as_slice(),
+            Err(TupleFault::Name { at: 0 }),
+        ),
+        ("! alone", b"!".as_slice(), Err(TupleFault::Name { at: 0 })),
+        (
+            "! alone with a value",
+            b"a !=b".as_slice(),
+            Err(TupleFault::Name { at: 2 }),
+        ),
+        (
+            "! alone with a question",
+            b"!?".as_slice(),
+            Err(TupleFault::Name { at: 0 }),
+        ),
+        (
+            "an empty word",
+            b"a ''".as_slice(),
+            Err(TupleFault::Name { at: 2 }),
+        ),
+        (
+            "a blank in a name",
+            b"'a b'=c".as_slice(),
+            Err(TupleFault::Name { at: 0 }),
+        ),
+        (
+            "a tab in a name",
+            b"'a\tb'=c".as_slice(),
+            Err(TupleFault::Name { at: 0 }),
+        ),
+        (
+            "a quote in a name",
+            b"a''''b=c".as_slice(),
+            Err(TupleFault::Name { at: 0 }),
+        ),
+        (
+            "an open quote before the name of its word",
+            b"'a b'='c".as_slice(),
+            Err(TupleFault::Quote { at: 6 }),
+        ),
+        (
+            "a name before the quote of a later word",
+            b"= 'a".as_slice(),
+            Err(TupleFault::Name { at: 0 }),
+        ),
+        (
+            "a quote before the name of a later word",
+            b"'a =".as_slice(),
+            Err(TupleFault::Quote { at: 0 }),
+        ),
+        (
+            "a byte below 0x20",
+            b"a=\n".as_slice(),
+            Err(TupleFault::NotText { at: 2 }),
+        ),
+        (
+            "a NUL",
+            b"a=\0".as_slice(),
+            Err(TupleFault::NotText { at: 2 }),
+        ),
+        (
+            "no text behind a bad name",
+            b"= \x01".as_slice(),
+            Err(TupleFault::NotText { at: 2 }),
+        ),
+        ("byte 0x7f", b"a=\x7f".as_slice(), Ok(b"a=\x7f".as_slice())),
+        (
+            "bad UTF-8 late",
+            b"a=b c='d \xff".as_slice(),
+            Err(TupleFault::NotText { at: 9 }),
+        ),
+        (
+            "a character cut short",
+            b"a=\xc3".as_slice(),
+            Err(TupleFault::NotText { at: 2 }),
+        ),
+        (
+            "a control byte behind one cut short",
+            b"a=\xc3\x01".as_slice(),
+            Err(TupleFault::NotText { at: 2 }),
+        ),
+        (
+            "a control byte before bad UTF-8",
+            b"a=\x01\xff".as_slice(),
+            Err(TupleFault::NotText { at: 2 }),
+        ),
+        (
+            "letters beyond ASCII",
+            b"\xc3\xa9=\xc3\xbc".as_slice(),
+            Ok(b"\xc3\xa9=\xc3\xbc".as_slice()),
+        ),
+        (
+            "36 words",
+            b"a a a a a a a a a a a a a a a a a a a a a a a a a a a a a a a a a a a a ".as_slice(),
+            Ok(
+                b"a a a a a a a a a a a a a a a a a a a a a a a a a a a a a a a a a a a a".as_slice(),
+            ),
+        ),
+        (
+            "37 words",
+            b"a a a a a a a a a a a a a a a a a a a a a a a a a a a a a a a a a a a a a".as_slice(),
+            Err(TupleFault::TooMany),
+        ),
+        (
+            "a 37th word without a name",
+            b"a a a a a a a a a a a a a a a a a a a a a a a a a a a a a a a a a a a a =b".as_slice(),
+            Err(TupleFault::TooMany),
+        ),
+        (
+            "a 37th word with an open quote",
+            b"a a a a a a a a a a a a a a a a a a a a a a a a a a a a a a a a a a a a 'b".as_slice(),
+            Err(TupleFault::TooMany),
+        ),
+        (
+            "a 36th word without a name",
+            b"a a a a a a a a a a a a a a a a a a a a a a a a a a a a a a a a a a a =b".as_slice(),
+            Err(TupleFault::Name { at: 70 }),
+        ),
+        (
+            "a 36th word with an open quote",
+            b"a a a a a a a a a a a a a a a a a a a a a a a a a a a a a a a a a a a b='c".as_slice(),
+            Err(TupleFault::Quote { at: 72 }),
+        ),
+        (
+            "no text behind 37 words",
+            b"a a a a a a a a a a a a a a a a a a a a a a a a a a a a a a a a a a a a a\n".as_slice(),
+            Err(TupleFault::NotText { at: 73 }),
+        ),
+    ];
+    for (case, text, read) in cases {
+        match parse_tuple(alloc, text) {
+            Ok(tuple) => {
+                let out = printed(alloc, &tuple)?;
+                assert_eq!(rt; Ok(out.as_slice()), read, "{case}");
+                let again = tuple_of(alloc, out.as_slice())?;
+                assert_eq!(rt; printed(alloc, &again)?.as_slice(), out.as_slice());
+            }
+            Err(fault) => assert_eq!(rt; Err(fault), read, "{case}"),
+        }
+    }
+    Ok(())
+}
+
+#[test]
+fn templates_match_tuples(rt: HostRuntime) -> Result<(), Fail> {
+    let alloc = rt.alloc();
+    let cases = [
+        ("nothing is asked", "", "a=1 b", true),
+        ("a value that stands", "a=1", "b a=1", true),
+        ("another value", "a=1", "a=2", false),
+        ("two values of a name", "a=1 a=2", "a=2 a=1", true),
+        ("one of two values", "a=1 a=2", "a=2", false),
+        ("a question for a value", "b?", "b=2", true),
+        ("a question for a name alone", "b?", "b", true),
+        ("a question for the empty value", "b?", "b=''", true),
+        ("a question for what isn't there", "b?", "a=b", false),
+        ("a name alone", "b", "b", true),
+        ("a name alone, with the empty value", "b", "b=''", true),
+        ("a name alone, with a value", "b", "b=2", false),
+        ("a name alone, with a question", "b", "b?", false),
+        ("a name alone beside a value", "b", "b=2 b", true),
+        ("a secret name alone", "!x", "!x=2", true),
+        ("a secret name alone that isn't there", "!x", "x=2", false),
+        ("a secret question", "!x?", "!x=2", true),
+        ("the empty value", "b=''", "b=''", true),
+        ("the empty value and a name alone", "b=''", "b", false),
+        ("a value and a question", "a=1", "a?", false),
+        ("a secret value", "!x=1", "!x=1", true),
+        ("another secret value", "!x=1", "!x=2", false),
+    ];
+    for (case, template, tuple, met) in cases {
+        let template = tuple_of(alloc, template.as_bytes())?;
+        let tuple = tuple_of(alloc, tuple.as_bytes())?;
+        assert_eq!(rt; matches(&template, &tuple), met, "{case}");
+    }
+    Ok(())
+}
+
+#[test]
+fn tuples_are_compared_in_public(rt: HostRuntime) -> Result<(), Fail> {
+    let alloc = rt.alloc();
+    let cases = [
+        ("nothing", "", "", true),
+        ("another order", "a=1 b", "b a=1", true),
+        ("another secret", "a=1 !p=x", "!p=y a=1", true),
+        ("a secret more", "a=1", "a=1 !p", true),
+        ("once and twice", "a=1 a=1", "a=1", false),
+        ("twice each", "a=1 b a=1", "a=1 a=1 b", true),
+        ("one twice, the other twice", "a=1 a=1 b", "a=1 b b", false),
+        ("another value", "a=1", "a=2", false),
+        ("a question and a name alone", "a?", "a", false),
+        ("the empty value and a name alone", "a=''", "a", false),
+        ("another name", "a=1", "b=1", false),
+    ];
+    for (case, a, b, same) in cases {
+        let a = tuple_of(alloc, a.as_bytes())?;
+        let b = tuple_of(alloc, b.as_bytes())?;
+        assert_eq!(rt; public_equal(&a, &b), same, "{case}");
+        assert_eq!(rt; public_equal(&b, &a), same, "{case}");
+    }
+    Ok(())
+}
+
+#[test]
+fn tuples_are_merged_and_asked(rt: HostRuntime) -> Result<(), Fail> {
+    let alloc = rt.alloc();
+    let cases = [
+        ("a=1", "a=2 b", Ok("a=1 b")),
+        ("", "b=1 b=2", Ok("b=1 b=2")),
+        ("a? a", "", Ok("a? a")),
+        ("a", "a=1 !a=1", Ok("a !a=1")),
+        (
+            "a a a a a a a a a a a a a a a a a a a a a a a a a a a a a a a a a a a",
+            "a=1 b",
+            Ok("a a a a a a a a a a a a a a a a a a a a a a a a a a a a a a a a a a a b"),
+        ),
+        (
+            "a a a a a a a a a a a a a a a a a a a a a a a a a a a a a a a a a a a",
+            "b c",
+            Err(MergeFault::TooMany),
+        ),
+    ];
+    for (a, b, both) in cases {
+        let a = tuple_of(alloc, a.as_bytes())?;
+        let b = tuple_of(alloc, b.as_bytes())?;
+        match merge(&a, &b) {
+            Ok(tuple) => {
+                let out = printed(alloc, &tuple)?;
+                assert_eq!(rt; Ok(out.as_slice()), both.map(|text| text.as_bytes()));
+            }
+            Err(fault) => assert_eq!(rt; Some(fault), both.err()),
+        }
+    }
+    let tuple = tuple_of(alloc, b"a a? a=1 a=2 !b=''".as_slice())?;
+    for (name, value) in [("a", Some("1")), ("!b", Some("")), ("b", None), ("", None)] {
+        match value_of(&tuple, name.as_bytes()) {
+            Some(text) => assert_eq!(rt; Some(text.as_slice()), value.map(|text| text.as_bytes())),
+            None => assert!(rt; value.is_none(), "{name}"),
+        }
+    }
+    Ok(())
+}

@@ -1,0 +1,35 @@
+// Tuples merged.
+ghost use Rattle.std.specs.Prelude.{◌≡◌, ◌≤◌, ◌++◌, length, filter, IfOk};
+ghost use Rattle.attr_tuples.specs.Attributes.{is_tuple};
+ghost use Rattle.attr_tuples.specs.Merging.{is_new, merged, Merges};
+
+use crate::attr::Attr;
+use crate::compare::check_has_name;
+use crate::fault::MergeFault;
+use crate::tuple::{MOST_ATTRIBUTES, Tuple};
+
+/// The attributes of `a`, and behind them those of `b` whose names `a` lacks. More than 36 are refused before memory
+/// is taken.
+pub fn merge(a: &Tuple, b: &Tuple) -> Result<Tuple, MergeFault>
+    ensures { Merges result a.now b.now }
+{
+    if count_new(a.attrs(), b.attrs()) > MOST_ATTRIBUTES - a.attrs().len() {
+        return Err(MergeFault::TooMany);
+    }
+    let mut list = a.copy()?.into_vec();
+    for attr in b.attrs() {
+        if !check_has_name(a.attrs(), attr.name.as_slice()) {
+            list.push(attr.copy()?)?;
+        }
+    }
+    Ok(Tuple::from_vec(list))
+}
+
+// How many attributes of `b` have a name that `a` lacks.
+fn count_new(a: &[Attr], b: &[Attr]) -> usize
+    ensures { result ≡ length (filter (is_new a.now) b.now) }
+{
+    b.iter()
+        .filter(|attr| !check_has_name(a, attr.name.as_slice()))
+        .count()
+}

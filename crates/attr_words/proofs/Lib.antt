@@ -1,0 +1,5 @@
+pub mod PlaceLemmas
+pub mod WordLemmas
+pub mod PartLemmas
+pub mod SayLemmas
+pub mod LineLemmas

@@ -1,0 +1,13 @@
+//! Words of a line of text: where text ends to be a line's, gaps of blanks and tabs, and words with quotes, after
+//! rc(1) of the Plan 9 manual.
+#![tactic(auto)]
+
+mod laws;
+mod line;
+#[cfg(test)]
+mod tests;
+mod word;
+
+pub use laws::{lines_are_whole, words_are_their_parts, words_of_lines_are_lines};
+pub use line::{check_line_byte, line_len};
+pub use word::{WordFault, gap_end, take_word};

@@ -1,0 +1,15 @@
+use Rattle.std.proofs.Common.{◌≡◌, ℕ, ◌+◌, ◌≤◌, ◌++◌, length}
+use Rattle.agent_history.specs.Lines.{lines_of}
+use Rattle.ctl_lines.specs.Steps.{bytes_left, edits_in, kept, lines_left, turns_left, unread}
+use Rattle.ctl_lines.proofs.write.read_lines.Given as goal
+
+-- the edits so far and those of the lines left are those of all, and so is the first line that can't be read
+abbrev pub invariant-loop-left : goal.invariant-loop-left
+invariant-loop-left l = record {
+  edits : l.edits ++ edits_in (kept (lines_left l.left)) ≡ l.fn.edits ++ edits_in (lines_of l.content);
+  fault : unread (kept (lines_left l.left)) ≡ unread (lines_of l.content);
+  few : length l.edits + bytes_left l.left ≤ length l.fn.edits + length l.content;
+}
+
+abbrev pub decreases-loop-left : goal.decreases-loop-left
+decreases-loop-left l = turns_left l.left

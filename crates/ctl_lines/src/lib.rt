@@ -1,0 +1,11 @@
+//! A write of ctl, carried out line by line on a ring of keys.
+#![tactic(auto)]
+
+mod fault;
+mod line;
+#[cfg(test)]
+mod tests;
+mod write;
+
+pub use fault::LineFault;
+pub use write::write_ctl;

@@ -1,0 +1,233 @@
+-- The frames of a stream, answered one by one, and what a pipe has written where it stops.
+use Rattle.std.proofs.Common.{◌≡◌, ℕ, ◌+◌, ◌<◌, ◌≤◌, List, [], ◌∷◌, ◌++◌, length, take, drop, take-append-drop, length-drop, Option, Some, None, refl, sym, ap, subst, ◌∙◌, append_assoc, append-nil, length-append, ◌⊎◌, inl, inr, arith}
+use Rattle.std.specs.List.{concat}
+use Rattle.std.specs.Io.KnownBytes.{Consumes, IsAtEnd}
+use Rattle.std.proofs.KnownBytes.{Consumes-nil, Consumes-trans}
+use Rattle.std.proofs.lemmas.List.{drop_at, take-take, length-take-le}
+use Rattle.wire_base.specs.Streams.{Gains}
+use Rattle.wire_base.proofs.StreamLemmas.{Gains-nil}
+use Rattle.nine_frames.specs.Streams.{front, IsBad, IsShort, IsWhole as IsWholeFront, frames}
+use Rattle.nine_frames.specs.Framed.{Framing}
+use Rattle.nine_frames.specs.Framing.{HasHandedOut, Answers as Gives, IsWithin}
+use Rattle.nine_frames.specs.declared.framer.Next.TheVariants.{Whole, NotYet, BadSize}
+use Rattle.nine_frames.proofs.StreamLaws.{continues, more_frames, frames_short, front_none, handed_then}
+use Rattle.agent_history.specs.Histories.{History}
+use Rattle.agent_core.specs.declared.agent.Agent.{Agent}
+use Rattle.agent_core.specs.Agents.{StandsFor}
+use Rattle.factotum_program.specs.declared.status.Status.{Status}
+use Rattle.factotum_program.specs.declared.status.Status.TheVariants.{Fine, Usage, ReadFault, WriteFault, BadFrame, Torn, NoMemory, Flood}
+use Rattle.factotum_program.specs.declared.pipe.Session.{Session}
+use Rattle.factotum_program.specs.Pipe.{most_frame, after_frame, after_frames, text_of, replies_text, pipe_text}
+use Rattle.factotum_program.specs.Commands.{most_input, frames_in, end_of, IsWhole, Reads, Answers, MeetsBadFrame, EndsInside, Floods, RepliesSoFar, RepliesInPart, GainsPart, EndsSo}
+use Rattle.factotum_program.specs.Sessions.{HasNoNext, Handed, AllHanded, MeetsBad, StopsAt, IsCut, Piped}
+use Rattle.factotum_program.proofs.TakeLemmas.{frames_grow}
+use Rattle.factotum_program.proofs.PartLemmas.{part_longer, part_memory}
+
+after_append : (H : History) (some others : List (List ℕ)) → after_frames H (some ++ others) ≡ after_frames (after_frames H some) others
+after_append H [] others = refl
+after_append H (f ∷ some) others = after_append (after_frame H f) some others
+
+-- the replies to some frames stand in front of those to these and others
+replies_grow : (some others : List (List ℕ)) → (more : List ℕ) × (replies_text (some ++ others) ≡ replies_text some ++ more)
+replies_grow some others = let rest = frames_grow (after_frames [] some) others in (rest.0, ap text_of (after_append [] some others) ∙ rest.1)
+
+replies_more : (stream more : List ℕ) → (rest : List ℕ) × (replies_text (frames_in (stream ++ more)) ≡ replies_text (frames_in stream) ++ rest)
+replies_more stream more =
+    let m = more_frames most_frame stream more in
+    let grown = replies_grow (frames_in stream) m.0 in
+    (grown.0, ap replies_text m.1 ∙ grown.1)
+
+-- ---- one frame more
+
+-- the frames of the stream are those that were answered, this one, and others
+frames_then : (origin held : Option (List ℕ)) (stream : List ℕ) (handed : List (List ℕ)) (old new : Framing) (agent : Agent) (frame : List ℕ) → Handed origin held stream handed old agent → Gives old new (Whole frame)
+    → (others : List (List ℕ)) × (frames_in stream ≡ (handed ++ frame ∷ []) ++ others)
+frames_then origin held stream handed old new agent frame h a =
+    let c = continues old new (Whole frame) a stream handed h.cut in
+    (frames old.limit new.held, ap (λ (limit : ℕ). frames limit stream) (sym h.limit) ∙ c.0 ∙ sym (append_assoc handed (frame ∷ []) (frames old.limit new.held)))
+
+pub handed_more : (origin before after : Option (List ℕ)) (stream : List ℕ) (handed : List (List ℕ)) (old new : Framing) (agent later : Agent) (frame : List ℕ) → Handed origin before stream handed old agent → Gives old new (Whole frame)
+    → StandsFor (after_frame (after_frames [] handed) frame) later → Gains origin after (text_of (after_frame (after_frames [] handed) frame)) → Handed origin after stream (handed ++ frame ∷ []) new later
+handed_more origin before after stream handed old new agent later frame h a stands written =
+    let is : after_frames [] (handed ++ frame ∷ []) ≡ after_frame (after_frames [] handed) frame = after_append [] handed (frame ∷ []) in
+    record {
+      cut = (continues old new (Whole frame) a stream handed h.cut).1;
+      limit = a.2.limit ∙ h.limit;
+      stands = subst (λ (H : History). StandsFor H later) (sym is) stands;
+      written = subst (λ (H : History). Gains origin after (text_of H)) (sym is) written;
+    }
+
+stops_cut : (status : Status) (origin held : Option (List ℕ)) (stream text more : List ℕ) → replies_text (frames_in stream) ≡ text ++ more → IsCut status → GainsPart status origin held text → StopsAt origin held stream status
+stops_cut status origin held stream text more is (inl memory) p = subst (StopsAt origin held stream) (sym memory) (part_longer NoMemory origin held text (replies_text (frames_in stream)) more is (subst (λ (s : Status). GainsPart s origin held text) memory p))
+stops_cut status origin held stream text more is (inr write) p = subst (StopsAt origin held stream) (sym write) (part_longer WriteFault origin held text (replies_text (frames_in stream)) more is (subst (λ (s : Status). GainsPart s origin held text) write p))
+
+-- the replies to a frame were written in part
+pub stops_in_frame : (status : Status) (origin before after : Option (List ℕ)) (stream : List ℕ) (handed : List (List ℕ)) (old new : Framing) (agent : Agent) (frame : List ℕ) → Handed origin before stream handed old agent → Gives old new (Whole frame)
+    → IsCut status → GainsPart status origin after (text_of (after_frame (after_frames [] handed) frame)) → StopsAt origin after stream status
+stops_in_frame status origin before after stream handed old new agent frame h a cut p =
+    let others = frames_then origin before stream handed old new agent frame h a in
+    let grown = replies_grow (handed ++ frame ∷ []) others.0 in
+    stops_cut status origin after stream (text_of (after_frame (after_frames [] handed) frame)) grown.0
+    (ap replies_text others.1 ∙ grown.1 ∙ ap (λ (H : History). text_of H ++ grown.0) (after_append [] handed (frame ∷ []))) cut p
+
+-- there is no frame more
+pub handed_all : (origin held : Option (List ℕ)) (stream : List ℕ) (handed : List (List ℕ)) (old new : Framing) (agent : Agent) → Handed origin held stream handed old agent → Gives old new NotYet → AllHanded origin held stream new agent
+handed_all origin held stream handed old new agent h a =
+    let all : frames_in stream ≡ handed = ap (λ (limit : ℕ). frames limit stream) (sym h.limit) ∙ continues old new NotYet a stream handed h.cut in
+    record {
+      all = subst (λ (f : Framing). Handed origin held stream (frames_in stream) f agent) (sym a.1) (subst (λ (fs : List (List ℕ)). Handed origin held stream fs old agent) (sym all) h);
+      short = ap (λ (f : Framing). front most_frame f.held) a.1 ∙ ap (λ (limit : ℕ). front limit old.held) (sym h.limit) ∙ a.0;
+    }
+
+-- no next frame comes
+pub stops_between : (status : Status) (origin held : Option (List ℕ)) (stream : List ℕ) (handed : List (List ℕ)) (f : Framing) (agent : Agent) → Handed origin held stream handed f agent → HasNoNext f status → StopsAt origin held stream status
+stops_between status origin held stream handed f agent h (inl memory) =
+    let all : frames_in stream ≡ handed ++ frames most_frame f.held = ap (frames most_frame) h.cut.parts ∙ handed_then most_frame handed f.held (rw h.limit at h.cut.each) in
+    let grown = replies_grow handed (frames most_frame f.held) in
+    subst (StopsAt origin held stream) (sym memory) (part_memory origin held (replies_text handed) (replies_text (frames_in stream)) grown.0 (ap replies_text all ∙ grown.1) h.written)
+stops_between status origin held stream handed f agent h (inr bad) =
+    let a : Gives f f (BadSize f.before bad.0) = (bad.2, refl, refl) in
+    let c = continues f f (BadSize f.before bad.0) a stream handed h.cut in
+    let all : frames_in stream ≡ handed = ap (λ (limit : ℕ). frames limit stream) (sym h.limit) ∙ c.0 in
+    let rest : drop f.before stream ≡ f.held = ap (drop f.before) h.cut.parts ∙ drop_at (concat handed) f.held f.before (sym h.cut.place) in
+    subst (StopsAt origin held stream) (sym bad.1) (record {
+      place = h.cut.place ∙ ap (λ (fs : List (List ℕ)). length (concat fs)) (sym all);
+      bad = ap (front most_frame) rest ∙ ap (λ (limit : ℕ). front limit f.held) (sym h.limit) ∙ bad.2;
+      written = subst (λ (fs : List (List ℕ)). Gains origin held (replies_text fs)) (sym all) h.written;
+    })
+
+-- ---- a piece more
+
+pub stops_unfed : (origin held : Option (List ℕ)) (stream piece : List ℕ) (f : Framing) (agent : Agent) → AllHanded origin held stream f agent → StopsAt origin held (stream ++ piece) NoMemory
+stops_unfed origin held stream piece f agent h = let more = replies_more stream piece in part_memory origin held (replies_text (frames_in stream)) (replies_text (frames_in (stream ++ piece))) more.0 more.1 h.all.written
+
+pub fed : (origin held : Option (List ℕ)) (stream piece : List ℕ) (old new : Framing) (agent : Agent) → AllHanded origin held stream old agent → new ≡ record { limit = old.limit; before = old.before; held = old.held ++ piece }
+    → HasHandedOut new (stream ++ piece) (frames_in stream) → Handed origin held (stream ++ piece) (frames_in stream) new agent
+fed origin held stream piece old new agent h is cut = record { cut = cut; limit = ap (λ (f : Framing). f.limit) is ∙ h.all.limit; stands = h.all.stands; written = h.all.written }
+
+-- what stops an answer is the end of the pipe
+pub stop_ends : (status : Status) (first next origin held : Option (List ℕ)) (input behind : List ℕ) → Reads first next input behind → StopsAt origin held input status → EndsSo status first next origin held
+stop_ends Fine first next origin held input behind r s = absurd s
+stop_ends Usage first next origin held input behind r s = absurd s
+stop_ends ReadFault first next origin held input behind r s = absurd s
+stop_ends WriteFault first next origin held input behind r s = record { input = input; behind = behind; read = r; written = s }
+stop_ends (BadFrame at size) first next origin held input behind r s = record { input = input; behind = behind; read = r; place = s.place; bad = s.bad; written = s.written }
+stop_ends (Torn at) first next origin held input behind r s = absurd s
+stop_ends NoMemory first next origin held input behind r s = record { input = input; behind = behind; read = r; written = s }
+stop_ends (Flood limit) first next origin held input behind r s = absurd s
+
+-- nothing was read behind the input
+pub reads_all : (first now : Option (List ℕ)) (input : List ℕ) → Consumes first now input → length input ≤ most_input → Reads first now input []
+reads_all first now input taken few = record { taken = subst (Consumes first now) (sym (append-nil input)) taken; bounded = few; full = λ some. absurd (omega (arith, some)) }
+
+taken_all : (origin held : Option (List ℕ)) (stream : List ℕ) (f : Framing) (agent : Agent) → AllHanded origin held stream f agent → length stream ≡ f.before + length f.held
+taken_all origin held stream f agent h = omega (arith, ap length h.all.cut.parts, length-append (concat (frames_in stream)) f.held, h.all.cut.place)
+
+-- the bytes of one read, of which so many fit
+pub reads_more : (first now next : Option (List ℕ)) (stream piece behind : List ℕ) → Consumes first now stream → Consumes now next (piece ++ behind) → length (stream ++ piece) ≤ most_input → (0 < length behind → length (stream ++ piece) ≡ most_input) → Reads first next (stream ++ piece) behind
+reads_more first now next stream piece behind taken more few full = record {
+  taken = subst (Consumes first next) (sym (append_assoc stream piece behind)) (Consumes-trans first now next stream (piece ++ behind) taken more);
+  bounded = few;
+  full = full;
+}
+
+-- ---- the end of the input
+
+pub torn : (first now origin held : Option (List ℕ)) (session : Session) → Piped first now origin held session → IsAtEnd now → 0 < length session.framer.held → EndsInside session.framer.before first now origin held
+torn first now origin held session p end some =
+    let h = p.handed.all in
+    let rest : drop session.framer.before p.stream ≡ session.framer.held = ap (drop session.framer.before) h.cut.parts ∙ drop_at (concat (frames_in p.stream)) session.framer.held session.framer.before (sym h.cut.place) in
+    record {
+      input = p.stream;
+      read = reads_all first now p.stream p.read p.few;
+      at_end = end;
+      place = h.cut.place;
+      inside = omega (arith, some, taken_all origin held p.stream session.framer session.agent p.handed);
+      short = ap (front most_frame) rest ∙ p.handed.short;
+      written = h.written;
+    }
+
+none_left : (xs : List ℕ) → (0 < length xs → ⊥) → xs ≡ []
+none_left [] h = refl
+none_left (x ∷ xs) h = absurd (h (omega arith))
+
+whole_there : (origin held : Option (List ℕ)) (stream : List ℕ) (f : Framing) (agent : Agent) → AllHanded origin held stream f agent → (0 < length f.held → ⊥) → IsWhole stream
+whole_there origin held stream f agent h none = h.all.cut.parts ∙ ap (λ (r : List ℕ). concat (frames_in stream) ++ r) (none_left f.held none) ∙ append-nil (concat (frames_in stream))
+
+pub answered : (first now origin held : Option (List ℕ)) (session : Session) → Piped first now origin held session → IsAtEnd now → (0 < length session.framer.held → ⊥) → Answers first now origin held
+unfolding pipe_text
+answered first now origin held session p end none = record {
+  input = p.stream;
+  read = reads_all first now p.stream p.read p.few;
+  at_end = end;
+  whole = whole_there origin held p.stream session.framer session.agent p.handed none;
+  written = subst (Gains origin held) (sym (append-nil (replies_text (frames_in p.stream)))) p.handed.all.written;
+}
+
+-- memory ran out between two pieces
+pub memory_ends : (first now origin held : Option (List ℕ)) (session : Session) → Piped first now origin held session → EndsSo NoMemory first now origin held
+memory_ends first now origin held session p = record {
+  input = p.stream;
+  behind = [];
+  read = reads_all first now p.stream p.read p.few;
+  written = part_memory origin held (replies_text (frames_in p.stream)) (replies_text (frames_in p.stream)) [] (sym (append-nil (replies_text (frames_in p.stream)))) p.handed.all.written;
+}
+
+-- a read failed
+pub fault_ends : (first now origin held : Option (List ℕ)) (session : Session) → Piped first now origin held session → RepliesSoFar first now origin held
+fault_ends first now origin held session p = record { input = p.stream; read = reads_all first now p.stream p.read p.few; written = p.handed.all.written }
+
+-- ---- before the first read
+
+no_frames : frames_in [] ≡ []
+no_frames = frames_short most_frame [] (front_none most_frame [] 0 refl)
+
+pub begun : (first origin : Option (List ℕ)) (agent : Agent) (framer : Framing) (replies : List ℕ) → StandsFor [] agent → framer ≡ record { limit = most_frame; before = 0; held = [] } → HasHandedOut framer [] [] → Piped first first origin origin (record { agent = agent; framer = framer; replies = replies })
+begun first origin agent framer replies stands is cut = record {
+  stream = [];
+  read = Consumes-nil first;
+  few = omega arith;
+  handed = record {
+    all = subst (λ (fs : List (List ℕ)). Handed origin origin [] fs framer agent) (sym no_frames) (record { cut = cut; limit = ap (λ (f : Framing). f.limit) is; stands = stands; written = Gains-nil origin });
+    short = ap (λ (f : Framing). front most_frame f.held) is ∙ front_none most_frame [] 0 refl;
+  };
+}
+
+-- ---- statuses that don't come
+
+pub cut_reads : (status : Status) → IsCut status → status ≡ ReadFault → ⊥
+cut_reads status (inl memory) read = let e : NoMemory ≡ ReadFault = sym memory ∙ read in (cc)
+cut_reads status (inr write) read = let e : WriteFault ≡ ReadFault = sym write ∙ read in (cc)
+
+pub next_reads : (f : Framing) (status : Status) → HasNoNext f status → status ≡ ReadFault → ⊥
+next_reads f status (inl memory) read = let e : NoMemory ≡ ReadFault = sym memory ∙ read in (cc)
+next_reads f status (inr bad) read = let e : BadFrame f.before bad.0 ≡ ReadFault = sym bad.1 ∙ read in (cc)
+
+-- ---- what one read gave, of which so many bytes fit
+
+pub reads_part : (first now next : Option (List ℕ)) (stream chunk : List ℕ) (count fits : ℕ) → Consumes first now stream → Consumes now next (take count chunk) → fits ≤ count → count ≤ length chunk → length stream + fits ≤ most_input → (fits < count → length stream + fits ≡ most_input)
+    → Reads first next (stream ++ take fits chunk) (drop fits (take count chunk))
+reads_part first now next stream chunk count fits taken more few held within full =
+    let front : take fits (take count chunk) ≡ take fits chunk = take-take fits count chunk few in
+    let whole : take count chunk ≡ take fits chunk ++ drop fits (take count chunk) = sym (take-append-drop fits (take count chunk)) ∙ ap (λ (f : List ℕ). f ++ drop fits (take count chunk)) front in
+    let long : length (stream ++ take fits chunk) ≡ length stream + fits = omega (arith, length-append stream (take fits chunk), length-take-le fits chunk (omega (arith, few, held))) in
+    reads_more first now next stream (take fits chunk) (drop fits (take count chunk)) taken (subst (Consumes now next) whole more) (omega (arith, long, within))
+    (λ some. omega (arith, long, full (omega (arith, some, length-drop fits (take count chunk), length-take-le count chunk held))))
+
+pub behind_some : (chunk : List ℕ) (count fits : ℕ) → fits < count → count ≤ length chunk → 0 < length (drop fits (take count chunk))
+behind_some chunk count fits few held = omega (arith, few, length-drop fits (take count chunk), length-take-le count chunk held)
+
+pub flooded : (first next origin held : Option (List ℕ)) (input behind : List ℕ) (f : Framing) (agent : Agent) → Reads first next input behind → 0 < length behind → AllHanded origin held input f agent → Floods first next origin held
+flooded first next origin held input behind f agent r some h = record { input = input; behind = behind; read = r; over = some; written = h.all.written }
+
+pub taken_there : (first now origin held : Option (List ℕ)) (session : Session) → (p : Piped first now origin held session) → length p.stream ≡ session.framer.before + length session.framer.held
+taken_there first now origin held session p = taken_all origin held p.stream session.framer session.agent p.handed
+
+-- memory ran out before the first read
+pub memory_first : (first origin : Option (List ℕ)) → EndsSo NoMemory first first origin origin
+memory_first first origin = record {
+  input = [];
+  behind = [];
+  read = reads_all first first [] (Consumes-nil first) (omega arith);
+  written = part_memory origin origin [] (replies_text (frames_in [])) (replies_text (frames_in [])) refl (Gains-nil origin);
+}

@@ -1,0 +1,5 @@
+pub mod LineLaws
+pub mod OrderLaws
+pub mod ShowLaws
+pub mod BatchLaws
+pub mod RuleLaws

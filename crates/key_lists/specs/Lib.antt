@@ -1,0 +1,5 @@
+pub mod KeyFaults
+pub mod Lists
+pub mod Listing
+pub mod Edits
+pub mod Batches

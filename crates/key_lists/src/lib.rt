@@ -1,0 +1,17 @@
+//! Lists of keys, as Plan 9's factotum keeps them: which keys are taken, what adding and deleting makes of a list, which
+//! key serves whom, and what is shown of it. The crate of the ring proves that its code does so.
+#![tactic(auto)]
+
+mod batch_laws;
+mod edit;
+mod fault;
+mod laws;
+
+pub use batch_laws::{a_batch_may_be_cut_in_two, a_batch_numbers_its_keys};
+pub use edit::{Edit, EditFault, EditList};
+pub use fault::{AddFault, DeleteFault};
+pub use laws::{
+    a_domain_is_offered_once, deleting_drops_what_matches, keys_are_the_lines_in_order,
+    numbers_rise_and_keys_are_apart, offers_end_where_they_no_longer_fit,
+    the_first_broken_rule_is_told, the_list_shows_no_secret,
+};

@@ -1,0 +1,3 @@
+pub mod DesKeys
+pub mod Steps
+pub mod Parts

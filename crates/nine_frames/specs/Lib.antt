@@ -1,0 +1,4 @@
+pub mod Streams
+pub mod AtFronts
+pub mod Framed
+pub mod Framing

@@ -1,0 +1,18 @@
+//! The line of a 9P message, in the manner of Plan 9's fcall format. The values of secret attributes aren't shown.
+#![tactic(auto)]
+
+mod laws;
+mod line;
+mod reply;
+mod request;
+#[cfg(test)]
+mod shown;
+mod stream;
+#[cfg(test)]
+mod tests;
+mod value;
+
+pub use laws::no_secret_is_shown;
+pub use line::put_line;
+pub use nine_messages::{Bytes, NoMemory};
+pub use stream::{ShowEnd, show};
