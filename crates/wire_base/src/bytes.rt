@@ -165,4 +165,24 @@ mod tests {
         assert_eq!(rt; sliced.as_slice(), [0, 255].as_slice());
         Ok(())
     }
+
+    #[test]
+    fn bytes_with_room_are_none_yet(rt: HostRuntime) -> Result<(), Fail> {
+        for room in [0, 1, 64] {
+            let mut bytes = Bytes::with_capacity(rt.alloc(), room)?;
+            assert_eq!(rt; bytes.as_slice(), b"".as_slice(), "{room}");
+            bytes.append(b"hello")?;
+            assert_eq!(rt; bytes.as_slice(), b"hello".as_slice(), "{room}");
+        }
+        Ok(())
+    }
+
+    #[test]
+    fn want_of_memory_has_its_text(rt: HostRuntime) -> Result<(), Fail> {
+        assert_eq!(rt;
+            format!(in rt.alloc(); "{NoMemory}")?.as_str(),
+            "out of memory"
+        );
+        Ok(())
+    }
 }

@@ -258,4 +258,16 @@ mod tests {
         assert_eq!(rt; sink.content(), b"so ace high".as_slice());
         Ok(())
     }
+
+    #[test]
+    fn calls_fail_where_it_was_planned(rt: HostRuntime) -> Result<(), Fail> {
+        let mut plan = FaultPlan::new([1, 3].to_vec(rt.alloc())?);
+        for (call, fails) in [(1, true), (2, false), (3, true), (4, false)] {
+            assert_eq!(rt; plan.begin_call(), fails, "call {call}");
+        }
+        assert_eq!(rt; plan.faults, 2);
+        plan.count_fault();
+        assert_eq!(rt; plan.faults, 3);
+        Ok(())
+    }
 }

@@ -217,8 +217,8 @@ mod tests {
             Ok((b"\x00\x00".as_slice(), 24))
         );
         assert_eq!(rt;
-            short_block_at(RECORD, 23),
-            Err(bad(23)),
+            short_block_at(RECORD, 24),
+            Err(bad(24)),
             "a short block past the end"
         );
         assert_eq!(rt; end_at(RECORD, 25), Err(bad(25)), "a byte left over");
