@@ -55,11 +55,12 @@ fn a_line_is_appended(rt: HostRuntime) -> Result<(), Fail> {
 
 // A write of this content, under tag 4 and fid 1 at 0.
 fn write_of(alloc: Global, content: &[u8]) -> Result<Bytes, Fail> {
+    let count = u32::try_from(content.len()).ok().ok_or("a long content")?;
+    let size = count.checked_add(23).ok_or("a long content")?;
     let mut frame = Bytes::new(alloc);
-    let size = (23 + content.len() as u32 & 0xffff).to_le_bytes();
-    frame.append(&size)?;
+    frame.append(&size.to_le_bytes())?;
     frame.append(b"\x76\x04\x00\x01\x00\x00\x00\x00\x00\x00\x00\x00\x00\x00\x00")?;
-    frame.append(&(content.len() as u32 & 0xffff).to_le_bytes())?;
+    frame.append(&count.to_le_bytes())?;
     frame.append(content)?;
     Ok(frame)
 }
