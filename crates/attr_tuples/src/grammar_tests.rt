@@ -6,6 +6,7 @@ use crate::print::print_tuple;
 use crate::tuple::Tuple;
 use crate::{matches, public_equal, value_of};
 use std::alloc::Global;
+use std::process::Abort;
 use std::test::Fail;
 use wire_base::Bytes;
 
@@ -22,256 +23,189 @@ fn printed(alloc: Global, tuple: &Tuple) -> Result<Bytes, Fail> {
     Ok(out)
 }
 
-#[test]
-fn texts_are_read_as_tuples_or_refused(rt: HostRuntime) -> Result<(), Fail> {
-    let alloc = rt.alloc();
-    let cases = [
-        ("nothing", b"".as_slice(), Ok(b"".as_slice())),
-        (
-            "blanks and tabs alone",
-            b" \t ".as_slice(),
-            Ok(b"".as_slice()),
-        ),
-        (
-            "blanks and tabs between",
-            b"\ta=1  \tb=2\t".as_slice(),
-            Ok(b"a=1 b=2".as_slice()),
-        ),
-        (
-            "quotes around a value",
-            b"a='b c'".as_slice(),
-            Ok(b"a='b c'".as_slice()),
-        ),
-        (
-            "quotes inside a word",
-            b"a=b' 'c".as_slice(),
-            Ok(b"a='b c'".as_slice()),
-        ),
-        (
-            "quotes around a word",
-            b"'a=b c'".as_slice(),
-            Ok(b"a='b c'".as_slice()),
-        ),
-        (
-            "quotes in a name",
-            b"'a'b=c".as_slice(),
-            Ok(b"ab=c".as_slice()),
-        ),
-        (
-            "a quoted tab",
-            b"a='\t'".as_slice(),
-            Ok(b"a='\t'".as_slice()),
-        ),
-        (
-            "a doubled quote",
-            b"a='it''s'".as_slice(),
-            Ok(b"a='it''s'".as_slice()),
-        ),
-        (
-            "a doubled quote alone",
-            b"a=''''".as_slice(),
-            Ok(b"a=''''".as_slice()),
-        ),
-        (
-            "two runs are one",
-            b"a='b''c'".as_slice(),
-            Ok(b"a='b''c'".as_slice()),
-        ),
-        (
-            "two runs with a byte between",
-            b"a='b'x'c'".as_slice(),
-            Ok(b"a=bxc".as_slice()),
-        ),
-        (
-            "an open quote",
-            b"a=b c='d".as_slice(),
-            Err(TupleFault::Quote { at: 6 }),
-        ),
-        (
-            "an open quote that is doubled",
-            b"a='b''".as_slice(),
-            Err(TupleFault::Quote { at: 2 }),
-        ),
-        (
-            "a second run that is open",
-            b"a='b'c'd".as_slice(),
-            Err(TupleFault::Quote { at: 6 }),
-        ),
-        (
-            "a quote at the end",
-            b"a=b'".as_slice(),
-            Err(TupleFault::Quote { at: 3 }),
-        ),
-        ("no name", b"=b".as_slice(), Err(TupleFault::Name { at: 0 })),
-        (
-            "no name in the second word",
-            b"x =b".as_slice(),
-            Err(TupleFault::Name { at: 2 }),
-        ),
-        ("a question", b"a?".as_slice(), Ok(b"a?".as_slice())),
-        (
-            "a secret question",
-            b"!x?".as_slice(),
-            Ok(b"!x?".as_slice()),
-        ),
-        ("nothing behind =", b"a=".as_slice(), Ok(b"a=''".as_slice())),
-        ("an empty value", b"a=''".as_slice(), Ok(b"a=''".as_slice())),
-        ("two =", b"a=b=c".as_slice(), Ok(b"a=b=c".as_slice())),
-        ("a name alone", b"a".as_slice(), Ok(b"a".as_slice())),
-        (
-            "a secret name alone",
-            b"!x".as_slice(),
-            Ok(b"!x".as_slice()),
-        ),
-        (
-            "a quoted question",
-            b"'a?'".as_slice(),
-            Ok(b"a?".as_slice()),
-        ),
-        ("a quoted =", b"'a='b".as_slice(), Ok(b"a=b".as_slice())),
-        ("? in a value", b"a=?".as_slice(), Ok(b"a=?".as_slice())),
-        (
-            "a question alone",
-            b"?".as_slice(),
-            Err(TupleFault::Name { at: 0 }),
-        ),
-        ("two ?", b"a??".as_slice(), Err(TupleFault::Name { at: 0 })),
-        (
-            "? inside a name",
-            b"a?b".as_slice(),
-            Err(TupleFault::Name { at: 0 }),
-        ),
-        (
-            "? at the end of a name",
-            b"a?=b".as_slice(),
-            Err(TupleFault::Name { at: 0 }),
-        ),
-        ("! alone", b"!".as_slice(), Err(TupleFault::Name { at: 0 })),
-        (
-            "! alone with a value",
-            b"a !=b".as_slice(),
-            Err(TupleFault::Name { at: 2 }),
-        ),
-        (
-            "! alone with a question",
-            b"!?".as_slice(),
-            Err(TupleFault::Name { at: 0 }),
-        ),
-        (
-            "an empty word",
-            b"a ''".as_slice(),
-            Err(TupleFault::Name { at: 2 }),
-        ),
-        (
-            "a blank in a name",
-            b"'a b'=c".as_slice(),
-            Err(TupleFault::Name { at: 0 }),
-        ),
-        (
-            "a tab in a name",
-            b"'a\tb'=c".as_slice(),
-            Err(TupleFault::Name { at: 0 }),
-        ),
-        (
-            "a quote in a name",
-            b"a''''b=c".as_slice(),
-            Err(TupleFault::Name { at: 0 }),
-        ),
-        (
-            "an open quote before the name of its word",
-            b"'a b'='c".as_slice(),
-            Err(TupleFault::Quote { at: 6 }),
-        ),
-        (
-            "a name before the quote of a later word",
-            b"= 'a".as_slice(),
-            Err(TupleFault::Name { at: 0 }),
-        ),
-        (
-            "a quote before the name of a later word",
-            b"'a =".as_slice(),
-            Err(TupleFault::Quote { at: 0 }),
-        ),
-        (
-            "a byte below 0x20",
-            b"a=\n".as_slice(),
-            Err(TupleFault::NotText { at: 2 }),
-        ),
-        (
-            "a NUL",
-            b"a=\0".as_slice(),
-            Err(TupleFault::NotText { at: 2 }),
-        ),
-        (
-            "no text behind a bad name",
-            b"= \x01".as_slice(),
-            Err(TupleFault::NotText { at: 2 }),
-        ),
-        ("byte 0x7f", b"a=\x7f".as_slice(), Ok(b"a=\x7f".as_slice())),
-        (
-            "bad UTF-8 late",
-            b"a=b c='d \xff".as_slice(),
-            Err(TupleFault::NotText { at: 9 }),
-        ),
-        (
-            "a character cut short",
-            b"a=\xc3".as_slice(),
-            Err(TupleFault::NotText { at: 2 }),
-        ),
-        (
-            "a control byte behind one cut short",
-            b"a=\xc3\x01".as_slice(),
-            Err(TupleFault::NotText { at: 2 }),
-        ),
-        (
-            "a control byte before bad UTF-8",
-            b"a=\x01\xff".as_slice(),
-            Err(TupleFault::NotText { at: 2 }),
-        ),
-        (
-            "letters beyond ASCII",
-            b"\xc3\xa9=\xc3\xbc".as_slice(),
-            Ok(b"\xc3\xa9=\xc3\xbc".as_slice()),
-        ),
-        (
-            "36 words",
-            b"a a a a a a a a a a a a a a a a a a a a a a a a a a a a a a a a a a a a ".as_slice(),
-            Ok(
-                b"a a a a a a a a a a a a a a a a a a a a a a a a a a a a a a a a a a a a".as_slice(),
-            ),
-        ),
-        (
-            "37 words",
-            b"a a a a a a a a a a a a a a a a a a a a a a a a a a a a a a a a a a a a a".as_slice(),
-            Err(TupleFault::TooMany),
-        ),
-        (
-            "a 37th word without a name",
-            b"a a a a a a a a a a a a a a a a a a a a a a a a a a a a a a a a a a a a =b".as_slice(),
-            Err(TupleFault::TooMany),
-        ),
-        (
-            "a 37th word with an open quote",
-            b"a a a a a a a a a a a a a a a a a a a a a a a a a a a a a a a a a a a a 'b".as_slice(),
-            Err(TupleFault::TooMany),
-        ),
-        (
-            "a 36th word without a name",
-            b"a a a a a a a a a a a a a a a a a a a a a a a a a a a a a a a a a a a =b".as_slice(),
-            Err(TupleFault::Name { at: 70 }),
-        ),
-        (
-            "a 36th word with an open quote",
-            b"a a a a a a a a a a a a a a a a a a a a a a a a a a a a a a a a a a a b='c".as_slice(),
-            Err(TupleFault::Quote { at: 72 }),
-        ),
-        (
-            "no text behind 37 words",
-            b"a a a a a a a a a a a a a a a a a a a a a a a a a a a a a a a a a a a a a\n".as_slice(),
-            Err(TupleFault::NotText { at: 73 }),
-        ),
-    ];
-    for (case, text, read) in cases {
+// A name, a text, and how its tuple is printed or why there is none.
+type Reading = (
+    &'static str,
+    &'static [u8],
+    Result<&'static [u8], TupleFault>,
+);
+
+static TEXTS: [Reading; 58] = [
+    ("nothing", b"", Ok(b"")),
+    ("blanks and tabs alone", b" \t ", Ok(b"")),
+    ("blanks and tabs between", b"\ta=1  \tb=2\t", Ok(b"a=1 b=2")),
+    ("quotes around a value", b"a='b c'", Ok(b"a='b c'")),
+    ("quotes inside a word", b"a=b' 'c", Ok(b"a='b c'")),
+    ("quotes around a word", b"'a=b c'", Ok(b"a='b c'")),
+    ("quotes in a name", b"'a'b=c", Ok(b"ab=c")),
+    ("a quoted tab", b"a='\t'", Ok(b"a='\t'")),
+    ("a doubled quote", b"a='it''s'", Ok(b"a='it''s'")),
+    ("a doubled quote alone", b"a=''''", Ok(b"a=''''")),
+    ("two runs are one", b"a='b''c'", Ok(b"a='b''c'")),
+    ("two runs with a byte between", b"a='b'x'c'", Ok(b"a=bxc")),
+    (
+        "an open quote",
+        b"a=b c='d",
+        Err(TupleFault::Quote { at: 6 }),
+    ),
+    (
+        "an open quote that is doubled",
+        b"a='b''",
+        Err(TupleFault::Quote { at: 2 }),
+    ),
+    (
+        "a second run that is open",
+        b"a='b'c'd",
+        Err(TupleFault::Quote { at: 6 }),
+    ),
+    (
+        "a quote at the end",
+        b"a=b'",
+        Err(TupleFault::Quote { at: 3 }),
+    ),
+    ("no name", b"=b", Err(TupleFault::Name { at: 0 })),
+    (
+        "no name in the second word",
+        b"x =b",
+        Err(TupleFault::Name { at: 2 }),
+    ),
+    ("a question", b"a?", Ok(b"a?")),
+    ("a secret question", b"!x?", Ok(b"!x?")),
+    ("nothing behind =", b"a=", Ok(b"a=''")),
+    ("an empty value", b"a=''", Ok(b"a=''")),
+    ("two =", b"a=b=c", Ok(b"a=b=c")),
+    ("a name alone", b"a", Ok(b"a")),
+    ("a secret name alone", b"!x", Ok(b"!x")),
+    ("a quoted question", b"'a?'", Ok(b"a?")),
+    ("a quoted =", b"'a='b", Ok(b"a=b")),
+    ("? in a value", b"a=?", Ok(b"a=?")),
+    ("a question alone", b"?", Err(TupleFault::Name { at: 0 })),
+    ("two ?", b"a??", Err(TupleFault::Name { at: 0 })),
+    ("? inside a name", b"a?b", Err(TupleFault::Name { at: 0 })),
+    (
+        "? at the end of a name",
+        b"a?=b",
+        Err(TupleFault::Name { at: 0 }),
+    ),
+    ("! alone", b"!", Err(TupleFault::Name { at: 0 })),
+    (
+        "! alone with a value",
+        b"a !=b",
+        Err(TupleFault::Name { at: 2 }),
+    ),
+    (
+        "! alone with a question",
+        b"!?",
+        Err(TupleFault::Name { at: 0 }),
+    ),
+    ("an empty word", b"a ''", Err(TupleFault::Name { at: 2 })),
+    (
+        "a blank in a name",
+        b"'a b'=c",
+        Err(TupleFault::Name { at: 0 }),
+    ),
+    (
+        "a tab in a name",
+        b"'a\tb'=c",
+        Err(TupleFault::Name { at: 0 }),
+    ),
+    (
+        "a quote in a name",
+        b"a''''b=c",
+        Err(TupleFault::Name { at: 0 }),
+    ),
+    (
+        "an open quote before the name of its word",
+        b"'a b'='c",
+        Err(TupleFault::Quote { at: 6 }),
+    ),
+    (
+        "a name before the quote of a later word",
+        b"= 'a",
+        Err(TupleFault::Name { at: 0 }),
+    ),
+    (
+        "a quote before the name of a later word",
+        b"'a =",
+        Err(TupleFault::Quote { at: 0 }),
+    ),
+    (
+        "a byte below 0x20",
+        b"a=\n",
+        Err(TupleFault::NotText { at: 2 }),
+    ),
+    ("a NUL", b"a=\0", Err(TupleFault::NotText { at: 2 })),
+    (
+        "no text behind a bad name",
+        b"= \x01",
+        Err(TupleFault::NotText { at: 2 }),
+    ),
+    ("byte 0x7f", b"a=\x7f", Ok(b"a=\x7f")),
+    (
+        "bad UTF-8 late",
+        b"a=b c='d \xff",
+        Err(TupleFault::NotText { at: 9 }),
+    ),
+    (
+        "a character cut short",
+        b"a=\xc3",
+        Err(TupleFault::NotText { at: 2 }),
+    ),
+    (
+        "a control byte behind one cut short",
+        b"a=\xc3\x01",
+        Err(TupleFault::NotText { at: 2 }),
+    ),
+    (
+        "a control byte before bad UTF-8",
+        b"a=\x01\xff",
+        Err(TupleFault::NotText { at: 2 }),
+    ),
+    (
+        "letters beyond ASCII",
+        b"\xc3\xa9=\xc3\xbc",
+        Ok(b"\xc3\xa9=\xc3\xbc"),
+    ),
+    (
+        "36 words",
+        b"a a a a a a a a a a a a a a a a a a a a a a a a a a a a a a a a a a a a ",
+        Ok(b"a a a a a a a a a a a a a a a a a a a a a a a a a a a a a a a a a a a a"),
+    ),
+    (
+        "37 words",
+        b"a a a a a a a a a a a a a a a a a a a a a a a a a a a a a a a a a a a a a",
+        Err(TupleFault::TooMany),
+    ),
+    (
+        "a 37th word without a name",
+        b"a a a a a a a a a a a a a a a a a a a a a a a a a a a a a a a a a a a a =b",
+        Err(TupleFault::TooMany),
+    ),
+    (
+        "a 37th word with an open quote",
+        b"a a a a a a a a a a a a a a a a a a a a a a a a a a a a a a a a a a a a 'b",
+        Err(TupleFault::TooMany),
+    ),
+    (
+        "a 36th word without a name",
+        b"a a a a a a a a a a a a a a a a a a a a a a a a a a a a a a a a a a a =b",
+        Err(TupleFault::Name { at: 70 }),
+    ),
+    (
+        "a 36th word with an open quote",
+        b"a a a a a a a a a a a a a a a a a a a a a a a a a a a a a a a a a a a b='c",
+        Err(TupleFault::Quote { at: 72 }),
+    ),
+    (
+        "no text behind 37 words",
+        b"a a a a a a a a a a a a a a a a a a a a a a a a a a a a a a a a a a a a a\n",
+        Err(TupleFault::NotText { at: 73 }),
+    ),
+];
+
+fn check_texts(rt: &impl Abort, alloc: Global, cases: &[Reading]) -> Result<(), Fail> {
+    for case in cases {
+        let (case, text, read) = *case;
         match parse_tuple(alloc, text) {
             Ok(tuple) => {
                 let out = printed(alloc, &tuple)?;
@@ -286,38 +220,51 @@ fn texts_are_read_as_tuples_or_refused(rt: HostRuntime) -> Result<(), Fail> {
 }
 
 #[test]
-fn templates_match_tuples(rt: HostRuntime) -> Result<(), Fail> {
-    let alloc = rt.alloc();
-    let cases = [
-        ("nothing is asked", "", "a=1 b", true),
-        ("a value that stands", "a=1", "b a=1", true),
-        ("another value", "a=1", "a=2", false),
-        ("two values of a name", "a=1 a=2", "a=2 a=1", true),
-        ("one of two values", "a=1 a=2", "a=2", false),
-        ("a question for a value", "b?", "b=2", true),
-        ("a question for a name alone", "b?", "b", true),
-        ("a question for the empty value", "b?", "b=''", true),
-        ("a question for what isn't there", "b?", "a=b", false),
-        ("a name alone", "b", "b", true),
-        ("a name alone, with the empty value", "b", "b=''", true),
-        ("a name alone, with a value", "b", "b=2", false),
-        ("a name alone, with a question", "b", "b?", false),
-        ("a name alone beside a value", "b", "b=2 b", true),
-        ("a secret name alone", "!x", "!x=2", true),
-        ("a secret name alone that isn't there", "!x", "x=2", false),
-        ("a secret question", "!x?", "!x=2", true),
-        ("the empty value", "b=''", "b=''", true),
-        ("the empty value and a name alone", "b=''", "b", false),
-        ("a value and a question", "a=1", "a?", false),
-        ("a secret value", "!x=1", "!x=1", true),
-        ("another secret value", "!x=1", "!x=2", false),
-    ];
-    for (case, template, tuple, met) in cases {
+fn texts_are_read_as_tuples_or_refused(rt: HostRuntime) -> Result<(), Fail> {
+    check_texts(&rt, rt.alloc(), &TEXTS)
+}
+
+// A name, a template, a tuple, and whether they match.
+type Matching = (&'static str, &'static str, &'static str, bool);
+
+static TEMPLATES: [Matching; 22] = [
+    ("nothing is asked", "", "a=1 b", true),
+    ("a value that stands", "a=1", "b a=1", true),
+    ("another value", "a=1", "a=2", false),
+    ("two values of a name", "a=1 a=2", "a=2 a=1", true),
+    ("one of two values", "a=1 a=2", "a=2", false),
+    ("a question for a value", "b?", "b=2", true),
+    ("a question for a name alone", "b?", "b", true),
+    ("a question for the empty value", "b?", "b=''", true),
+    ("a question for what isn't there", "b?", "a=b", false),
+    ("a name alone", "b", "b", true),
+    ("a name alone, with the empty value", "b", "b=''", true),
+    ("a name alone, with a value", "b", "b=2", false),
+    ("a name alone, with a question", "b", "b?", false),
+    ("a name alone beside a value", "b", "b=2 b", true),
+    ("a secret name alone", "!x", "!x=2", true),
+    ("a secret name alone that isn't there", "!x", "x=2", false),
+    ("a secret question", "!x?", "!x=2", true),
+    ("the empty value", "b=''", "b=''", true),
+    ("the empty value and a name alone", "b=''", "b", false),
+    ("a value and a question", "a=1", "a?", false),
+    ("a secret value", "!x=1", "!x=1", true),
+    ("another secret value", "!x=1", "!x=2", false),
+];
+
+fn check_templates(rt: &impl Abort, alloc: Global, cases: &[Matching]) -> Result<(), Fail> {
+    for case in cases {
+        let (case, template, tuple, met) = *case;
         let template = tuple_of(alloc, template.as_bytes())?;
         let tuple = tuple_of(alloc, tuple.as_bytes())?;
         assert_eq!(rt; matches(&template, &tuple), met, "{case}");
     }
     Ok(())
+}
+
+#[test]
+fn templates_match_tuples(rt: HostRuntime) -> Result<(), Fail> {
+    check_templates(&rt, rt.alloc(), &TEMPLATES)
 }
 
 #[test]

@@ -4,6 +4,7 @@ ghost use Rattle.std.specs.Prelude.{◌+◌, ◌≤◌, ◌<◌, IfOk, length};
 use crate::{AddFault, DeleteFault, Key, KeyRing};
 use attr_tuples::{Attr, Tuple, Value};
 use std::alloc::Global;
+use std::process::Abort;
 use std::test::Fail;
 use wire_base::{Bytes, Text};
 
@@ -79,215 +80,218 @@ fn serial_of(key: Option<&Key>) -> Option<u64> {
     key.map(|key| key.serial())
 }
 
-#[test]
-fn keys_are_taken_or_refused(rt: HostRuntime) -> Result<(), Fail> {
-    let alloc = rt.alloc();
-    let cases = [
-        ("an apop key", "proto=apop user=a !password=b", None),
-        ("a cram key", "proto=cram user=a !password=b", None),
-        ("a p9sk1 key", "proto=p9sk1 dom=x user=a !password=b", None),
-        (
-            "more attributes",
-            "proto=apop user=a !password=b x y=z x",
-            None,
-        ),
-        (
-            "a question",
-            "proto=apop user=a !password=b x?",
-            Some(AddFault::AskInKey),
-        ),
-        (
-            "a secret question",
-            "proto=apop user=a !password?",
-            Some(AddFault::AskInKey),
-        ),
-        ("no protocol", "user=a !password=b", Some(AddFault::NoProto)),
-        (
-            "another protocol",
-            "proto=p9any user=a !password=b",
-            Some(AddFault::UnknownProto),
-        ),
-        (
-            "a protocol twice",
-            "proto=apop proto=apop user=a !password=b",
-            Some(AddFault::UnknownProto),
-        ),
-        (
-            "a protocol alone",
-            "proto user=a !password=b",
-            Some(AddFault::UnknownProto),
-        ),
-        (
-            "an empty protocol",
-            "proto= user=a !password=b",
-            Some(AddFault::UnknownProto),
-        ),
-        ("no user", "proto=apop !password=b", Some(AddFault::NoUser)),
-        (
-            "no domain",
-            "proto=p9sk1 user=a !password=b",
-            Some(AddFault::NoDom),
-        ),
-        (
-            "two users",
-            "proto=apop user=a user=a !password=b",
-            Some(AddFault::BadName),
-        ),
-        (
-            "a user alone",
-            "proto=apop user !password=b",
-            Some(AddFault::BadName),
-        ),
-        (
-            "an empty user",
-            "proto=apop user= !password=b",
-            Some(AddFault::BadName),
-        ),
-        (
-            "a user of 27 bytes",
-            "proto=apop user=aaaaaaaaaaaaaaaaaaaaaaaaaaa !password=b",
-            None,
-        ),
-        (
-            "a user of 28 bytes",
-            "proto=apop user=aaaaaaaaaaaaaaaaaaaaaaaaaaaa !password=b",
-            Some(AddFault::BadName),
-        ),
-        (
-            "a tab in a user",
-            "proto=apop user=a\tb !password=b",
-            Some(AddFault::BadName),
-        ),
-        (
-            "a user beyond ASCII",
-            "proto=apop user=\u{e9} !password=b",
-            None,
-        ),
-        ("@ in a user", "proto=apop user=a@b !password=b", None),
-        (
-            "@ in a domain",
-            "proto=p9sk1 dom=x@y user=a !password=b",
-            Some(AddFault::BadName),
-        ),
-        (
-            "a domain alone",
-            "proto=p9sk1 dom user=a !password=b",
-            Some(AddFault::BadName),
-        ),
-        (
-            "two domains",
-            "proto=p9sk1 dom=x dom=y user=a !password=b",
-            Some(AddFault::BadName),
-        ),
-        (
-            "an empty domain of apop",
-            "proto=apop dom= user=a !password=b",
-            Some(AddFault::BadName),
-        ),
-        (
-            "a domain of 47 bytes",
-            "proto=p9sk1 dom=aaaaaaaaaaaaaaaaaaaaaaaaaaaaaaaaaaaaaaaaaaaaaaa user=a !password=b",
-            None,
-        ),
-        (
-            "a domain of 48 bytes",
-            "proto=p9sk1 dom=aaaaaaaaaaaaaaaaaaaaaaaaaaaaaaaaaaaaaaaaaaaaaaaa user=a !password=b",
-            Some(AddFault::BadName),
-        ),
-        ("no secret", "proto=apop user=a", Some(AddFault::NoSecret)),
-        (
-            "a password alone",
-            "proto=apop user=a !password",
-            Some(AddFault::NoSecret),
-        ),
-        (
-            "a public password",
-            "proto=apop user=a password=b",
-            Some(AddFault::NoSecret),
-        ),
-        ("an empty password", "proto=apop user=a !password=", None),
-        (
-            "digits for apop",
-            "proto=apop user=a !hex=00000000000000",
-            Some(AddFault::NoSecret),
-        ),
-        (
-            "digits for p9sk1",
-            "proto=p9sk1 dom=x user=a !hex=0123456789abCD",
-            None,
-        ),
-        (
-            "13 digits",
-            "proto=p9sk1 dom=x user=a !hex=0000000000000",
-            Some(AddFault::BadHex),
-        ),
-        (
-            "15 digits",
-            "proto=p9sk1 dom=x user=a !hex=000000000000000",
-            Some(AddFault::BadHex),
-        ),
-        (
-            "no digit",
-            "proto=p9sk1 dom=x user=a !hex=0000000000000g",
-            Some(AddFault::BadHex),
-        ),
-        (
-            "digits alone",
-            "proto=p9sk1 dom=x user=a !hex !password=b",
-            Some(AddFault::BadHex),
-        ),
-        (
-            "bad digits beside a password",
-            "proto=p9sk1 dom=x user=a !password=b !hex=00",
-            Some(AddFault::BadHex),
-        ),
-        (
-            "bad digits behind good ones",
-            "proto=p9sk1 dom=x user=a !hex=00000000000000 !hex=00",
-            None,
-        ),
-        (
-            "bad digits for cram",
-            "proto=cram user=a !password=b !hex=00",
-            None,
-        ),
-        (
-            "a question before no protocol",
-            "x? user=a !password=b",
-            Some(AddFault::AskInKey),
-        ),
-        (
-            "no protocol before no user",
-            "!password=b",
-            Some(AddFault::NoProto),
-        ),
-        (
-            "another protocol before no user",
-            "proto=x !password=b",
-            Some(AddFault::UnknownProto),
-        ),
-        (
-            "no user before no domain",
-            "proto=p9sk1 !password=b",
-            Some(AddFault::NoUser),
-        ),
-        (
-            "no domain before a bad name",
-            "proto=p9sk1 user= !password=b",
-            Some(AddFault::NoDom),
-        ),
-        (
-            "a bad name before no secret",
-            "proto=apop user=",
-            Some(AddFault::BadName),
-        ),
-        (
-            "no secret before bad digits",
-            "proto=p9sk1 dom=x user=a !hex",
-            Some(AddFault::NoSecret),
-        ),
-    ];
-    for (case, line, fault) in cases {
+// A name, a key's tuple, and why it is refused.
+type KeyCase = (&'static str, &'static str, Option<AddFault>);
+
+static KEYS: [KeyCase; 47] = [
+    ("an apop key", "proto=apop user=a !password=b", None),
+    ("a cram key", "proto=cram user=a !password=b", None),
+    ("a p9sk1 key", "proto=p9sk1 dom=x user=a !password=b", None),
+    (
+        "more attributes",
+        "proto=apop user=a !password=b x y=z x",
+        None,
+    ),
+    (
+        "a question",
+        "proto=apop user=a !password=b x?",
+        Some(AddFault::AskInKey),
+    ),
+    (
+        "a secret question",
+        "proto=apop user=a !password?",
+        Some(AddFault::AskInKey),
+    ),
+    ("no protocol", "user=a !password=b", Some(AddFault::NoProto)),
+    (
+        "another protocol",
+        "proto=p9any user=a !password=b",
+        Some(AddFault::UnknownProto),
+    ),
+    (
+        "a protocol twice",
+        "proto=apop proto=apop user=a !password=b",
+        Some(AddFault::UnknownProto),
+    ),
+    (
+        "a protocol alone",
+        "proto user=a !password=b",
+        Some(AddFault::UnknownProto),
+    ),
+    (
+        "an empty protocol",
+        "proto= user=a !password=b",
+        Some(AddFault::UnknownProto),
+    ),
+    ("no user", "proto=apop !password=b", Some(AddFault::NoUser)),
+    (
+        "no domain",
+        "proto=p9sk1 user=a !password=b",
+        Some(AddFault::NoDom),
+    ),
+    (
+        "two users",
+        "proto=apop user=a user=a !password=b",
+        Some(AddFault::BadName),
+    ),
+    (
+        "a user alone",
+        "proto=apop user !password=b",
+        Some(AddFault::BadName),
+    ),
+    (
+        "an empty user",
+        "proto=apop user= !password=b",
+        Some(AddFault::BadName),
+    ),
+    (
+        "a user of 27 bytes",
+        "proto=apop user=aaaaaaaaaaaaaaaaaaaaaaaaaaa !password=b",
+        None,
+    ),
+    (
+        "a user of 28 bytes",
+        "proto=apop user=aaaaaaaaaaaaaaaaaaaaaaaaaaaa !password=b",
+        Some(AddFault::BadName),
+    ),
+    (
+        "a tab in a user",
+        "proto=apop user=a\tb !password=b",
+        Some(AddFault::BadName),
+    ),
+    (
+        "a user beyond ASCII",
+        "proto=apop user=\u{e9} !password=b",
+        None,
+    ),
+    ("@ in a user", "proto=apop user=a@b !password=b", None),
+    (
+        "@ in a domain",
+        "proto=p9sk1 dom=x@y user=a !password=b",
+        Some(AddFault::BadName),
+    ),
+    (
+        "a domain alone",
+        "proto=p9sk1 dom user=a !password=b",
+        Some(AddFault::BadName),
+    ),
+    (
+        "two domains",
+        "proto=p9sk1 dom=x dom=y user=a !password=b",
+        Some(AddFault::BadName),
+    ),
+    (
+        "an empty domain of apop",
+        "proto=apop dom= user=a !password=b",
+        Some(AddFault::BadName),
+    ),
+    (
+        "a domain of 47 bytes",
+        "proto=p9sk1 dom=aaaaaaaaaaaaaaaaaaaaaaaaaaaaaaaaaaaaaaaaaaaaaaa user=a !password=b",
+        None,
+    ),
+    (
+        "a domain of 48 bytes",
+        "proto=p9sk1 dom=aaaaaaaaaaaaaaaaaaaaaaaaaaaaaaaaaaaaaaaaaaaaaaaa user=a !password=b",
+        Some(AddFault::BadName),
+    ),
+    ("no secret", "proto=apop user=a", Some(AddFault::NoSecret)),
+    (
+        "a password alone",
+        "proto=apop user=a !password",
+        Some(AddFault::NoSecret),
+    ),
+    (
+        "a public password",
+        "proto=apop user=a password=b",
+        Some(AddFault::NoSecret),
+    ),
+    ("an empty password", "proto=apop user=a !password=", None),
+    (
+        "digits for apop",
+        "proto=apop user=a !hex=00000000000000",
+        Some(AddFault::NoSecret),
+    ),
+    (
+        "digits for p9sk1",
+        "proto=p9sk1 dom=x user=a !hex=0123456789abCD",
+        None,
+    ),
+    (
+        "13 digits",
+        "proto=p9sk1 dom=x user=a !hex=0000000000000",
+        Some(AddFault::BadHex),
+    ),
+    (
+        "15 digits",
+        "proto=p9sk1 dom=x user=a !hex=000000000000000",
+        Some(AddFault::BadHex),
+    ),
+    (
+        "no digit",
+        "proto=p9sk1 dom=x user=a !hex=0000000000000g",
+        Some(AddFault::BadHex),
+    ),
+    (
+        "digits alone",
+        "proto=p9sk1 dom=x user=a !hex !password=b",
+        Some(AddFault::BadHex),
+    ),
+    (
+        "bad digits beside a password",
+        "proto=p9sk1 dom=x user=a !password=b !hex=00",
+        Some(AddFault::BadHex),
+    ),
+    (
+        "bad digits behind good ones",
+        "proto=p9sk1 dom=x user=a !hex=00000000000000 !hex=00",
+        None,
+    ),
+    (
+        "bad digits for cram",
+        "proto=cram user=a !password=b !hex=00",
+        None,
+    ),
+    (
+        "a question before no protocol",
+        "x? user=a !password=b",
+        Some(AddFault::AskInKey),
+    ),
+    (
+        "no protocol before no user",
+        "!password=b",
+        Some(AddFault::NoProto),
+    ),
+    (
+        "another protocol before no user",
+        "proto=x !password=b",
+        Some(AddFault::UnknownProto),
+    ),
+    (
+        "no user before no domain",
+        "proto=p9sk1 !password=b",
+        Some(AddFault::NoUser),
+    ),
+    (
+        "no domain before a bad name",
+        "proto=p9sk1 user= !password=b",
+        Some(AddFault::NoDom),
+    ),
+    (
+        "a bad name before no secret",
+        "proto=apop user=",
+        Some(AddFault::BadName),
+    ),
+    (
+        "no secret before bad digits",
+        "proto=p9sk1 dom=x user=a !hex",
+        Some(AddFault::NoSecret),
+    ),
+];
+
+fn check_keys(rt: &impl Abort, alloc: Global, cases: &[KeyCase]) -> Result<(), Fail> {
+    for case in cases {
+        let (case, line, fault) = *case;
         let mut ring = KeyRing::new(alloc);
         let answer = ring.add(tuple_of(alloc, line)?);
         let expected = match fault {
@@ -298,6 +302,11 @@ fn keys_are_taken_or_refused(rt: HostRuntime) -> Result<(), Fail> {
         assert_eq!(rt; ring.len(), if fault.is_some() { 0 } else { 1 }, "{case}");
     }
     Ok(())
+}
+
+#[test]
+fn keys_are_taken_or_refused(rt: HostRuntime) -> Result<(), Fail> {
+    check_keys(&rt, rt.alloc(), &KEYS)
 }
 
 #[test]
