@@ -15,14 +15,15 @@ use Rattle.file_tree.specs.declared.fault.FidFault.{FidFault}
 use Rattle.file_tree.specs.Faults.{fault_text}
 use Rattle.file_tree.specs.Tree.{is_exclusive, lead_to}
 use Rattle.file_tree.specs.Directories.{dir_end}
-use Rattle.file_tree.specs.Calls.{first_refusal, fid_fault, attach_fault, walk_fault, open_fault, is_open, node_of}
+use Rattle.wire_base.specs.Rules.{first_told}
+use Rattle.file_tree.specs.Calls.{fid_fault, attach_fault, walk_fault, open_fault, is_open, node_of}
 use Rattle.key_lists.specs.Lists.{KeyList, add_fault, delete_fault}
 use Rattle.key_lists.specs.Edits.{KeyEdit, Add, Delete}
 use Rattle.agent_history.specs.declared.event.Event.{Event}
 use Rattle.agent_history.specs.declared.event.Event.TheVariants.{Request, Hang, Answer, NoAnswer, NoRoom, Take, TakeAsk, Stop}
 use Rattle.agent_history.specs.Deeds.{Deed, Versioned, Attached, Walked, Opened, Listed, Browsed, Edited, Switched, Clunked, Hung, fid_of, holder_of, keys_of, msize_of}
 use Rattle.agent_history.specs.Lines.{CtlLine, OnKeys, Debug, line_fault, line_deed, line_by, read_line, after_lines, lines_of, add_text, delete_text}
-use Rattle.agent_history.specs.Requests.{Test, first_text, refusal, agreed, opens_later, walking, reading, effective, after, comes_first, has_version, granted_body, granted, after_granted, after_frame, is_over}
+use Rattle.agent_history.specs.Requests.{Test, refusal, agreed, opens_later, walking, reading, effective, after, comes_first, has_version, granted_body, granted, after_granted, after_frame, is_over}
 use Rattle.agent_history.specs.Histories.{History, is_gone, was_opened, deeds}
 use Rattle.agent_history.specs.Laws.{conn_of, is_on}
 
@@ -67,11 +68,11 @@ pub choice_none : {X : Type 0} (b : Bool) (x : X) (rest : Option X) → cond b (
 choice_none true x rest e = absurd cc
 choice_none false x rest e = (refl, e)
 
-text_none : (test : Test) (tests : List Test) → first_text (test ∷ tests) ≡ None → (test.0 ≡ false) × (first_text tests ≡ None)
-text_none test tests e = choice_none test.0 test.1 (first_text tests) e
+text_none : (test : Test) (tests : List Test) → first_told (test ∷ tests) ≡ None → (test.0 ≡ false) × (first_told tests ≡ None)
+text_none test tests e = choice_none test.0 test.1 (first_told tests) e
 
-refusal_none : (test : Bool × FidFault) (tests : List (Bool × FidFault)) → first_refusal (test ∷ tests) ≡ None → (test.0 ≡ false) × (first_refusal tests ≡ None)
-refusal_none test tests e = choice_none test.0 test.1 (first_refusal tests) e
+refusal_none : (test : Bool × FidFault) (tests : List (Bool × FidFault)) → first_told (test ∷ tests) ≡ None → (test.0 ≡ false) × (first_told tests ≡ None)
+refusal_none test tests e = choice_none test.0 test.1 (first_told tests) e
 
 held_where_known : (o : Option FidState) → is_none o ≡ false → is_some o ≡ true
 held_where_known None e = absurd cc

@@ -18,7 +18,8 @@ use Rattle.attr_tuples.specs.Printing.{hidden}
 use Rattle.attr_tuples.proofs.EqualityLemmas.{public_equal_left, public_equal_right}
 use Rattle.key_lists.specs.declared.fault.AddFault.TheVariants.{Full}
 use Rattle.key_lists.specs.declared.fault.DeleteFault.TheVariants.{SecretValue, NoneMatched}
-use Rattle.key_lists.specs.KeyFaults.{first_fault, key_rules, is_any}
+use Rattle.wire_base.specs.Rules.{first_told}
+use Rattle.key_lists.specs.KeyFaults.{key_rules, is_any}
 use Rattle.key_lists.specs.Lists.{KeyEntry, KeyList, most_keys, is_full, add_fault, next_entry, added, tells_secret, matching, delete_fault, deleted}
 use Rattle.key_lists.specs.Edits.{Add, Delete}
 use Rattle.key_lists.specs.Listing.{list_text}
@@ -153,11 +154,11 @@ full_hidden key keys =
 
 add_fault_hidden : (key : List Attr) (list : KeyList) → add_fault key (hidden_list list) ≡ add_fault key list
 unfolding add_fault
-add_fault_hidden key list = ap (λ (b : Bool). first_fault (key_rules key ++ (b, Full) ∷ [])) (full_hidden key list.keys)
+add_fault_hidden key list = ap (λ (b : Bool). first_told (key_rules key ++ (b, Full) ∷ [])) (full_hidden key list.keys)
 
-delete_step : (b : Bool) (m n : ℕ) → (b ≡ false → m ≡ n) → first_fault ((b, SecretValue) ∷ (eqb m 0, NoneMatched) ∷ []) ≡ first_fault ((b, SecretValue) ∷ (eqb n 0, NoneMatched) ∷ [])
+delete_step : (b : Bool) (m n : ℕ) → (b ≡ false → m ≡ n) → first_told ((b, SecretValue) ∷ (eqb m 0, NoneMatched) ∷ []) ≡ first_told ((b, SecretValue) ∷ (eqb n 0, NoneMatched) ∷ [])
 delete_step true m n e = refl
-delete_step false m n e = ap (λ k. first_fault ((false, SecretValue) ∷ (eqb k 0, NoneMatched) ∷ [])) (e refl)
+delete_step false m n e = ap (λ k. first_told ((false, SecretValue) ∷ (eqb k 0, NoneMatched) ∷ [])) (e refl)
 
 delete_fault_hidden : (template : List Attr) (list : KeyList) → delete_fault template (hidden_list list) ≡ delete_fault template list
 unfolding delete_fault

@@ -19,7 +19,7 @@ use Rattle.file_tree.specs.Calls.{node_of}
 use Rattle.attr_tuples.specs.declared.attr.Attr.{Attr}
 use Rattle.attr_tuples.specs.Printing.{hidden}
 use Rattle.key_lists.specs.declared.fault.DeleteFault.TheVariants.{NoneMatched}
-use Rattle.key_lists.specs.KeyFaults.{first_fault}
+use Rattle.wire_base.specs.Rules.{first_told}
 use Rattle.key_lists.specs.Lists.{KeyList, added, deleted, delete_fault, tells_secret, matching}
 use Rattle.key_lists.specs.Edits.{KeyEdit, Add, Delete}
 use Rattle.key_lists.specs.Listing.{list_text}
@@ -186,7 +186,7 @@ sight a b s = record {
 
 template_open : (template : List Attr) (list : KeyList) → delete_fault template list ≡ None → list_any tells_secret template ≡ false
 unfolding delete_fault
-template_open template list e = (choice_none (list_any tells_secret template) _ (first_fault ((eqb (matching template list) 0, NoneMatched) ∷ [])) e).0
+template_open template list e = (choice_none (list_any tells_secret template) _ (first_told ((eqb (matching template list) 0, NoneMatched) ∷ [])) e).0
 
 pub fitting_open : (done : List Deed) (deed : Deed) → Fits done deed → is_open_deed deed ≡ true
 fitting_open done (Edited at (Add key)) fits = refl

@@ -6,6 +6,7 @@ use Rattle.std.specs.Option.{option_or}
 use Rattle.std.specs.Int.{w16}
 use Rattle.std.specs.Str.{bytes_eq}
 use Rattle.wire_base.specs.Readers.{number, value_of}
+use Rattle.wire_base.specs.Rules.{Rule, first_told}
 use Rattle.nine_messages.specs.declared.message.TBody.{TBody}
 use Rattle.nine_messages.specs.declared.message.TBody.TheVariants as t
 use Rattle.nine_messages.specs.declared.message.RMsg.{RMsg}
@@ -66,19 +67,15 @@ abbrev pub reads_later : Node → Bool
 reads_later Log = true
 reads_later node = opens_later node
 
--- a list of tests, each with the text that refuses by it: the first that holds decides
+-- a test, and the text that refuses by it: of a list of them the first that holds decides
 abbrev pub Test : Type 0
-Test = Bool × List ℕ
-
-abbrev pub first_text : List Test → Option (List ℕ)
-first_text [] = None
-first_text (test ∷ tests) = if test.0 then Some test.1 else first_text tests
+Test = Rule (List ℕ)
 
 -- ---- the tests, by type
 
 -- a fault of the fid first, then the tests
 abbrev pub fid_first : Option FidFault → List Test → Option (List ℕ)
-fid_first fault tests = option_or (option_map fault_text fault) (first_text tests)
+fid_first fault tests = option_or (option_map fault_text fault) (first_told tests)
 
 -- the offset of a read of a directory is neither 0 nor where the latest read of the fid ended
 abbrev pub is_elsewhere : Node → ℕ → ℕ → Bool
@@ -86,10 +83,10 @@ is_elsewhere node next offset = is_directory node && is_some (dir_fault next off
 
 -- what refuses a request, if anything does
 unfoldable pub refusal : List Deed → ℕ → TBody → Option (List ℕ)
-refusal done conn (t.Version msize version) = first_text ((nat_lt msize least_msize, codes "msize too small") ∷ [])
+refusal done conn (t.Version msize version) = first_told ((nat_lt msize least_msize, codes "msize too small") ∷ [])
 refusal done conn (t.Auth afid uname aname) = Some (codes "authentication not required")
 refusal done conn (t.Attach fid afid uname aname) =
-    option_or (first_text ((not (afid == nofid), codes "bad afid") ∷ [])) (option_map fault_text (attach_fault (fid_of done conn fid) (held_by done conn)))
+    option_or (first_told ((not (afid == nofid), codes "bad afid") ∷ [])) (option_map fault_text (attach_fault (fid_of done conn fid) (held_by done conn)))
 refusal done conn (t.Flush oldtag) = None
 refusal done conn (t.Walk fid newfid wname) =
     option_map fault_text (walk_fault (fid_of done conn fid) (fid_of done conn newfid) (fid == newfid) (held_by done conn) wname)

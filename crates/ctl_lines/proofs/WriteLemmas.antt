@@ -1,6 +1,7 @@
 -- The lines of a write, one after the other, and the edits that they say, all at once, come to the same.
 use Rattle.std.proofs.Common.{◌≡◌, ◌⊎◌, ℕ, List, [], ◌∷◌, ◌++◌, Option, Some, None, Result, Ok, Err, refl, sym, ap, ◌∙◌, inl, inr}
 use Rattle.std.specs.Prelude.{option_map}
+use Rattle.std.specs.Option.{option_or}
 use Rattle.key_lists.specs.declared.fault.AddFault.{AddFault}
 use Rattle.key_lists.specs.declared.fault.DeleteFault.{DeleteFault}
 use Rattle.key_lists.specs.declared.edit.EditFault.{EditFault}
@@ -12,7 +13,7 @@ use Rattle.key_lists.proofs.BatchLaws.{cases_fault, after_taken, after_refused, 
 use Rattle.agent_history.specs.Deeds.{Deed, Edited, Switched, keys_of}
 use Rattle.agent_history.specs.Lines.{CtlLine, OnKeys, Debug, add_text, delete_text, read_line, line_fault, line_deed, line_by, after_lines, lines_fault}
 use Rattle.agent_history.proofs.GrowLaws.{carried_out, said_out}
-use Rattle.ctl_lines.specs.Steps.{edit_text, edits_in, first_text, put_edit, unread}
+use Rattle.ctl_lines.specs.Steps.{edit_text, edits_in, put_edit, unread}
 
 -- ---- a line, by what is read of it
 
@@ -117,11 +118,11 @@ keys_after_lines conn (line ∷ lines) done = elim (cases_read (read_line line))
 
 -- the text of the first refused edit of lines, or else of the first line that can't be read
 abbrev pub all_told : List (List ℕ) → KeyList → Option (List ℕ)
-all_told lines keys = first_text (option_map edit_text (edits_fault (edits_in lines) keys)) (unread lines)
+all_told lines keys = option_or (option_map edit_text (edits_fault (edits_in lines) keys)) (unread lines)
 
 -- the same out of its parts
 abbrev pub told_by : List KeyEdit → KeyList → Option (List ℕ) → Option (List ℕ)
-told_by edits keys last = first_text (option_map edit_text (edits_fault edits keys)) last
+told_by edits keys last = option_or (option_map edit_text (edits_fault edits keys)) last
 
 told_more : (line : List ℕ) (lines : List (List ℕ)) (keys : KeyList) (said : CtlLine) → read_line line ≡ Ok said → all_told (line ∷ lines) keys ≡ told_by (put_edit said (edits_in lines)) keys (unread lines)
 told_more line lines keys said h =
@@ -137,11 +138,11 @@ told_turn conn line lines done (OnKeys edit) h more = elim (cases_fault (edit_fa
       fault_ok conn line lines done (Edited conn edit) (edit_passes conn done line edit h none)
       ∙ (more (Edited conn edit ∷ done)
       ∙ (ap (all_told lines) (keys_edited conn edit done)
-      ∙ (ap (λ (found : Option EditFault). first_text (option_map edit_text found) (unread lines)) (sym (fault_taken edit (edits_in lines) (keys_of done) none))
+      ∙ (ap (λ (found : Option EditFault). option_or (option_map edit_text found) (unread lines)) (sym (fault_taken edit (edits_in lines) (keys_of done) none))
       ∙ sym (told_more line lines (keys_of done) (OnKeys edit) h))))
   | inr some ↦
       fault_err conn line lines done (edit_text some.0) (edit_stops conn done line edit some.0 h some.1)
-      ∙ (ap (λ (found : Option EditFault). first_text (option_map edit_text found) (unread lines)) (sym (fault_refused edit (edits_in lines) (keys_of done) some.0 some.1))
+      ∙ (ap (λ (found : Option EditFault). option_or (option_map edit_text found) (unread lines)) (sym (fault_refused edit (edits_in lines) (keys_of done) some.0 some.1))
       ∙ sym (told_more line lines (keys_of done) (OnKeys edit) h))
 ]
 
@@ -161,10 +162,10 @@ pub write_keys : (conn : ℕ) (lines : List (List ℕ)) (done : List Deed) (old 
 write_keys conn lines done old new first edits read none made same =
     made ∙ (ap (λ (es : List KeyEdit). after_edits es old) (read ∙ ap (λ (es : List KeyEdit). es ++ edits_in lines) none) ∙ (ap (all_edits lines) same ∙ sym (keys_after_lines conn lines done)))
 
-pub write_told : (conn : ℕ) (lines : List (List ℕ)) (done : List Deed) (old : KeyList) (first edits : List KeyEdit) (refused : Option EditFault) (last told : Option (List ℕ)) → edits ≡ first ++ edits_in lines → first ≡ [] → last ≡ unread lines → refused ≡ edits_fault edits old → told ≡ first_text (option_map edit_text refused) last → old ≡ keys_of done → told ≡ lines_fault conn lines done
+pub write_told : (conn : ℕ) (lines : List (List ℕ)) (done : List Deed) (old : KeyList) (first edits : List KeyEdit) (refused : Option EditFault) (last told : Option (List ℕ)) → edits ≡ first ++ edits_in lines → first ≡ [] → last ≡ unread lines → refused ≡ edits_fault edits old → told ≡ option_or (option_map edit_text refused) last → old ≡ keys_of done → told ≡ lines_fault conn lines done
 write_told conn lines done old first edits refused last told read none is_last is_refused is_told same =
     is_told
-    ∙ (ap (λ (found : Option EditFault). first_text (option_map edit_text found) last) is_refused
+    ∙ (ap (λ (found : Option EditFault). option_or (option_map edit_text found) last) is_refused
     ∙ (ap (λ (es : List KeyEdit). told_by es old last) (read ∙ ap (λ (es : List KeyEdit). es ++ edits_in lines) none)
     ∙ (ap (told_by (edits_in lines) old) is_last
     ∙ (ap (all_told lines) same ∙ sym (told_of_lines conn lines done)))))

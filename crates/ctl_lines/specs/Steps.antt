@@ -56,11 +56,6 @@ abbrev pub unread : List (List ℕ) → Option (List ℕ)
 unread [] = None
 unread (line ∷ lines) = elim (read_line line) [ Ok said ↦ unread lines | Err text ↦ Some text ]
 
--- the first of two texts, if there is one
-abbrev pub first_text : Option (List ℕ) → Option (List ℕ) → Option (List ℕ)
-first_text (Some text) other = Some text
-first_text None other = other
-
 -- the text of an edit that is refused
 abbrev pub edit_text : EditFault → List ℕ
 edit_text (e.Add fault) = add_text fault

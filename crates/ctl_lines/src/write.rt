@@ -1,9 +1,10 @@
 // The lines of a write, read and then carried out.
 ghost use Rattle.std.specs.Prelude.{◌≡◌, ◌==◌, ◌+◌, ◌<◌, ◌≤◌, ◌^◌, ◌∷◌, ◌++◌, List, ℕ, Some, length, option_map, position, IfNone, IfOk, IfSome, OnErr, OnOk};
+ghost use Rattle.std.specs.Option.{option_or};
 ghost use Rattle.agent_history.specs.Deeds.{Deed, keys_of};
 ghost use Rattle.agent_history.specs.Lines.{after_lines, lines_fault, lines_of};
 ghost use Rattle.ctl_lines.specs.Faults.{line_text};
-ghost use Rattle.ctl_lines.specs.Steps.{bytes_left, cut, edit_text, edits_in, first_text, kept, lines_left, unread};
+ghost use Rattle.ctl_lines.specs.Steps.{bytes_left, cut, edit_text, edits_in, kept, lines_left, unread};
 
 use crate::fault::LineFault;
 use crate::line::{Said, read_line};
@@ -37,7 +38,7 @@ pub fn write_ctl(
 
 // A refused edit is told before a line that can't be read, which stands behind it.
 fn first_fault(refused: Option<EditFault>, last: Option<LineFault>) -> Option<LineFault>
-    ensures { option_map line_text result ≡ first_text (option_map edit_text refused) (option_map line_text last) }
+    ensures { option_map line_text result ≡ option_or (option_map edit_text refused) (option_map line_text last) }
 {
     match refused {
         Some(EditFault::Add(fault)) => Some(LineFault::Add(fault)),

@@ -1,17 +1,13 @@
 -- The requests on fids, one after the other: the tests that refuse it, in their order, and what it makes of a fid.
 -- A fid that isn't held has no state. After section 5 of the Plan 9 manual (attach(5), walk(5), open(5), clunk(5)).
 use Rattle.std.specs.Prelude.{ℕ, List, [], ◌∷◌, Bool, true, false, not, ◌&&◌, ◌||◌, ◌==◌, nat_le, bit_and, Option, Some, None, is_some, is_none, if◌then◌else◌}
+use Rattle.wire_base.specs.Rules.{first_told}
 use Rattle.file_tree.specs.declared.tree.Node.{Node}
 use Rattle.file_tree.specs.declared.tree.Node.TheVariants.{Root}
 use Rattle.file_tree.specs.declared.tree.FidState.{FidState}
 use Rattle.file_tree.specs.declared.fault.FidFault.{FidFault}
 use Rattle.file_tree.specs.declared.fault.FidFault.TheVariants.{UnknownFid, InUse, TooMany, AlreadyOpen, NotDirectory, NotFound, BadMode, Denied, BadOffset}
 use Rattle.file_tree.specs.Tree.{file, is_directory, step, lead_to}
-
--- a list of tests, each with what it refuses by: the first that holds decides
-abbrev pub first_refusal : List (Bool × FidFault) → Option FidFault
-first_refusal [] = None
-first_refusal (test ∷ tests) = if test.0 then Some test.1 else first_refusal tests
 
 -- how many fids a connection may hold
 abbrev pub most_fids : ℕ
@@ -42,12 +38,12 @@ at_rest node = record { node = node; mode = None }
 -- ---- Clunk, Stat, and whatever else names a fid
 
 unfoldable pub fid_fault : Option FidState → Option FidFault
-fid_fault fid = first_refusal ((is_none fid, UnknownFid) ∷ [])
+fid_fault fid = first_told ((is_none fid, UnknownFid) ∷ [])
 
 -- ---- Attach: the fid names the root
 
 unfoldable pub attach_fault : Option FidState → ℕ → Option FidFault
-attach_fault fid held = first_refusal (
+attach_fault fid held = first_told (
     (is_some fid, InUse)
     ∷ (is_full held, TooMany)
     ∷ [])
@@ -69,7 +65,7 @@ lacks_first node (name ∷ names) = is_none (step node name)
 
 -- of the fid walked from, the newfid, whether they are the same, and how many are held
 unfoldable pub walk_fault : Option FidState → Option FidState → Bool → ℕ → List (List ℕ) → Option FidFault
-walk_fault fid newfid same held names = first_refusal (
+walk_fault fid newfid same held names = first_told (
     (is_none fid, UnknownFid)
     ∷ (is_open fid, AlreadyOpen)
     ∷ (is_some newfid && not same, InUse)
@@ -120,7 +116,7 @@ is_denied node mode =
     || (truncates mode && not (writes mode))
 
 unfoldable pub open_fault : Option FidState → ℕ → Option FidFault
-open_fault fid mode = first_refusal (
+open_fault fid mode = first_told (
     (is_none fid, UnknownFid)
     ∷ (is_open fid, AlreadyOpen)
     ∷ (has_other_bits mode, BadMode)
@@ -139,7 +135,7 @@ opened mode (Some state) = Some (record { node = state.node; mode = Some mode })
 
 -- next is the offset of that read and the number of bytes that it gave, and 0 before the first read
 unfoldable pub dir_fault : ℕ → ℕ → Option FidFault
-dir_fault next offset = first_refusal ((not (offset == 0) && not (offset == next), BadOffset) ∷ [])
+dir_fault next offset = first_told ((not (offset == 0) && not (offset == next), BadOffset) ∷ [])
 
 -- whether a mode of open(5) that isn't denied lets its fid be read
 abbrev pub reads : ℕ → Bool

@@ -85,15 +85,6 @@ is_bad_hex (Some a) = not (is_given is_hex_key a.value)
 abbrev pub has_bad_name : List Attr → Bool
 has_bad_name key = not (gives_once (codes "user") is_user key) || has_name key (codes "dom") && not (gives_once (codes "dom") is_dom key)
 
--- a rule: what breaks it, and the fault that is told then
-abbrev pub Rule : Type 0 → Type 0
-Rule Fault = Bool × Fault
-
--- the fault of the first rule that is broken
-abbrev pub first_fault : {Fault : Type 0} → List (Rule Fault) → Option Fault
-first_fault [] = None
-first_fault (rule ∷ later) = if rule.0 then Some rule.1 else first_fault later
-
 -- the rules of a key, in order
 abbrev pub key_rules : List Attr → List (Rule AddFault)
 key_rules key =
@@ -109,4 +100,4 @@ key_rules key =
 
 -- why a tuple is no key, if it is none
 unfoldable pub key_fault : List Attr → Option AddFault
-key_fault key = first_fault (key_rules key)
+key_fault key = first_told (key_rules key)

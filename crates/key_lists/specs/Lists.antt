@@ -13,7 +13,8 @@ use Rattle.key_lists.specs.declared.fault.AddFault.{AddFault}
 use Rattle.key_lists.specs.declared.fault.AddFault.TheVariants.{Full}
 use Rattle.key_lists.specs.declared.fault.DeleteFault.{DeleteFault}
 use Rattle.key_lists.specs.declared.fault.DeleteFault.TheVariants.{SecretValue, NoneMatched}
-use Rattle.key_lists.specs.KeyFaults.{first_fault, key_rules, gives, is_any}
+use Rattle.wire_base.specs.Rules.{first_told}
+use Rattle.key_lists.specs.KeyFaults.{key_rules, gives, is_any}
 
 -- a key of a list: its attributes, and its number
 pub record KeyEntry : Type 0 where
@@ -41,7 +42,7 @@ is_full key keys = nat_le most_keys (length keys) && not (list_any (λ old. publ
 
 -- why a tuple isn't added to a list, if it isn't
 unfoldable pub add_fault : List Attr → KeyList → Option AddFault
-add_fault key list = first_fault (key_rules key ++ (is_full key list.keys, Full) ∷ [])
+add_fault key list = first_told (key_rules key ++ (is_full key list.keys, Full) ∷ [])
 
 -- the key under the next number
 abbrev pub next_entry : List Attr → KeyList → KeyEntry
@@ -63,7 +64,7 @@ matching template list = length (filter (λ key. matches template key.tuple) lis
 
 -- why nothing is deleted by a template, if nothing is
 unfoldable pub delete_fault : List Attr → KeyList → Option DeleteFault
-delete_fault template list = first_fault ((list_any tells_secret template, SecretValue) ∷ (matching template list == 0, NoneMatched) ∷ [])
+delete_fault template list = first_told ((list_any tells_secret template, SecretValue) ∷ (matching template list == 0, NoneMatched) ∷ [])
 
 -- the list without the keys that match a template
 abbrev pub deleted : List Attr → KeyList → KeyList

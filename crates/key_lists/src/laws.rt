@@ -5,7 +5,7 @@ ghost use Rattle.std.specs.Str.{bytes_eq};
 ghost use Rattle.attr_tuples.specs.declared.attr.Attr.{Attr};
 ghost use Rattle.attr_tuples.specs.Printing.{hidden};
 ghost use Rattle.key_lists.specs.declared.fault.AddFault.{AddFault};
-ghost use Rattle.key_lists.specs.KeyFaults.{Rule, first_fault};
+ghost use Rattle.wire_base.specs.Rules.{Rule, first_told};
 ghost use Rattle.key_lists.specs.Lists.{KeyEntry, KeyList, added, deleted, matching};
 ghost use Rattle.key_lists.specs.Listing.{each_once, fitting, list_text, offers_text};
 ghost use Rattle.key_lists.specs.Edits.{KeyEdit, keys_after, standing, additions, IsOrdered};
@@ -13,9 +13,9 @@ ghost use Rattle.key_lists.specs.Edits.{KeyEdit, keys_after, standing, additions
 /// The fault that is told is that of the first rule that is broken: those before it are kept. None is told exactly
 /// where all are kept.
 pub fn the_first_broken_rule_is_told()
-    ensures told { (rules : List (Rule AddFault)) (fault : AddFault) → first_fault rules ≡ Some fault → (kept : List (Rule AddFault)) × (later : List (Rule AddFault)) × (rules ≡ kept ++ (true, fault) ∷ later) × All (λ rule. rule.0 ≡ false) kept }
-    ensures first { (kept later : List (Rule AddFault)) (fault : AddFault) → All (λ rule. rule.0 ≡ false) kept → first_fault (kept ++ (true, fault) ∷ later) ≡ Some fault }
-    ensures none { (rules : List (Rule AddFault)) → first_fault rules ≡ None ↔ All (λ rule. rule.0 ≡ false) rules }
+    ensures told { (rules : List (Rule AddFault)) (fault : AddFault) → first_told rules ≡ Some fault → (kept : List (Rule AddFault)) × (later : List (Rule AddFault)) × (rules ≡ kept ++ (true, fault) ∷ later) × All (λ rule. rule.0 ≡ false) kept }
+    ensures first { (kept later : List (Rule AddFault)) (fault : AddFault) → All (λ rule. rule.0 ≡ false) kept → first_told (kept ++ (true, fault) ∷ later) ≡ Some fault }
+    ensures none { (rules : List (Rule AddFault)) → first_told rules ≡ None ↔ All (λ rule. rule.0 ≡ false) rules }
 {}
 
 /// The keys are those of the accepted lines in order, without those that a later line dropped, each under the number of

@@ -10,7 +10,8 @@ use Rattle.key_lists.specs.declared.fault.AddFault.{AddFault}
 use Rattle.key_lists.specs.declared.fault.AddFault.TheVariants.{Full, NoMemory}
 use Rattle.key_lists.specs.declared.fault.DeleteFault.{DeleteFault}
 use Rattle.key_lists.specs.declared.fault.DeleteFault.TheVariants.{SecretValue, NoneMatched}
-use Rattle.key_lists.specs.KeyFaults.{Rule, first_fault, key_rules, key_fault}
+use Rattle.wire_base.specs.Rules.{Rule, first_told}
+use Rattle.key_lists.specs.KeyFaults.{key_rules, key_fault}
 use Rattle.key_lists.specs.Lists.{KeyEntry, KeyList, is_full, add_fault, added, next_entry, tells_secret, matching, delete_fault, deleted}
 use Rattle.key_lists.specs.Edits.{IsOrdered}
 use Rattle.key_lists.proofs.OrderLaws.{ordered_added, ordered_deleted, nothing_deleted}
@@ -18,14 +19,14 @@ use Rattle.key_lists.proofs.OrderLaws.{ordered_added, ordered_deleted, nothing_d
 -- ---- adding
 
 -- one rule more counts only where no other is broken
-broken_before : {Fault : Type 0} (rules : List (Rule Fault)) (last : Rule Fault) (fault : Fault) → first_fault rules ≡ Some fault → first_fault (rules ++ last ∷ []) ≡ Some fault
+broken_before : {Fault : Type 0} (rules : List (Rule Fault)) (last : Rule Fault) (fault : Fault) → first_told rules ≡ Some fault → first_told (rules ++ last ∷ []) ≡ Some fault
 broken_before [] last fault h = absurd cc
 broken_before (rule ∷ rules) last fault h = elim (cases_Bool rule.0) [
   | inl t ↦ rw t (rw t at h)
   | inr f ↦ rw f (broken_before rules last fault (rw f at h))
 ]
 
-kept_before : {Fault : Type 0} (rules : List (Rule Fault)) (last : Rule Fault) → first_fault rules ≡ None → first_fault (rules ++ last ∷ []) ≡ first_fault (last ∷ [])
+kept_before : {Fault : Type 0} (rules : List (Rule Fault)) (last : Rule Fault) → first_told rules ≡ None → first_told (rules ++ last ∷ []) ≡ first_told (last ∷ [])
 kept_before [] last h = refl
 kept_before (rule ∷ rules) last h = elim (cases_Bool rule.0) [
   | inl t ↦ absurd (let s : Some rule.1 ≡ None = rw t at h in cc)

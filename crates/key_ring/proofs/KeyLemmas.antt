@@ -16,7 +16,8 @@ use Rattle.seal_mode.specs.Passwords.{password_key}
 use Rattle.key_lists.specs.declared.fault.AddFault.{AddFault}
 use Rattle.key_lists.specs.declared.fault.AddFault.TheVariants.{AskInKey}
 use Rattle.key_ring.specs.DesKeys.{hex_of, spelled, digits_or_password, des_key}
-use Rattle.key_lists.specs.KeyFaults.{Rule, first_fault, key_rules, key_fault, gives, gives_once, is_any, is_asked, is_protocol, is_user, is_dom, is_p9sk1, is_hex_key, is_bad_hex, has_bad_name, has_secret}
+use Rattle.wire_base.specs.Rules.{Rule, first_told}
+use Rattle.key_lists.specs.KeyFaults.{key_rules, key_fault, gives, gives_once, is_any, is_asked, is_protocol, is_user, is_dom, is_p9sk1, is_hex_key, is_bad_hex, has_bad_name, has_secret}
 
 -- ---- the value of a name
 
@@ -91,7 +92,7 @@ hex_value (a ∷ attrs) text h e = hex_step (is_named (codes "!hex") a) a (find 
 -- ---- the rules
 
 -- where no rule is broken, each is kept
-all_kept : {Fault : Type 0} (rules : List (Rule Fault)) → first_fault rules ≡ None → list_all (λ (rule : Rule Fault). not rule.0) rules ≡ true
+all_kept : {Fault : Type 0} (rules : List (Rule Fault)) → first_told rules ≡ None → list_all (λ (rule : Rule Fault). not rule.0) rules ≡ true
 all_kept [] h = refl
 all_kept (rule ∷ later) h = elim (cases_Bool rule.0) [
   | inl t ↦ absurd (let s : Some rule.1 ≡ None = rw t at h in cc)

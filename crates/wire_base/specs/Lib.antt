@@ -7,3 +7,4 @@ pub mod Names
 pub mod Steady
 pub mod Streams
 pub mod Whole
+pub mod Rules
