@@ -28,13 +28,14 @@ fn check_met(attrs: &[Attr], wanted: &Attr) -> bool
     let name = wanted.name.as_slice();
     match &wanted.value {
         Value::Is(_) => check_holds(attrs, wanted),
-        Value::Ask => check_has_name(attrs, name),
-        Value::Bare if check_secret(name) => check_has_name(attrs, name),
+        Value::Ask => has_name(attrs, name),
+        Value::Bare if is_secret_name(name) => has_name(attrs, name),
         Value::Bare => check_has_null(attrs, name),
     }
 }
 
-pub(crate) fn check_secret(name: &[u8]) -> bool
+/// Whether a name is that of a secret: it begins with `!`.
+pub fn is_secret_name(name: &[u8]) -> bool
     ensures { result ≡ is_secret name.now }
 {
     matches!(name, [b'!', ..])
@@ -46,10 +47,11 @@ fn check_holds(attrs: &[Attr], wanted: &Attr) -> bool
     attrs.iter().any(|attr| check_same(wanted, attr))
 }
 
-pub(crate) fn check_has_name(attrs: &[Attr], name: &[u8]) -> bool
+/// Whether one of the attributes has this name.
+pub fn has_name(attrs: &[Attr], name: &[u8]) -> bool
     ensures { result ≡ has_name attrs.now name.now }
 {
-    attrs.iter().any(|attr| check_named(attr, name))
+    attrs.iter().any(|attr| is_named(attr, name))
 }
 
 fn check_has_null(attrs: &[Attr], name: &[u8]) -> bool
@@ -57,7 +59,7 @@ fn check_has_null(attrs: &[Attr], name: &[u8]) -> bool
 {
     attrs
         .iter()
-        .any(|attr| check_named(attr, name) && check_null(&attr.value))
+        .any(|attr| is_named(attr, name) && check_null(&attr.value))
 }
 
 fn check_null(value: &Value) -> bool
@@ -70,7 +72,8 @@ fn check_null(value: &Value) -> bool
     }
 }
 
-fn check_named(attr: &Attr, name: &[u8]) -> bool
+/// Whether an attribute has this name.
+pub fn is_named(attr: &Attr, name: &[u8]) -> bool
     ensures { result ≡ is_named name.now attr.now }
 {
     attr.name.as_slice() == name
@@ -115,7 +118,7 @@ fn check_counts(a: &[Attr], b: &[Attr], sought: &[Attr]) -> bool
 fn check_public(attr: &Attr) -> bool
     ensures { result ≡ is_public attr.now }
 {
-    !check_secret(attr.name.as_slice())
+    !is_secret_name(attr.name.as_slice())
 }
 
 // How often a list has an attribute among its public ones.
@@ -145,7 +148,7 @@ fn text_for<'a>(attr: &'a Attr, name: &[u8]) -> Option<&'a Text>
     ensures { option_map (λ text. text.now) result ≡ text_for name.now attr.now }
 {
     match &attr.value {
-        Value::Is(text) if check_named(attr, name) => Some(text),
+        Value::Is(text) if is_named(attr, name) => Some(text),
         Value::Is(_) | Value::Ask | Value::Bare => None,
     }
 }

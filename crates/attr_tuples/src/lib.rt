@@ -16,7 +16,7 @@ mod tests;
 mod tuple;
 
 pub use attr::{Attr, Value};
-pub use compare::{matches, public_equal, value_of};
+pub use compare::{has_name, is_named, is_secret_name, matches, public_equal, value_of};
 pub use fault::{MergeFault, TupleFault};
 pub use laws::{
     plain_keys_are_their_text, plain_keys_are_tuples, printed_tuples_are_read,

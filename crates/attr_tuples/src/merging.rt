@@ -4,7 +4,7 @@ ghost use Rattle.attr_tuples.specs.Attributes.{is_tuple};
 ghost use Rattle.attr_tuples.specs.Merging.{is_new, merged, Merges};
 
 use crate::attr::Attr;
-use crate::compare::check_has_name;
+use crate::compare::has_name;
 use crate::fault::MergeFault;
 use crate::tuple::{MOST_ATTRIBUTES, Tuple};
 
@@ -18,7 +18,7 @@ pub fn merge(a: &Tuple, b: &Tuple) -> Result<Tuple, MergeFault>
     }
     let mut list = a.copy()?.into_vec();
     for attr in b.attrs() {
-        if !check_has_name(a.attrs(), attr.name.as_slice()) {
+        if !has_name(a.attrs(), attr.name.as_slice()) {
             list.push(attr.copy()?)?;
         }
     }
@@ -30,6 +30,6 @@ fn count_new(a: &[Attr], b: &[Attr]) -> usize
     ensures { result ≡ length (filter (is_new a.now) b.now) }
 {
     b.iter()
-        .filter(|attr| !check_has_name(a, attr.name.as_slice()))
+        .filter(|attr| !has_name(a, attr.name.as_slice()))
         .count()
 }

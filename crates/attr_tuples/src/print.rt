@@ -6,7 +6,7 @@ ghost use Rattle.attr_words.specs.Words.{quoted, quoted_byte, ends_unquoted};
 ghost use Rattle.attr_tuples.specs.Steps.{seen, others_text};
 
 use crate::attr::{Attr, Value};
-use crate::compare::check_secret;
+use crate::compare::is_secret_name;
 use crate::tuple::Tuple;
 use wire_base::{Bytes, NoMemory};
 
@@ -81,7 +81,7 @@ fn append_attr(attr: &Attr, secrets: Secrets, out: &mut Bytes) -> Result<(), NoM
 {
     out.append(attr.name.as_slice())?;
     match secrets {
-        Secrets::Hidden if check_secret(attr.name.as_slice()) => out.push(b'?'),
+        Secrets::Hidden if is_secret_name(attr.name.as_slice()) => out.push(b'?'),
         Secrets::Hidden | Secrets::Printed => append_ending(&attr.value, out),
     }
 }

@@ -2,14 +2,14 @@
 ghost use Rattle.std.specs.Prelude.{◌≡◌, ◌&&◌, not, codes, filter, find, length, option_copied};
 ghost use Rattle.std.specs.List.{list_all, list_any};
 ghost use Rattle.std.specs.Str.{bytes_eq};
-ghost use Rattle.attr_tuples.specs.Attributes.{is_named, is_secret};
+ghost use Rattle.attr_tuples.specs.Attributes.{is_named};
 ghost use Rattle.attr_tuples.specs.Matching.{has_name};
 ghost use Rattle.attr_tuples.specs.PlainKeys.{is_given, is_named_once};
 ghost use Rattle.key_lists.specs.KeyFaults.{key_fault, is_asked, gives, gives_once, is_any, is_protocol, is_above_blank, is_dom_byte, is_user, is_dom, is_hex_key, is_p9sk1, has_secret, is_bad_hex, has_bad_name};
 ghost use Rattle.key_lists.specs.Lists.{tells_secret};
 
 use crate::des::decode_hex;
-use attr_tuples::{Attr, Tuple, Value};
+use attr_tuples::{Attr, Tuple, Value, has_name, is_named, is_secret_name};
 use key_lists::AddFault;
 
 const MOST_USER_BYTES: usize = 27;
@@ -24,13 +24,13 @@ pub fn find_fault(tuple: &Tuple) -> Option<AddFault>
     let attrs = tuple.attrs();
     if check_asks(attrs) {
         Some(AddFault::AskInKey)
-    } else if !check_name(attrs, b"proto".as_slice()) {
+    } else if !has_name(attrs, b"proto".as_slice()) {
         Some(AddFault::NoProto)
     } else if !check_protocol(attrs) {
         Some(AddFault::UnknownProto)
-    } else if !check_name(attrs, b"user".as_slice()) {
+    } else if !has_name(attrs, b"user".as_slice()) {
         Some(AddFault::NoUser)
-    } else if check_p9sk1(attrs) && !check_name(attrs, b"dom".as_slice()) {
+    } else if check_p9sk1(attrs) && !has_name(attrs, b"dom".as_slice()) {
         Some(AddFault::NoDom)
     } else if check_bad_name(attrs) {
         Some(AddFault::BadName)
@@ -45,18 +45,6 @@ pub fn find_fault(tuple: &Tuple) -> Option<AddFault>
 
 // ---- attributes
 
-fn check_named(attr: &Attr, name: &[u8]) -> bool
-    ensures { result ≡ is_named name.now attr.now }
-{
-    attr.name.as_slice() == name
-}
-
-pub fn check_name(attrs: &[Attr], name: &[u8]) -> bool
-    ensures { result ≡ has_name attrs.now name.now }
-{
-    attrs.iter().any(|attr| check_named(attr, name))
-}
-
 fn check_named_once(attrs: &[Attr], name: &[u8]) -> bool
     ensures { result ≡ is_named_once name.now attrs.now }
 {
@@ -66,7 +54,7 @@ fn check_named_once(attrs: &[Attr], name: &[u8]) -> bool
 fn count_named(attrs: &[Attr], name: &[u8]) -> usize
     ensures { result ≡ length (filter (is_named name.now) attrs.now) }
 {
-    attrs.iter().filter(|attr| check_named(attr, name)).count()
+    attrs.iter().filter(|attr| is_named(attr, name)).count()
 }
 
 fn check_asks(attrs: &[Attr]) -> bool
@@ -108,27 +96,21 @@ fn check_gives_any(attrs: &[Attr], name: &[u8]) -> bool
 {
     attrs
         .iter()
-        .any(|attr| check_named(attr, name) && check_given(&attr.value))
+        .any(|attr| is_named(attr, name) && check_given(&attr.value))
 }
 
 /// Whether an attribute of the name has this value.
 pub fn check_gives(attrs: &[Attr], name: &[u8], text: &[u8]) -> bool
     ensures { result ≡ gives name.now (λ given. bytes_eq given text.now) attrs.now }
 {
-    attrs.iter().any(|attr| check_named(attr, name) && check_given_as(&attr.value, text))
+    attrs.iter().any(|attr| is_named(attr, name) && check_given_as(&attr.value, text))
 }
 
 /// Whether a secret attribute has a value.
 pub fn check_tells_secret(attrs: &[Attr]) -> bool
     ensures { result ≡ list_any tells_secret attrs.now }
 {
-    attrs.iter().any(|attr| check_secret_name(attr.name.as_slice()) && check_given(&attr.value))
-}
-
-fn check_secret_name(name: &[u8]) -> bool
-    ensures { result ≡ is_secret name.now }
-{
-    matches!(name, [b'!', ..])
+    attrs.iter().any(|attr| is_secret_name(attr.name.as_slice()) && check_given(&attr.value))
 }
 
 // ---- the protocol
@@ -150,7 +132,7 @@ fn gives_protocol(attrs: &[Attr]) -> bool
     ensures { result ≡ gives (codes "proto") is_protocol attrs.now }
 {
     let name = b"proto".as_slice();
-    attrs.iter().any(|attr| check_named(attr, name) && check_protocol_value(&attr.value))
+    attrs.iter().any(|attr| is_named(attr, name) && check_protocol_value(&attr.value))
 }
 
 fn check_protocol_value(value: &Value) -> bool
@@ -179,7 +161,7 @@ fn check_bad_name(attrs: &[Attr]) -> bool
 fn check_bad_dom(attrs: &[Attr]) -> bool
     ensures { result ≡ (has_name attrs.now (codes "dom") && not (gives_once (codes "dom") is_dom attrs.now)) }
 {
-    check_name(attrs, b"dom".as_slice()) && !check_dom(attrs)
+    has_name(attrs, b"dom".as_slice()) && !check_dom(attrs)
 }
 
 fn check_user(attrs: &[Attr]) -> bool
@@ -198,14 +180,14 @@ fn gives_user(attrs: &[Attr]) -> bool
     ensures { result ≡ gives (codes "user") is_user attrs.now }
 {
     let name = b"user".as_slice();
-    attrs.iter().any(|attr| check_named(attr, name) && check_user_value(&attr.value))
+    attrs.iter().any(|attr| is_named(attr, name) && check_user_value(&attr.value))
 }
 
 fn gives_dom(attrs: &[Attr]) -> bool
     ensures { result ≡ gives (codes "dom") is_dom attrs.now }
 {
     let name = b"dom".as_slice();
-    attrs.iter().any(|attr| check_named(attr, name) && check_dom_value(&attr.value))
+    attrs.iter().any(|attr| is_named(attr, name) && check_dom_value(&attr.value))
 }
 
 fn check_user_value(value: &Value) -> bool
@@ -271,7 +253,7 @@ fn check_bad_hex(attrs: &[Attr]) -> bool
 fn find_named<'a>(attrs: &'a [Attr], name: &[u8]) -> Option<&'a Attr>
     ensures { option_copied result ≡ find (is_named name.now) attrs.now }
 {
-    attrs.iter().find(|attr| check_named(attr, name))
+    attrs.iter().find(|attr| is_named(attr, name))
 }
 
 fn check_hex_value(value: &Value) -> bool

@@ -11,10 +11,10 @@ ghost use Rattle.key_ring.specs.Parts.{list_of};
 ghost use Rattle.key_lists.specs.Listing.{key_text};
 
 use crate::batch::carry_all;
-use crate::check::{check_gives, check_name, check_tells_secret, find_fault};
+use crate::check::{check_gives, check_tells_secret, find_fault};
 use crate::key::Key;
 use crate::offer::append_offers;
-use attr_tuples::{Tuple, matches, print_public, public_equal};
+use attr_tuples::{Tuple, has_name, matches, print_public, public_equal};
 use key_lists::{AddFault, DeleteFault, EditFault, EditList};
 use std::alloc::Global;
 use std::marker::Model;
@@ -258,7 +258,7 @@ fn check_role(tuple: &Tuple, role: &[u8]) -> bool
 {
     let attrs = tuple.attrs();
     let name = b"role".as_slice();
-    !check_name(attrs, name) || check_gives(attrs, name, role)
+    !has_name(attrs, name) || check_gives(attrs, name, role)
 }
 
 fn find_serving<'a>(keys: &'a [Key], template: &Tuple, role: &[u8]) -> Option<&'a Key>
