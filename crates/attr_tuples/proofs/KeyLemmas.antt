@@ -11,8 +11,8 @@ use Rattle.std.proofs.lemmas.Slice.Eq.{bytes_eq-Decides}
 use Rattle.attr_tuples.specs.declared.attr.Attr.{Attr}
 use Rattle.attr_tuples.specs.declared.attr.Value.{Value}
 use Rattle.attr_tuples.specs.declared.attr.Value.TheVariants.{Is, Ask, Bare}
-use Rattle.attr_tuples.specs.Printing.{attr_text, ending_text, value_text, needs_quotes, printed_text}
-use Rattle.attr_words.specs.Words.{quoted, ends_unquoted}
+use Rattle.attr_tuples.specs.Printing.{attr_text, ending_text, printed_text}
+use Rattle.attr_words.specs.Words.{quoted, ends_unquoted, needs_quotes, value_text}
 use Rattle.attr_tuples.specs.Attributes.{is_named}
 use Rattle.attr_tuples.specs.PlainKeys.{IsPlainKey, plain_key, key_line, is_plain_key, are_plain, names_apop, names_short_user, names_password, is_plain, is_given, is_plain_name, is_plain_value, is_plain_byte, is_plain_name_byte, is_named_once, is_apop, is_short_user, values_of, word_attr, words}
 use Rattle.attr_tuples.specs.Steps.{words_left}

@@ -1,20 +1,12 @@
 -- Tuples as text, as factotum(4) of the Plan 9 manual writes attributes: words with one blank between, a value
 -- in quotes where a reader would cut it, and what is shown of a tuple with secrets.
-use Rattle.std.specs.Prelude.{ℕ, List, [], ◌∷◌, ◌++◌, Bool, ◌||◌, ◌==◌, length, map, if◌then◌else◌}
-use Rattle.std.specs.List.{list_any, join_with_byte}
-use Rattle.attr_words.specs.Words.{quoted, ends_unquoted}
+use Rattle.std.specs.Prelude.{ℕ, List, [], ◌∷◌, ◌++◌, map, if◌then◌else◌}
+use Rattle.std.specs.List.{join_with_byte}
+use Rattle.attr_words.specs.Words.{value_text}
 use Rattle.attr_tuples.specs.Attributes.{is_secret}
 use Rattle.attr_tuples.specs.declared.attr.Attr.{Attr}
 use Rattle.attr_tuples.specs.declared.attr.Value.{Value}
 use Rattle.attr_tuples.specs.declared.attr.Value.TheVariants.{Is, Ask, Bare}
-
--- a value stands in quotes exactly where it is empty or holds a blank, a tab or a `'`
-abbrev pub needs_quotes : List ℕ → Bool
-needs_quotes text = length text == 0 || list_any ends_unquoted text
-
--- a value as it is printed
-abbrev pub value_text : List ℕ → List ℕ
-value_text text = if needs_quotes text then quoted text else text
 
 -- what follows the name: `=` and the value, a `?`, or nothing
 abbrev pub ending_text : Value → List ℕ

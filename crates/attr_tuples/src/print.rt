@@ -1,13 +1,12 @@
 // Tuples as text.
 ghost use Rattle.std.specs.Prelude.{◌≡◌, ◌∷◌, ◌++◌, length, take, map, OnOk, OnErr};
-ghost use Rattle.std.specs.List.{list_any};
-ghost use Rattle.attr_tuples.specs.Printing.{needs_quotes, value_text, ending_text, attr_text, printed_text, public_text};
-ghost use Rattle.attr_words.specs.Words.{quoted, quoted_byte, ends_unquoted};
+ghost use Rattle.attr_tuples.specs.Printing.{ending_text, attr_text, printed_text, public_text};
 ghost use Rattle.attr_tuples.specs.Steps.{seen, others_text};
 
 use crate::attr::{Attr, Value};
 use crate::compare::is_secret_name;
 use crate::tuple::Tuple;
+use attr_words::put_value;
 use wire_base::{Bytes, NoMemory};
 
 /// Whether secrets are printed or hidden.
@@ -49,7 +48,7 @@ fn print_seen(tuple: &Tuple, secrets: Secrets, out: &mut Bytes) -> Result<(), No
 }
 
 // What is appended before memory runs out stays, in this function and in those below.
-#[tactic(auto, using(crate::proofs::PrintLemmas::kept_then), unfolding(crate::specs::Printing::printed_text))]
+#[tactic(auto, using(wire_base::proofs::FrontLemmas::kept_then), unfolding(crate::specs::Printing::printed_text))]
 fn append_attrs(attrs: &[Attr], secrets: Secrets, out: &mut Bytes) -> Result<(), NoMemory>
     ensures ok { OnOk result (out.new ≡ out.old ++ printed_text (map (seen secrets) attrs.now)) }
     ensures err { OnErr result (take (length out.old) out.new ≡ out.old) }
@@ -62,7 +61,7 @@ fn append_attrs(attrs: &[Attr], secrets: Secrets, out: &mut Bytes) -> Result<(),
 }
 
 // Each attribute behind a blank.
-#[tactic(auto, using(crate::proofs::PrintLemmas::kept_then))]
+#[tactic(auto, using(wire_base::proofs::FrontLemmas::kept_then))]
 fn append_others(attrs: &[Attr], secrets: Secrets, out: &mut Bytes) -> Result<(), NoMemory>
     ensures ok { OnOk result (out.new ≡ out.old ++ others_text secrets attrs.now) }
     ensures err { OnErr result (take (length out.old) out.new ≡ out.old) }
@@ -74,7 +73,7 @@ fn append_others(attrs: &[Attr], secrets: Secrets, out: &mut Bytes) -> Result<()
     Ok(())
 }
 
-#[tactic(auto, using(crate::proofs::PrintLemmas::kept_then))]
+#[tactic(auto, using(wire_base::proofs::FrontLemmas::kept_then))]
 fn append_attr(attr: &Attr, secrets: Secrets, out: &mut Bytes) -> Result<(), NoMemory>
     ensures ok { OnOk result (out.new ≡ out.old ++ attr_text (seen secrets attr.now)) }
     ensures err { OnErr result (take (length out.old) out.new ≡ out.old) }
@@ -86,7 +85,7 @@ fn append_attr(attr: &Attr, secrets: Secrets, out: &mut Bytes) -> Result<(), NoM
     }
 }
 
-#[tactic(auto, using(crate::proofs::PrintLemmas::kept_then))]
+#[tactic(auto, using(wire_base::proofs::FrontLemmas::kept_then))]
 fn append_ending(value: &Value, out: &mut Bytes) -> Result<(), NoMemory>
     ensures ok { OnOk result (out.new ≡ out.old ++ ending_text value.now) }
     ensures err { OnErr result (take (length out.old) out.new ≡ out.old) }
@@ -94,55 +93,9 @@ fn append_ending(value: &Value, out: &mut Bytes) -> Result<(), NoMemory>
     match value {
         Value::Is(text) => {
             out.push(b'=')?;
-            append_value(text.as_slice(), out)
+            put_value(text.as_slice(), out)
         }
         Value::Ask => out.push(b'?'),
         Value::Bare => Ok(()),
     }
-}
-
-fn append_value(text: &[u8], out: &mut Bytes) -> Result<(), NoMemory>
-    ensures ok { OnOk result (out.new ≡ out.old ++ value_text text.now) }
-    ensures err { OnErr result (take (length out.old) out.new ≡ out.old) }
-{
-    if check_needs_quotes(text) {
-        append_quoted(text, out)
-    } else {
-        out.append(text)
-    }
-}
-
-fn check_needs_quotes(text: &[u8]) -> bool
-    ensures { result ≡ needs_quotes text.now }
-{
-    text.is_empty() || holds_end(text)
-}
-
-fn holds_end(text: &[u8]) -> bool
-    ensures { result ≡ list_any ends_unquoted text.now }
-{
-    text.iter()
-        .any(|byte| *byte == b' ' || *byte == b'\t' || *byte == b'\'')
-}
-
-#[tactic(auto, using(crate::proofs::PrintLemmas::kept_then))]
-fn append_quoted(text: &[u8], out: &mut Bytes) -> Result<(), NoMemory>
-    ensures ok { OnOk result (out.new ≡ out.old ++ quoted text.now) }
-    ensures err { OnErr result (take (length out.old) out.new ≡ out.old) }
-{
-    out.push(b'\'')?;
-    for byte in text {
-        append_quoted_byte(*byte, out)?;
-    }
-    out.push(b'\'')
-}
-
-fn append_quoted_byte(byte: u8, out: &mut Bytes) -> Result<(), NoMemory>
-    ensures ok { OnOk result (out.new ≡ out.old ++ quoted_byte byte) }
-    ensures err { OnErr result (take (length out.old) out.new ≡ out.old) }
-{
-    if byte == b'\'' {
-        out.push(b'\'')?;
-    }
-    out.push(byte)
 }

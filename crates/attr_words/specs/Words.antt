@@ -2,7 +2,7 @@
 -- itself, and `''` for one `'`. What a word is made of (parts) and how the first one is taken (unquote) are given
 -- apart; that they agree is a law.
 use Rattle.std.specs.Prelude.{◌≡◌, ℕ, ◌+◌, length, List, [], ◌∷◌, ◌++◌, Bool, true, false, not, ◌&&◌, ◌||◌, ◌==◌, Result, Ok, Err, if◌then◌else◌}
-use Rattle.std.specs.List.{flat_map, position_or_len}
+use Rattle.std.specs.List.{flat_map, list_any, position_or_len}
 use Rattle.attr_words.specs.declared.word.Place.{Place}
 use Rattle.attr_words.specs.declared.word.Place.TheVariants.{Outside, Inside, Behind}
 
@@ -25,6 +25,14 @@ quoted_bytes bytes = flat_map quoted_byte bytes
 -- bytes in quotes
 abbrev pub quoted : List ℕ → List ℕ
 quoted bytes = 39 ∷ quoted_bytes bytes ++ 39 ∷ []
+
+-- a value stands in quotes exactly where it is empty or holds a blank, a tab or a `'`
+abbrev pub needs_quotes : List ℕ → Bool
+needs_quotes text = length text == 0 || list_any ends_unquoted text
+
+-- a value as it is printed
+abbrev pub value_text : List ℕ → List ℕ
+value_text text = if needs_quotes text then quoted text else text
 
 -- ---- what a word is
 

@@ -6,8 +6,10 @@ mod laws;
 mod line;
 #[cfg(test)]
 mod tests;
+mod value;
 mod word;
 
 pub use laws::{lines_are_whole, words_are_their_parts, words_of_lines_are_lines};
 pub use line::{check_line_byte, line_len};
+pub use value::put_value;
 pub use word::{WordFault, gap_end, take_word};

@@ -15,7 +15,7 @@ const MOST_OFFERED: usize = 1024;
 const PROTOCOL: &[u8; 6] = b"p9sk1@";
 
 /// Appends the offers of the keys that serve, and answers how many. What is appended before memory runs out stays.
-#[tactic(auto, using(attr_tuples::proofs::PrintLemmas::kept_then))]
+#[tactic(auto, using(wire_base::proofs::FrontLemmas::kept_then))]
 pub fn append_offers(
     keys: &[Key],
     template: &Tuple,

@@ -284,7 +284,7 @@ fn find_number(keys: &[Key], serial: u64) -> Option<usize>
 }
 
 // What is appended before memory runs out stays, in this function and the next.
-#[tactic(auto, using(attr_tuples::proofs::PrintLemmas::kept_then))]
+#[tactic(auto, using(wire_base::proofs::FrontLemmas::kept_then))]
 fn append_keys(keys: &[Key], out: &mut Bytes) -> Result<(), NoMemory>
     ensures ok { OnOk result (out.new ≡ out.old ++ flat_map (λ key. key_text key.tuple) keys.now) }
     ensures err { OnErr result (take (length out.old) out.new ≡ out.old) }
@@ -295,7 +295,7 @@ fn append_keys(keys: &[Key], out: &mut Bytes) -> Result<(), NoMemory>
     Ok(())
 }
 
-#[tactic(auto, using(attr_tuples::proofs::PrintLemmas::kept_then), unfolding(key_lists::specs::Listing::key_text))]
+#[tactic(auto, using(wire_base::proofs::FrontLemmas::kept_then), unfolding(key_lists::specs::Listing::key_text))]
 fn append_key(tuple: &Tuple, out: &mut Bytes) -> Result<(), NoMemory>
     ensures ok { OnOk result (out.new ≡ out.old ++ key_text tuple.now) }
     ensures err { OnErr result (take (length out.old) out.new ≡ out.old) }

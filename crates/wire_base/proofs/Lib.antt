@@ -3,3 +3,4 @@ pub mod ReaderLaws
 pub mod LoopLaws
 pub mod PlaceLaws
 pub mod StreamLemmas
+pub mod FrontLemmas

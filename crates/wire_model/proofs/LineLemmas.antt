@@ -1,13 +1,7 @@
--- What stood in an output before stays its front.
+-- Digits of bytes, one behind the other.
 use Rattle.hex.specs.Hex.{encode_with, encode_lower, lower_digits}
 use Rattle.std.proofs.Common.{◌≡◌, ℕ, ◌+◌, ◌<◌, ◌≤◌, ◌/◌, ◌%◌, List, [], ◌∷◌, ◌++◌, get_or, slice_index, length, take, refl, sym, ap, ◌∙◌, arith, append_assoc, length-append}
-use Rattle.std.proofs.lemmas.List.{append-nil, take-take, take_at, take_more}
-
--- a is the front of b, and b stays the front of c: so does a
-pub kept_then : (a b c x : List ℕ) → b ≡ a ++ x → take (length b) c ≡ b → take (length a) c ≡ a
-kept_then a b c x e h =
-    let le : length a ≤ length b = omega (arith, ap (length {A = ℕ}) e, length-append a x) in
-    sym (take-take (length a) (length b) c le) ∙ ap (take (length a)) (h ∙ e) ∙ take_at a x (length a) refl
+use Rattle.std.proofs.lemmas.List.{append-nil, take_more}
 
 -- digits of bytes one behind the other
 encode_both : (t xs ys : List ℕ) → encode_with t (xs ++ ys) ≡ encode_with t xs ++ encode_with t ys

@@ -1,33 +1,16 @@
 -- The lines of a record: words with one blank between. Bytes are hexadecimal digits in lower case, numbers decimal, the
 -- users of an acceptance as the values of attributes are printed (factotum(4) of the Plan 9 manual).
-use Rattle.std.specs.Prelude.{ℕ, List, [], ◌∷◌, ◌++◌, Bool, ◌||◌, ◌==◌, length, codes, if◌then◌else◌}
-use Rattle.std.specs.List.{list_any, flat_map}
+use Rattle.std.specs.Prelude.{ℕ, List, [], ◌∷◌, ◌++◌, codes}
+use Rattle.std.specs.List.{flat_map}
 use Rattle.std.specs.Fmt.{decimal}
 use Rattle.hex.specs.Hex.{encode_lower}
+use Rattle.attr_words.specs.Words.{value_text}
 use Rattle.wire_model.specs.declared.step.Protocol.{Protocol}
 use Rattle.wire_model.specs.declared.step.Protocol.TheVariants.{P9sk1, P9any, Apop, Cram}
 use Rattle.wire_model.specs.declared.step.Role.{Role}
 use Rattle.wire_model.specs.declared.step.Role.TheVariants.{Client, Server, Speakfor}
 use Rattle.wire_model.specs.declared.step.Step.{Step}
 use Rattle.wire_model.specs.declared.step.Step.TheVariants.{Start, Out, In, Ask, Heard, Unheard, Accept, Fail, Reply, Refused, AsGot, AsGave, AsEnd}
-
--- a byte at which an unquoted value would end: a blank, a tab or a `'`
-abbrev pub ends_value : ℕ → Bool
-ends_value b = b == 32 || (b == 9 || b == 39)
-
-abbrev pub needs_quotes : List ℕ → Bool
-needs_quotes text = length text == 0 || list_any ends_value text
-
--- a byte in quotes: a `'` is doubled
-abbrev pub quoted_byte : ℕ → List ℕ
-quoted_byte b = if b == 39 then 39 ∷ 39 ∷ [] else b ∷ []
-
-abbrev pub quoted : List ℕ → List ℕ
-quoted bytes = 39 ∷ flat_map quoted_byte bytes ++ 39 ∷ []
-
--- a value as it is printed
-abbrev pub value_text : List ℕ → List ℕ
-value_text text = if needs_quotes text then quoted text else text
 
 -- a word behind its blank
 abbrev pub word : List ℕ → List ℕ

@@ -1,14 +1,14 @@
 // Words of a line, each behind a blank. What is appended before memory runs out stays.
-ghost use Rattle.std.specs.Prelude.{◌≡◌, ◌==◌, ◌++◌, ◌∷◌, ◌||◌, [], length, take, OnOk, OnErr};
-ghost use Rattle.std.specs.List.{list_any};
+ghost use Rattle.std.specs.Prelude.{◌≡◌, ◌++◌, ◌∷◌, [], length, take, OnOk, OnErr};
 ghost use Rattle.std.specs.Fmt.{decimal};
 ghost use Rattle.hex.specs.Hex.{encode_lower};
-ghost use Rattle.wire_model.specs.Lines.{ends_value, needs_quotes, quoted, quoted_byte, value_text, word};
+ghost use Rattle.attr_words.specs.Words.{value_text};
+ghost use Rattle.wire_model.specs.Lines.{word};
 
 use wire_base::{Bytes, NoMemory};
 
 /// Appends a word.
-#[tactic(auto, using(crate::proofs::LineLemmas::kept_then))]
+#[tactic(auto, using(wire_base::proofs::FrontLemmas::kept_then))]
 pub(crate) fn put_word(out: &mut Bytes, text: &[u8]) -> Result<(), NoMemory>
     ensures ok { OnOk result (out.new ≡ out.old ++ word text.now) }
     ensures err { OnErr result (take (length out.old) out.new ≡ out.old) }
@@ -27,7 +27,7 @@ pub(crate) fn put_number(out: &mut Bytes, number: u32) -> Result<(), NoMemory>
 }
 
 /// Appends bytes as hexadecimal digits in lower case; no bytes are an empty word.
-#[tactic(auto, using(crate::proofs::LineLemmas::kept_then, crate::proofs::LineLemmas::encode_more))]
+#[tactic(auto, using(wire_base::proofs::FrontLemmas::kept_then, crate::proofs::LineLemmas::encode_more))]
 pub(crate) fn put_digits(out: &mut Bytes, bytes: &[u8]) -> Result<(), NoMemory>
     ensures ok { OnOk result (out.new ≡ out.old ++ word (encode_lower bytes.now)) }
     ensures err { OnErr result (take (length out.old) out.new ≡ out.old) }
@@ -48,50 +48,11 @@ fn digits_of(byte: u8) -> [u8; 2]
 }
 
 /// Appends a name as the value of an attribute is printed: in quotes where it is empty or holds a blank, a tab or a `'`.
-#[tactic(auto, using(crate::proofs::LineLemmas::kept_then))]
+#[tactic(auto, using(wire_base::proofs::FrontLemmas::kept_then))]
 pub(crate) fn put_value(out: &mut Bytes, text: &[u8]) -> Result<(), NoMemory>
     ensures ok { OnOk result (out.new ≡ out.old ++ word (value_text text.now)) }
     ensures err { OnErr result (take (length out.old) out.new ≡ out.old) }
 {
-    if check_needs_quotes(text) {
-        out.push(b' ')?;
-        put_quoted(out, text)
-    } else {
-        put_word(out, text)
-    }
-}
-
-fn check_needs_quotes(text: &[u8]) -> bool
-    ensures { result ≡ needs_quotes text.now }
-{
-    text.is_empty() || holds_end(text)
-}
-
-fn holds_end(text: &[u8]) -> bool
-    ensures { result ≡ list_any ends_value text.now }
-{
-    text.iter()
-        .any(|byte| *byte == b' ' || *byte == b'\t' || *byte == b'\'')
-}
-
-#[tactic(auto, using(crate::proofs::LineLemmas::kept_then))]
-fn put_quoted(out: &mut Bytes, text: &[u8]) -> Result<(), NoMemory>
-    ensures ok { OnOk result (out.new ≡ out.old ++ quoted text.now) }
-    ensures err { OnErr result (take (length out.old) out.new ≡ out.old) }
-{
-    out.push(b'\'')?;
-    for byte in text {
-        put_quoted_byte(out, *byte)?;
-    }
-    out.push(b'\'')
-}
-
-fn put_quoted_byte(out: &mut Bytes, byte: u8) -> Result<(), NoMemory>
-    ensures ok { OnOk result (out.new ≡ out.old ++ quoted_byte byte) }
-    ensures err { OnErr result (take (length out.old) out.new ≡ out.old) }
-{
-    if byte == b'\'' {
-        out.push(b'\'')?;
-    }
-    out.push(byte)
+    out.push(b' ')?;
+    attr_words::put_value(text, out)
 }

@@ -3,14 +3,15 @@ ghost use Rattle.std.specs.Prelude.{◌≡◌, ◌++◌, ◌∷◌, [], codes, l
 ghost use Rattle.std.specs.List.{flat_map};
 ghost use Rattle.std.specs.Fmt.{decimal};
 ghost use Rattle.hex.specs.Hex.{encode_lower};
-ghost use Rattle.wire_model.specs.Lines.{protocol_name, role_name, step_line, step_words, value_text, word};
+ghost use Rattle.attr_words.specs.Words.{value_text};
+ghost use Rattle.wire_model.specs.Lines.{protocol_name, role_name, step_line, step_words, word};
 
 use crate::line::{put_digits, put_number, put_value, put_word};
 use crate::step::{Protocol, Role, Step};
 use wire_base::{Bytes, NoMemory};
 
 /// Appends the line of a step, with a newline. Without memory `out` is as before.
-#[tactic(auto, using(crate::proofs::LineLemmas::kept_then), unfolding(crate::specs::Lines::step_line))]
+#[tactic(auto, using(wire_base::proofs::FrontLemmas::kept_then), unfolding(crate::specs::Lines::step_line))]
 pub fn print_step(step: &Step, out: &mut Bytes) -> Result<(), NoMemory>
     ensures ok { OnOk result (out.new ≡ out.old ++ step_line step.now) }
     ensures err { OnErr result (out.new ≡ out.old) }
@@ -24,7 +25,7 @@ pub fn print_step(step: &Step, out: &mut Bytes) -> Result<(), NoMemory>
 }
 
 // What is appended before memory runs out stays, in this function and in those below.
-#[tactic(auto, using(crate::proofs::LineLemmas::kept_then), unfolding(crate::specs::Lines::step_line))]
+#[tactic(auto, using(wire_base::proofs::FrontLemmas::kept_then), unfolding(crate::specs::Lines::step_line))]
 fn put_line(step: &Step, out: &mut Bytes) -> Result<(), NoMemory>
     ensures ok { OnOk result (out.new ≡ out.old ++ step_line step.now) }
     ensures err { OnErr result (take (length out.old) out.new ≡ out.old) }
@@ -85,7 +86,7 @@ fn put_words(step: &Step, out: &mut Bytes) -> Result<(), NoMemory>
     }
 }
 
-#[tactic(auto, using(crate::proofs::LineLemmas::kept_then))]
+#[tactic(auto, using(wire_base::proofs::FrontLemmas::kept_then))]
 fn put_start(
     conv: &[u8],
     protocol: Protocol,
@@ -102,7 +103,7 @@ fn put_start(
     put_digits(out, random)
 }
 
-#[tactic(auto, using(crate::proofs::LineLemmas::kept_then))]
+#[tactic(auto, using(wire_base::proofs::FrontLemmas::kept_then))]
 fn put_message(
     title: &[u8],
     number: u32,
@@ -119,7 +120,7 @@ fn put_message(
     put_digits(out, bytes)
 }
 
-#[tactic(auto, using(crate::proofs::LineLemmas::kept_then))]
+#[tactic(auto, using(wire_base::proofs::FrontLemmas::kept_then))]
 fn put_bytes(title: &[u8], name: &[u8], bytes: &[u8], out: &mut Bytes) -> Result<(), NoMemory>
     ensures ok { OnOk result (out.new ≡ out.old ++ (title.now ++ (word name.now ++ word (encode_lower bytes.now)))) }
     ensures err { OnErr result (take (length out.old) out.new ≡ out.old) }
@@ -128,7 +129,7 @@ fn put_bytes(title: &[u8], name: &[u8], bytes: &[u8], out: &mut Bytes) -> Result
     put_digits(out, bytes)
 }
 
-#[tactic(auto, using(crate::proofs::LineLemmas::kept_then))]
+#[tactic(auto, using(wire_base::proofs::FrontLemmas::kept_then))]
 fn put_text(title: &[u8], name: &[u8], text: &[u8], out: &mut Bytes) -> Result<(), NoMemory>
     ensures ok { OnOk result (out.new ≡ out.old ++ (title.now ++ (word name.now ++ word text.now))) }
     ensures err { OnErr result (take (length out.old) out.new ≡ out.old) }
@@ -137,7 +138,7 @@ fn put_text(title: &[u8], name: &[u8], text: &[u8], out: &mut Bytes) -> Result<(
     put_word(out, text)
 }
 
-#[tactic(auto, using(crate::proofs::LineLemmas::kept_then))]
+#[tactic(auto, using(wire_base::proofs::FrontLemmas::kept_then))]
 fn put_named(title: &[u8], name: &[u8], out: &mut Bytes) -> Result<(), NoMemory>
     ensures ok { OnOk result (out.new ≡ out.old ++ (title.now ++ word name.now)) }
     ensures err { OnErr result (take (length out.old) out.new ≡ out.old) }
@@ -146,7 +147,7 @@ fn put_named(title: &[u8], name: &[u8], out: &mut Bytes) -> Result<(), NoMemory>
     put_word(out, name)
 }
 
-#[tactic(auto, using(crate::proofs::LineLemmas::kept_then))]
+#[tactic(auto, using(wire_base::proofs::FrontLemmas::kept_then))]
 fn put_accept(conv: &[u8], cuid: &[u8], suid: &[u8], out: &mut Bytes) -> Result<(), NoMemory>
     ensures ok { OnOk result (out.new ≡ out.old ++ (codes "accept" ++ (word conv.now ++ (word (value_text cuid.now) ++ word (value_text suid.now))))) }
     ensures err { OnErr result (take (length out.old) out.new ≡ out.old) }
@@ -156,7 +157,7 @@ fn put_accept(conv: &[u8], cuid: &[u8], suid: &[u8], out: &mut Bytes) -> Result<
     put_value(out, suid)
 }
 
-#[tactic(auto, using(crate::proofs::LineLemmas::kept_then))]
+#[tactic(auto, using(wire_base::proofs::FrontLemmas::kept_then))]
 fn put_asked(
     session: &[u8],
     bytes: &[u8],
@@ -170,7 +171,7 @@ fn put_asked(
     put_all_words(words, out)
 }
 
-#[tactic(auto, using(crate::proofs::LineLemmas::kept_then))]
+#[tactic(auto, using(wire_base::proofs::FrontLemmas::kept_then))]
 fn put_all_words(words: &[[u8; 8]], out: &mut Bytes) -> Result<(), NoMemory>
     ensures ok { OnOk result (out.new ≡ out.old ++ flat_map (λ w. word (encode_lower w)) words.now) }
     ensures err { OnErr result (take (length out.old) out.new ≡ out.old) }

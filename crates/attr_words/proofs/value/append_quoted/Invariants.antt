@@ -1,7 +1,7 @@
 use Rattle.std.proofs.Common.{◌≡◌, [], ◌∷◌, ◌++◌, take}
 use Rattle.std.specs.List.{flat_map}
 use Rattle.attr_words.specs.Words.{quoted_byte}
-use Rattle.attr_tuples.proofs.print.append_quoted.Given as goal
+use Rattle.attr_words.proofs.value.append_quoted.Given as goal
 
 -- the opening quote and the bytes so far
 abbrev pub invariant-loop-byte : goal.invariant-loop-byte
