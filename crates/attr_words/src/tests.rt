@@ -1,5 +1,6 @@
 // Lines and words, by hand.
 use crate::line::{check_line_byte, line_len};
+use crate::value::put_value;
 use crate::word::{WordFault, gap_end, take_word};
 use std::test::Fail;
 use wire_base::Bytes;
@@ -69,5 +70,23 @@ fn words_are_taken_without_their_quotes(rt: HostRuntime) -> Result<(), Fail> {
         }
     }
     assert_eq!(rt; gap_end(b"a \t".as_slice(), 1), 3);
+    Ok(())
+}
+
+#[test]
+fn values_are_quoted_where_they_need_it(rt: HostRuntime) -> Result<(), Fail> {
+    for (value, printed) in [
+        ("b", "=b"),
+        ("", "=''"),
+        ("a b", "='a b'"),
+        ("a\tb", "='a\tb'"),
+        ("it's", "='it''s'"),
+        ("'", "=''''"),
+        ("=?\u{e9}", "==?\u{e9}"),
+    ] {
+        let mut out = Bytes::from_slice(rt.alloc(), b"=")?;
+        put_value(value.as_bytes(), &mut out)?;
+        assert_eq!(rt; out.as_slice(), printed.as_bytes());
+    }
     Ok(())
 }
