@@ -569,3 +569,41 @@ fn each_fid_has_an_offset_of_its_own(rt: HostRuntime) -> Result<(), Fail> {
     assert_eq!(rt; out.len(), 81);
     Ok(())
 }
+
+// Reads a directory from its beginning, in two halves.
+fn read_in_halves(fids: &mut Fids, fid: u32, out: &mut Bytes) -> Result<u64, FidFault> {
+    match fids.file_of(fid)? {
+        FidState {
+            node,
+            mode: Some(_),
+        } if node.is_directory() => {
+            let end = fids.may_read(fid, 0, 8192, out)?;
+            fids.mark_read(fid, end);
+            Ok(end)
+        }
+        _ => Err(FidFault::UnknownFid),
+    }
+}
+
+#[test]
+fn a_request_is_made_in_halves(rt: HostRuntime) -> Result<(), Fail> {
+    let alloc = rt.alloc();
+    let mut fids = Fids::new(alloc);
+    fids.may_attach(1)?;
+    assert_eq!(rt; fids.file_of(1), Err(FidFault::UnknownFid));
+    fids.mark_walked(1, Node::Root)?;
+    assert_eq!(rt; fids.file_of(1), closed(Node::Root));
+    let names = names_of(alloc, "factotum")?;
+    let (nodes, end) = fids.may_walk(alloc, 1, 2, names.as_slice())?;
+    assert_eq!(rt; nodes.as_slice(), [Node::Factotum].as_slice());
+    assert_eq!(rt; end, Some(Node::Factotum));
+    assert_eq!(rt; fids.file_of(2), Err(FidFault::UnknownFid));
+    fids.mark_walked(2, Node::Factotum)?;
+    assert_eq!(rt; open(&mut fids, 2, 0), Ok(Node::Factotum));
+    let mut out = Bytes::new(alloc);
+    let end = read_in_halves(&mut fids, 2, &mut out)?;
+    assert_eq!(rt; out.len() as u64, end);
+    assert_eq!(rt; read(&mut fids, 2, end, 8192, &mut out), Ok(()));
+    assert_eq!(rt; out.len() as u64, end);
+    Ok(())
+}

@@ -1,6 +1,6 @@
 // The tests of each request on a fid, in their order: the first that holds refuses it.
 ghost use Rattle.std.specs.Prelude.{◌≡◌};
-ghost use Rattle.file_tree.specs.Calls.{attach_fault, dir_fault, executes, fid_fault, has_other_bits, is_denied, is_full, lacks_first, open_fault, reads, removes_on_close, truncates, walk_fault, writes};
+ghost use Rattle.file_tree.specs.Calls.{attach_fault, dir_fault, executes, has_other_bits, is_denied, is_full, lacks_first, open_fault, reads, removes_on_close, truncates, walk_fault, writes};
 
 use crate::fault::FidFault;
 use crate::tree::{FidState, Node};
@@ -24,17 +24,6 @@ const TRUNCATING: u8 = 0x10;
 const REMOVING_ON_CLOSE: u8 = 0x40;
 
 const MODE_BITS: u8 = ACCESS_BITS | TRUNCATING | REMOVING_ON_CLOSE;
-
-/// What refuses each request that names a fid: it isn't held.
-#[tactic(auto, unfolding(crate::specs::Calls::fid_fault))]
-pub fn fid_fault(fid: Option<FidState>) -> Option<FidFault>
-    ensures { result ≡ fid_fault fid }
-{
-    match fid {
-        None => Some(FidFault::UnknownFid),
-        Some(_) => None,
-    }
-}
 
 /// What refuses an attach, the fid being so and so many being held.
 #[tactic(auto, unfolding(crate::specs::Calls::attach_fault))]

@@ -1,5 +1,8 @@
 // The tree and what is told of it, beside records made by another program.
-use crate::{FidFault, Node, put_directory, put_record, record_size, walk_from};
+use crate::{
+    FidFault, FidState, Node, attach_fault, dir_fault, open_fault, put_directory, put_record,
+    reads, record_size, walk_fault, walk_from, writes,
+};
 use std::alloc::Global;
 use std::process::Abort;
 use std::test::Fail;
@@ -233,5 +236,44 @@ fn a_fault_has_its_text(rt: HostRuntime) {
         (FidFault::NoMemory, "out of memory"),
     ] {
         assert_eq!(rt; fault.text(), text.as_bytes());
+    }
+}
+
+#[test]
+fn a_fid_is_refused_by_its_state(rt: HostRuntime) {
+    let closed = Some(FidState {
+        node: Node::Ctl,
+        mode: None,
+    });
+    let open = Some(FidState {
+        node: Node::Ctl,
+        mode: Some(0),
+    });
+    assert_eq!(rt; attach_fault(open, 256), Some(FidFault::InUse));
+    assert_eq!(rt; attach_fault(None, 256), Some(FidFault::TooMany));
+    assert_eq!(rt; attach_fault(None, 255), None);
+    assert_eq!(rt;
+        walk_fault(open, closed, false, 256, &[]),
+        Some(FidFault::AlreadyOpen)
+    );
+    assert_eq!(rt; walk_fault(closed, None, false, 255, &[]), None);
+    assert_eq!(rt; open_fault(None, 0), Some(FidFault::UnknownFid));
+    assert_eq!(rt; open_fault(closed, 0x41), Some(FidFault::Denied));
+    assert_eq!(rt; open_fault(closed, 2), None);
+    assert_eq!(rt; dir_fault(81, 80), Some(FidFault::BadOffset));
+    assert_eq!(rt; dir_fault(81, 81), None);
+}
+
+#[test]
+fn a_mode_reads_and_writes(rt: HostRuntime) {
+    for (mode, is_read, is_written) in [
+        (0, true, false),
+        (1, false, true),
+        (2, true, true),
+        (3, false, false),
+        (0x11, false, true),
+    ] {
+        assert_eq!(rt; reads(mode), is_read, "{mode}");
+        assert_eq!(rt; writes(mode), is_written, "{mode}");
     }
 }

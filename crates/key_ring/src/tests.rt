@@ -3,6 +3,7 @@ ghost use Rattle.std.specs.Prelude.{◌+◌, ◌≤◌, ◌<◌, IfOk, length};
 
 use crate::{AddFault, DeleteFault, Key, KeyRing};
 use attr_tuples::{Attr, Tuple, Value};
+use key_lists::{Edit, EditFault, EditList};
 use std::alloc::Global;
 use std::process::Abort;
 use std::test::Fail;
@@ -620,5 +621,26 @@ fn des_keys_are_made_from_digits_or_passwords(rt: HostRuntime) -> Result<(), Fai
         let key = ring.find(&any, b"client").ok_or("no key")?;
         assert_eq!(rt; key.des().0, des, "{line}");
     }
+    Ok(())
+}
+
+#[test]
+fn edits_are_carried_out_up_to_the_refused_one(rt: HostRuntime) -> Result<(), Fail> {
+    let alloc = rt.alloc();
+    let user_b = "proto=apop user=b !password=c";
+    let mut edits = EditList::new(alloc);
+    edits.push(Edit::Add(tuple_of(alloc, "proto=apop user=a !password=b")?))?;
+    edits.push(Edit::Add(tuple_of(alloc, user_b)?))?;
+    edits.push(Edit::Delete(tuple_of(alloc, "user=a")?))?;
+    edits.push(Edit::Delete(tuple_of(alloc, "user=a")?))?;
+    edits.push(Edit::Delete(tuple_of(alloc, "user=b")?))?;
+    assert_eq!(rt; edits.additions(), 2);
+    let mut ring = KeyRing::new(alloc);
+    let none_matched = EditFault::Delete(DeleteFault::NoneMatched);
+    assert_eq!(rt; ring.edit_all(edits)?, Some(none_matched));
+    assert_eq!(rt;
+        list_of(alloc, &ring)?.as_slice(),
+        b"key proto=apop user=b !password?\n".as_slice()
+    );
     Ok(())
 }
