@@ -20,7 +20,7 @@ use crate::msize::Msize;
 use crate::refused::{Refusal, Refused, Reply, refused_by};
 use crate::shared::Shared;
 use ctl_lines::write_ctl;
-use file_tree::Node;
+use file_tree::{Node, reads, writes};
 use nine_codec::{put_read, put_write};
 use std::alloc::Global;
 use wire_base::{Bytes, NoMemory};
@@ -30,12 +30,6 @@ const READ_OVERHEAD: u32 = 24;
 
 const USUAL_REPLY: usize = 64;
 
-const ACCESS_BITS: u8 = 3;
-
-const WRITING: u8 = 1;
-
-const READING_AND_WRITING: u8 = 2;
-
 const PROTOCOLS: &[u8; 22] = b"apop\ncram\np9any\np9sk1\n";
 
 // The mode in which a fid is open lets it be read.
@@ -43,7 +37,7 @@ fn lets_read(mode: Option<u8>) -> bool
     ensures { result ≡ lets_read mode }
 {
     match mode {
-        Some(mode) => mode & ACCESS_BITS != WRITING,
+        Some(mode) => reads(mode),
         None => false,
     }
 }
@@ -53,7 +47,7 @@ fn lets_write(mode: Option<u8>) -> bool
     ensures { result ≡ lets_write mode }
 {
     match mode {
-        Some(mode) => matches!(mode & ACCESS_BITS, WRITING | READING_AND_WRITING),
+        Some(mode) => writes(mode),
         None => false,
     }
 }

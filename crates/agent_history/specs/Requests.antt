@@ -20,7 +20,7 @@ use Rattle.file_tree.specs.Faults.{fault_text}
 use Rattle.file_tree.specs.Tree.{qid_of, is_directory, is_exclusive, visited, lead_to}
 use Rattle.file_tree.specs.Stats.{record_of}
 use Rattle.file_tree.specs.Directories.{dir_bytes, dir_end}
-use Rattle.file_tree.specs.Calls.{fid_fault, attach_fault, walk_fault, open_fault, dir_fault, node_of, mode_of, is_open, access, writes}
+use Rattle.file_tree.specs.Calls.{fid_fault, attach_fault, walk_fault, open_fault, dir_fault, node_of, mode_of, is_open, reads, writes}
 use Rattle.key_lists.specs.Listing.{list_text}
 use Rattle.agent_history.specs.Deeds.{Deed, Versioned, Attached, Walked, Opened, Listed, Browsed, Clunked, msize_of, fid_of, held_by, next_of, holder_of, keys_of, text_of}
 use Rattle.agent_history.specs.Lines.{lines_of, after_lines, lines_fault}
@@ -49,7 +49,7 @@ is_known version = bytes_eq version (codes "9P2000") || bytes_eq (take 7 version
 -- the mode in which a fid is open lets it be read, and written
 abbrev pub lets_read : Option ℕ → Bool
 lets_read None = false
-lets_read (Some mode) = not (access mode == 1)
+lets_read (Some mode) = reads mode
 
 abbrev pub lets_write : Option ℕ → Bool
 lets_write None = false
