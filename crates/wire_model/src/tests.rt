@@ -1,6 +1,7 @@
 // The lines of a record, each as its format has it.
 use super::{Protocol, Role, Step, Wire, print_step};
 use std::alloc::Global;
+use std::process::Abort;
 use std::test::Fail;
 use wire_base::{Bytes, Text};
 
@@ -55,137 +56,185 @@ fn a_record_is_its_steps_lines(rt: HostRuntime) -> Result<(), Fail> {
     Ok(())
 }
 
-#[test]
-fn each_step_has_its_line(rt: HostRuntime) -> Result<(), Fail> {
-    let alloc = rt.alloc();
-    for (step, line) in [
-        (
-            Step::Start {
-                conv: text(alloc, "s0")?,
-                protocol: Protocol::P9any,
-                role: Role::Server,
-                word: WORD,
-            },
-            "start s0 p9any server 0123456789abcdef\n",
-        ),
-        (
-            Step::Start {
-                conv: text(alloc, "s")?,
-                protocol: Protocol::P9sk1,
-                role: Role::Speakfor,
-                word: WORD,
-            },
-            "start s p9sk1 speakfor 0123456789abcdef\n",
-        ),
-        (
-            Step::Start {
-                conv: text(alloc, "m")?,
-                protocol: Protocol::Cram,
-                role: Role::Client,
-                word: WORD,
-            },
-            "start m cram client 0123456789abcdef\n",
-        ),
-        (
-            Step::Out {
-                number: 4294967295,
-                conv: text(alloc, "c")?,
-                bytes: bytes(alloc, b"\x00\xff")?,
-            },
-            "out 4294967295 c 00ff\n",
-        ),
-        (
-            Step::In {
-                conv: text(alloc, "c")?,
-                bytes: bytes(alloc, b"")?,
-            },
-            "in c \n",
-        ),
-        (
-            Step::Ask {
-                number: 10,
-                conv: text(alloc, "c")?,
-                bytes: bytes(alloc, b"\x01a")?,
-            },
-            "ask 10 c 0161\n",
-        ),
-        (
-            Step::Heard {
-                conv: text(alloc, "c")?,
-                bytes: bytes(alloc, b"\x04")?,
-            },
-            "heard c 04\n",
-        ),
-        (
-            Step::Unheard {
-                conv: text(alloc, "c")?,
-            },
-            "unheard c\n",
-        ),
-        (
-            Step::Accept {
-                conv: text(alloc, "c")?,
-                cuid: text(alloc, "ann")?,
-                suid: text(alloc, "o'neil")?,
-            },
-            "accept c ann 'o''neil'\n",
-        ),
-        (
-            Step::Accept {
-                conv: text(alloc, "c")?,
-                cuid: text(alloc, "")?,
-                suid: text(alloc, "a b")?,
-            },
-            "accept c '' 'a b'\n",
-        ),
-        (
-            Step::Fail {
-                conv: text(alloc, "c")?,
-                cause: text(alloc, "wrong challenge")?,
-            },
-            "fail c wrong challenge\n",
-        ),
-        (
-            Step::Reply {
-                conv: text(alloc, "c")?,
-                answer: text(alloc, "toosmall 141")?,
-            },
-            "reply c toosmall 141\n",
-        ),
-        (
-            Step::Refused {
-                node: text(alloc, "a")?,
-                answer: text(alloc, "unknown ctl verb")?,
-            },
-            "refused a unknown ctl verb\n",
-        ),
-        (
-            Step::AsGot {
-                session: text(alloc, "r")?,
-                bytes: bytes(alloc, b"\x01\x02")?,
-                words: [WORD, [0; 8], [0xff; 8]],
-            },
-            "asgot r 0102 0123456789abcdef 0000000000000000 ffffffffffffffff\n",
-        ),
-        (
-            Step::AsGave {
-                number: 7,
-                session: text(alloc, "r")?,
-                bytes: bytes(alloc, b"\x05")?,
-            },
-            "asgave 7 r 05\n",
-        ),
-        (
-            Step::AsEnd {
-                session: text(alloc, "r")?,
-            },
-            "asend r\n",
-        ),
-    ] {
-        let mut out = bytes(alloc, b"so ")?;
-        print_step(&step, &mut out)?;
-        let printed = out.as_slice().strip_prefix(b"so ".as_slice());
-        assert_eq!(rt; printed, Some(line.as_bytes()), "{line}");
-    }
+// A step's line is appended.
+fn check_line(rt: &impl Abort, alloc: Global, step: Step, line: &str) -> Result<(), Fail> {
+    let mut out = bytes(alloc, b"so ")?;
+    print_step(&step, &mut out)?;
+    let printed = out.as_slice().strip_prefix(b"so ".as_slice());
+    assert_eq!(rt; printed, Some(line.as_bytes()), "{line}");
     Ok(())
+}
+
+#[test]
+fn a_conversation_has_its_lines(rt: HostRuntime) -> Result<(), Fail> {
+    let alloc = rt.alloc();
+    check_line(
+        &rt,
+        alloc,
+        Step::Start {
+            conv: text(alloc, "s0")?,
+            protocol: Protocol::P9any,
+            role: Role::Server,
+            word: WORD,
+        },
+        "start s0 p9any server 0123456789abcdef\n",
+    )?;
+    check_line(
+        &rt,
+        alloc,
+        Step::Start {
+            conv: text(alloc, "s")?,
+            protocol: Protocol::P9sk1,
+            role: Role::Speakfor,
+            word: WORD,
+        },
+        "start s p9sk1 speakfor 0123456789abcdef\n",
+    )?;
+    check_line(
+        &rt,
+        alloc,
+        Step::Start {
+            conv: text(alloc, "m")?,
+            protocol: Protocol::Cram,
+            role: Role::Client,
+            word: WORD,
+        },
+        "start m cram client 0123456789abcdef\n",
+    )?;
+    check_line(
+        &rt,
+        alloc,
+        Step::Out {
+            number: 4294967295,
+            conv: text(alloc, "c")?,
+            bytes: bytes(alloc, b"\x00\xff")?,
+        },
+        "out 4294967295 c 00ff\n",
+    )?;
+    check_line(
+        &rt,
+        alloc,
+        Step::In {
+            conv: text(alloc, "c")?,
+            bytes: bytes(alloc, b"")?,
+        },
+        "in c \n",
+    )
+}
+
+#[test]
+fn a_question_has_its_lines(rt: HostRuntime) -> Result<(), Fail> {
+    let alloc = rt.alloc();
+    check_line(
+        &rt,
+        alloc,
+        Step::Ask {
+            number: 10,
+            conv: text(alloc, "c")?,
+            bytes: bytes(alloc, b"\x01a")?,
+        },
+        "ask 10 c 0161\n",
+    )?;
+    check_line(
+        &rt,
+        alloc,
+        Step::Heard {
+            conv: text(alloc, "c")?,
+            bytes: bytes(alloc, b"\x04")?,
+        },
+        "heard c 04\n",
+    )?;
+    check_line(
+        &rt,
+        alloc,
+        Step::Unheard {
+            conv: text(alloc, "c")?,
+        },
+        "unheard c\n",
+    )
+}
+
+#[test]
+fn an_end_has_its_line(rt: HostRuntime) -> Result<(), Fail> {
+    let alloc = rt.alloc();
+    check_line(
+        &rt,
+        alloc,
+        Step::Accept {
+            conv: text(alloc, "c")?,
+            cuid: text(alloc, "ann")?,
+            suid: text(alloc, "o'neil")?,
+        },
+        "accept c ann 'o''neil'\n",
+    )?;
+    check_line(
+        &rt,
+        alloc,
+        Step::Accept {
+            conv: text(alloc, "c")?,
+            cuid: text(alloc, "")?,
+            suid: text(alloc, "a b")?,
+        },
+        "accept c '' 'a b'\n",
+    )?;
+    check_line(
+        &rt,
+        alloc,
+        Step::Fail {
+            conv: text(alloc, "c")?,
+            cause: text(alloc, "wrong challenge")?,
+        },
+        "fail c wrong challenge\n",
+    )?;
+    check_line(
+        &rt,
+        alloc,
+        Step::Reply {
+            conv: text(alloc, "c")?,
+            answer: text(alloc, "toosmall 141")?,
+        },
+        "reply c toosmall 141\n",
+    )?;
+    check_line(
+        &rt,
+        alloc,
+        Step::Refused {
+            node: text(alloc, "a")?,
+            answer: text(alloc, "unknown ctl verb")?,
+        },
+        "refused a unknown ctl verb\n",
+    )
+}
+
+#[test]
+fn a_session_of_the_server_has_its_lines(rt: HostRuntime) -> Result<(), Fail> {
+    let alloc = rt.alloc();
+    check_line(
+        &rt,
+        alloc,
+        Step::AsGot {
+            session: text(alloc, "r")?,
+            bytes: bytes(alloc, b"\x01\x02")?,
+            words: [WORD, [0; 8], [0xff; 8]],
+        },
+        "asgot r 0102 0123456789abcdef 0000000000000000 ffffffffffffffff\n",
+    )?;
+    check_line(
+        &rt,
+        alloc,
+        Step::AsGave {
+            number: 7,
+            session: text(alloc, "r")?,
+            bytes: bytes(alloc, b"\x05")?,
+        },
+        "asgave 7 r 05\n",
+    )?;
+    check_line(
+        &rt,
+        alloc,
+        Step::AsEnd {
+            session: text(alloc, "r")?,
+        },
+        "asend r\n",
+    )
 }

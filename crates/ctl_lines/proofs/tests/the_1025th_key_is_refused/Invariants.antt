@@ -1,0 +1,6 @@
+use Rattle.std.proofs.Common.{◌+◌, ◌*◌, ◌≤◌}
+use Rattle.ctl_lines.proofs.tests.the_1025th_key_is_refused.Given as goal
+
+-- each write adds at most so many keys
+abbrev pub invariant-loop-name : goal.invariant-loop-name
+invariant-loop-name g l = l.ring.ever_added ≤ 100000 * (l.name-index + 1)
