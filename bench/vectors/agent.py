@@ -286,7 +286,7 @@ def table(about, sessions):
     print("// a request, and its reply.")
     print("pub const COUNT: usize = %d;" % sum(len(s) for _, s in sessions))
     print()
-    print('pub const STEPS: &[u8] = b"\\')
+    print('pub static STEPS: &[u8] = b"\\')
     lines = []
     for _, steps in sessions:
         for i, (conn, request, reply) in enumerate(steps):
