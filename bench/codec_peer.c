@@ -297,8 +297,8 @@ static uint64_t encode_rounds(uint64_t rounds)
 	for (int k = 0; k < 6; k++)
 		if (!decode(frames[k].bytes, frames[k].len, &m[k]))
 			fail("a frame was refused");
-	for (uint64_t i = 0; i < rounds; i++)
-		for (int k = 0; k < 3; k++) {
+	for (int k = 0; k < 3; k++)
+		for (uint64_t i = 0; i < rounds; i++) {
 			out.len = 0;
 			encode(&m[k], &out);
 			encode(&m[k + 3], &out);

@@ -104,17 +104,31 @@ fn encode_pair(request: &TMsg, reply: &RMsg, out: &mut Bytes, sum: u64) -> Optio
     )
 }
 
-/// What so many rounds of writing come to. None where memory runs out.
+// So many rounds with one pair.
+fn encode_rounds(
+    request: &TMsg,
+    reply: &RMsg,
+    out: &mut Bytes,
+    rounds: u64,
+    sum: u64,
+) -> Option<u64>
+    requires request { t_given request.now.body }
+    requires reply { r_given reply.now.body }
+{
+    let mut sum = sum;
+    for _ in 0..rounds {
+        sum = encode_pair(request, reply, out, sum)?;
+    }
+    Some(sum)
+}
+
+/// What so many rounds of writing come to, those of each pair together. None where memory runs out.
 pub fn encoded_sum(alloc: Global, rounds: u64) -> Option<u64> {
-    let (walk, walked) = messages(alloc, 0)?;
-    let (read, content) = messages(alloc, 1)?;
-    let (write, count) = messages(alloc, 2)?;
     let mut out = Bytes::new(alloc);
     let mut sum = 0;
-    for _ in 0..rounds {
-        sum = encode_pair(&walk, &walked, &mut out, sum)?;
-        sum = encode_pair(&read, &content, &mut out, sum)?;
-        sum = encode_pair(&write, &count, &mut out, sum)?;
+    for number in 0..3 {
+        let (request, reply) = messages(alloc, number)?;
+        sum = encode_rounds(&request, &reply, &mut out, rounds, sum)?;
     }
     Some(sum)
 }
