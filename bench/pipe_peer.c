@@ -1,6 +1,7 @@
 /* The peer of bench/pipe. `pipe_peer stream N` writes a 9P connection of N frames: a conversation that opens ctl and adds
  * a key, and then reads of ctl and clunks of a fid that isn't held in turn. `pipe_peer answer` reads such a stream frame by
- * frame, looks at each size and type, and writes a fixed reply of the length that the agent's has. It keeps nothing. */
+ * frame, looks at each size and type, and writes a fixed reply of the length that the agent's has; `pipe_peer
+ * answer_at_once` writes each reply before it looks for the next frame. It keeps nothing. */
 #include <stdio.h>
 #include <stdlib.h>
 #include <string.h>
@@ -47,7 +48,7 @@ static size_t reply_length(int type)
 	}
 }
 
-static int answer(void)
+static int answer(int at_once)
 {
 	unsigned char frame[8216], reply[64];
 	memset(reply, 0, sizeof reply);
@@ -56,6 +57,8 @@ static int answer(void)
 		if (size < 7 || size > sizeof frame || fread(frame + 4, 1, size - 4, stdin) != size - 4)
 			return 5;
 		fwrite(reply, 1, reply_length(frame[4]), stdout);
+		if (at_once)
+			fflush(stdout);
 	}
 	return fflush(stdout) != 0;
 }
@@ -65,7 +68,9 @@ int main(int argc, char **argv)
 	if (argc == 3 && strcmp(argv[1], "stream") == 0)
 		return stream(atol(argv[2]));
 	if (argc == 2 && strcmp(argv[1], "answer") == 0)
-		return answer();
-	fputs("usage: pipe_peer stream N | pipe_peer answer\n", stderr);
+		return answer(0);
+	if (argc == 2 && strcmp(argv[1], "answer_at_once") == 0)
+		return answer(1);
+	fputs("usage: pipe_peer stream N | pipe_peer answer | pipe_peer answer_at_once\n", stderr);
 	return 2;
 }
