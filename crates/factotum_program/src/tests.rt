@@ -229,22 +229,48 @@ impl Read for Pieces {
     }
 }
 
-#[test]
-fn an_input_cut_anywhere_is_answered_alike(rt: HostRuntime) -> Result<(), Fail> {
-    let alloc = rt.alloc();
-    let input = bytes_of(alloc, KEY_CONVERSATION)?;
-    let output = bytes_of(alloc, KEY_REPLIES)?;
+// The same is written and the same status comes wherever the input is cut in two pieces.
+fn expect_cut(
+    rt: &impl Abort,
+    alloc: Global,
+    input: &[u8],
+    status: Status,
+    written: &[u8],
+) -> Result<(), Fail> {
     let words = words_of(alloc, "pipe")?;
     for cut in 0..input.len() {
         let mut source = ReadSource::new(Pieces {
-            bytes: input.clone()?,
+            bytes: input.to_vec(alloc)?,
             cut,
             at: 0,
         });
         let mut sink = MemSink::new(Vec::new(alloc), Vec::new(alloc));
         let ended = run_command(alloc, words.as_slice(), &mut source, &mut sink);
-        assert_eq!(rt; ended, Status::Fine, "cut at {cut}");
-        assert_eq!(rt; sink.content(), output.as_slice(), "cut at {cut}");
+        assert_eq!(rt; ended, status, "cut at {cut}");
+        assert_eq!(rt; sink.content(), written, "cut at {cut}");
+    }
+    Ok(())
+}
+
+#[test]
+fn an_input_cut_anywhere_is_answered_alike(rt: HostRuntime) -> Result<(), Fail> {
+    let alloc = rt.alloc();
+    let input = bytes_of(alloc, KEY_CONVERSATION)?;
+    let output = bytes_of(alloc, KEY_REPLIES)?;
+    expect_cut(&rt, alloc, &input, Status::Fine, &output)
+}
+
+#[test]
+fn a_bad_input_cut_anywhere_is_answered_alike(rt: HostRuntime) -> Result<(), Fail> {
+    let alloc = rt.alloc();
+    for (behind, status, told) in [
+        ("0c000000 78 0100 00000000 00", Status::Fine, BAD_MESSAGE),
+        ("06000000", Status::BadFrame { at: 19, size: 6 }, ""),
+        ("0b000000 78", Status::Torn { at: 19 }, ""),
+    ] {
+        let input = joined(alloc, VERSION, behind, 0)?;
+        let output = joined(alloc, VERSION_REPLY, told, 0)?;
+        expect_cut(&rt, alloc, &input, status, &output)?;
     }
     Ok(())
 }
