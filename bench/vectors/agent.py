@@ -272,11 +272,31 @@ REFUSED = [
 session("lines that are refused", V, A, *opened(1, 2, *CTL), *[(write(1, l), error(why)) for l, why in REFUSED],
         (read(1, 0, 99), rread("")))
 
+# As many fids as a connection holds are 256, and as many keys as the ring 1024.
+session("too many fids", V, A, at(1, "factotum", "ctl"), *[(attach(fid), rattach()) for fid in range(2, 256)],
+        (attach(256), error("too many fids")), (attach(256, afid=3), error("bad afid")), (attach(0), error("fid in use")),
+        (walk(0, 256), error("too many fids")), (walk(0, 256, "nothing"), error("too many fids")),
+        (walk(1, 256, "nothing"), error("too many fids")), (walk(0, 1), error("fid in use")), (open_(2, 0), ropen("/")),
+        (walk(2, 256), error("already open")), (clunk(255), rclunk()), (attach(256), rattach()))
+
+
+def key_lines(numbers):
+    return "".join("key proto=apop user=u%d !password=x\n" % i for i in numbers)
+
+
+FULL = "key proto=apop user=one !password=x"
+MANY = [key_lines(range(i, min(i + 205, 1024))) for i in range(0, 1024, 205)]
+session("a full ring", V, A, *opened(1, 2, *CTL), *[(write(1, lines), rwrite(len(lines))) for lines in MANY],
+        (write(1, FULL), error("ring full")), (write(1, "key proto=p9sk1 dom=x user=one !hex=12"), error("bad hex")),
+        (write(1, key_lines([5])), rwrite(len(key_lines([5])))),
+        (write(1, "delkey user=u7\n" + FULL), rwrite(15 + len(FULL))), (write(1, key_lines([7])), error("ring full")))
+
 
 TABLES = [
     ("fids", "version, fids and opens", "a version is answered", "open: not served yet"),
     ("files", "opens of one fid alone, directories and the rest of the tree", "open: one fid alone", "a count is cut"),
     ("ctl", "the keys of ctl", "a key is written", "lines that are refused"),
+    ("limits", "as many fids and keys as are held", "too many fids", "a full ring"),
 ]
 
 
@@ -296,7 +316,7 @@ def table(about, sessions):
 
 
 def main():
-    """Prints the table that is named: fids, files or ctl."""
+    """Prints the table that is named: fids, files, ctl or limits."""
     for name, about, first, last in TABLES:
         if sys.argv[1:] == [name]:
             names = [n for n, _ in SESSIONS]

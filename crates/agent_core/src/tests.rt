@@ -6,6 +6,7 @@ ghost use Rattle.agent_core.specs.Agents.{IsEvent};
 mod ctl;
 mod fids;
 mod files;
+mod limits;
 
 use crate::{Agent, Event, StepAnswer};
 use std::alloc::Global;
@@ -125,6 +126,11 @@ fn keys_of_ctl(rt: HostRuntime) -> Result<(), Fail> {
     hold(&rt, rt.alloc(), ctl::COUNT, ctl::STEPS)
 }
 
+#[test]
+fn limits_of_fids_and_keys(rt: HostRuntime) -> Result<(), Fail> {
+    hold(&rt, rt.alloc(), limits::COUNT, limits::STEPS)
+}
+
 const VERSION: &[u8; 19] = b"\x13\x00\x00\x00d\xff\xff\x18 \x00\x00\x06\x009P2000";
 
 const AGREED: &[u8; 19] = b"\x13\x00\x00\x00e\xff\xff\x18 \x00\x00\x06\x009P2000";
@@ -138,40 +144,6 @@ fn attach(alloc: Global, fid: u32) -> Result<Bytes, NoMemory> {
     frame.append(&fid.to_le_bytes())?;
     frame.append(b"\xff\xff\xff\xff\x00\x00\x00\x00")?;
     Ok(frame)
-}
-
-#[test]
-fn a_257th_fid_is_refused(rt: HostRuntime) -> Result<(), Fail> {
-    let alloc = rt.alloc();
-    let mut agent = Agent::new(alloc)?;
-    converse(&rt, alloc, &mut agent, 0, "version", VERSION, AGREED)?;
-    for fid in 0..256 {
-        let frame = attach(alloc, fid)?;
-        converse(
-            &rt,
-            alloc,
-            &mut agent,
-            0,
-            "attach",
-            frame.as_slice(),
-            ATTACHED,
-        )?;
-    }
-    for (name, frame, reply) in [
-        (
-            "a new fid",
-            attach(alloc, 256)?,
-            b"\x16\x00\x00\x00k\x01\x00\r\x00too many fids".as_slice(),
-        ),
-        (
-            "a fid in use",
-            attach(alloc, 255)?,
-            b"\x13\x00\x00\x00k\x01\x00\x0a\x00fid in use".as_slice(),
-        ),
-    ] {
-        converse(&rt, alloc, &mut agent, 0, name, frame.as_slice(), reply)?;
-    }
-    Ok(())
 }
 
 // Takes a reply, or learns that there is none.

@@ -4,7 +4,7 @@ use crate::merging::merge;
 use crate::parse::parse_tuple;
 use crate::print::print_tuple;
 use crate::tuple::Tuple;
-use crate::{matches, public_equal, value_of};
+use crate::{has_name, is_named, is_secret_name, matches, public_equal, value_of};
 use std::alloc::Global;
 use std::process::Abort;
 use std::test::Fail;
@@ -265,6 +265,30 @@ fn check_templates(rt: &impl Abort, alloc: Global, cases: &[Matching]) -> Result
 #[test]
 fn templates_match_tuples(rt: HostRuntime) -> Result<(), Fail> {
     check_templates(&rt, rt.alloc(), &TEMPLATES)
+}
+
+// A name, and whether an attribute of `user=ann !password=b` has it.
+static NAMES: [(&str, bool); 6] = [
+    ("user", true),
+    ("!password", true),
+    ("password", false),
+    ("!user", false),
+    ("use", false),
+    ("", false),
+];
+
+#[test]
+fn attributes_are_asked_for_their_names(rt: HostRuntime) -> Result<(), Fail> {
+    let tuple = tuple_of(rt.alloc(), b"user=ann !password=b")?;
+    for case in &NAMES {
+        let (name, held) = *case;
+        assert_eq!(rt; has_name(tuple.attrs(), name.as_bytes()), held, "{name}");
+    }
+    let user = tuple.attrs().first().ok_or("no attribute")?;
+    assert!(rt; is_named(user, b"user") && !is_named(user, b"ann") && !is_named(user, b""));
+    assert!(rt; is_secret_name(b"!password") && is_secret_name(b"!"));
+    assert!(rt; !is_secret_name(b"password!") && !is_secret_name(b""));
+    Ok(())
 }
 
 #[test]
