@@ -2,7 +2,7 @@
 """Prints sessions with the agent, frame by frame, as the table of its test.
 
 Frames are put together from section 5 of the Plan 9 manual, and the replies are written down here by hand, after the
-order in which docs/DEFINITIONS.md has the tests of each request. Nothing of the project's own code is used.
+order of the tests of each request in crates/agent_history/specs/Requests.antt. Nothing of the project's own code is used.
 """
 
 import struct
@@ -173,20 +173,12 @@ session("a version gives up the fids", V, A, (version(255), error("msize too sma
         A, (version(8216, "9P", 8), rversion(8216, "unknown", 8)), (stat(0), error("no version")))
 session("over the size", (version(256), rversion(256)), (write(0, b"x" * 234), error("message over msize")),
         (write(0, b"x" * 233), error("unknown fid")))
-session("over the size and no message", (version(256), rversion(256)),
-        (frame(120, 1, b"\0" * 250), error("message over msize")))
 session("no message", V, (bytes.fromhex("0c000000780100") + b"\0" * 5, error("bad message")),
         (frame(106, 2), error("bad message", 2)), (frame(121, 3), error("bad message", 3)))
-session("no message and a small size", (version(100)[:4] + version(100)[4:], error("msize too small", NOTAG)),
-        (struct.pack("<I", 20) + version(100)[4:] + b"\0", error("bad message", NOTAG)))
-session("no message and no version", (bytes.fromhex("0c000000780100") + b"\0" * 5, error("bad message")))
-session("no version", (attach(0), error("no version")), (clunk(0), error("no version")),
-        (auth(), error("no version")), (flush(5), rflush()))
-session("auth", V, (auth(), error("authentication not required")))
+session("a flush needs no version", (flush(5), rflush()))
 session("flush", V, (flush(7, 8), rflush(8)), (flush(8, 8), rflush(8)))
 session("attach", V, (attach(0, 1, 0), error("bad afid")), A, (attach(0, 1, 3), error("bad afid")),
         (attach(0), error("fid in use")), (attach(NOFID), rattach()), (attach(NOFID, 2), error("fid in use", 2)))
-session("walk: unknown fid", V, A, (walk(7, 0), error("unknown fid")), (walk(7, 8, "x"), error("unknown fid")))
 session("walk: already open", V, A, *opened(1, 0, "factotum"), (walk(1, 0), error("already open")),
         (walk(1, 2, "ctl"), error("already open")), (walk(1, 1, "nothing"), error("already open")))
 session("walk: fid in use", V, A, at(1, *CTL), (walk(0, 1), error("fid in use")), (walk(1, 0, "x"), error("fid in use")))
@@ -214,8 +206,6 @@ session("open: one fid alone", V, A, *opened(1, 0, *LOG), at(2, *LOG), (open_(2,
         (remove(2), error("permission denied")), *on(1, [A, *opened(1, 0, *LOG)]))
 session("log isn't read yet", V, A, *opened(1, 0, *LOG), (read(1, 0, 9), error("not served")),
         (write(1, "x"), error("not open for writing")))
-session("create and wstat", V, A, (create(7), error("unknown fid")), (create(0), error("permission denied")),
-        (wstat(7), error("unknown fid")), (wstat(0), error("permission denied")))
 session("remove", V, A, (remove(7), error("unknown fid")), (remove(0), error("permission denied")),
         (stat(0), error("unknown fid")), A)
 session("clunk", V, A, (clunk(7), error("unknown fid")), (clunk(0), rclunk()), (clunk(0), error("unknown fid")))
@@ -260,23 +250,106 @@ session("lines before a refused one stand", V, A, *opened(1, 2, *CTL),
         (write(1, "\n\n"), rwrite(2)), (write(1, ""), rwrite(0)), (write(1, "debug\n" + S1 + "\ndelkey !password?"),
                                                                  rwrite(len("debug\n" + S1 + "\ndelkey !password?"))),
         (read(1, 0, 200), rread("")))
-REFUSED = [
-    ("kex =b", "unknown ctl verb"), ("key", "unknown ctl verb"), ("delkey", "unknown ctl verb"), ("debug ", "unknown ctl verb"),
-    ("key =b a?", "bad tuple"), ("key a='b", "bad tuple"), ("key " + " ".join("a%d" % i for i in range(33)), "bad tuple"),
-    ("key a?", "question in key"), ("key a=b", "no proto"), ("key proto=x", "unknown proto"), ("key proto=apop proto=apop", "unknown proto"),
-    ("key proto=p9sk1", "no user"), ("key proto=p9sk1 user=''", "no dom"), ("key proto=apop user=''", "bad name"),
-    ("key proto=apop user=a", "no secret"), ("key proto=p9sk1 dom=x user=a !hex", "no secret"),
-    ("key proto=p9sk1 dom=x user=a !hex=0123456789abc", "bad hex"), ("delkey !x=1", "secret in template"),
-    ("delkey !x=''", "secret in template"), ("delkey a=b", "no key matched"), ("delkey ", "no key matched"),
-]
-session("lines that are refused", V, A, *opened(1, 2, *CTL), *[(write(1, l), error(why)) for l, why in REFUSED],
-        (read(1, 0, 99), rread("")))
 
-# As many fids as a connection holds are 256, and as many keys as the ring 1024.
-session("too many fids", V, A, at(1, "factotum", "ctl"), *[(attach(fid), rattach()) for fid in range(2, 256)],
+# ---- every refusal, each by the shortest session that reaches it, and each two neighbouring tests with both grounds
+def refused(about, *steps, tag=1):
+    """What leads there, and then a request and the text that refuses it."""
+    *led, request, why = steps
+    session("refused: " + about, *led, (request, error(why, tag)))
+
+
+SMALL = (version(256), rversion(256))
+OPEN = (open_(0, 0), ropen("/"))
+
+# Every frame.
+refused("a frame over the size", SMALL, write(0, b"x" * 234), "message over msize")
+refused("over the size, and no message", SMALL, frame(120, 1, b"\0" * 250), "message over msize")
+refused("no message", V, frame(106, 1), "bad message")
+refused("no message, and no version", frame(106, 1), "bad message")
+refused("no message, and a small size", struct.pack("<I", 20) + version(100)[4:] + b"\0", "bad message", tag=NOTAG)
+refused("a version of a small size", version(255), "msize too small", tag=NOTAG)
+
+# Auth and attach.
+refused("auth", V, auth(), "authentication not required")
+refused("auth, and no version", auth(), "no version")
+refused("attach: an afid", V, attach(0, 1, 3), "bad afid")
+refused("attach: an afid, and no version", attach(0, 1, 3), "no version")
+refused("attach: a fid in use", V, A, attach(0), "fid in use")
+refused("attach: a fid in use, and an afid", V, A, attach(0, 1, 3), "bad afid")
+
+# What names a fid. A fid that isn't held isn't open either, and may be neither created, removed nor written.
+for name, request in [("walk", walk(7, 8)), ("open", open_(7, 4)), ("create", create(7)), ("read", read(7, 0, 9)),
+                      ("write", write(7, "x")), ("clunk", clunk(7)), ("remove", remove(7)), ("stat", stat(7)),
+                      ("wstat", wstat(7))]:
+    refused(name + ": an unknown fid", V, request, "unknown fid")
+    refused(name + ": an unknown fid, and no version", request, "no version")
+
+refused("walk: from an open fid", V, A, OPEN, walk(0, 1), "already open")
+refused("walk: from an open fid to one in use", V, A, (attach(1), rattach()), OPEN, walk(0, 1), "already open")
+refused("walk: to a fid in use", V, A, (attach(1), rattach()), walk(0, 1), "fid in use")
+refused("walk: from a file to a fid in use", V, A, at(1, *CTL), walk(1, 0, ".."), "fid in use")
+refused("walk: from a file", V, A, at(1, *CTL), walk(1, 2, ".."), "not a directory")
+refused("walk: from a file to nothing", V, A, at(1, *CTL), walk(1, 2, "x"), "not a directory")
+refused("walk: to nothing", V, A, walk(0, 1, "x"), "file not found")
+
+refused("open: again", V, A, OPEN, open_(0, 0), "already open")
+refused("open: again, in a bad mode", V, A, OPEN, open_(0, 4), "already open")
+refused("open: in a bad mode", V, A, open_(0, 4), "bad open mode")
+refused("open: in a bad mode, to be removed", V, A, open_(0, 0x44), "bad open mode")
+refused("open: to be removed", V, A, open_(0, 0x40), "permission denied")
+refused("open: to be executed", V, A, open_(0, 3), "permission denied")
+refused("open: a directory for writing", V, A, open_(0, 1), "permission denied")
+refused("open: to be cut without writing", V, A, open_(0, 0x10), "permission denied")
+refused("open: proto for writing", V, A, at(1, "factotum", "proto"), open_(1, 2), "permission denied")
+refused("open: log for writing", V, A, at(1, *LOG), open_(1, 1), "permission denied")
+refused("open: log for writing, and open elsewhere", V, A, *opened(1, 0, *LOG), at(2, *LOG), open_(2, 1), "permission denied")
+refused("open: log, and open elsewhere", V, A, *opened(1, 0, *LOG), at(2, *LOG), open_(2, 0), "exclusive use file already open")
+for name in ["rpc", "confirm", "needkey"]:
+    refused("open: " + name, V, A, at(1, "factotum", name), open_(1, 2), "not served")
+    refused("open: %s, to be removed" % name, V, A, at(1, "factotum", name), open_(1, 0x42), "permission denied")
+
+refused("create", V, A, create(0), "permission denied")
+refused("remove", V, A, remove(0), "permission denied")
+refused("wstat", V, A, wstat(0), "permission denied")
+
+refused("read: not open", V, A, read(0, 0, 9), "not open")
+refused("read: not open, at a bad offset", V, A, read(0, 3, 9), "not open")
+refused("read: log, not open", V, A, at(1, *LOG), read(1, 0, 9), "not open")
+refused("read: not for reading", V, A, *opened(1, 1, *CTL), read(1, 0, 9), "not open for reading")
+refused("read: a directory at a bad offset", V, A, OPEN, read(0, 3, 9), "bad directory offset")
+refused("read: log", V, A, *opened(1, 0, *LOG), read(1, 0, 9), "not served")
+
+refused("write: not open", V, A, at(1, *CTL), write(1, "debug"), "not open")
+refused("write: not open, and no line", V, A, at(1, *CTL), write(1, "x"), "not open")
+refused("write: not for writing", V, A, *opened(1, 0, *CTL), write(1, "debug"), "not open for writing")
+refused("write: not for writing, and no line", V, A, *opened(1, 0, *CTL), write(1, "x"), "not open for writing")
+
+# Lines of ctl: the first of each text has its ground alone, and the others that of the next text too.
+for line, why in [
+    ("kex a=b", "unknown ctl verb"), ("key", "unknown ctl verb"), ("delkey", "unknown ctl verb"), ("debug ", "unknown ctl verb"),
+    ("kex =b", "unknown ctl verb"),
+    ("key proto=apop user=a !password=b c='d", "bad tuple"), ("key =b a?", "bad tuple"),
+    ("key " + " ".join("a%d" % i for i in range(33)), "bad tuple"),
+    ("key proto=apop user=a !password=b c?", "question in key"), ("key a?", "question in key"),
+    ("key user=a !password=b", "no proto"), ("key a=b", "no proto"),
+    ("key proto=x user=a !password=b", "unknown proto"), ("key proto=apop proto=apop user=a !password=b", "unknown proto"),
+    ("key proto=x", "unknown proto"),
+    ("key proto=apop !password=b", "no user"), ("key proto=p9sk1 !password=b", "no user"),
+    ("key proto=p9sk1 user=a !password=b", "no dom"), ("key proto=p9sk1 user='' !password=b", "no dom"),
+    ("key proto=apop user='' !password=b", "bad name"), ("key proto=apop user=''", "bad name"),
+    ("key proto=apop user=a", "no secret"), ("key proto=p9sk1 dom=x user=a !hex", "no secret"),
+    ("key proto=p9sk1 dom=x user=a !hex=0123456789abc", "bad hex"),
+    ("delkey a='b", "bad tuple"), ("delkey !x=1 a='b", "bad tuple"),
+    ("delkey !x=1", "secret in template"), ("delkey !x=''", "secret in template"),
+    ("delkey a=b", "no key matched"), ("delkey ", "no key matched"),
+]:
+    refused("a line: " + line, V, A, *opened(1, 1, *CTL), write(1, line), why)
+
+# As many fids as a connection holds are 256, and as many keys as the ring 1024: one session each, with their pairs.
+session("refused: too many fids", V, A, at(1, *CTL), *[(attach(fid), rattach()) for fid in range(2, 256)],
         (attach(256), error("too many fids")), (attach(256, afid=3), error("bad afid")), (attach(0), error("fid in use")),
         (walk(0, 256), error("too many fids")), (walk(0, 256, "nothing"), error("too many fids")),
-        (walk(1, 256, "nothing"), error("too many fids")), (walk(0, 1), error("fid in use")), (open_(2, 0), ropen("/")),
+        (walk(1, 256, ".."), error("too many fids")), (walk(0, 1), error("fid in use")), (open_(2, 0), ropen("/")),
         (walk(2, 256), error("already open")), (clunk(255), rclunk()), (attach(256), rattach()))
 
 
@@ -286,7 +359,7 @@ def key_lines(numbers):
 
 FULL = "key proto=apop user=one !password=x"
 MANY = [key_lines(range(i, min(i + 205, 1024))) for i in range(0, 1024, 205)]
-session("a full ring", V, A, *opened(1, 2, *CTL), *[(write(1, lines), rwrite(len(lines))) for lines in MANY],
+session("refused: a full ring", V, A, *opened(1, 2, *CTL), *[(write(1, lines), rwrite(len(lines))) for lines in MANY],
         (write(1, FULL), error("ring full")), (write(1, "key proto=p9sk1 dom=x user=one !hex=12"), error("bad hex")),
         (write(1, key_lines([5])), rwrite(len(key_lines([5])))),
         (write(1, "delkey user=u7\n" + FULL), rwrite(15 + len(FULL))), (write(1, key_lines([7])), error("ring full")))
@@ -295,8 +368,8 @@ session("a full ring", V, A, *opened(1, 2, *CTL), *[(write(1, lines), rwrite(len
 TABLES = [
     ("fids", "version, fids and opens", "a version is answered", "open: not served yet"),
     ("files", "opens of one fid alone, directories and the rest of the tree", "open: one fid alone", "a count is cut"),
-    ("ctl", "the keys of ctl", "a key is written", "lines that are refused"),
-    ("limits", "as many fids and keys as are held", "too many fids", "a full ring"),
+    ("ctl", "the keys of ctl", "a key is written", "lines before a refused one stand"),
+    ("refusals", "every refusal", "refused: a frame over the size", "refused: a full ring"),
 ]
 
 
@@ -316,7 +389,7 @@ def table(about, sessions):
 
 
 def main():
-    """Prints the table that is named: fids, files, ctl or limits."""
+    """Prints the table that is named: fids, files, ctl or refusals."""
     for name, about, first, last in TABLES:
         if sys.argv[1:] == [name]:
             names = [n for n, _ in SESSIONS]

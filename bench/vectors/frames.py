@@ -1,5 +1,5 @@
 #!/usr/bin/env python3
-"""Makes the frames of the tests of nine_codec, nine_frames and nine_show, with what is known of each.
+"""Makes the frames of the tests of nine_codec, nine_print and nine_show, with what is known of each.
 
 Written from the layout of section 5 of the Plan 9 manual (intro(5): size[4] type[1] tag[2], numbers little-endian,
 s is a length of two bytes and so many bytes of UTF-8 without NUL). It shares nothing with the proved code.

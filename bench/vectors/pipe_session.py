@@ -1,5 +1,5 @@
 #!/usr/bin/env python3
-"""Writes the stored conversation of the program: its input, and what is answered.
+"""Writes the stored conversations of the program, one behind the other: their input, and what is answered.
 
 Written from section 5 of the Plan 9 manual and factotum(4), with the table of files of tree.py. It shares nothing with
 the proved code: each request stands beside the reply that is wanted, and nothing is computed from the requests.
@@ -49,6 +49,7 @@ class Session:
             self.told += frame(kind + 1, self.tag, reply)
 
     def version(self, msize: int, word: str) -> None:
+        self.tag = 0
         fields = struct.pack("<I", msize) + text(word)
         self.asked += frame(100, 0xFFFF, fields)
         self.told += frame(101, 0xFFFF, fields)
@@ -80,8 +81,19 @@ class Session:
         self.ask(124, struct.pack("<I", fid), struct.pack("<H", len(record(path))) + record(path))
 
 
-def conversation() -> Session:
-    s = Session()
+def first_conversation(s: Session) -> None:
+    """A key is written to ctl and read back."""
+    s.version(8216, "9P2000")
+    s.attach(0)
+    s.walk(0, 1, ["factotum", "ctl"])
+    s.open(1, BOTH, "/factotum/ctl")
+    s.write(1, b"key proto=apop user=a !password=b")
+    s.read(1, 0, 100, b"key proto=apop user=a !password?\n")
+    s.clunk(1)
+
+
+def second_conversation(s: Session) -> None:
+    """It begins anew: its version gives up the fids, and the first key, written again, stands once."""
     s.version(8216, "9P2000")
     s.attach(0)
     # The root and the directory are listed; the directory in two reads, and a third at its end.
@@ -129,12 +141,13 @@ def conversation() -> Session:
     s.open(5, READ, "/factotum/log")
     s.clunk(5)
     s.clunk(2)
-    return s
 
 
 if __name__ == "__main__":
     folder = Path(sys.argv[1])
-    session = conversation()
+    session = Session()
+    first_conversation(session)
+    second_conversation(session)
     (folder / "stdin").write_bytes(session.asked)
     (folder / "stdout").write_bytes(session.told)
     print(f"{len(session.asked)} bytes asked, {len(session.told)} bytes told")

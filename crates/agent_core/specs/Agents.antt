@@ -1,5 +1,5 @@
 -- When an agent stands for a history: what it keeps of each connection, and its keys, are what is told of the history.
-use Rattle.std.specs.Prelude.{◌≡◌, ℕ, ◌≤◌, ◌+◌, List, [], map, length, Bool, false, ◌||◌, nat_le, Option, Some, None}
+use Rattle.std.specs.Prelude.{◌≡◌, ℕ, ◌≤◌, ◌+◌, List, [], map, length, Bool, true, false, ◌||◌, ◌⊎◌, nat_le, Option, Some, None}
 use Rattle.std.specs.Ordering.{nat_cmp}
 use Rattle.std.specs.BTreeMap.{get}
 use Rattle.nine_messages.specs.Messages.{r_frame}
@@ -87,13 +87,14 @@ abbrev pub TakesOne : Event → Agent → Agent → Type 0
 TakesOne (Take conn) old new = kept_replies new conn + 1 ≡ kept_replies old conn
 TakesOne event old new = ⊥
 
--- something is kept of the connection, and there is no reply to take
+-- something is kept of the connection, and there is no reply to take: it was hung up, or none waits
 abbrev pub HasNone : Option Connection → Type 0
 HasNone None = ⊥
-HasNone (Some c) = c.replies.items ≡ []
+HasNone (Some c) = (c.hung ≡ true) ⊎ (c.replies.items ≡ [])
 
--- the events that take no memory: all but a request, a take that finds a reply, and a take that opens its connection
+-- the events that take no memory: all but a request, a take that finds a reply, and a take that opens its connection;
+-- after a stop, all of them
 abbrev pub TakesNone : Event → Agent → Type 0
-TakesNone (Request conn frame word) agent = ⊥
-TakesNone (Take conn) agent = HasNone (get nat_cmp agent.connections conn)
+TakesNone (Request conn frame word) agent = stopped_at agent ≡ true
+TakesNone (Take conn) agent = (stopped_at agent ≡ true) ⊎ HasNone (get nat_cmp agent.connections conn)
 TakesNone event agent = Unit {0}

@@ -60,7 +60,7 @@ impl Agent {
         ensures err { OnErr result (SameAgent self.old self.new) }
         ensures err_out { OnErr result (out.new ≡ out.old) }
         ensures fewer { IfOk result (λ a. a ≡ StepAnswer.Reply → TakesOne event.now self.old self.new) }
-        ensures takes_none { TakesNone event.now self.old → IsOk result }
+        ensures takes_none { stopped_at self.old ≡ false → TakesNone event.now self.old → IsOk result }
     {
         match event {
             Event::Request { conn, frame, .. } => {

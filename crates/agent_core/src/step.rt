@@ -1,12 +1,12 @@
 // The steps on the connections of an agent, an event each.
-ghost use Rattle.std.specs.Prelude.{◌≡◌, ◌++◌, [], ◌∷◌, ◌<◌, ◌^◌, List, ℕ, true, false, Some, IsSome, IsOk, IfOk, OnOk, OnErr, ◌+◌, length};
+ghost use Rattle.std.specs.Prelude.{◌≡◌, ◌⊎◌, ◌++◌, [], ◌∷◌, ◌<◌, ◌^◌, List, ℕ, true, false, Some, IsSome, IsOk, IfOk, OnOk, OnErr, ◌+◌, length};
 ghost use Rattle.std.specs.Ordering.{nat_cmp};
 ghost use Rattle.std.specs.BTreeMap.{get};
 ghost use Rattle.nine_messages.specs.Decoding.{IsFrame};
 ghost use Rattle.agent_history.specs.declared.event.Event.TheVariants as events;
 ghost use Rattle.agent_history.specs.Histories.{History, has_stopped, deeds, answer};
 ghost use Rattle.agent_core.specs.Connections.{Shares};
-ghost use Rattle.agent_core.specs.Agents.{replies_at, Stands, SameConnection, SameAt};
+ghost use Rattle.agent_core.specs.Agents.{replies_at, Stands, SameConnection, SameAt, HasNone};
 
 use crate::common::Common;
 use crate::connection::Connection;
@@ -24,7 +24,7 @@ fn ensure_connection(
     conn: u64,
 ) -> Result<(), NoMemory>
     ensures known { OnOk result (IsSome (get nat_cmp connections.new conn)) }
-    ensures known_before { IsSome (get nat_cmp connections.old conn) → IsOk result }
+    ensures there { IsSome (get nat_cmp connections.old conn) → IsOk result × (connections.new ≡ connections.old) }
     ensures replies { replies_at (get nat_cmp connections.new conn) ≡ replies_at (get nat_cmp connections.old conn) }
     ensures stands { (H : History) → ((q : ℕ) → Stands H q (get nat_cmp connections.old q)) → (q : ℕ) → Stands H q (get nat_cmp connections.new q) }
     ensures same { (q : ℕ) → SameAt (get nat_cmp connections.old q) (get nat_cmp connections.new q) }
@@ -66,7 +66,7 @@ fn take(connection: &mut Connection, out: &mut Bytes) -> Result<StepAnswer, NoMe
         → Stands (events.Take conn ∷ H) conn (Some connection.new) × (a ≡ (answer H (events.Take conn)).0) × (out.new ≡ out.old ++ (answer H (events.Take conn)).1)) }
     ensures err { OnErr result ((connection.new ≡ connection.old) × (out.new ≡ out.old)) }
     ensures fewer { IfOk result (λ a. a ≡ StepAnswer.Reply → length connection.new.replies.items + 1 ≡ length connection.old.replies.items) }
-    ensures nothing { connection.old.replies.items ≡ [] → IsOk result }
+    ensures nothing { (connection.old.hung ≡ true) ⊎ (connection.old.replies.items ≡ []) → IsOk result }
 {
     if connection.hung {
         return Ok(StepAnswer::Gone);
@@ -128,7 +128,7 @@ pub(crate) fn take_at(
     ensures err { OnErr result ((q : ℕ) → SameAt (get nat_cmp connections.old q) (get nat_cmp connections.new q)) }
     ensures err_out { OnErr result (out.new ≡ out.old) }
     ensures fewer { IfOk result (λ a. a ≡ StepAnswer.Reply → length (replies_at (get nat_cmp connections.new conn)) + 1 ≡ length (replies_at (get nat_cmp connections.old conn))) }
-    ensures nothing { IsSome (get nat_cmp connections.old conn) → replies_at (get nat_cmp connections.old conn) ≡ [] → IsOk result }
+    ensures nothing { HasNone (get nat_cmp connections.old conn) → IsOk result }
 {
     ensure_connection(alloc, connections, conn)?;
     let Some(connection) = connections.get_mut(&conn) else {

@@ -6,7 +6,7 @@ ghost use Rattle.agent_core.specs.Agents.{IsEvent};
 mod ctl;
 mod fids;
 mod files;
-mod limits;
+mod refusals;
 
 use crate::{Agent, Event, StepAnswer};
 use std::alloc::Global;
@@ -127,8 +127,8 @@ fn keys_of_ctl(rt: HostRuntime) -> Result<(), Fail> {
 }
 
 #[test]
-fn limits_of_fids_and_keys(rt: HostRuntime) -> Result<(), Fail> {
-    hold(&rt, rt.alloc(), limits::COUNT, limits::STEPS)
+fn each_refusal_by_its_shortest_session(rt: HostRuntime) -> Result<(), Fail> {
+    hold(&rt, rt.alloc(), refusals::COUNT, refusals::STEPS)
 }
 
 const VERSION: &[u8; 19] = b"\x13\x00\x00\x00d\xff\xff\x18 \x00\x00\x06\x009P2000";

@@ -18,7 +18,7 @@ use Rattle.factotum_program.specs.declared.status.Status.{Status}
 use Rattle.factotum_program.specs.declared.status.Status.TheVariants.{Fine, Usage, ReadFault, WriteFault, BadFrame, Torn, NoMemory, Flood}
 use Rattle.factotum_program.specs.declared.pipe.Session.{Session}
 use Rattle.factotum_program.specs.Pipe.{most_frame, after_frame, after_frames, text_of, replies_text, pipe_text}
-use Rattle.factotum_program.specs.Commands.{most_input, frames_in, end_of, IsWhole, Reads, Answers, MeetsBadFrame, EndsInside, Floods, RepliesSoFar, RepliesInPart, GainsPart, EndsSo}
+use Rattle.factotum_program.specs.Commands.{most_input, frames_in, end_of, IsWhole, HasNoBadSize, Reads, Answers, MeetsBadFrame, EndsInside, Floods, RepliesSoFar, RepliesInPart, GainsPart, EndsSo}
 use Rattle.factotum_program.specs.Sessions.{HasNoNext, Handed, AllHanded, MeetsBad, StopsAt, IsCut, Piped}
 use Rattle.factotum_program.proofs.TakeLemmas.{frames_grow}
 use Rattle.factotum_program.proofs.PartLemmas.{part_longer, part_memory}
@@ -131,21 +131,23 @@ reads_more first now next stream piece behind taken more few full = record {
   full = full;
 }
 
+no_bad_size : (origin held : Option (List ℕ)) (stream : List ℕ) (f : Framing) (agent : Agent) → AllHanded origin held stream f agent → HasNoBadSize stream
+no_bad_size origin held stream f agent h =
+    let rest : drop (end_of stream) stream ≡ f.held = ap (drop (end_of stream)) h.all.cut.parts ∙ drop_at (concat (frames_in stream)) f.held (end_of stream) refl in
+    ap (front most_frame) rest ∙ h.short
+
 -- ---- the end of the input
 
 pub torn : (first now origin held : Option (List ℕ)) (session : Session) → Piped first now origin held session → IsAtEnd now → 0 < length session.framer.held → EndsInside session.framer.before first now origin held
-torn first now origin held session p end some =
-    let h = p.handed.all in
-    let rest : drop session.framer.before p.stream ≡ session.framer.held = ap (drop session.framer.before) h.cut.parts ∙ drop_at (concat (frames_in p.stream)) session.framer.held session.framer.before (sym h.cut.place) in
-    record {
-      input = p.stream;
-      read = reads_all first now p.stream p.read p.few;
-      at_end = end;
-      place = h.cut.place;
-      inside = omega (arith, some, taken_all origin held p.stream session.framer session.agent p.handed);
-      short = ap (front most_frame) rest ∙ p.handed.short;
-      written = h.written;
-    }
+torn first now origin held session p end some = record {
+  input = p.stream;
+  read = reads_all first now p.stream p.read p.few;
+  at_end = end;
+  place = p.handed.all.cut.place;
+  inside = omega (arith, some, taken_all origin held p.stream session.framer session.agent p.handed);
+  short = no_bad_size origin held p.stream session.framer session.agent p.handed;
+  written = p.handed.all.written;
+}
 
 none_left : (xs : List ℕ) → (0 < length xs → ⊥) → xs ≡ []
 none_left [] h = refl
@@ -175,7 +177,12 @@ memory_ends first now origin held session p = record {
 
 -- a read failed
 pub fault_ends : (first now origin held : Option (List ℕ)) (session : Session) → Piped first now origin held session → RepliesSoFar first now origin held
-fault_ends first now origin held session p = record { input = p.stream; read = reads_all first now p.stream p.read p.few; written = p.handed.all.written }
+fault_ends first now origin held session p = record {
+  input = p.stream;
+  read = reads_all first now p.stream p.read p.few;
+  short = no_bad_size origin held p.stream session.framer session.agent p.handed;
+  written = p.handed.all.written;
+}
 
 -- ---- before the first read
 
@@ -218,7 +225,7 @@ pub behind_some : (chunk : List ℕ) (count fits : ℕ) → fits < count → cou
 behind_some chunk count fits few held = omega (arith, few, length-drop fits (take count chunk), length-take-le count chunk held)
 
 pub flooded : (first next origin held : Option (List ℕ)) (input behind : List ℕ) (f : Framing) (agent : Agent) → Reads first next input behind → 0 < length behind → AllHanded origin held input f agent → Floods first next origin held
-flooded first next origin held input behind f agent r some h = record { input = input; behind = behind; read = r; over = some; written = h.all.written }
+flooded first next origin held input behind f agent r some h = record { input = input; behind = behind; read = r; over = some; short = no_bad_size origin held input f agent h; written = h.all.written }
 
 pub taken_there : (first now origin held : Option (List ℕ)) (session : Session) → (p : Piped first now origin held session) → length p.stream ≡ session.framer.before + length session.framer.held
 taken_there first now origin held session p = taken_all origin held p.stream session.framer session.agent p.handed

@@ -34,6 +34,10 @@ IsWhole input = input ≡ concat (frames_in input)
 abbrev pub end_of : List ℕ → ℕ
 end_of input = length (concat (frames_in input))
 
+-- what stands behind the whole frames of an input may yet become one: it has no bad size
+abbrev pub HasNoBadSize : List ℕ → Type 0
+HasNoBadSize input = front most_frame (drop (end_of input) input) ≡ IsShort
+
 -- The bytes that were read: the input within the limit, and what was read behind it, which is something only where the
 -- input is as long as the limit.
 pub record Reads (old new : Option (List ℕ)) (input behind : List ℕ) : Type 0 where
@@ -65,21 +69,23 @@ pub record EndsInside (at : ℕ) (left_old left_new held_old held_new : Option (
   pub at_end : IsAtEnd left_new
   pub place : at ≡ end_of input
   pub inside : at < length input
-  pub short : front most_frame (drop at input) ≡ IsShort
+  pub short : HasNoBadSize input
   pub written : Gains held_old held_new (replies_text (frames_in input))
 
--- more than the limit was read; the replies to the whole frames within it were written
+-- more than the limit was read, and no bad size within it; the replies to the whole frames within it were written
 pub record Floods (left_old left_new held_old held_new : Option (List ℕ)) : Type 0 where
   pub input : List ℕ
   pub behind : List ℕ
   pub read : Reads left_old left_new input behind
   pub over : 0 < length behind
+  pub short : HasNoBadSize input
   pub written : Gains held_old held_new (replies_text (frames_in input))
 
--- the replies to the whole frames of what was read were written
+-- what was read has no bad size, and the replies to its whole frames were written
 pub record RepliesSoFar (left_old left_new held_old held_new : Option (List ℕ)) : Type 0 where
   pub input : List ℕ
   pub read : Reads left_old left_new input []
+  pub short : HasNoBadSize input
   pub written : Gains held_old held_new (replies_text (frames_in input))
 
 -- a front of a text was written; where a write failed some of the text is missing

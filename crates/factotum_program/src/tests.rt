@@ -311,6 +311,12 @@ fn calls_fail(rt: HostRuntime) -> Result<(), Fail> {
         ("the second read", (2, 0), Status::ReadFault, &both),
         ("no third read", (3, 0), Status::Fine, &both),
         ("the first write", (0, 1), Status::WriteFault, &none),
+        (
+            "a write before the second read",
+            (2, 1),
+            Status::WriteFault,
+            &none,
+        ),
         ("the second write", (0, 2), Status::WriteFault, &first),
         ("no third write", (0, 3), Status::Fine, &both),
     ] {
