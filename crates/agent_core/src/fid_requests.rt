@@ -11,7 +11,7 @@ ghost use Rattle.agent_core.specs.Connections.{Keeps, Shares, SameKept, SameElse
 
 use crate::connection::Connection;
 use crate::msize::{MOST_MSIZE, Msize};
-use crate::refused::{Refusal, Refused, Reply, refused_by};
+use crate::refused::{Refusal, Refused, Reply};
 use crate::shared::Shared;
 use fid_table::Fids;
 use file_tree::{Node, put_record, record_size};
@@ -115,9 +115,7 @@ impl Connection {
         if afid != NOFID {
             return Err(Refused::For(Refusal::BadAfid));
         }
-        if let Err(fault) = self.fids.may_attach(fid) {
-            return Err(refused_by(fault));
-        }
+        self.fids.may_attach(fid)?;
         let mut reply = Bytes::with_capacity(alloc, USUAL_REPLY)?;
         put_attach(tag, &Node::Root.qid(), &mut reply)?;
         self.fids.mark_walked(fid, Node::Root)?;
@@ -140,10 +138,7 @@ impl Connection {
         ensures elsewhere { SameElsewhere self.old self.new }
         ensures err { OnErr result (SameKept self.old self.new) }
     {
-        let (nodes, end) = match self.fids.may_walk(alloc, fid, newfid, wname.as_slice()) {
-            Ok(found) => found,
-            Err(fault) => return Err(refused_by(fault)),
-        };
+        let (nodes, end) = self.fids.may_walk(alloc, fid, newfid, wname.as_slice())?;
         let qids = qids_of(alloc, nodes.as_slice())?;
         let mut reply = Bytes::with_capacity(alloc, USUAL_REPLY)?;
         put_walk(tag, qids.as_slice(), &mut reply)?;
@@ -183,10 +178,7 @@ impl Connection {
         ensures ring { shared.new.ring ≡ shared.old.ring }
         ensures err_shared { OnErr result (shared.new ≡ shared.old) }
     {
-        let node = match self.fids.may_open(fid, mode) {
-            Ok(node) => node,
-            Err(fault) => return Err(refused_by(fault)),
-        };
+        let node = self.fids.may_open(fid, mode)?;
         if shared.holders.has(node) {
             return Err(Refused::For(Refusal::ExclusiveUse));
         }
@@ -240,9 +232,7 @@ impl Connection {
         ensures ring { shared.new.ring ≡ shared.old.ring }
         ensures err_shared { OnErr result (shared.new ≡ shared.old) }
     {
-        if let Err(fault) = self.fids.file_of(fid) {
-            return Err(refused_by(fault));
-        }
+        self.fids.file_of(fid)?;
         let mut reply = Bytes::with_capacity(alloc, USUAL_REPLY)?;
         put_clunk(tag, &mut reply)?;
         self.give_up(conn, shared, fid);
@@ -264,9 +254,7 @@ impl Connection {
         ensures ring { shared.new.ring ≡ shared.old.ring }
         ensures err_shared { OnErr result (shared.new ≡ shared.old) }
     {
-        if let Err(fault) = self.fids.file_of(fid) {
-            return Err(refused_by(fault));
-        }
+        self.fids.file_of(fid)?;
         self.give_up(conn, shared, fid);
         Ok(Reply::Refusal {
             tag,
@@ -279,10 +267,7 @@ impl Connection {
     pub fn stat(&self, alloc: Global, tag: u16, fid: u32) -> Result<Reply, Refused>
         ensures tried { (conn : ℕ) (shared : Shared) → Tries conn tag (t.Stat fid) self.now self.now shared shared result }
     {
-        let state = match self.fids.file_of(fid) {
-            Ok(state) => state,
-            Err(fault) => return Err(refused_by(fault)),
-        };
+        let state = self.fids.file_of(fid)?;
         let mut told = Bytes::with_capacity(alloc, record_size(state.node))?;
         put_record(state.node, &mut told)?;
         let mut reply = Bytes::with_capacity(alloc, USUAL_REPLY + told.len())?;
@@ -298,7 +283,7 @@ impl Connection {
     {
         match self.fids.file_of(fid) {
             Ok(_) => Refused::For(Refusal::PermissionDenied),
-            Err(fault) => refused_by(fault),
+            Err(fault) => fault.into(),
         }
     }
 }

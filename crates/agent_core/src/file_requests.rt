@@ -17,7 +17,7 @@ ghost use Rattle.agent_core.specs.Connections.{Keeps, SameKept, SameElsewhere, T
 use crate::connection::Connection;
 use crate::fid_requests::opens_later;
 use crate::msize::Msize;
-use crate::refused::{Refusal, Refused, Reply, refused_by};
+use crate::refused::{Refusal, Refused, Reply};
 use crate::shared::Shared;
 use ctl_lines::write_ctl;
 use file_tree::{Node, reads, writes};
@@ -102,10 +102,7 @@ impl Connection {
         ensures err { OnErr result (SameKept self.old self.new) }
     {
         let mut records = Bytes::new(alloc);
-        let end = match self.fids.may_read(fid, offset, count, &mut records) {
-            Ok(end) => end,
-            Err(fault) => return Err(refused_by(fault)),
-        };
+        let end = self.fids.may_read(fid, offset, count, &mut records)?;
         let reply = read_reply(alloc, tag, records.as_slice())?;
         self.mark_read(fid, end);
         Ok(reply)
@@ -163,10 +160,7 @@ impl Connection {
         ensures elsewhere { SameElsewhere self.old self.new }
         ensures err { OnErr result (SameKept self.old self.new) }
     {
-        let state = match self.fids.file_of(fid) {
-            Ok(state) => state,
-            Err(fault) => return Err(refused_by(fault)),
-        };
+        let state = self.fids.file_of(fid)?;
         if state.mode.is_none() {
             return Err(Refused::For(Refusal::NotOpen));
         }
@@ -200,10 +194,7 @@ impl Connection {
         ensures few { shared.new.ring.ever_added ≤ shared.old.ring.ever_added + 8216 }
         ensures err { OnErr result (shared.new ≡ shared.old) }
     {
-        let state = match self.fids.file_of(fid) {
-            Ok(state) => state,
-            Err(fault) => return Err(refused_by(fault)),
-        };
+        let state = self.fids.file_of(fid)?;
         if state.mode.is_none() {
             return Err(Refused::For(Refusal::NotOpen));
         }

@@ -1,6 +1,6 @@
 // Why a request is refused.
 ghost use Rattle.std.specs.Prelude.{◌≡◌, ◌<◌, ◌++◌, length, OnOk, OnErr};
-ghost use Rattle.agent_core.specs.Connections.{refusal_text, refused_by, reply_bytes};
+ghost use Rattle.agent_core.specs.Connections.{refusal_text, reply_bytes};
 
 use ctl_lines::LineFault;
 use file_tree::FidFault;
@@ -65,7 +65,8 @@ impl Refusal {
     }
 }
 
-/// Why a request wasn't carried out: nothing was changed.
+/// Why a request wasn't answered by what it asked for. It changed nothing, but that a remove gives up its fid and that the
+/// lines of ctl before a refused one stand.
 #[derive(Clone, Copy, Debug, PartialEq, Eq)]
 pub enum Refused {
     For(Refusal),
@@ -94,13 +95,17 @@ impl From<Refusal> for Refused {
     }
 }
 
-// What a fault of a fid makes of a request.
-pub(crate) fn refused_by(fault: FidFault) -> Refused
-    ensures { result ≡ refused_by fault }
-{
-    match fault {
-        FidFault::NoMemory => Refused::NoMemory,
-        fault => Refused::For(Refusal::OfFid(fault)),
+impl From<FidFault> for Refused {
+    ghost use Rattle.std.specs.Prelude.{◌≡◌};
+    ghost use Rattle.agent_core.specs.Connections.{refused_by};
+
+    ghost from_gives = { λ fault e. e ≡ refused_by fault };
+
+    fn from(fault: FidFault) -> Self {
+        match fault {
+            FidFault::NoMemory => Refused::NoMemory,
+            fault => Refused::For(Refusal::OfFid(fault)),
+        }
     }
 }
 
