@@ -6,4 +6,4 @@ use Rattle.agent_core.proofs.TreeLemmas.{dir_bytes_short}
 use Rattle.agent_core.proofs.connection.Connection.read_directory.Goals as goal
 
 pub read_reply-requires : goal.read_reply-requires
-read_reply-requires c = rw (c.as_slice.ensures, c.in-Ok.ensures.given, c.new-records.ensures) (omega (arith, dir_bytes_short (node_of (state_at c.args.self.now.fids c.args.fid)) c.args.offset c.args.count, c.requires.small))
+read_reply-requires c = rw (c.as_slice.ensures, c.in_ok-end.ensures.given, c.new-records.ensures) (omega (arith, dir_bytes_short (node_of (state_at c.args.self.now.fids c.args.fid)) c.args.offset c.args.count, c.requires.small))
