@@ -8,7 +8,7 @@ use Rattle.agent_core.proofs.connection.Connection.open.Goals as goal
 pub returns-clause-tried : goal.returns-clause-tried
 returns-clause-tried c = λ done keeps shares.
     let a = c.args in
-    let ok = answered_ok _ _ _ (sym c.may_open.ensures ∙ c.in_ok-node.is) in
+    let ok = answered_ok _ _ _ (sym c.in_ok-node.ensures) in
     let f = state_is done a.conn a.self.now a.fid keeps in
     let fault : open_fault (fid_of done a.conn a.fid) a.mode ≡ None = ap (λ (o : Option FidState). open_fault o a.mode) (sym f) ∙ ok.0 in
     let named : node_of (fid_of done a.conn a.fid) ≡ c.in_ok-node.node = ap node_of (sym f) ∙ ok.1 in
