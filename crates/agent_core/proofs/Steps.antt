@@ -49,9 +49,6 @@ request_others H at frame word conn o e s = stands_same H (Request at frame word
 pub take_others : (H : History) (at conn : ℕ) (o : Option Connection) → eqb at conn ≡ false → Stands H conn o → Stands (Take at ∷ H) conn o
 take_others H at conn o e s = stands_same H (Take at) conn o (rw e refl) refl (same_for_none (deeds H) conn) (rw e refl) s
 
-pub hang_others : (H : History) (at conn : ℕ) (o : Option Connection) → eqb at conn ≡ false → Stands H conn o → Stands (Hang at ∷ H) conn o
-hang_others H at conn o e s = stands_same H (Hang at) conn o refl (rw e refl) (elsewhere (Hang at) H conn e) refl s
-
 -- ---- a request
 
 not_gone : (H : History) (conn : ℕ) → has_stopped H ≡ false → was_hung H conn ≡ false → is_gone H conn ≡ false
@@ -96,20 +93,6 @@ shares_hung H at frame word s stopped hung h = rw (stopped, hung) h
 
 pub shares_live : (H : History) (at : ℕ) (frame word : List ℕ) (s : Shared) → has_stopped H ≡ false → was_hung H at ≡ false → Shares (after_frame (deeds H) at frame) s → Shares (deeds (Request at frame word ∷ H)) s
 shares_live H at frame word s stopped hung h = rw (not_gone H at stopped hung) h
-
--- a connection that is made and knows nothing
-pub fresh_stands : (H : History) (conn : ℕ) (c : Connection) → IsFresh c → Stands H conn None → Stands H conn (Some c)
-fresh_stands H conn c f s = record {
-  opened = f.opened ∙ s.opened;
-  hung = f.hung ∙ s.hung;
-  keeps = λ h. let k = s.keeps h in record {
-    msize = f.msize ∙ sym k.0;
-    fids = λ fid. ap (λ (table : Table). fid_at table fid) f.fids ∙ ap (λ g. kept_fid g (next_of (deeds H) conn fid)) (sym (k.1 fid));
-    held = ap held_in f.fids ∙ sym k.2;
-    texts = λ fid. ap text_in (f.texts fid) ∙ ap (λ g. kept_text g (text_of (deeds H) conn fid)) (sym (k.1 fid));
-  };
-  replies = λ h. ap (map reply_bytes) f.replies ∙ s.replies h;
-}
 
 -- ---- a take
 
@@ -170,72 +153,9 @@ first_none (m ∷ ms) rs none e = absurd (let h : [] ≡ r_frame m ∷ map r_fra
 pub answer_some : (H : History) (at : ℕ) (c : Connection) (x : Reply) (xs : List Reply) → has_stopped H ≡ false → was_hung H at ≡ false → Stands H at (Some c) → c.replies.items ≡ x ∷ xs → answer H (Take at) ≡ (a.Reply, reply_bytes x)
 answer_some H at c x xs stopped hung s e = rw (not_gone H at stopped hung) (first_some (untaken H at) (reply_bytes x) (map reply_bytes xs) (sym (ap (map reply_bytes) e) ∙ s.replies hung))
 
-pub answer_none : (H : History) (at : ℕ) (c : Connection) → has_stopped H ≡ false → was_hung H at ≡ false → Stands H at (Some c) → c.replies.items ≡ [] → answer H (Take at) ≡ (a.NoReply, [])
-answer_none H at c stopped hung s e = rw (not_gone H at stopped hung) (first_none (untaken H at) (map reply_bytes c.replies.items) (ap (map reply_bytes) e) (s.replies hung))
-
 -- ---- a hang
 
-pub hang_live : (H : History) (at : ℕ) (c d : Connection) → Stands H at (Some c) → c.opened ≡ true → IsHungUp d → Stands (Hang at ∷ H) at (Some d)
-hang_live H at c d s was up =
-    let now : was_hung (Hang at ∷ H) at ≡ true = rw (same at, ← s.opened, was) refl in
-    record {
-      opened = up.opened ∙ sym was ∙ s.opened;
-      hung = up.hung ∙ sym now;
-      keeps = λ h. absurd (false≢true (sym h ∙ now));
-      replies = λ h. absurd (false≢true (sym h ∙ now));
-    }
-
--- a connection that was hung up before stays so
-pub hang_again : (H : History) (at : ℕ) (o : Option Connection) → was_hung H at ≡ true → Stands H at o → Stands (Hang at ∷ H) at o
-hang_again H at o hung s =
-    let now : was_hung (Hang at ∷ H) at ≡ true = or_right (eqb at at && was_opened H at) (was_hung H at) hung in
-    record {
-      opened = s.opened;
-      hung = s.hung ∙ hung ∙ sym now;
-      keeps = λ h. absurd (false≢true (sym h ∙ now));
-      replies = λ h. absurd (false≢true (sym h ∙ now));
-    }
-
--- a number that wasn't opened stays so
-pub hang_unopened : (H : History) (at : ℕ) (o : Option Connection) → opened_at o ≡ false → Stands H at o → Stands (Hang at ∷ H) at o
-hang_unopened H at o closed s =
-    let none : was_opened H at ≡ false = sym s.opened ∙ closed in
-    stands_same H (Hang at) at o refl (rw (same at, none) refl) (same_deeds none) refl s
-  where
-    and_false : (b : Bool) → (b && false) ≡ false
-    and_false true = refl
-    and_false false = refl
-
-    same_deeds : was_opened H at ≡ false → SameFor (deeds H) at (deeds (Hang at ∷ H))
-    same_deeds none = rw (none, and_false (not (is_gone H at))) (same_for_none (deeds H) at)
-
--- what is shared after a hang
-pub hang_shares : (H : History) (at : ℕ) (s u : Shared) → has_stopped H ≡ false → was_hung H at ≡ false → was_opened H at ≡ true → Shares (Hung at ∷ deeds H) u → Shares (deeds (Hang at ∷ H)) u
-hang_shares H at s u stopped hung opened h = rw (not_gone H at stopped hung, opened) h
-
-pub hang_shares_unopened : (H : History) (at : ℕ) (s : Shared) → was_opened H at ≡ false → Shares (deeds H) s → Shares (deeds (Hang at ∷ H)) s
-hang_shares_unopened H at s none h = rw (none, and_false (not (is_gone H at))) h
-  where
-    and_false : (b : Bool) → (b && false) ≡ false
-    and_false true = refl
-    and_false false = refl
-
-pub hang_shares_again : (H : History) (at : ℕ) (s : Shared) → has_stopped H ≡ false → was_hung H at ≡ true → Shares (deeds H) s → Shares (deeds (Hang at ∷ H)) s
-hang_shares_again H at s stopped hung h = rw (stopped, hung) h
-
 -- ---- the other events change nothing that is told of a connection
-
-pub answer_stands : (H : History) (call : ℕ) (bytes : List ℕ) (conn : ℕ) (o : Option Connection) → Stands H conn o → Stands (Answer call bytes ∷ H) conn o
-answer_stands H call bytes conn o s = stands_same H (Answer call bytes) conn o refl refl (same_for_none (deeds H) conn) refl s
-
-pub no_answer_stands : (H : History) (call conn : ℕ) (o : Option Connection) → Stands H conn o → Stands (NoAnswer call ∷ H) conn o
-no_answer_stands H call conn o s = stands_same H (NoAnswer call) conn o refl refl (same_for_none (deeds H) conn) refl s
-
-pub no_room_stands : (H : History) (call conn : ℕ) (o : Option Connection) → Stands H conn o → Stands (NoRoom call ∷ H) conn o
-no_room_stands H call conn o s = stands_same H (NoRoom call) conn o refl refl (same_for_none (deeds H) conn) refl s
-
-pub take_ask_stands : (H : History) (conn : ℕ) (o : Option Connection) → Stands H conn o → Stands (TakeAsk ∷ H) conn o
-take_ask_stands H conn o s = stands_same H TakeAsk conn o refl refl (same_for_none (deeds H) conn) refl s
 
 -- ---- all connections, where the one of the event was changed
 

@@ -38,10 +38,6 @@ part_longer status a b text longer more is p = record {
 pub part_memory : (a b : Option (List ℕ)) (text longer more : List ℕ) → longer ≡ text ++ more → Gains a b text → GainsPart NoMemory a b longer
 part_memory a b text longer more is g = record { front = text; rest = more; parts = is; written = g; missing = λ e. absurd (cc) }
 
--- a write failed
-pub part_write : (a b : Option (List ℕ)) (text : List ℕ) → GainsFront a b text → GainsPart WriteFault a b text
-part_write a b text g = record { front = g.front; rest = g.rest; parts = g.parts; written = g.gained; missing = λ _. g.missing }
-
 -- memory ran out before anything more was written
 pub part_none : (status : Status) (a b : Option (List ℕ)) (text longer more : List ℕ) → status ≡ NoMemory → longer ≡ text ++ more → Gains a b text → GainsPart status a b longer
 part_none status a b text longer more memory is g = subst (λ (s : Status). GainsPart s a b longer) (sym memory) (part_memory a b text longer more is g)

@@ -166,24 +166,6 @@ answered first now origin held session p end none = record {
   written = subst (Gains origin held) (sym (append-nil (replies_text (frames_in p.stream)))) p.handed.all.written;
 }
 
--- memory ran out between two pieces
-pub memory_ends : (first now origin held : Option (List ℕ)) (session : Session) → Piped first now origin held session → EndsSo NoMemory first now origin held
-memory_ends first now origin held session p = record {
-  input = p.stream;
-  behind = [];
-  read = reads_all first now p.stream p.read p.few;
-  written = part_memory origin held (replies_text (frames_in p.stream)) (replies_text (frames_in p.stream)) [] (sym (append-nil (replies_text (frames_in p.stream)))) p.handed.all.written;
-}
-
--- a read failed
-pub fault_ends : (first now origin held : Option (List ℕ)) (session : Session) → Piped first now origin held session → RepliesSoFar first now origin held
-fault_ends first now origin held session p = record {
-  input = p.stream;
-  read = reads_all first now p.stream p.read p.few;
-  short = no_bad_size origin held p.stream session.framer session.agent p.handed;
-  written = p.handed.all.written;
-}
-
 -- ---- before the first read
 
 no_frames : frames_in [] ≡ []

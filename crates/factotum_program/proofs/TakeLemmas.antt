@@ -74,10 +74,6 @@ going_ends H n old new origin before after found g other said told stands =
     let end : take_until n H ≡ Take 0 ∷ g.history = sym g.same ∙ until_ends g.left g.history (omega (arith, g.enough)) (sym said ∙ other) in
     rw end (stands, told)
 
--- before the first take
-pub going_starts : (H : History) (n : ℕ) (agent : Agent) (origin held : Option (List ℕ)) → StandsFor H agent → length (untaken H 0) < n → Gains origin held (text_of H) → Going H n agent origin held
-going_starts H n agent origin held stands enough told = record { history = H; left = n; stands = stands; enough = enough; same = refl; told = told }
-
 -- takes put out behind what was put out
 until_grows : (n : ℕ) (H : History) → (more : List ℕ) × (text_of (take_until n H) ≡ text_of H ++ more)
 until_grows zero H = ([], sym (append-nil (text_of H)))
