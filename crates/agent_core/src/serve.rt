@@ -108,10 +108,7 @@ impl Connection {
         if self.is_over(frame) {
             return Err(Refused::For(Refusal::OverMsize));
         }
-        let request = match request(alloc, frame) {
-            Ok(request) => request,
-            Err(refused) => return Err(refused),
-        };
+        let request = request(alloc, frame)?;
         if self.lacks_version(&request.body) {
             return Err(Refused::For(Refusal::NoVersion));
         }

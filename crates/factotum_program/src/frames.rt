@@ -47,10 +47,8 @@ fn take_one<W: Sink>(agent: &mut Agent, replies: &mut Bytes, output: &mut W) -> 
 {
     replies.clear();
     let answer = agent.step(&Event::Take { conn: CONNECTION }, replies)?;
-    match write(replies, output) {
-        Ok(()) => Ok(answer == StepAnswer::Reply),
-        Err(status) => Err(status),
-    }
+    write(replies, output)?;
+    Ok(answer == StepAnswer::Reply)
 }
 
 // Takes until there is no reply.
