@@ -1,9 +1,9 @@
 -- What was tested before each deed, and that all that requests and hangs do is done deed by deed, each so tested. What
 -- every such deed keeps holds of every history.
-use Rattle.std.proofs.Common.{◌≡◌, ℕ, List, [], ◌∷◌, Bool, true, false, cond, eqb, ◌&&◌, not, Option, Some, None, refl, sym, ap, subst, ◌∙◌, codes}
+use Rattle.std.proofs.Common.{◌≡◌, ℕ, ◌≤◌, min, List, [], ◌∷◌, Bool, true, false, cond, eqb, ltb, ◌&&◌, not, Option, Some, None, refl, sym, ap, subst, ◌∙◌, arith, codes}
 use Rattle.std.specs.Prelude.{Result, Ok, Err, option_map, is_some, is_none}
 use Rattle.std.specs.Option.{option_or}
-use Rattle.std.proofs.lemmas.Bool.{eqb-true}
+use Rattle.std.proofs.lemmas.Bool.{eqb-true, ltb-false}
 use Rattle.nine_messages.specs.declared.message.TMsg.{TMsg}
 use Rattle.nine_messages.specs.declared.message.TBody.{TBody}
 use Rattle.nine_messages.specs.declared.message.TBody.TheVariants as t
@@ -23,7 +23,7 @@ use Rattle.agent_history.specs.declared.event.Event.{Event}
 use Rattle.agent_history.specs.declared.event.Event.TheVariants.{Request, Hang, Answer, NoAnswer, NoRoom, Take, TakeAsk, Stop}
 use Rattle.agent_history.specs.Deeds.{Deed, Versioned, Attached, Walked, Opened, Listed, Browsed, Edited, Switched, Clunked, Hung, fid_of, holder_of, keys_of, msize_of}
 use Rattle.agent_history.specs.Lines.{CtlLine, OnKeys, Debug, line_fault, line_deed, line_by, read_line, after_lines, lines_of, add_text, delete_text}
-use Rattle.agent_history.specs.Requests.{Test, refusal, agreed, opens_later, walking, reading, effective, after, comes_first, has_version, granted_body, granted, after_granted, after_frame, is_over}
+use Rattle.agent_history.specs.Requests.{Test, least_msize, most_msize, is_known, refusal, agreed, opens_later, walking, reading, effective, after, comes_first, has_version, granted_body, granted, after_granted, after_frame, is_over}
 use Rattle.agent_history.specs.Histories.{History, is_gone, was_opened, deeds}
 use Rattle.agent_history.specs.Laws.{conn_of, is_on}
 
@@ -33,7 +33,13 @@ abbrev pub KeysFit : KeyList → KeyEdit → Type 0
 KeysFit keys (Add key) = add_fault key keys ≡ None
 KeysFit keys (Delete template) = delete_fault template keys ≡ None
 
+-- what is agreed, if anything is
+abbrev pub SizeFits : Option ℕ → Type 0
+SizeFits None = Unit {0}
+SizeFits (Some msize) = (least_msize ≤ msize) × (msize ≤ most_msize)
+
 abbrev pub Fits : List Deed → Deed → Type 0
+Fits done (Versioned conn msize) = SizeFits msize
 Fits done (Attached conn fid) = is_open (fid_of done conn fid) ≡ false
 Fits done (Walked conn fid node) = is_open (fid_of done conn fid) ≡ false
 Fits done (Opened conn fid mode) = (is_some (fid_of done conn fid) ≡ true) × (is_open (fid_of done conn fid) ≡ false) × ((is_exclusive (node_of (fid_of done conn fid)) && is_some (holder_of done (node_of (fid_of done conn fid)))) ≡ false)
@@ -96,6 +102,10 @@ no_open_fault : (o : Option FidState) (mode : ℕ) → option_map fault_text (op
 unfolding open_fault
 no_open_fault None mode e = absurd cc
 no_open_fault (Some state) mode e = (refl, (choice_none (is_open (Some state)) _ _ (map_none fault_text _ e)).0)
+
+agreed_fits : (msize : ℕ) (known : Bool) → ltb msize least_msize ≡ false → SizeFits (cond known (Some (min msize most_msize)) None)
+agreed_fits msize true big = (omega (arith, ltb-false msize least_msize big), omega arith)
+agreed_fits msize false big = tt
 
 -- the fid that a walk comes to isn't open
 no_walk_fault : (fid newfid : Option FidState) (same : Bool) (held : ℕ) (names : List (List ℕ)) → (same ≡ true → newfid ≡ fid) → option_map fault_text (walk_fault fid newfid same held names) ≡ None → is_open newfid ≡ false
@@ -174,7 +184,7 @@ reading_grows P conn k fid offset count Log done p = p
 
 pub body_grows : (P : List Deed → Type 0) (conn : ℕ) → Keeps P conn → (done : List Deed) (body : TBody) → refusal done conn body ≡ None → P done → P (after done conn body)
 unfolding after refusal
-body_grows P conn k done (t.Version msize version) e p = k done (Versioned conn (agreed msize version)) refl tt p
+body_grows P conn k done (t.Version msize version) e p = k done (Versioned conn (agreed msize version)) refl (agreed_fits msize (is_known version) (choice_none (ltb msize least_msize) _ _ e).0) p
 body_grows P conn k done (t.Auth afid uname aname) e p = p
 body_grows P conn k done (t.Attach fid afid uname aname) e p = k done (Attached conn fid) refl (no_attach_fault _ _ (or_none _ _ e).1) p
 body_grows P conn k done (t.Flush oldtag) e p = p

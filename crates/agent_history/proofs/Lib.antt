@@ -11,3 +11,5 @@ pub mod HiddenLaws
 pub mod SecretLaws
 pub mod AlikeLaws
 pub mod WriteLaws
+pub mod ToldLaws
+pub mod FitLaws

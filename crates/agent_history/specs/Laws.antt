@@ -1,12 +1,14 @@
 -- Words in which the laws of the definitions are stated: the connection of a deed, the deeds that concern a fid, the
 -- fids that are held, files that are open, lists that stood at one moment, lines up to the first refused one, the
--- replies that were given, and deeds that differ in secrets alone. After section 5 of the Plan 9 manual (fids) and
--- factotum(4) (ctl, whose keys are shown without their secrets).
-use Rattle.std.specs.Prelude.{◌≡◌, ℕ, List, [], ◌∷◌, ◌++◌, length, take, map, Bool, true, false, not, ◌&&◌, ◌==◌, nat_eq, is_some, None, Ok, Err, if◌then◌else◌}
+-- replies that were given and how long they may be, and deeds that differ in secrets alone. After section 5 of the
+-- Plan 9 manual (fids, msize) and factotum(4) (ctl, whose keys are shown without their secrets).
+use Rattle.std.specs.Prelude.{◌≡◌, ℕ, List, [], ◌∷◌, ◌++◌, length, take, map, Bool, true, false, not, ◌&&◌, ◌==◌, nat_eq, Option, Some, None, is_some, Ok, Err, if◌then◌else◌}
 use Rattle.std.specs.List.{list_any, list_all, IsDistinct}
 use Rattle.nine_messages.specs.declared.message.RMsg.{RMsg}
 use Rattle.nine_messages.specs.declared.message.TBody.{TBody}
 use Rattle.nine_messages.specs.declared.message.TBody.TheVariants as t
+use Rattle.nine_messages.specs.declared.message.RBody.{RBody}
+use Rattle.nine_messages.specs.declared.message.RBody.TheVariants as r
 use Rattle.attr_tuples.specs.declared.attr.Attr.{Attr}
 use Rattle.attr_tuples.specs.Printing.{hidden}
 use Rattle.file_tree.specs.declared.tree.Node.{Node}
@@ -20,6 +22,7 @@ use Rattle.agent_history.specs.declared.event.StepAnswer.{StepAnswer}
 use Rattle.agent_history.specs.declared.event.StepAnswer.TheVariants.{Reply}
 use Rattle.agent_history.specs.Deeds.{Deed, Versioned, Attached, Walked, Opened, Listed, Browsed, Edited, Switched, Clunked, Hung, fid_of, held_by, keys_of, names}
 use Rattle.agent_history.specs.Lines.{OnKeys, after_lines, line_by, lines_fault, read_line}
+use Rattle.agent_history.specs.Requests.{least_msize}
 use Rattle.agent_history.specs.Histories.{History, deeds, untaken, answer}
 
 -- ---- deeds
@@ -142,6 +145,16 @@ abbrev pub put_out : History → ℕ → List (List ℕ)
 put_out [] conn = []
 put_out (Take at ∷ before) conn = if at == conn && gives before conn then put_out before conn ++ (answer before (Take conn)).1 ∷ [] else put_out before conn
 put_out (event ∷ before) conn = put_out before conn
+
+-- how long a reply may be: as the largest message agreed, and where none is agreed as the smallest that could be
+abbrev pub longest_reply : Option ℕ → ℕ
+longest_reply None = least_msize
+longest_reply (Some msize) = msize
+
+-- whether a reply gives what was read
+abbrev pub gives_content : RBody → Bool
+gives_content (r.Read content) = true
+gives_content body = false
 
 -- ---- secrets
 

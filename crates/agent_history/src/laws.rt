@@ -1,6 +1,7 @@
 // Laws of the definitions, each the contract of a function that does nothing.
-ghost use Rattle.std.specs.Prelude.{◌≡◌, ◌⊎◌, ℕ, List, ◌∷◌, ◌++◌, Ok, Err, Some, true, false, drop, map, reverse, take};
-ghost use Rattle.nine_messages.specs.Messages.{r_frame};
+ghost use Rattle.std.specs.Prelude.{◌≡◌, ◌≤◌, ◌<◌, ◌⊎◌, ℕ, List, ◌∷◌, ◌++◌, All, Ok, Err, Some, true, false, codes, drop, length, map, reverse, take};
+ghost use Rattle.nine_messages.specs.Messages.{IsReply, r_frame};
+ghost use Rattle.nine_messages.specs.Decoding.{r_reading};
 ghost use Rattle.nine_messages.specs.declared.message.TBody.{TBody};
 ghost use Rattle.nine_messages.specs.declared.message.TBody.TheVariants.{Read};
 ghost use Rattle.nine_messages.specs.declared.message.RBody.TheVariants as r;
@@ -14,9 +15,9 @@ ghost use Rattle.agent_history.specs.declared.event.Event.{Event};
 ghost use Rattle.agent_history.specs.declared.event.Event.TheVariants.{Request, Take};
 ghost use Rattle.agent_history.specs.Deeds.{Deed, Listed, edits_of, keys_of, fid_of, holder_of, msize_of, next_of, text_of, held_by};
 ghost use Rattle.agent_history.specs.Lines.{after_lines, lines_fault};
-ghost use Rattle.agent_history.specs.Requests.{after_frame, effective, granted, piece, reply_of, reply_to, tag_of};
+ghost use Rattle.agent_history.specs.Requests.{after_frame, effective, granted, least_msize, most_msize, piece, reply_of, reply_to, tag_of};
 ghost use Rattle.agent_history.specs.Histories.{History, answer, deeds, replies, taken, untaken};
-ghost use Rattle.agent_history.specs.Laws.{AddAlike, AddsOwn, AreHeld, HasFirstRefused, IsFirstRefused, SameButSecrets, StoodOnce, all_open, given, gives, has_open, hidden_deed, is_on, is_request_or_hang, may_err_and_act, none_concerns, none_sets_text, put_out};
+ghost use Rattle.agent_history.specs.Laws.{AddAlike, AddsOwn, AreHeld, HasFirstRefused, IsFirstRefused, SameButSecrets, StoodOnce, all_open, given, gives, gives_content, has_open, hidden_deed, is_on, is_request_or_hang, longest_reply, may_err_and_act, none_concerns, none_sets_text, put_out};
 
 /// The keys are those of the accepted lines of ctl, in order: of lines that are the same in public the last one alone
 /// stands, at its own place, and none that a later line deleted.
@@ -97,6 +98,21 @@ pub fn a_reply_is_taken_once()
     ensures with_the_rest { (history : History) (conn : ℕ) → given history conn ++ untaken history conn ≡ reverse (replies history conn) }
     ensures next_after { (history : History) (conn : ℕ) → gives history conn ≡ true → untaken (Take conn ∷ history) conn ≡ drop 1 (untaken history conn) }
     ensures frames { (history : History) (conn : ℕ) → put_out history conn ≡ map r_frame (given history conn) }
+{}
+
+/// A reply fits what was agreed on its connection before its request: it is no longer than the largest message agreed,
+/// which is of 256 to 8216 bytes, or than 256 bytes where none is agreed; so no take puts out more than 8216 bytes. None
+/// but what a read gives is longer than 256 bytes, so that the reply to a version fits what it agrees too. What such a
+/// reply tells of 9P2000 is what is agreed from then on. Whatever deeds were done, the reply to a frame of bytes has a
+/// spelling, and that is read as this reply.
+pub fn a_reply_fits_what_was_agreed()
+    ensures fits { (history : History) (conn : ℕ) (frame : List ℕ) → length (r_frame (reply_to (deeds history) conn frame)) ≤ longest_reply (msize_of (deeds history) conn) }
+    ensures agreed { (history : History) (conn msize : ℕ) → msize_of (deeds history) conn ≡ Some msize → (least_msize ≤ msize) × (msize ≤ most_msize) }
+    ensures frames { (history : History) (conn : ℕ) → All (λ frame. length frame ≤ most_msize) (put_out history conn) }
+    ensures others { (done : List Deed) (conn : ℕ) (frame : List ℕ) → gives_content (reply_to done conn frame).body ≡ false → length (r_frame (reply_to done conn frame)) ≤ least_msize }
+    ensures told { (done : List Deed) (conn msize : ℕ) (frame : List ℕ) → (reply_to done conn frame).body ≡ r.Version msize (codes "9P2000") → msize_of (after_frame done conn frame) conn ≡ Some msize }
+    ensures valid { (done : List Deed) (conn : ℕ) (frame : List ℕ) → All (λ b. b < 256) frame → IsReply (r_frame (reply_to done conn frame)) (reply_to done conn frame) }
+    ensures read { (done : List Deed) (conn : ℕ) (frame : List ℕ) → All (λ b. b < 256) frame → r_reading (r_frame (reply_to done conn frame)) ≡ Ok (reply_to done conn frame) }
 {}
 
 /// Nothing that is shown or answered depends on the value of a secret: deeds that are the same but for the secrets of
