@@ -110,7 +110,7 @@ impl From<FidFault> for Refused {
 }
 
 /// A reply that wasn't taken yet. A refusal takes no memory before it is taken.
-#[derive(Debug, Drop)]
+#[derive(Drop)]
 pub enum Reply {
     Spelled(Bytes),
     Refusal { tag: u16, why: Refusal },

@@ -41,10 +41,6 @@ names_opened : (node : Node) (mode : ℕ) (o : Option FidState) → names node (
 names_opened node mode None = refl
 names_opened node mode (Some state) = refl
 
-named_is_held : (node : Node) (o : Option FidState) → names node o ≡ true → is_some o ≡ true
-named_is_held node None n = absurd cc
-named_is_held node (Some state) n = refl
-
 is_opened : (mode : ℕ) (o : Option FidState) → is_some o ≡ true → is_open (opened mode o) ≡ true
 is_opened mode None s = absurd cc
 is_opened mode (Some state) s = refl

@@ -77,17 +77,6 @@ choice_none false x rest e = (refl, e)
 text_none : (test : Test) (tests : List Test) → first_told (test ∷ tests) ≡ None → (test.0 ≡ false) × (first_told tests ≡ None)
 text_none test tests e = choice_none test.0 test.1 (first_told tests) e
 
-refusal_none : (test : Bool × FidFault) (tests : List (Bool × FidFault)) → first_told (test ∷ tests) ≡ None → (test.0 ≡ false) × (first_told tests ≡ None)
-refusal_none test tests e = choice_none test.0 test.1 (first_told tests) e
-
-held_where_known : (o : Option FidState) → is_none o ≡ false → is_some o ≡ true
-held_where_known None e = absurd cc
-held_where_known (Some state) e = refl
-
-rests_where_free : (o : Option FidState) → is_some o ≡ false → is_open o ≡ false
-rests_where_free None e = refl
-rests_where_free (Some state) e = absurd cc
-
 no_fid_fault : (o : Option FidState) → option_map fault_text (fid_fault o) ≡ None → is_some o ≡ true
 unfolding fid_fault
 no_fid_fault None e = absurd cc

@@ -46,10 +46,3 @@ taken_given (NoAnswer call ∷ H) conn = taken_given H conn
 taken_given (NoRoom call ∷ H) conn = taken_given H conn
 taken_given (TakeAsk ∷ H) conn = taken_given H conn
 taken_given (Stop ∷ H) conn = taken_given H conn
-
--- a stop stays
-pub stop_stays : (e : Event) (H : History) → has_stopped H ≡ true → has_stopped (e ∷ H) ≡ true
-stop_stays e H h = elim (or_cases (leb most_events (length H)) (list_any is_stop H) h) [
-  | inl full ↦ or_left (leb most_events (suc (length H))) (is_stop e || list_any is_stop H) (le-leb most_events (suc (length H)) (omega (arith, leb-true most_events (length H) full)))
-  | inr stopped ↦ or_right (leb most_events (suc (length H))) (is_stop e || list_any is_stop H) (or_right (is_stop e) (list_any is_stop H) stopped)
-]

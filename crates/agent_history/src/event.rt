@@ -10,8 +10,8 @@ pub enum Shape {
     Vouch,
 }
 
-/// What happens to an agent.
-#[derive(Debug, Drop)]
+/// What happens to an agent. It has no Debug, which would print the secrets that a frame writes.
+#[derive(Drop)]
 pub enum Event {
     /// A whole frame came on a connection, together with a word that was drawn for it.
     Request {
