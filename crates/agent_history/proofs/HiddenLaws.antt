@@ -10,8 +10,7 @@ use Rattle.std.proofs.lemmas.Slice.Eq.{bytes_eq-Decides}
 use Rattle.attr_tuples.specs.declared.attr.Attr.{Attr}
 use Rattle.attr_tuples.specs.declared.attr.Value.{Value}
 use Rattle.attr_tuples.specs.declared.attr.Value.TheVariants.{Is, Ask, Bare}
-use Rattle.attr_tuples.specs.Attributes.{is_secret, is_named}
-use Rattle.attr_tuples.specs.PlainKeys.{is_given}
+use Rattle.attr_tuples.specs.Attributes.{is_secret, is_named, is_given}
 use Rattle.attr_tuples.specs.Equality.{public_equal, same_attr}
 use Rattle.attr_tuples.specs.Matching.{is_null, meets, matches}
 use Rattle.attr_tuples.specs.Printing.{hidden}

@@ -1,7 +1,7 @@
 -- How a request is answered: the tests that refuse it, in their order, each with its text; what it does where none of
 -- them holds; and what is replied. After section 5 of the Plan 9 manual and factotum(4); that these are the tests, their
 -- order and their texts are this project's.
-use Rattle.std.specs.Prelude.{ℕ, ◌-◌, min, List, [], ◌∷◌, ◌++◌, length, take, drop, map, Bool, true, false, not, ◌&&◌, ◌||◌, ◌==◌, nat_lt, Option, Some, None, is_some, Result, Ok, Err, option_map, codes, if◌then◌else◌}
+use Rattle.std.specs.Prelude.{ℕ, ◌-◌, min, List, [], ◌∷◌, length, take, drop, map, Bool, true, false, not, ◌&&◌, ◌||◌, ◌==◌, nat_lt, Option, Some, None, is_some, Result, Ok, Err, option_map, codes, if◌then◌else◌}
 use Rattle.std.specs.Option.{option_or}
 use Rattle.std.specs.Int.{w16}
 use Rattle.std.specs.Str.{bytes_eq}

@@ -1,9 +1,9 @@
 -- A word of a line gives a name and a value that are text.
-use Rattle.std.proofs.Common.{◌≡◌, ◌⊎◌, ℕ, zero, suc, ◌+◌, ◌-◌, ◌<◌, ◌≤◌, List, [], ◌∷◌, ◌++◌, Bool, true, false, not, ◌&&◌, ◌||◌, eqb, leb, cond, length, take, drop, get_or, Option, Some, None, Result, Ok, Err, refl, sym, ap, subst, ◌∙◌, inl, inr, arith, append_assoc}
-use Rattle.std.specs.List.{list_all, list_any, position, slice_index}
+use Rattle.std.proofs.Common.{◌≡◌, ℕ, ◌+◌, ◌-◌, ◌<◌, ◌≤◌, List, [], ◌∷◌, ◌++◌, Bool, true, false, not, eqb, leb, cond, length, take, drop, get_or, Option, Some, None, refl, sym, ap, subst, ◌∙◌, inl, inr, arith}
+use Rattle.std.specs.List.{list_all, list_any, position}
 use Rattle.std.specs.Str.{is_utf8}
 use Rattle.std.proofs.lemmas.Bool.{cases_Bool, and_parts, and_from, not_from_false, ne_eqb, leb-true, le-leb, eqb-true, or_cases}
-use Rattle.std.proofs.lemmas.List.{take-append-drop, drop_more, drop_all, take_all, length_push, drop-drop}
+use Rattle.std.proofs.lemmas.List.{take-append-drop, drop_more, length_push, drop-drop}
 use Rattle.std.proofs.lemmas.List.Folds.{list_all-append}
 use Rattle.std.proofs.lemmas.List.Quantifiers.{position-Some}
 use Rattle.std.proofs.lemmas.Str.{IsUtf8-from_is_utf8, is_utf8-from_IsUtf8}
@@ -12,10 +12,7 @@ use Rattle.attr_words.specs.Lines.{is_line_byte, is_line}
 use Rattle.attr_words.specs.Words.{is_gap, gap_len}
 use Rattle.attr_words.proofs.LineLemmas.{before_ascii, behind_ascii}
 use Rattle.attr_tuples.specs.declared.attr.Attr.{Attr}
-use Rattle.attr_tuples.specs.declared.attr.Value.{Value}
-use Rattle.attr_tuples.specs.declared.attr.Value.TheVariants.{Is, Ask, Bare}
-use Rattle.attr_tuples.specs.declared.fault.TupleFault.{TupleFault}
-use Rattle.attr_tuples.specs.declared.fault.TupleFault.TheVariants.{NotText, Quote, Name, TooMany, NoMemory}
+use Rattle.attr_tuples.specs.declared.attr.Value.TheVariants.{Ask, Bare}
 use Rattle.attr_tuples.specs.Attributes.{is_name, is_value, is_attr, is_tuple}
 use Rattle.attr_tuples.specs.Steps.{ReadsName}
 use Rattle.attr_tuples.specs.Grammar.{attr_of, cut_at, asking}

@@ -1,10 +1,10 @@
 -- A text that is made of pieces is read as what they say, and refused where what stands behind them is no word.
-use Rattle.std.proofs.Common.{◌≡◌, ℕ, zero, suc, ◌+◌, ◌-◌, ◌<◌, ◌≤◌, List, [], ◌∷◌, ◌++◌, Bool, true, false, not, ◌&&◌, eqb, leb, ltb, cond, length, take, drop, Result, Ok, Err, refl, sym, ap, subst, ◌∙◌, inl, inr, arith, append_assoc, length-append}
-use Rattle.std.specs.List.{list_all, position_or_len}
-use Rattle.std.proofs.lemmas.Bool.{cases_Bool, and_parts, and_from, not-true, leb-true, eq-eqb, ne_eqb}
+use Rattle.std.proofs.Common.{◌≡◌, ℕ, zero, suc, ◌+◌, ◌-◌, ◌<◌, List, [], ◌∷◌, ◌++◌, Bool, true, false, not, ◌&&◌, eqb, leb, ltb, cond, length, drop, Result, Ok, Err, refl, sym, ap, ◌∙◌, arith, append_assoc, length-append}
+use Rattle.std.specs.List.{list_all}
+use Rattle.std.proofs.lemmas.Bool.{and_parts, not-true, leb-true, eq-eqb, ne_eqb}
 use Rattle.std.proofs.lemmas.List.{append-nil, drop-drop}
 use Rattle.attr_words.specs.Lines.{is_line, line_len}
-use Rattle.attr_words.specs.Words.{Part, Cut, IsWord, IsOpen, is_gap, ends_unquoted, word_text, word_bytes, begins_quote, are_parts, ends_word, first_word, gap_len}
+use Rattle.attr_words.specs.Words.{Part, Cut, IsWord, is_gap, ends_unquoted, word_text, word_bytes, are_parts, ends_word, first_word, gap_len}
 use Rattle.attr_words.specs.Words.Part.{Plain, Quoted}
 use Rattle.attr_words.proofs.PartLemmas.{plain_parts, word_written, open_written}
 use Rattle.attr_words.proofs.LineLemmas.{len_from_line}
@@ -12,7 +12,7 @@ use Rattle.attr_tuples.specs.declared.attr.Attr.{Attr}
 use Rattle.attr_tuples.specs.declared.fault.TupleFault.{TupleFault}
 use Rattle.attr_tuples.specs.declared.fault.TupleFault.TheVariants.{NotText, Quote, Name, TooMany, NoMemory}
 use Rattle.attr_tuples.specs.Attributes.{is_name, is_value, is_attr, is_tuple}
-use Rattle.attr_tuples.specs.Grammar.{attr_of, Piece, pieces_text, is_word, are_pieces, attrs_of, Reads, Reaches, HasOpenQuote, HasBadName, HasTooMany, Refuses, put_first, taken, words_at, words_from, tuple_of}
+use Rattle.attr_tuples.specs.Grammar.{attr_of, Piece, pieces_text, is_word, are_pieces, attrs_of, Reads, Reaches, Refuses, put_first, taken, words_at, words_from, tuple_of}
 use Rattle.attr_tuples.specs.Grammar.Piece.{Gap, Word}
 use Rattle.attr_tuples.specs.Steps.{put_all}
 use Rattle.attr_tuples.proofs.ParseLemmas.{put_none, words_over}

@@ -1,9 +1,6 @@
 pub mod CutLemmas
 pub mod EqualityLemmas
-pub mod PlainLemmas
-pub mod TextLemmas
 pub mod PrintLemmas
-pub mod KeyLemmas
 pub mod MatchLemmas
 pub mod ParseLemmas
 pub mod AttrLemmas

@@ -1,5 +1,5 @@
 -- Merged tuples are a tuple, where they have at most 36 attributes.
-use Rattle.std.proofs.Common.{◌≡◌, ℕ, ◌+◌, ◌-◌, ◌≤◌, List, [], ◌∷◌, ◌++◌, Bool, true, false, ◌&&◌, leb, cond, length, refl, ap, ◌∙◌, inl, inr, arith, length-append}
+use Rattle.std.proofs.Common.{◌≡◌, ℕ, ◌-◌, ◌≤◌, List, [], ◌∷◌, Bool, true, leb, length, refl, ap, ◌∙◌, inl, inr, arith, length-append}
 use Rattle.std.specs.List.{list_all, filter}
 use Rattle.std.proofs.lemmas.Bool.{cases_Bool, and_parts, and_from, leb-true, le-leb}
 use Rattle.std.proofs.lemmas.List.Folds.{list_all-append}

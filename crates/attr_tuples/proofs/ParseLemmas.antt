@@ -1,10 +1,10 @@
 -- Steps of reading words, over the attributes so far and the text from the present place on.
-use Rattle.std.proofs.Common.{◌≡◌, ℕ, zero, suc, ◌+◌, ◌-◌, ◌<◌, ◌≤◌, List, [], ◌∷◌, ◌++◌, Bool, true, false, length, take, drop, get_or, Option, Some, None, Result, Ok, Err, cond, refl, sym, ap, subst, ◌∙◌, arith, append_assoc}
-use Rattle.std.proofs.lemmas.List.{append-nil, drop_more, drop_all, drop-drop, length-drop, length_push}
+use Rattle.std.proofs.Common.{◌≡◌, ℕ, zero, suc, ◌+◌, ◌-◌, ◌<◌, ◌≤◌, List, [], ◌∷◌, ◌++◌, Bool, true, false, length, drop, Result, Ok, Err, cond, refl, sym, ap, ◌∙◌, arith, append_assoc}
+use Rattle.std.proofs.lemmas.List.{append-nil, drop_all, drop-drop, length-drop, length_push}
 use Rattle.attr_words.specs.Words.{Cut, first_word, gap_len}
 use Rattle.attr_tuples.specs.declared.attr.Attr.{Attr}
 use Rattle.attr_tuples.specs.declared.fault.TupleFault.{TupleFault}
-use Rattle.attr_tuples.specs.declared.fault.TupleFault.TheVariants.{NotText, Quote, Name, TooMany, NoMemory}
+use Rattle.attr_tuples.specs.declared.fault.TupleFault.TheVariants.{Name}
 use Rattle.attr_tuples.specs.Attributes.{is_name}
 use Rattle.attr_tuples.specs.Grammar.{attr_of, put_first, taken, words_at, words_from}
 use Rattle.attr_tuples.specs.Steps.{put_all}
@@ -25,10 +25,6 @@ words_more (suc n) at (b ∷ rest) some long =
     let e : n ≡ suc n - 1 = omega arith in
     ap (λ (m : ℕ). taken at (first_word at (b ∷ rest)) (λ cut. words_at m (cut.end + gap_len cut.behind) (drop (gap_len cut.behind) cut.behind))) e
 
-words_none : (at : ℕ) (text : List ℕ) → 1 ≤ length text → words_at 0 at text ≡ Err TooMany
-words_none at [] long = absurd (omega arith)
-words_none at (b ∷ rest) long = refl
-
 pub words_over : (n at : ℕ) → words_at n at [] ≡ Ok []
 words_over zero at = refl
 words_over (suc n) at = refl
@@ -48,19 +44,10 @@ begin text at e =
 rest_long : (text : List ℕ) (at : ℕ) → at < length text → 1 ≤ length (drop at text)
 rest_long text at lt = omega (arith, length-drop at text)
 
-pub too_many : (text : List ℕ) (done : List Attr) (at : ℕ) → GoesOn text done at → at < length text → 36 ≤ length done → words_from 36 0 text ≡ Err TooMany
-too_many text done at so_far lt many =
-    let e : 36 - length done ≡ 0 = omega arith in
-    so_far ∙ ap (λ (n : ℕ). put_all done (words_at n at (drop at text))) e ∙ ap (put_all done) (words_none at (drop at text) (rest_long text at lt))
-
 -- where another word is taken
 word_on : (text : List ℕ) (done : List Attr) (at : ℕ) → GoesOn text done at → at < length text → length done < 36 →
     words_from 36 0 text ≡ put_all done (taken at (first_word at (drop at text)) (λ cut. words_at (36 - length done - 1) (cut.end + gap_len cut.behind) (drop (gap_len cut.behind) cut.behind)))
 word_on text done at so_far lt few = so_far ∙ ap (put_all done) (words_more (36 - length done) at (drop at text) (omega arith) (rest_long text at lt))
-
-pub open_quote : (text : List ℕ) (done : List Attr) (at opened : ℕ) → GoesOn text done at → at < length text → length done < 36 → first_word at (drop at text) ≡ Err opened → words_from 36 0 text ≡ Err (Quote opened)
-open_quote text done at opened so_far lt few e =
-    word_on text done at so_far lt few ∙ ap (λ (r : Result Cut ℕ). put_all done (taken at r (λ cut. words_at (36 - length done - 1) (cut.end + gap_len cut.behind) (drop (gap_len cut.behind) cut.behind)))) e
 
 pub bad_name : (text word : List ℕ) (done : List Attr) (at end : ℕ) → GoesOn text done at → at < length text → length done < 36 →
     first_word at (drop at text) ≡ Ok (record { bytes = word; end = end; behind = drop end text }) → is_name (attr_of word).name ≡ false → words_from 36 0 text ≡ Err (Name at)

@@ -1,12 +1,12 @@
 -- A tuple that is printed is read back: its text is made of the pieces that say it.
-use Rattle.std.proofs.Common.{◌≡◌, ℕ, zero, suc, ◌+◌, ◌-◌, ◌<◌, ◌≤◌, List, [], ◌∷◌, ◌++◌, Bool, true, false, not, ◌&&◌, ◌||◌, eqb, leb, ltb, cond, length, map, take, drop, get_or, Option, Some, None, Ok, refl, sym, ap, subst, ◌∙◌, inl, inr, arith, append_assoc, length-append, codes}
-use Rattle.std.specs.List.{list_all, list_any, flat_map, join_with_byte, position, position_or_len}
+use Rattle.std.proofs.Common.{◌≡◌, ℕ, zero, suc, ◌+◌, ◌-◌, ◌<◌, ◌≤◌, List, [], ◌∷◌, ◌++◌, Bool, true, false, not, ◌&&◌, eqb, leb, ltb, cond, length, map, take, drop, get_or, Some, None, Ok, refl, sym, ap, subst, ◌∙◌, inl, inr, arith, append_assoc, length-append, codes}
+use Rattle.std.specs.List.{list_all, list_any, join_with_byte, position}
 use Rattle.std.specs.Str.{IsUtf8, is_utf8, bytes_eq}
 use Rattle.std.proofs.lemmas.Bool.{cases_Bool, and_parts, and_from, or_left, leb-true, le-leb, lt-ltb, le-ltb, ltb-true, ne_eqb, eqb-true, not-true, not_from_false, or_parts}
 use Rattle.std.proofs.lemmas.Grind.{flat_map-append}
-use Rattle.std.proofs.lemmas.List.{append-nil, take_at, drop_at, get_or_at, take_all}
+use Rattle.std.proofs.lemmas.List.{append-nil, take_at, drop_at, get_or_at}
 use Rattle.std.proofs.lemmas.List.Folds.{list_all-append}
-use Rattle.std.proofs.lemmas.Str.{IsUtf8-from_is_utf8, is_utf8-from_IsUtf8, IsUtf8-append, IsUtf8-nil}
+use Rattle.std.proofs.lemmas.Str.{IsUtf8-from_is_utf8, is_utf8-from_IsUtf8, IsUtf8-nil}
 use Rattle.wire_base.specs.Texts.{is_text}
 use Rattle.attr_words.specs.Lines.{is_line_byte, is_line}
 use Rattle.attr_words.specs.Words.{Part, is_gap, ends_unquoted, quoted_byte, quoted_bytes, quoted, needs_quotes, value_text, part_text, part_bytes, word_text, word_bytes, begins_quote, are_parts, ends_word}
@@ -17,12 +17,9 @@ use Rattle.attr_tuples.specs.declared.attr.Value.{Value}
 use Rattle.attr_tuples.specs.declared.attr.Value.TheVariants.{Is, Ask, Bare}
 use Rattle.attr_tuples.specs.Attributes.{is_name_byte, is_name, is_value, is_attr, is_tuple}
 use Rattle.attr_tuples.specs.Printing.{ending_text, attr_text, printed_text}
-use Rattle.attr_tuples.specs.PlainKeys.{plain_key}
-use Rattle.attr_tuples.specs.Grammar.{attr_of, cut_at, asking, Piece, pieces_text, is_word, are_pieces, attrs_of, Reads, tuple_of}
+use Rattle.attr_tuples.specs.Grammar.{attr_of, cut_at, asking, Piece, pieces_text, is_word, are_pieces, attrs_of, tuple_of}
 use Rattle.attr_tuples.specs.Grammar.Piece.{Gap, Word}
-use Rattle.attr_tuples.proofs.CutLemmas.{Lacks, position_or_len-Lacks, position_or_len-at}
-use Rattle.attr_tuples.proofs.KeyLemmas.{lacks, plain_key_read, test_from_key}
-use Rattle.attr_tuples.proofs.TextLemmas.{tuple_from_plain}
+use Rattle.attr_tuples.proofs.CutLemmas.{Lacks, lacks, position_or_len-Lacks, position_or_len-at}
 use Rattle.attr_tuples.proofs.AttrLemmas.{asking_is}
 use Rattle.attr_tuples.proofs.GrammarLemmas.{reads_written}
 
@@ -323,8 +320,3 @@ printed_read attrs h =
       means = sym (pieces_mean attrs all);
       valid = h;
     })
-
-pub plain_read : (text : List ℕ) (key : List Attr) → plain_key text ≡ Some key → tuple_of text ≡ Ok key
-plain_read text key e =
-    let r = plain_key_read text key e in
-    ap tuple_of r.1 ∙ printed_read key (tuple_from_plain key (test_from_key key r.0))

@@ -1,16 +1,16 @@
 -- What is read of a text is written in pieces: they are read off the text word by word.
-use Rattle.std.proofs.Common.{◌≡◌, ◌⊎◌, ℕ, zero, suc, ◌+◌, ◌-◌, ◌<◌, ◌≤◌, List, [], ◌∷◌, ◌++◌, Bool, true, false, not, ◌&&◌, eqb, leb, ltb, cond, length, take, drop, Result, Ok, Err, refl, sym, ap, subst, ◌∙◌, inl, inr, arith, append_assoc, length-append}
-use Rattle.std.specs.List.{list_all, position_or_len}
-use Rattle.std.proofs.lemmas.Bool.{cases_Bool, and_parts, and_from, leb-true, le-leb, lt-ltb, eqb-true, eqb-false}
+use Rattle.std.proofs.Common.{◌≡◌, ◌⊎◌, ℕ, zero, suc, ◌+◌, ◌<◌, ◌≤◌, List, [], ◌∷◌, ◌++◌, Bool, true, false, ◌&&◌, eqb, leb, ltb, cond, length, drop, Result, Ok, Err, refl, sym, ap, subst, ◌∙◌, inl, inr, arith, append_assoc, length-append}
+use Rattle.std.specs.List.{list_all}
+use Rattle.std.proofs.lemmas.Bool.{cases_Bool, and_parts, and_from, le-leb, lt-ltb, eqb-true, eqb-false}
 use Rattle.std.proofs.lemmas.List.{append-nil, drop-drop}
 use Rattle.attr_words.specs.Lines.{is_line, line_len}
-use Rattle.attr_words.specs.Words.{Part, Cut, IsWord, IsOpen, is_gap, word_text, word_bytes, are_parts, ends_word, first_word, gap_len}
+use Rattle.attr_words.specs.Words.{Part, Cut, is_gap, word_text, word_bytes, are_parts, ends_word, first_word, gap_len}
 use Rattle.attr_words.proofs.PartLemmas.{word_written}
 use Rattle.attr_words.proofs.SayLemmas.{word_read, open_read}
 use Rattle.attr_words.proofs.LineLemmas.{line_from_len, line_len_le, word_line}
 use Rattle.attr_tuples.specs.declared.attr.Attr.{Attr}
 use Rattle.attr_tuples.specs.declared.fault.TupleFault.{TupleFault}
-use Rattle.attr_tuples.specs.declared.fault.TupleFault.TheVariants.{NotText, Quote, Name, TooMany, NoMemory}
+use Rattle.attr_tuples.specs.declared.fault.TupleFault.TheVariants.{NotText, Quote, Name, TooMany}
 use Rattle.attr_tuples.specs.Attributes.{is_name, is_value, is_attr, is_tuple}
 use Rattle.attr_tuples.specs.Grammar.{attr_of, Piece, pieces_text, is_word, are_pieces, attrs_of, Reads, Reaches, HasOpenQuote, HasBadName, HasTooMany, Refuses, put_first, taken, words_at, words_from, tuple_of}
 use Rattle.attr_tuples.specs.Grammar.Piece.{Gap, Word}

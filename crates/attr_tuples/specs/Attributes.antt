@@ -1,6 +1,6 @@
 -- Attributes, as factotum(4) of the Plan 9 manual has them: a name, and a value, a question for one, or neither.
 -- And which of them a line of text can give.
-use Rattle.std.specs.Prelude.{ℕ, List, [], ◌∷◌, Bool, true, false, not, ◌&&◌, ◌||◌, ◌==◌, nat_lt, nat_le, length, codes}
+use Rattle.std.specs.Prelude.{ℕ, List, [], ◌∷◌, Bool, true, false, not, ◌&&◌, ◌==◌, nat_lt, nat_le, length, filter, codes}
 use Rattle.std.specs.List.{list_all}
 use Rattle.std.specs.Str.{bytes_eq}
 use Rattle.wire_base.specs.Texts.{is_text}
@@ -21,6 +21,16 @@ is_public a = not (is_secret a.name)
 -- whether an attribute has the name
 abbrev pub is_named : List ℕ → Attr → Bool
 is_named name a = bytes_eq a.name name
+
+-- whether just one attribute has the name
+abbrev pub is_named_once : List ℕ → List Attr → Bool
+is_named_once name attrs = length (filter (is_named name) attrs) == 1
+
+-- whether a value is given and passes a test
+abbrev pub is_given : (List ℕ → Bool) → Value → Bool
+is_given test (Is text) = test text
+is_given test Ask = false
+is_given test Bare = false
 
 -- a byte of a name: from 0x21 on, and none of `'`, `=` and `?`
 abbrev pub is_name_byte : ℕ → Bool

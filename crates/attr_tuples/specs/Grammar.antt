@@ -1,13 +1,12 @@
 -- Tuples as they are read, after factotum(4) of the Plan 9 manual: words with blanks and tabs between, each an
 -- attribute. What a text says (Reads), and what is wrong with one that says nothing (Refuses), are relations between
 -- whole texts and answers; how a text is read from left to right (tuple_of) is given apart, and they agree by law.
-use Rattle.std.specs.Prelude.{◌≡◌, ℕ, zero, suc, ◌+◌, ◌-◌, ◌<◌, List, [], ◌∷◌, ◌++◌, Bool, true, false, not, ◌&&◌, ◌==◌, nat_lt, length, take, drop, position, Option, Some, None, Result, Ok, Err, if◌then◌else◌}
+use Rattle.std.specs.Prelude.{◌≡◌, ℕ, zero, suc, ◌+◌, ◌-◌, ◌<◌, List, [], ◌∷◌, ◌++◌, Bool, true, false, ◌&&◌, ◌==◌, nat_lt, length, take, drop, position, Option, Some, None, Result, Ok, Err, if◌then◌else◌}
 use Rattle.std.specs.List.{slice_index}
 use Rattle.attr_words.specs.Lines.{is_line, line_len}
 use Rattle.attr_words.specs.Words.{Part, Cut, IsWord, IsOpen, is_gap, word_text, word_bytes, are_parts, ends_word, first_word, gap_len}
 use Rattle.attr_tuples.specs.Attributes.{is_name, is_tuple}
 use Rattle.attr_tuples.specs.declared.attr.Attr.{Attr}
-use Rattle.attr_tuples.specs.declared.attr.Value.{Value}
 use Rattle.attr_tuples.specs.declared.attr.Value.TheVariants.{Is, Ask, Bare}
 use Rattle.attr_tuples.specs.declared.fault.TupleFault.{TupleFault}
 use Rattle.attr_tuples.specs.declared.fault.TupleFault.TheVariants.{NotText, Quote, Name, TooMany, NoMemory}

@@ -4,5 +4,4 @@ pub mod Equality
 pub mod Matching
 pub mod Grammar
 pub mod Merging
-pub mod PlainKeys
 pub mod Steps

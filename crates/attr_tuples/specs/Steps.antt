@@ -1,15 +1,13 @@
 -- Words for the steps of printing and reading. No public contract cites them.
-use Rattle.std.specs.Prelude.{◌≡◌, ℕ, List, [], ◌∷◌, ◌++◌, true, false, Option, Some, None, Result, Ok, Err}
+use Rattle.std.specs.Prelude.{◌≡◌, ℕ, List, ◌∷◌, ◌++◌, true, false, Option, Some, None, Result, Ok, Err}
 use Rattle.attr_tuples.specs.Attributes.{is_name}
 use Rattle.attr_tuples.specs.declared.attr.Value.{Value}
 use Rattle.attr_tuples.specs.declared.attr.Value.TheVariants.{Is, Ask, Bare}
 use Rattle.attr_tuples.specs.declared.fault.TupleFault.{TupleFault}
 use Rattle.attr_tuples.specs.declared.parse.Ending.{Ending}
 use Rattle.attr_tuples.specs.declared.parse.Ending.TheVariants.{Is as EndingIs, Ask as EndingAsk, Bare as EndingBare}
-use Rattle.std.specs.Borrow.{Bor}
 use Rattle.std.specs.List.{flat_map}
 use Rattle.attr_tuples.specs.Printing.{attr_text, hidden}
-use Rattle.attr_tuples.specs.PlainKeys.{words}
 use Rattle.attr_tuples.specs.declared.attr.Attr.{Attr}
 use Rattle.attr_tuples.specs.declared.print.Secrets.{Secrets}
 use Rattle.attr_tuples.specs.declared.print.Secrets.TheVariants.{Printed, Hidden}
@@ -22,11 +20,6 @@ seen Hidden a = hidden a
 -- attributes as they are seen and printed, each behind a blank
 abbrev pub others_text : Secrets → List Attr → List ℕ
 others_text secrets attrs = flat_map (λ a. 32 ∷ attr_text (seen secrets a)) attrs
-
--- the words of a text that is left, if one is
-abbrev pub words_left : Option (Bor (List ℕ)) → List (List ℕ)
-words_left None = []
-words_left (Some text) = words text.now
 
 -- what a word has behind its name, as a value
 abbrev pub ending_value : Ending → Value

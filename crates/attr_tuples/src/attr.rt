@@ -5,8 +5,8 @@ ghost use Rattle.wire_base.specs.Texts.{is_text};
 use std::alloc::Global;
 use wire_base::{NoMemory, Text};
 
-/// What an attribute says of its value.
-#[derive(Debug, Drop)]
+/// What an attribute says of its value. It has no Debug, which would print a secret.
+#[derive(Drop)]
 pub enum Value {
     /// It is this text.
     Is(Text),
@@ -16,8 +16,9 @@ pub enum Value {
     Bare,
 }
 
-/// An attribute of a key or a template (factotum(4) of the Plan 9 manual).
-#[derive(Debug, Drop)]
+/// An attribute of a key or a template (factotum(4) of the Plan 9 manual). It has no Debug, which would print a
+/// secret.
+#[derive(Drop)]
 pub struct Attr {
     pub name: Text,
     pub value: Value,

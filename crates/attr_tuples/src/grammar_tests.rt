@@ -10,7 +10,7 @@ use std::process::Abort;
 use std::test::Fail;
 use wire_base::Bytes;
 
-fn tuple_of(alloc: Global, text: &[u8]) -> Result<Tuple, Fail> {
+pub(crate) fn tuple_of(alloc: Global, text: &[u8]) -> Result<Tuple, Fail> {
     match parse_tuple(alloc, text) {
         Ok(tuple) => Ok(tuple),
         Err(_) => Err("no tuple")?,

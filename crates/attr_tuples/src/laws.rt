@@ -1,17 +1,11 @@
 // Laws of the definitions, each the contract of a function that does nothing.
-ghost use Rattle.std.specs.Prelude.{◌≡◌, ℕ, List, ◌↔◌, Some, Ok, Err, true, map, count_by};
+ghost use Rattle.std.specs.Prelude.{◌≡◌, ℕ, List, ◌↔◌, Ok, Err, true, map, count_by};
 ghost use Rattle.attr_tuples.specs.declared.attr.Attr.{Attr};
 ghost use Rattle.attr_tuples.specs.Printing.{hidden, printed_text, public_text};
 ghost use Rattle.attr_tuples.specs.Equality.{public_equal, public_part, same_attr};
 ghost use Rattle.attr_tuples.specs.Attributes.{is_tuple};
 ghost use Rattle.attr_tuples.specs.declared.fault.TupleFault.{TupleFault};
 ghost use Rattle.attr_tuples.specs.Grammar.{Reads, Refuses, tuple_of};
-ghost use Rattle.attr_tuples.specs.PlainKeys.{IsPlainKey, plain_key};
-
-/// A text is read as a plain key exactly where the key says what a plain key says and the text is how it is printed.
-pub fn plain_keys_are_their_text()
-    ensures { (text : List ℕ) (key : List Attr) → (plain_key text ≡ Some key) ↔ (IsPlainKey key × (text ≡ printed_text key)) }
-{}
 
 /// Tuples that are alike with their secrets hidden are shown alike.
 pub fn public_text_hides_secrets()
@@ -42,9 +36,4 @@ pub fn tuples_are_what_they_say()
 /// A tuple that is printed is read back as it was.
 pub fn printed_tuples_are_read()
     ensures { (attrs : List Attr) → is_tuple attrs ≡ true → tuple_of (printed_text attrs) ≡ Ok attrs }
-{}
-
-/// A text that is a plain key is read as the same attributes by the whole grammar.
-pub fn plain_keys_are_tuples()
-    ensures { (text : List ℕ) (key : List Attr) → plain_key text ≡ Some key → tuple_of text ≡ Ok key }
 {}

@@ -9,7 +9,6 @@ mod grammar_tests;
 mod laws;
 mod merging;
 mod parse;
-mod plain;
 mod print;
 #[cfg(test)]
 mod tests;
@@ -19,12 +18,10 @@ pub use attr::{Attr, Value};
 pub use compare::{has_name, is_named, is_secret_name, matches, public_equal, value_of};
 pub use fault::{MergeFault, TupleFault};
 pub use laws::{
-    plain_keys_are_their_text, plain_keys_are_tuples, printed_tuples_are_read,
-    public_equal_compares, public_equal_hides_secrets, public_text_hides_secrets,
-    tuples_are_what_they_say,
+    printed_tuples_are_read, public_equal_compares, public_equal_hides_secrets,
+    public_text_hides_secrets, tuples_are_what_they_say,
 };
 pub use merging::merge;
 pub use parse::parse_tuple;
-pub use plain::parse_key_line;
 pub use print::{print_public, print_tuple};
 pub use tuple::Tuple;

@@ -13,8 +13,9 @@ use wire_base::{NoMemory, Text};
 
 pub(crate) const MOST_ATTRIBUTES: usize = 36;
 
-/// At most 36 attributes in order, as one line of text can give them.
-#[derive(Debug, Drop)]
+/// At most 36 attributes in order, as one line of text can give them. It has no Debug, which would print their
+/// secrets.
+#[derive(Drop)]
 pub struct Tuple {
     list: Vec<Attr>,
 }

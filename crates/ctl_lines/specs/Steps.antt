@@ -1,6 +1,6 @@
 -- A write of ctl in two steps: what its lines say, up to the first that can't be read, and then the edits that they
 -- say. No public contract cites this.
-use Rattle.std.specs.Prelude.{ℕ, ◌+◌, List, [], ◌∷◌, Bool, ◌==◌, nat_lt, length, filter, Option, Some, None, Result, Ok, Err}
+use Rattle.std.specs.Prelude.{ℕ, ◌+◌, List, [], ◌∷◌, ◌==◌, nat_lt, length, filter, Option, Some, None, Result, Ok, Err}
 use Rattle.std.specs.Borrow.{Bor}
 use Rattle.std.specs.List.{slice_split}
 use Rattle.key_lists.specs.Edits.{KeyEdit}

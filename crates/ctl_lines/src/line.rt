@@ -12,8 +12,8 @@ use wire_base::NoMemory;
 
 const MOST_ATTRIBUTES: usize = 32;
 
-/// What a line says.
-#[derive(Debug, Drop)]
+/// What a line says. It has no Debug, which would print the secrets of its key.
+#[derive(Drop)]
 pub enum Said {
     /// An edit of the keys.
     OnKeys(Edit),

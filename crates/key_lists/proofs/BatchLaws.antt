@@ -1,10 +1,10 @@
 -- Several edits at once.
-use Rattle.std.proofs.Common.{◌≡◌, ◌⊎◌, ℕ, ◌+◌, ◌<◌, ◌≤◌, List, [], ◌∷◌, ◌++◌, Bool, true, false, length, map, Option, Some, None, refl, sym, ap, ◌∙◌, inl, inr, arith}
+use Rattle.std.proofs.Common.{◌≡◌, ◌⊎◌, ◌+◌, ◌≤◌, List, [], ◌∷◌, ◌++◌, length, map, Option, Some, None, refl, sym, ap, ◌∙◌, inl, inr, arith}
 use Rattle.std.specs.List.{filter}
 use Rattle.key_lists.specs.declared.edit.Edit.{Edit}
 use Rattle.key_lists.specs.declared.edit.Edit.TheVariants as e
 use Rattle.key_lists.specs.declared.edit.EditFault.{EditFault}
-use Rattle.key_lists.specs.Lists.{KeyList, added, deleted}
+use Rattle.key_lists.specs.Lists.{KeyList}
 use Rattle.key_lists.specs.Edits.{KeyEdit, Add, Delete, IsOrdered, additions}
 use Rattle.key_lists.specs.Batches.{adds, edit_of, edit_fault, edited, after_edits, edits_fault}
 use Rattle.key_lists.proofs.OrderLaws.{ordered_added, ordered_deleted}

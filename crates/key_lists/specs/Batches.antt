@@ -2,7 +2,6 @@
 -- is refused, and those before it stand. After factotum(4) of the Plan 9 manual, where a write of ctl is lines that are
 -- carried out one by one.
 use Rattle.std.specs.Prelude.{List, [], ◌∷◌, Bool, true, false, Option, Some, None, option_map}
-use Rattle.attr_tuples.specs.declared.attr.Attr.{Attr}
 use Rattle.key_lists.specs.declared.edit.Edit.{Edit}
 use Rattle.key_lists.specs.declared.edit.Edit.TheVariants as e
 use Rattle.key_lists.specs.declared.edit.EditFault.{EditFault}

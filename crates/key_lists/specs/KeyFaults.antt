@@ -1,16 +1,15 @@
 -- Which tuples are keys. After factotum(4) of the Plan 9 manual: a key names its protocol, its user, for p9sk1 its
 -- domain too, and a secret; the protocols, the lengths of names (those of authsrv(6)'s fields without their NUL) and
 -- the order of the rules are this project's.
-use Rattle.std.specs.Prelude.{ℕ, List, [], ◌∷◌, Bool, true, false, not, ◌&&◌, ◌||◌, ◌==◌, nat_le, length, find, codes, Option, Some, None, if◌then◌else◌}
+use Rattle.std.specs.Prelude.{ℕ, List, [], ◌∷◌, Bool, true, false, not, ◌&&◌, ◌||◌, ◌==◌, nat_le, length, find, codes, Option, Some, None}
 use Rattle.std.specs.List.{list_all, list_any}
 use Rattle.std.specs.Str.{bytes_eq}
 use Rattle.wire_base.specs.Rules.{Rule, first_told}
 use Rattle.attr_tuples.specs.declared.attr.Attr.{Attr}
 use Rattle.attr_tuples.specs.declared.attr.Value.{Value}
 use Rattle.attr_tuples.specs.declared.attr.Value.TheVariants.{Is, Ask, Bare}
-use Rattle.attr_tuples.specs.Attributes.{is_named}
+use Rattle.attr_tuples.specs.Attributes.{is_named, is_named_once, is_given}
 use Rattle.attr_tuples.specs.Matching.{has_name}
-use Rattle.attr_tuples.specs.PlainKeys.{is_named_once, is_given}
 use Rattle.key_lists.specs.declared.fault.AddFault.{AddFault}
 use Rattle.key_lists.specs.declared.fault.AddFault.TheVariants.{AskInKey, NoProto, UnknownProto, NoUser, NoDom, BadName, NoSecret, BadHex}
 

@@ -5,8 +5,7 @@ use Rattle.std.specs.Prelude.{ℕ, ◌+◌, List, [], ◌∷◌, ◌++◌, Bool,
 use Rattle.std.specs.List.{list_any, after_first}
 use Rattle.std.specs.Str.{bytes_eq}
 use Rattle.attr_tuples.specs.declared.attr.Attr.{Attr}
-use Rattle.attr_tuples.specs.Attributes.{is_secret}
-use Rattle.attr_tuples.specs.PlainKeys.{is_given}
+use Rattle.attr_tuples.specs.Attributes.{is_secret, is_given}
 use Rattle.attr_tuples.specs.Equality.{public_equal}
 use Rattle.attr_tuples.specs.Matching.{has_name, matches}
 use Rattle.key_lists.specs.declared.fault.AddFault.{AddFault}

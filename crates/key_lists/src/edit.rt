@@ -9,8 +9,8 @@ use std::alloc::Global;
 use std::marker::Model;
 use wire_base::NoMemory;
 
-/// An edit of a list of keys.
-#[derive(Debug, Drop)]
+/// An edit of a list of keys. It has no Debug, which would print their secrets.
+#[derive(Drop)]
 pub enum Edit {
     /// Adds the key.
     Add(Tuple),
@@ -27,8 +27,8 @@ pub enum EditFault {
     Delete(DeleteFault),
 }
 
-/// Edits, in the order in which they are to be carried out.
-#[derive(Debug, Drop)]
+/// Edits, in the order in which they are to be carried out. They have no Debug, which would print secrets.
+#[derive(Drop)]
 pub struct EditList {
     list: Vec<Edit>,
 }

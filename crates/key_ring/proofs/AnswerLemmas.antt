@@ -1,5 +1,5 @@
 -- What adding and deleting answer.
-use Rattle.std.proofs.Common.{◌≡◌, ℕ, ◌+◌, List, [], ◌∷◌, ◌++◌, Bool, true, false, cond, not, length, Result, Ok, Err, Option, Some, None, refl, sym, ap, subst, ◌∙◌, inl, inr, arith}
+use Rattle.std.proofs.Common.{◌≡◌, ℕ, ◌+◌, List, [], ◌∷◌, ◌++◌, Bool, true, false, cond, not, Result, Ok, Err, Option, Some, None, refl, sym, ap, subst, ◌∙◌, inl, inr}
 use Rattle.std.specs.Prelude.{IfSome, IfErr, MatchOption}
 use Rattle.std.specs.List.{filter, list_any}
 use Rattle.std.proofs.lemmas.Bool.{cases_Bool, ne_eqb}
@@ -12,7 +12,7 @@ use Rattle.key_lists.specs.declared.fault.DeleteFault.{DeleteFault}
 use Rattle.key_lists.specs.declared.fault.DeleteFault.TheVariants.{SecretValue, NoneMatched}
 use Rattle.wire_base.specs.Rules.{Rule, first_told}
 use Rattle.key_lists.specs.KeyFaults.{key_rules, key_fault}
-use Rattle.key_lists.specs.Lists.{KeyEntry, KeyList, is_full, add_fault, added, next_entry, tells_secret, matching, delete_fault, deleted}
+use Rattle.key_lists.specs.Lists.{KeyEntry, KeyList, is_full, add_fault, next_entry, tells_secret, matching, delete_fault}
 use Rattle.key_lists.specs.Edits.{IsOrdered}
 use Rattle.key_lists.proofs.OrderLaws.{ordered_added, ordered_deleted, nothing_deleted}
 

@@ -1,16 +1,14 @@
--- What the digits of a key spell.
-use Rattle.std.proofs.Common.{◌≡◌, ℕ, ◌*◌, List, [], ◌∷◌, Bool, true, false, cond, ◌&&◌, ◌||◌, eqb, leb, length, Result, Ok, Err, Option, Some, None, refl, sym, ap, subst, ◌∙◌, inl, inr, arith}
+-- Which texts are the digits of a key.
+use Rattle.std.proofs.Common.{◌≡◌, ℕ, ◌*◌, List, [], ◌∷◌, Bool, true, false, cond, ◌&&◌, ◌||◌, eqb, leb, length, Result, Ok, Err, Some, None, refl, sym, ap, subst, ◌∙◌, inl, inr}
 use Rattle.std.specs.List.{AllPass, list_all}
-use Rattle.std.specs.Prelude.{is_some, is_ok, IsOk, MatchResult}
-use Rattle.std.specs.Result.{result_unwrap_or}
-use Rattle.std.proofs.lemmas.Bool.{cases_Bool, and_parts, and_from, eqb-true, eq-eqb, both_ways}
+use Rattle.std.specs.Prelude.{is_some, IsOk, MatchResult}
+use Rattle.std.proofs.lemmas.Bool.{cases_Bool, and_parts, and_from, eqb-true, eq-eqb}
 use Rattle.std.proofs.lemmas.List.Sums.{AllPass-from_list_all, list_all-from_AllPass}
-use Rattle.hex.specs.Hex.{decode_of, decode_sized, decode_pairs, hex_digit_value}
+use Rattle.hex.specs.Hex.{decode_sized}
 use Rattle.hex.specs.Hex.{is_hex_digit as is_digit}
 use Rattle.hex.specs.declared.error.FromHexError.{FromHexError}
-use Rattle.hex.proofs.HexLemmas.{IsOk-decode_sized, IsOk-written, decode_sized-twice, decode_sized-ok}
+use Rattle.hex.proofs.HexLemmas.{IsOk-decode_sized, IsOk-written}
 use Rattle.key_lists.specs.KeyFaults.{is_hex_digit, is_hex_key}
-use Rattle.key_ring.specs.DesKeys.{spelled}
 
 some_of_three : (p q r : Bool) (x y z : ℕ) → (r || (p || q)) ≡ is_some (cond p (Some x) (cond q (Some y) (cond r (Some z) None)))
 some_of_three true true true x y z = refl
@@ -45,15 +43,3 @@ refused_key text out answer e match err = elim (cases_Bool (is_hex_key text)) [
       let bad : IsOk refused = subst (λ (r : Result (Unit {0}) FromHexError). IsOk r) err ok in cc bad)
   | inr f ↦ f
 ]
-
--- what a text that is a key decodes to is what it spells
-pub key_spelled : (text out : List ℕ) (answer : Result (Unit {0}) FromHexError) → MatchResult (decode_sized text 7) (λ bytes. (answer ≡ Ok tt) × (out ≡ bytes)) (λ e. answer ≡ Err e) → IsOk answer → out ≡ spelled text
-key_spelled text out answer match ok =
-    let parts = (IsOk-decode_sized text 7).0 ((IsOk-written (decode_sized text 7) answer out match).0 ok) in
-    ap (λ (r : Result (List ℕ) FromHexError). result_unwrap_or r []) (sym (decoded (decode_sized text 7) answer out match ok)) ∙ ap (λ (r : Result (List ℕ) FromHexError). result_unwrap_or r []) (decode_sized-twice text 7 parts.0)
-  where
-    decoded : (d : Result (List ℕ) FromHexError) (answer : Result (Unit {0}) FromHexError) (out : List ℕ) → MatchResult d (λ bytes. (answer ≡ Ok tt) × (out ≡ bytes)) (λ e. answer ≡ Err e) → IsOk answer → d ≡ Ok out
-    decoded (Ok bytes) answer out match ok = ap Ok (sym match.1)
-    decoded (Err e) answer out match ok =
-        let refused : Result (Unit {0}) FromHexError = Err e in
-        let bad : IsOk refused = subst (λ (r : Result (Unit {0}) FromHexError). IsOk r) match ok in absurd cc

@@ -3,21 +3,20 @@ use Rattle.std.proofs.Common.{◌≡◌, ℕ, List, [], ◌∷◌, Bool, true, f
 use Rattle.std.specs.Borrow.{Bor}
 use Rattle.std.specs.Prelude.{is_some, find, option_map, unwrap_or, IsSome, IfSome}
 use Rattle.wire_base.specs.declared.text.Text.{Text}
-use Rattle.std.specs.List.{filter, list_any, list_all, slice_get, cons_option}
+use Rattle.std.specs.List.{filter, list_all, slice_get, cons_option}
 use Rattle.std.proofs.lemmas.Bool.{cases_Bool, and_parts, and_from, or_cases, or_parts, eqb-true, not-true, not-false, not_from_false}
 use Rattle.std.proofs.lemmas.List.Sums.{AllPass-from_list_all}
 use Rattle.attr_tuples.specs.declared.attr.Attr.{Attr}
 use Rattle.attr_tuples.specs.declared.attr.Value.{Value}
 use Rattle.attr_tuples.specs.declared.attr.Value.TheVariants.{Is, Ask, Bare}
-use Rattle.attr_tuples.specs.Attributes.{is_named}
+use Rattle.attr_tuples.specs.Attributes.{is_named, is_named_once, is_given}
 use Rattle.attr_tuples.specs.Matching.{has_name, value_of, texts_of, given_text}
-use Rattle.attr_tuples.specs.PlainKeys.{is_given, is_named_once}
 use Rattle.seal_mode.specs.Passwords.{password_key}
 use Rattle.key_lists.specs.declared.fault.AddFault.{AddFault}
 use Rattle.key_lists.specs.declared.fault.AddFault.TheVariants.{AskInKey}
 use Rattle.key_ring.specs.DesKeys.{hex_of, spelled, digits_or_password, des_key}
 use Rattle.wire_base.specs.Rules.{Rule, first_told}
-use Rattle.key_lists.specs.KeyFaults.{key_rules, key_fault, gives, gives_once, is_any, is_asked, is_protocol, is_user, is_dom, is_p9sk1, is_hex_key, is_bad_hex, has_bad_name, has_secret}
+use Rattle.key_lists.specs.KeyFaults.{key_rules, key_fault, gives, gives_once, is_any, is_user, is_dom, is_p9sk1, is_hex_key, is_bad_hex, has_bad_name, has_secret}
 
 -- ---- the value of a name
 

@@ -41,10 +41,6 @@ pub seen_keys : (dom_in : KeyEntry → Option (List ℕ)) (dom : List ℕ) (keys
 seen_keys dom_in dom [] = refl
 seen_keys dom_in dom (key ∷ keys) = seen_step dom (dom_in key) (list_any (λ key. is_this dom (dom_in key)) keys) (filter_map dom_in keys) (seen_keys dom_in dom keys)
 
-pub no_new : (others : List (List ℕ)) (found : Option (List ℕ)) → None ≡ found → None ≡ unless_seen others found
-no_new others None e = refl
-no_new others (Some dom) e = absurd cc
-
 pub seen_is_no_new : (others : List (List ℕ)) (found : Option (List ℕ)) (dom : List ℕ) → Some dom ≡ found → was_seen dom others ≡ true → None ≡ unless_seen others found
 seen_is_no_new others found dom e seen = let first : None ≡ unless_seen others (Some dom) = rw seen refl in first ∙ ap (unless_seen others) e
 

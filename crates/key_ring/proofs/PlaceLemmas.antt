@@ -1,7 +1,7 @@
 -- Keys that are dropped, and places of keys.
-use Rattle.std.proofs.Common.{◌≡◌, ℕ, zero, suc, ◌+◌, ◌<◌, ◌≤◌, List, [], ◌∷◌, ◌++◌, Bool, true, false, cond, ◌&&◌, leb, not, length, get_or, take, drop, Option, Some, None, refl, sym, ap, ◌∙◌, inl, inr, arith}
+use Rattle.std.proofs.Common.{◌≡◌, ℕ, zero, suc, ◌+◌, ◌<◌, ◌≤◌, List, [], ◌∷◌, Bool, true, false, ◌&&◌, leb, not, length, get_or, drop, Some, None, refl, sym, ap, ◌∙◌, inl, inr, arith}
 use Rattle.std.specs.List.{filter, remove, AllPairs, list_any, position, position_or_len, after_first}
-use Rattle.std.proofs.lemmas.Bool.{cases_Bool, cases_lt, and_from, not_from_false, le-leb, lt-leb, lt-ltb, le-ltb}
+use Rattle.std.proofs.lemmas.Bool.{cases_Bool, cases_lt, and_from, not_from_false, le-leb, lt-ltb, le-ltb}
 use Rattle.std.proofs.lemmas.List.{drop_all}
 use Rattle.std.proofs.lemmas.List.Folds.{list_any_none, list_any_at}
 use Rattle.std.proofs.lemmas.List.Sums.{fails_before_first}
@@ -9,7 +9,7 @@ use Rattle.std.proofs.lemmas.List.Quantifiers.{position-Some}
 use Rattle.attr_tuples.specs.declared.attr.Attr.{Attr}
 use Rattle.attr_tuples.specs.Equality.{public_equal}
 use Rattle.attr_tuples.proofs.EqualityLemmas.{counts_from_equal, equal_from_counts}
-use Rattle.key_lists.specs.Lists.{KeyEntry, KeyList, is_full}
+use Rattle.key_lists.specs.Lists.{KeyEntry, is_full}
 
 -- a list whose elements all pass is kept
 kept_whole : {X : Type 0} (p : X → Bool) (xs : List X) → ((k : ℕ) (d : X) → k < length xs → p (get_or xs k d) ≡ true) → filter p xs ≡ xs
@@ -73,9 +73,6 @@ none_dropped key keys e = kept_whole (λ old. not (is_same key old)) keys (λ k 
 
 pub full_with_none : (key : List Attr) (keys : List KeyEntry) → position (is_same key) keys ≡ None → 1024 ≤ length keys → is_full key keys ≡ true
 full_with_none key keys e le = and_from _ _ (le-leb 1024 (length keys) le) (not_from_false _ (none_at (is_same key) keys e))
-
-pub room_for_one : (key : List Attr) (keys : List KeyEntry) → length keys < 1024 → is_full key keys ≡ false
-room_for_one key keys lt = rw (lt-leb 1024 (length keys) lt) refl
 
 pub room_of_same : (key : List Attr) (keys : List KeyEntry) (at : ℕ) → position (is_same key) keys ≡ Some at → is_full key keys ≡ false
 room_of_same key keys at e =

@@ -2,9 +2,8 @@
 ghost use Rattle.std.specs.Prelude.{◌≡◌, ◌&&◌, not, codes, filter, find, length, option_copied};
 ghost use Rattle.std.specs.List.{list_all, list_any};
 ghost use Rattle.std.specs.Str.{bytes_eq};
-ghost use Rattle.attr_tuples.specs.Attributes.{is_named};
+ghost use Rattle.attr_tuples.specs.Attributes.{is_named, is_named_once, is_given};
 ghost use Rattle.attr_tuples.specs.Matching.{has_name};
-ghost use Rattle.attr_tuples.specs.PlainKeys.{is_given, is_named_once};
 ghost use Rattle.key_lists.specs.KeyFaults.{key_fault, is_asked, gives, gives_once, is_any, is_protocol, is_above_blank, is_dom_byte, is_user, is_dom, is_hex_key, is_p9sk1, has_secret, is_bad_hex, has_bad_name};
 ghost use Rattle.key_lists.specs.Lists.{tells_secret};
 

@@ -1,5 +1,5 @@
 use Rattle.std.proofs.Common.{◌==◌}
-use Rattle.attr_tuples.proofs.PlainLemmas.{split_found, split_missing}
+use Rattle.ctl_lines.proofs.CutLemmas.{split_found, split_missing}
 use Rattle.ctl_lines.proofs.write.cut_line.Goals as goal
 
 pub returns-in-Some-clause-lines : goal.returns-in-Some-clause-lines

@@ -1,4 +1,4 @@
-use Rattle.std.proofs.Common.{◌≡◌, ℕ, ◌+◌, ◌≤◌, ◌++◌, length}
+use Rattle.std.proofs.Common.{◌≡◌, ◌+◌, ◌≤◌, ◌++◌, length}
 use Rattle.agent_history.specs.Lines.{lines_of}
 use Rattle.ctl_lines.specs.Steps.{bytes_left, edits_in, kept, lines_left, turns_left, unread}
 use Rattle.ctl_lines.proofs.write.read_lines.Given as goal

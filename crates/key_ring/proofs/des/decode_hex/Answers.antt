@@ -1,6 +1,6 @@
-use Rattle.std.proofs.Common.{sym, ap, refl, ◌∙◌}
+use Rattle.std.proofs.Common.{sym, ap}
 use Rattle.std.specs.Result.{is_ok}
-use Rattle.key_ring.proofs.HexLemmas.{found_key, refused_key, key_spelled}
+use Rattle.key_ring.proofs.HexLemmas.{found_key, refused_key}
 use Rattle.key_ring.proofs.des.decode_hex.Goals as goal
 
 pub returns-in-Ok-clause-exactly : goal.returns-in-Ok-clause-exactly

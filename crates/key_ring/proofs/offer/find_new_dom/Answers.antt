@@ -1,5 +1,5 @@
 use Rattle.std.proofs.Common.{sym, ◌∙◌}
-use Rattle.key_lists.specs.Listing.{dom_of, doms_of}
+use Rattle.key_lists.specs.Listing.{dom_of}
 use Rattle.key_ring.proofs.OfferLemmas.{seen_keys, seen_is_no_new, unseen_is_new}
 use Rattle.key_ring.proofs.offer.find_new_dom.Goals as goal
 
