@@ -49,9 +49,13 @@ end_of input = length (concat (frames_in input))
 abbrev pub HasNoBadSize : List ℕ → Type 0
 HasNoBadSize input = front most_frame (drop (end_of input) input) ≡ IsShort
 
--- The text of an input that is whole frames and nothing else: their lines.
+-- the input is whole frames, one behind the other, and nothing else
+abbrev pub IsWhole : List ℕ → Type 0
+IsWhole input = input ≡ concat (frames_in input)
+
+-- The text of such an input: the lines of its frames.
 pub record IsWholeText (input text : List ℕ) : Type 0 where
-  pub whole : input ≡ concat (frames_in input)
+  pub whole : IsWhole input
   pub lines : text ≡ lines_of (frames_in input)
 
 -- Of one with a size that no frame has behind its whole frames: their lines, and the line of that size.

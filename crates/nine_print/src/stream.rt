@@ -1,7 +1,7 @@
 // A stream of frames of both directions, shown line by line: a piece of the input is read, the lines of the frames that
 // are whole with it are written, and then the next piece is read.
-ghost use Rattle.std.specs.Prelude.{◌≡◌, ◌++◌, ◌+◌, ◌<◌, ◌≤◌, ◌∷◌, [], List, ℕ, Option, true, false, length, OnOk, OnErr, IfOk, IfErr};
-ghost use Rattle.std.specs.Io.KnownBytes.{Consumes, IsAtEnd};
+ghost use Rattle.std.specs.Prelude.{◌≡◌, ◌++◌, ◌+◌, ◌<◌, ◌≤◌, ◌∷◌, [], List, ℕ, Option, Some, true, false, length, ◌⊎◌, OnOk, OnErr, IfOk, IfErr};
+ghost use Rattle.std.specs.Io.KnownBytes.{IsAtEnd};
 ghost use Rattle.wire_base.specs.Causes.{Rose};
 ghost use Rattle.wire_base.specs.Streams.{Gains};
 ghost use Rattle.wire_base.specs.Whole.{GainsFront};
@@ -9,7 +9,7 @@ ghost use Rattle.nine_codec.specs.Encoded.{Extends};
 ghost use Rattle.nine_print.specs.Values.{number_text};
 ghost use Rattle.nine_print.specs.Lines.{bad_size_line, torn_line};
 ghost use Rattle.nine_print.specs.declared.stream.ShowEnd.TheVariants.{NoMemory};
-ghost use Rattle.nine_print.specs.Shown.{end_number, most_input, Shows};
+ghost use Rattle.nine_print.specs.Shown.{end_number, most_input, IsWhole, Shows};
 ghost use Rattle.nine_print.specs.Showing.{Handed, AllHanded, StopsAt, CutsAt, Told, Shown, taken_by};
 
 use crate::line::put_line;
@@ -252,25 +252,6 @@ fn end<W: Sink>(showing: &mut Showing, output: &mut W) -> Result<(), ShowEnd>
     Err(ShowEnd::Torn)
 }
 
-// Shows the input to its end.
-fn show_pieces<R: Source, W: Sink>(
-    showing: &mut Showing,
-    input: &mut R,
-    output: &mut W,
-) -> Result<(), ShowEnd>
-    requires few { taken_by showing.old ≤ most_input }
-    ensures ok { OnOk result ((first origin : Option (List ℕ)) → Shown first (R.left input.old) origin (W.holds output.old) showing.old → Shows ShowEnd.Fine first (R.left input.new) origin (W.holds output.new)) }
-    ensures err { IfErr result (λ end. (first origin : Option (List ℕ)) → Shown first (R.left input.old) origin (W.holds output.old) showing.old → Shows end first (R.left input.new) origin (W.holds output.new)) }
-    ensures read_fault { IfErr result (λ end. end ≡ ShowEnd.ReadFault → Rose (R.faults input.old) (R.faults input.new)) }
-    ensures write_fault { IfErr result (λ end. end ≡ ShowEnd.WriteFault → Rose (W.faults output.old) (W.faults output.new)) }
-    ensures counted_reads { R.faults input.old ≤ R.faults input.new }
-    ensures counted_writes { W.faults output.old ≤ W.faults output.new }
-{
-    let mut piece = [0u8; PIECE];
-    while show_next(showing, &mut piece, input, output)? {}
-    end(showing, output)
-}
-
 // Before the first read.
 fn begin(alloc: Global) -> Showing
     ensures begun { (first origin : Option (List ℕ)) → Shown first first origin origin result }
@@ -281,6 +262,25 @@ fn begin(alloc: Global) -> Showing
         framer: Framer::new(alloc, MOST_FRAME),
         lines: Bytes::new(alloc),
     }
+}
+
+// Shows the input to its end.
+fn show_input<R: Source, W: Sink>(
+    alloc: Global,
+    input: &mut R,
+    output: &mut W,
+) -> Result<(), ShowEnd>
+    ensures ok { OnOk result (Shows ShowEnd.Fine (R.left input.old) (R.left input.new) (W.holds output.old) (W.holds output.new)) }
+    ensures err { IfErr result (λ end. Shows end (R.left input.old) (R.left input.new) (W.holds output.old) (W.holds output.new)) }
+    ensures read_fault { IfErr result (λ end. end ≡ ShowEnd.ReadFault → Rose (R.faults input.old) (R.faults input.new)) }
+    ensures write_fault { IfErr result (λ end. end ≡ ShowEnd.WriteFault → Rose (W.faults output.old) (W.faults output.new)) }
+    ensures counted_reads { R.faults input.old ≤ R.faults input.new }
+    ensures counted_writes { W.faults output.old ≤ W.faults output.new }
+{
+    let mut showing = begin(alloc);
+    let mut piece = [0u8; PIECE];
+    while show_next(&mut showing, &mut piece, input, output)? {}
+    end(&mut showing, output)
 }
 
 /// Reads a stream of frames to its end or to the first bad size, and writes the line of each.
@@ -295,9 +295,12 @@ pub fn show<R: Source, W: Sink>(alloc: Global, input: &mut R, output: &mut W) ->
     ensures write_fault { result ≡ ShowEnd.WriteFault → Rose (W.faults output.old) (W.faults output.new) }
     ensures counted_reads { R.faults input.old ≤ R.faults input.new }
     ensures counted_writes { W.faults output.old ≤ W.faults output.new }
+
+    // What is told, valid and without faults is shown to its end, unless memory runs out.
+    ensures complete { (content : List ℕ) → R.left input.old ≡ Some content → IsWhole content → length content ≤ most_input
+        → (Rose (R.faults input.old) (R.faults input.new) → ⊥) → (Rose (W.faults output.old) (W.faults output.new) → ⊥) → (result ≡ ShowEnd.Fine) ⊎ (result ≡ ShowEnd.NoMemory) }
 {
-    let mut showing = begin(alloc);
-    match show_pieces(&mut showing, input, output) {
+    match show_input(alloc, input, output) {
         Ok(()) => ShowEnd::Fine,
         Err(end) => end,
     }
