@@ -1,2 +1,4 @@
 pub mod PieceLaws
 pub mod SecretLaws
+pub mod ShowLaws
+pub mod WholeLaws

@@ -1,2 +1,4 @@
 pub mod Values
 pub mod Lines
+pub mod Shown
+pub mod Showing

@@ -1,7 +1,7 @@
 -- The values of a message as text of one line, in the manner of Plan 9's fcall format (fcall(2)): numbers in decimal, a
 -- qid as path, version and type, bytes as text where all are printable, else as hexadecimal digits. All of it is
 -- printable ASCII. Of a content nothing is shown behind the `=` of what may be a secret attribute.
-use Rattle.std.specs.Prelude.{ℕ, ◌+◌, List, [], ◌∷◌, ◌++◌, length, take, Bool, true, false, not, ◌&&◌, ◌||◌, ◌==◌, nat_le, nat_lt, bit_and, codes, if◌then◌else◌}
+use Rattle.std.specs.Prelude.{ℕ, List, [], ◌∷◌, ◌++◌, length, take, Bool, false, not, ◌&&◌, ◌||◌, ◌==◌, nat_le, nat_lt, bit_and, codes, if◌then◌else◌}
 use Rattle.std.specs.List.{flat_map, list_all}
 use Rattle.std.specs.Int.{w32, w64, to_be_bytes}
 use Rattle.std.specs.Fmt.{decimal}

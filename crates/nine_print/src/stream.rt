@@ -1,8 +1,16 @@
-// A stream of frames of both directions, shown line by line.
-ghost use Rattle.std.specs.Prelude.{◌≡◌, ◌++◌, ◌∷◌, [], OnOk, OnErr, IfOk};
+// A stream of frames of both directions, shown line by line: a piece of the input is read, the lines of the frames that
+// are whole with it are written, and then the next piece is read.
+ghost use Rattle.std.specs.Prelude.{◌≡◌, ◌++◌, ◌+◌, ◌<◌, ◌≤◌, ◌∷◌, [], List, ℕ, Option, Some, true, false, length, ◌⊎◌, OnOk, OnErr, IfOk, IfErr};
+ghost use Rattle.std.specs.Io.KnownBytes.{IsAtEnd};
+ghost use Rattle.wire_base.specs.Causes.{Rose};
+ghost use Rattle.wire_base.specs.Streams.{Gains};
+ghost use Rattle.wire_base.specs.Whole.{GainsFront};
 ghost use Rattle.nine_codec.specs.Encoded.{Extends};
 ghost use Rattle.nine_print.specs.Values.{number_text};
 ghost use Rattle.nine_print.specs.Lines.{bad_size_line, torn_line};
+ghost use Rattle.nine_print.specs.declared.stream.ShowEnd.TheVariants.{NoMemory};
+ghost use Rattle.nine_print.specs.Shown.{end_number, most_input, IsWhole, Shows};
+ghost use Rattle.nine_print.specs.Showing.{Handed, AllHanded, StopsAt, CutsAt, Told, Shown, taken_by};
 
 use crate::line::put_line;
 use crate::value::put_number;
@@ -11,12 +19,13 @@ use nine_messages::{Bytes, NoMemory};
 use std::alloc::Global;
 use wire_base::{Got, Sink, Source, write_all};
 
-// The largest frame that is looked for.
-const MOST_SIZE: u32 = 0x0100_0000;
+/// The greatest size of a frame.
+const MOST_FRAME: u32 = 1 << 24;
 
-// A stream of more bytes isn't shown to its end.
-const MOST_BYTES: u64 = 1 << 60;
+/// How many bytes of input are shown.
+const MOST_INPUT: usize = 1 << 60;
 
+/// How many bytes one read asks for.
 const PIECE: usize = 8192;
 
 /// How a stream that was shown ended.
@@ -38,9 +47,19 @@ pub enum ShowEnd {
     Flood,
 }
 
+impl From<NoMemory> for ShowEnd {
+    ghost from_gives = { λ _ end. end ≡ NoMemory };
+
+    fn from(_: NoMemory) -> Self {
+        ShowEnd::NoMemory
+    }
+}
+
 impl ShowEnd {
     /// The number that the process ends with.
-    pub fn number(self) -> u8 {
+    pub fn number(self) -> u8
+        ensures { result ≡ end_number self }
+    {
         match self {
             ShowEnd::Fine => 0,
             ShowEnd::ReadFault => 2,
@@ -54,13 +73,26 @@ impl ShowEnd {
 }
 
 #[tactic(auto, unfolding(crate::specs::Lines::bad_size_line))]
-fn put_bad_size(alloc: Global, at: u64, size: u32, out: &mut Bytes) -> Result<(), NoMemory>
+fn append_bad_size(alloc: Global, at: u64, size: u32, out: &mut Bytes) -> Result<(), NoMemory>
     ensures ok { OnOk result (out.new ≡ out.old ++ bad_size_line at size) }
     ensures err { OnErr result (Extends out.old out.new) }
 {
     put_number(alloc, b"bad size ", size as u64, out)?;
     put_number(alloc, b" at ", at, out)?;
     out.push(b'\n')
+}
+
+// Appends the line of a bad size, or nothing.
+fn put_bad_size(alloc: Global, at: u64, size: u32, out: &mut Bytes) -> Result<(), NoMemory>
+    ensures ok { OnOk result (out.new ≡ out.old ++ bad_size_line at size) }
+    ensures err { OnErr result (out.new ≡ out.old) }
+{
+    let before = out.len();
+    let done = append_bad_size(alloc, at, size, out);
+    if done.is_err() {
+        out.truncate(before);
+    }
+    done
 }
 
 #[tactic(auto, unfolding(crate::specs::Lines::torn_line))]
@@ -73,105 +105,203 @@ fn put_torn(alloc: Global, at: u64, held: usize, out: &mut Bytes) -> Result<(), 
     out.push(b'\n')
 }
 
-// What is done after a frame was asked for.
-#[derive(Clone, Copy, PartialEq, Eq)]
-enum Then {
-    // Another frame may be there.
-    Another,
-    // More of the stream is needed.
-    More,
-    // Nothing behind a bad size is shown.
-    Stop,
+// The bytes that aren't shown yet, and the lines that aren't written yet.
+#[derive(Drop)]
+struct Showing {
+    alloc: Global,
+    framer: Framer,
+    lines: Bytes,
 }
 
-// Appends the line of the next frame, where it is whole.
-fn show_one(alloc: Global, framer: &mut Framer, lines: &mut Bytes) -> Result<Then, NoMemory> {
-    let at = framer.place();
-    match framer.next()? {
+// How many bytes of the input were taken.
+fn taken_by(showing: &Showing) -> usize
+    requires { taken_by showing.now ≤ most_input }
+    ensures { result ≡ taken_by showing.now }
+{
+    showing.framer.place() as usize + showing.framer.held()
+}
+
+// Appends the line of the next frame, where it is whole. Whether it is.
+fn show_frame(showing: &mut Showing) -> Result<bool, ShowEnd>
+    ensures more { OnOk result ((so_far stream : List ℕ) (handed : List (List ℕ)) → Handed so_far stream handed showing.old.framer showing.old.lines → (all : List (List ℕ)) × Handed so_far stream all showing.new.framer showing.new.lines) }
+    ensures all { IfOk result (λ more. more ≡ false → (so_far stream : List ℕ) (handed : List (List ℕ)) → Handed so_far stream handed showing.old.framer showing.old.lines → AllHanded so_far stream showing.new.framer showing.new.lines) }
+    ensures err { IfErr result (λ end. (so_far stream : List ℕ) (handed : List (List ℕ)) → Handed so_far stream handed showing.old.framer showing.old.lines → StopsAt end stream (so_far ++ showing.new.lines)) }
+    ensures which { IfErr result (λ end. (end ≡ ShowEnd.ReadFault → ⊥) × (end ≡ ShowEnd.WriteFault → ⊥)) }
+    ensures fed { OnOk result (taken_by showing.new ≡ taken_by showing.old) }
+    ensures fewer { IfOk result (λ more. more ≡ true → length showing.new.framer.held < length showing.old.framer.held) }
+{
+    let at = showing.framer.place();
+    match showing.framer.next()? {
         Next::Whole(frame) => {
-            put_line(alloc, at, frame.as_slice(), lines)?;
-            Ok(Then::Another)
+            put_line(showing.alloc, at, frame.as_slice(), &mut showing.lines)?;
+            Ok(true)
         }
-        Next::NotYet => Ok(Then::More),
+        Next::NotYet => Ok(false),
         Next::BadSize { at, size } => {
-            put_bad_size(alloc, at, size, lines)?;
-            Ok(Then::Stop)
+            put_bad_size(showing.alloc, at, size, &mut showing.lines)?;
+            Err(ShowEnd::BadSize)
         }
     }
 }
 
 // Appends the lines of all frames that are whole.
-fn show_frames(alloc: Global, framer: &mut Framer, lines: &mut Bytes) -> Result<Then, NoMemory> {
-    // Each frame is some of the bytes held, so there are no more of them.
-    for _ in 0..framer.held() {
-        let then = show_one(alloc, framer, lines)?;
-        if then != Then::Another {
-            return Ok(then);
-        }
-    }
-    Ok(Then::More)
+fn show_frames(showing: &mut Showing) -> Result<(), ShowEnd>
+    ensures ok { OnOk result ((so_far stream : List ℕ) (handed : List (List ℕ)) → Handed so_far stream handed showing.old.framer showing.old.lines → AllHanded so_far stream showing.new.framer showing.new.lines) }
+    ensures err { IfErr result (λ end. (so_far stream : List ℕ) (handed : List (List ℕ)) → Handed so_far stream handed showing.old.framer showing.old.lines → StopsAt end stream (so_far ++ showing.new.lines)) }
+    ensures which { IfErr result (λ end. (end ≡ ShowEnd.ReadFault → ⊥) × (end ≡ ShowEnd.WriteFault → ⊥)) }
+    ensures fed { OnOk result (taken_by showing.new ≡ taken_by showing.old) }
+{
+    while show_frame(showing)? {}
+    Ok(())
 }
 
-// Appends the lines of all frames that are whole with this piece.
-fn show_piece(
-    alloc: Global,
-    framer: &mut Framer,
-    piece: &[u8],
-    lines: &mut Bytes,
-) -> Result<Option<ShowEnd>, NoMemory> {
-    let small = piece.len() as u64 <= MOST_BYTES
-        && framer.held() as u64 <= MOST_BYTES
-        && framer.place() <= MOST_BYTES;
-    if !small {
-        return Ok(Some(ShowEnd::Flood));
-    }
-    framer.feed(piece)?;
-    match show_frames(alloc, framer, lines)? {
-        Then::Stop => Ok(Some(ShowEnd::BadSize)),
-        Then::Another | Then::More => Ok(None),
-    }
+// Appends the lines of the frames that are whole with the next piece of the input.
+fn show_piece(showing: &mut Showing, piece: &[u8]) -> Result<(), ShowEnd>
+    requires room { taken_by showing.old + length piece.now ≤ most_input }
+    ensures ok { OnOk result ((so_far stream : List ℕ) → AllHanded so_far stream showing.old.framer showing.old.lines → AllHanded so_far (stream ++ piece.now) showing.new.framer showing.new.lines) }
+    ensures err { IfErr result (λ end. (so_far stream : List ℕ) → AllHanded so_far stream showing.old.framer showing.old.lines → StopsAt end (stream ++ piece.now) (so_far ++ showing.new.lines)) }
+    ensures which { IfErr result (λ end. (end ≡ ShowEnd.ReadFault → ⊥) × (end ≡ ShowEnd.WriteFault → ⊥)) }
+    ensures fed { OnOk result (taken_by showing.new ≡ taken_by showing.old + length piece.now) }
+{
+    showing.framer.feed(piece)?;
+    show_frames(showing)
 }
 
 // Writes the lines, and keeps their memory for the next.
-fn write_lines<W: Sink>(lines: &mut Bytes, output: &mut W) -> bool {
-    let done = write_all(lines.as_slice(), output).is_ok();
+fn write_lines<W: Sink>(lines: &mut Bytes, output: &mut W) -> Result<(), ShowEnd>
+    ensures ok { OnOk result (Gains (W.holds output.old) (W.holds output.new) lines.old) }
+    ensures err { IfErr result (λ end. (end ≡ ShowEnd.WriteFault) × GainsFront (W.holds output.old) (W.holds output.new) lines.old) }
+    ensures none { lines.new ≡ [] }
+    ensures cause { IfErr result (λ end. Rose (W.faults output.old) (W.faults output.new)) }
+    ensures counted { W.faults output.old ≤ W.faults output.new }
+{
+    let done = write_all(lines.as_slice(), output);
     lines.clear();
-    done
+    match done {
+        Ok(()) => Ok(()),
+        Err(_) => Err(ShowEnd::WriteFault),
+    }
 }
 
-// How the end of the input ends the stream, behind the line that tells of a torn frame.
-fn end_of(alloc: Global, framer: &Framer, lines: &mut Bytes) -> ShowEnd {
-    if framer.held() == 0 {
-        ShowEnd::Fine
-    } else if put_torn(alloc, framer.place(), framer.held(), lines).is_ok() {
-        ShowEnd::Torn
-    } else {
-        ShowEnd::NoMemory
+// Writes the lines of the frames that are whole with the next piece of the input, also where memory or a bad size ends
+// the stream.
+fn write_piece<W: Sink>(showing: &mut Showing, piece: &[u8], output: &mut W) -> Result<(), ShowEnd>
+    requires room { taken_by showing.old + length piece.now ≤ most_input }
+    ensures ok { OnOk result ((origin : Option (List ℕ)) (stream : List ℕ) → Told origin (W.holds output.old) stream showing.old.framer showing.old.lines → Told origin (W.holds output.new) (stream ++ piece.now) showing.new.framer showing.new.lines) }
+    ensures err { IfErr result (λ end. (left origin : Option (List ℕ)) (stream : List ℕ) → Told origin (W.holds output.old) stream showing.old.framer showing.old.lines → CutsAt end left origin (W.holds output.new) (stream ++ piece.now)) }
+    ensures fed { OnOk result (taken_by showing.new ≡ taken_by showing.old + length piece.now) }
+    ensures cause { IfErr result (λ end. end ≡ ShowEnd.WriteFault → Rose (W.faults output.old) (W.faults output.new)) }
+    ensures which { IfErr result (λ end. end ≡ ShowEnd.ReadFault → ⊥) }
+    ensures counted { W.faults output.old ≤ W.faults output.new }
+{
+    let shown = show_piece(showing, piece);
+    write_lines(&mut showing.lines, output)?;
+    shown
+}
+
+// Reads a piece of the input, and writes the lines of the frames that are whole with it. Whether the input may go on.
+fn show_next<R: Source, W: Sink>(
+    showing: &mut Showing,
+    piece: &mut [u8],
+    input: &mut R,
+    output: &mut W,
+) -> Result<bool, ShowEnd>
+    requires room { 0 < length piece.old }
+    requires few { taken_by showing.old ≤ most_input }
+    ensures ok { OnOk result ((first origin : Option (List ℕ)) → Shown first (R.left input.old) origin (W.holds output.old) showing.old → Shown first (R.left input.new) origin (W.holds output.new) showing.new) }
+    ensures at_end { IfOk result (λ more. more ≡ false → IsAtEnd (R.left input.new)) }
+    ensures err { IfErr result (λ end. (first origin : Option (List ℕ)) → Shown first (R.left input.old) origin (W.holds output.old) showing.old → Shows end first (R.left input.new) origin (W.holds output.new)) }
+    ensures few { OnOk result (taken_by showing.new ≤ most_input) }
+    ensures more { IfOk result (λ more. more ≡ true → taken_by showing.old < taken_by showing.new) }
+    ensures read_fault { IfErr result (λ end. end ≡ ShowEnd.ReadFault → Rose (R.faults input.old) (R.faults input.new)) }
+    ensures write_fault { IfErr result (λ end. end ≡ ShowEnd.WriteFault → Rose (W.faults output.old) (W.faults output.new)) }
+    ensures counted_reads { R.faults input.old ≤ R.faults input.new }
+    ensures counted_writes { W.faults output.old ≤ W.faults output.new }
+{
+    let count = match input.read(piece) {
+        Got::Bytes(count) => count,
+        Got::End => return Ok(false),
+        Got::Failed => return Err(ShowEnd::ReadFault),
+    };
+    if count > MOST_INPUT - taken_by(showing) {
+        return Err(ShowEnd::Flood);
     }
+    write_piece(showing, &piece[..count], output)?;
+    Ok(true)
+}
+
+// The end of the input: where it is inside a frame, the line that tells so is written.
+fn end<W: Sink>(showing: &mut Showing, output: &mut W) -> Result<(), ShowEnd>
+    ensures ok { OnOk result ((first now origin : Option (List ℕ)) → Shown first now origin (W.holds output.old) showing.old → IsAtEnd now → Shows ShowEnd.Fine first now origin (W.holds output.new)) }
+    ensures err { IfErr result (λ end. (first now origin : Option (List ℕ)) → Shown first now origin (W.holds output.old) showing.old → IsAtEnd now → Shows end first now origin (W.holds output.new)) }
+    ensures cause { IfErr result (λ end. end ≡ ShowEnd.WriteFault → Rose (W.faults output.old) (W.faults output.new)) }
+    ensures which { IfErr result (λ end. end ≡ ShowEnd.ReadFault → ⊥) }
+    ensures counted { W.faults output.old ≤ W.faults output.new }
+{
+    let held = showing.framer.held();
+    if held == 0 {
+        return Ok(());
+    }
+    put_torn(
+        showing.alloc,
+        showing.framer.place(),
+        held,
+        &mut showing.lines,
+    )?;
+    write_lines(&mut showing.lines, output)?;
+    Err(ShowEnd::Torn)
+}
+
+// Before the first read.
+fn begin(alloc: Global) -> Showing
+    ensures begun { (first origin : Option (List ℕ)) → Shown first first origin origin result }
+    ensures none { taken_by result ≡ 0 }
+{
+    Showing {
+        alloc,
+        framer: Framer::new(alloc, MOST_FRAME),
+        lines: Bytes::new(alloc),
+    }
+}
+
+// Shows the input to its end.
+fn show_input<R: Source, W: Sink>(
+    alloc: Global,
+    input: &mut R,
+    output: &mut W,
+) -> Result<(), ShowEnd>
+    ensures ok { OnOk result (Shows ShowEnd.Fine (R.left input.old) (R.left input.new) (W.holds output.old) (W.holds output.new)) }
+    ensures err { IfErr result (λ end. Shows end (R.left input.old) (R.left input.new) (W.holds output.old) (W.holds output.new)) }
+    ensures read_fault { IfErr result (λ end. end ≡ ShowEnd.ReadFault → Rose (R.faults input.old) (R.faults input.new)) }
+    ensures write_fault { IfErr result (λ end. end ≡ ShowEnd.WriteFault → Rose (W.faults output.old) (W.faults output.new)) }
+    ensures counted_reads { R.faults input.old ≤ R.faults input.new }
+    ensures counted_writes { W.faults output.old ≤ W.faults output.new }
+{
+    let mut showing = begin(alloc);
+    let mut piece = [0u8; PIECE];
+    while show_next(&mut showing, &mut piece, input, output)? {}
+    end(&mut showing, output)
 }
 
 /// Reads a stream of frames to its end or to the first bad size, and writes the line of each.
 ///
 /// Lines are written as soon as the piece that was read is shown.
-pub fn show<R: Source, W: Sink>(alloc: Global, input: &mut R, output: &mut W) -> ShowEnd {
-    let mut framer = Framer::new(alloc, MOST_SIZE);
-    let mut lines = Bytes::new(alloc);
-    let mut piece = [0u8; PIECE];
-    for _ in 0..MOST_BYTES {
-        let end = match input.read(&mut piece) {
-            Got::Bytes(count) => match show_piece(alloc, &mut framer, &piece[..count], &mut lines) {
-                Ok(end) => end,
-                Err(NoMemory) => Some(ShowEnd::NoMemory),
-            },
-            Got::End => Some(end_of(alloc, &framer, &mut lines)),
-            Got::Failed => Some(ShowEnd::ReadFault),
-        };
-        if !write_lines(&mut lines, output) {
-            return ShowEnd::WriteFault;
-        }
-        if let Some(end) = end {
-            return end;
-        }
+pub fn show<R: Source, W: Sink>(alloc: Global, input: &mut R, output: &mut W) -> ShowEnd
+    // The input that was read, and the lines of it that were written.
+    ensures ends { Shows result (R.left input.old) (R.left input.new) (W.holds output.old) (W.holds output.new) }
+
+    // A fault is told only where one was counted.
+    ensures read_fault { result ≡ ShowEnd.ReadFault → Rose (R.faults input.old) (R.faults input.new) }
+    ensures write_fault { result ≡ ShowEnd.WriteFault → Rose (W.faults output.old) (W.faults output.new) }
+    ensures counted_reads { R.faults input.old ≤ R.faults input.new }
+    ensures counted_writes { W.faults output.old ≤ W.faults output.new }
+
+    // What is told, valid and without faults is shown to its end, unless memory runs out.
+    ensures complete { (content : List ℕ) → R.left input.old ≡ Some content → IsWhole content → length content ≤ most_input
+        → (Rose (R.faults input.old) (R.faults input.new) → ⊥) → (Rose (W.faults output.old) (W.faults output.new) → ⊥) → (result ≡ ShowEnd.Fine) ⊎ (result ≡ ShowEnd.NoMemory) }
+{
+    match show_input(alloc, input, output) {
+        Ok(()) => ShowEnd::Fine,
+        Err(end) => end,
     }
-    ShowEnd::Flood
 }
