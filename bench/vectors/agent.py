@@ -324,7 +324,7 @@ refused("write: not open, and no line", V, A, at(1, *CTL), write(1, "x"), "not o
 refused("write: not for writing", V, A, *opened(1, 0, *CTL), write(1, "debug"), "not open for writing")
 refused("write: not for writing, and no line", V, A, *opened(1, 0, *CTL), write(1, "x"), "not open for writing")
 
-# Lines of ctl: the first of each text has its ground alone, and the others that of the next text too.
+# Lines of ctl: of those with one text the first has no ground of an earlier test, and the last has that of the next one too.
 for line, why in [
     ("kex a=b", "unknown ctl verb"), ("key", "unknown ctl verb"), ("delkey", "unknown ctl verb"), ("debug ", "unknown ctl verb"),
     ("kex =b", "unknown ctl verb"),
