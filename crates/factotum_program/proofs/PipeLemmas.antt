@@ -1,16 +1,15 @@
 -- The frames of a stream, answered one by one, and what a pipe has written where it stops.
-use Rattle.std.proofs.Common.{◌≡◌, ℕ, ◌+◌, ◌<◌, ◌≤◌, List, [], ◌∷◌, ◌++◌, length, take, drop, take-append-drop, length-drop, Option, Some, None, refl, sym, ap, subst, ◌∙◌, append_assoc, append-nil, length-append, ◌⊎◌, inl, inr, arith}
-use Rattle.std.specs.List.{concat}
+use Rattle.std.proofs.Common.{◌≡◌, ℕ, ◌+◌, ◌<◌, ◌≤◌, List, [], ◌∷◌, ◌++◌, length, take, drop, take-append-drop, length-drop, Option, refl, sym, ap, subst, ◌∙◌, append_assoc, append-nil, length-append, inl, inr, arith}
 use Rattle.std.specs.Io.KnownBytes.{Consumes, IsAtEnd}
 use Rattle.std.proofs.KnownBytes.{Consumes-nil, Consumes-trans}
-use Rattle.std.proofs.lemmas.List.{drop_at, take-take, length-take-le}
+use Rattle.std.proofs.lemmas.List.{take-take, length-take-le}
 use Rattle.wire_base.specs.Streams.{Gains}
 use Rattle.wire_base.proofs.StreamLemmas.{Gains-nil}
-use Rattle.nine_frames.specs.Streams.{front, IsBad, IsShort, IsWhole as IsWholeFront, frames}
+use Rattle.nine_frames.specs.Streams.{front, IsBad, IsShort, frames}
 use Rattle.nine_frames.specs.Framed.{Framing}
-use Rattle.nine_frames.specs.Framing.{HasHandedOut, Answers as Gives, IsWithin}
+use Rattle.nine_frames.specs.Framing.{HasHandedOut, Answers as Gives}
 use Rattle.nine_frames.specs.declared.framer.Next.TheVariants.{Whole, NotYet, BadSize}
-use Rattle.nine_frames.proofs.StreamLaws.{continues, more_frames, frames_short, front_none, handed_then}
+use Rattle.nine_frames.proofs.StreamLaws.{continues, more_frames, front_none, handed_then, length_fed, no_frames, behind_frames, all_frames}
 use Rattle.agent_history.specs.Histories.{History}
 use Rattle.agent_core.specs.declared.agent.Agent.{Agent}
 use Rattle.agent_core.specs.Agents.{StandsFor}
@@ -18,8 +17,8 @@ use Rattle.factotum_program.specs.declared.status.Status.{Status}
 use Rattle.factotum_program.specs.declared.status.Status.TheVariants.{Fine, Usage, ReadFault, WriteFault, BadFrame, Torn, NoMemory, Flood}
 use Rattle.factotum_program.specs.declared.pipe.Session.{Session}
 use Rattle.factotum_program.specs.Pipe.{most_frame, after_frame, after_frames, text_of, replies_text, pipe_text}
-use Rattle.factotum_program.specs.Commands.{most_input, frames_in, end_of, IsWhole, HasNoBadSize, Reads, Answers, MeetsBadFrame, EndsInside, Floods, RepliesSoFar, RepliesInPart, GainsPart, EndsSo}
-use Rattle.factotum_program.specs.Sessions.{HasNoNext, Handed, AllHanded, MeetsBad, StopsAt, IsCut, Piped}
+use Rattle.factotum_program.specs.Commands.{most_input, frames_in, Reads, Answers, EndsInside, Floods, GainsPart, EndsSo}
+use Rattle.factotum_program.specs.Sessions.{HasNoNext, Handed, AllHanded, StopsAt, IsCut, Piped}
 use Rattle.factotum_program.proofs.TakeLemmas.{frames_grow}
 use Rattle.factotum_program.proofs.PartLemmas.{part_longer, part_memory}
 
@@ -89,10 +88,10 @@ stops_between status origin held stream handed f agent h (inr bad) =
     let a : Gives f f (BadSize f.before bad.0) = (bad.2, refl, refl) in
     let c = continues f f (BadSize f.before bad.0) a stream handed h.cut in
     let all : frames_in stream ≡ handed = ap (λ (limit : ℕ). frames limit stream) (sym h.limit) ∙ c.0 in
-    let rest : drop f.before stream ≡ f.held = ap (drop f.before) h.cut.parts ∙ drop_at (concat handed) f.held f.before (sym h.cut.place) in
+    let cut : HasHandedOut f stream (frames_in stream) = subst (HasHandedOut f stream) (sym all) h.cut in
     subst (StopsAt origin held stream) (sym bad.1) (record {
-      place = h.cut.place ∙ ap (λ (fs : List (List ℕ)). length (concat fs)) (sym all);
-      bad = ap (front most_frame) rest ∙ ap (λ (limit : ℕ). front limit f.held) (sym h.limit) ∙ bad.2;
+      place = cut.place;
+      bad = behind_frames most_frame f stream (IsBad bad.0) cut (ap (λ (limit : ℕ). front limit f.held) (sym h.limit) ∙ bad.2);
       written = subst (λ (fs : List (List ℕ)). Gains origin held (replies_text fs)) (sym all) h.written;
     })
 
@@ -120,9 +119,6 @@ stop_ends (Flood limit) first next origin held input behind r s = absurd s
 pub reads_all : (first now : Option (List ℕ)) (input : List ℕ) → Consumes first now input → length input ≤ most_input → Reads first now input []
 reads_all first now input taken few = record { taken = subst (Consumes first now) (sym (append-nil input)) taken; bounded = few; full = λ some. absurd (omega (arith, some)) }
 
-taken_all : (origin held : Option (List ℕ)) (stream : List ℕ) (f : Framing) (agent : Agent) → AllHanded origin held stream f agent → length stream ≡ f.before + length f.held
-taken_all origin held stream f agent h = omega (arith, ap length h.all.cut.parts, length-append (concat (frames_in stream)) f.held, h.all.cut.place)
-
 -- the bytes of one read, of which so many fit
 pub reads_more : (first now next : Option (List ℕ)) (stream piece behind : List ℕ) → Consumes first now stream → Consumes now next (piece ++ behind) → length (stream ++ piece) ≤ most_input → (0 < length behind → length (stream ++ piece) ≡ most_input) → Reads first next (stream ++ piece) behind
 reads_more first now next stream piece behind taken more few full = record {
@@ -131,10 +127,8 @@ reads_more first now next stream piece behind taken more few full = record {
   full = full;
 }
 
-no_bad_size : (origin held : Option (List ℕ)) (stream : List ℕ) (f : Framing) (agent : Agent) → AllHanded origin held stream f agent → HasNoBadSize stream
-no_bad_size origin held stream f agent h =
-    let rest : drop (end_of stream) stream ≡ f.held = ap (drop (end_of stream)) h.all.cut.parts ∙ drop_at (concat (frames_in stream)) f.held (end_of stream) refl in
-    ap (front most_frame) rest ∙ h.short
+pub taken_there : (first now origin held : Option (List ℕ)) (session : Session) → (p : Piped first now origin held session) → length p.stream ≡ session.framer.before + length session.framer.held
+taken_there first now origin held session p = length_fed session.framer p.stream (frames_in p.stream) p.handed.all.cut
 
 -- ---- the end of the input
 
@@ -144,17 +138,10 @@ torn first now origin held session p end some = record {
   read = reads_all first now p.stream p.read p.few;
   at_end = end;
   place = p.handed.all.cut.place;
-  inside = omega (arith, some, taken_all origin held p.stream session.framer session.agent p.handed);
-  short = no_bad_size origin held p.stream session.framer session.agent p.handed;
+  inside = omega (arith, some, taken_there first now origin held session p);
+  short = behind_frames most_frame session.framer p.stream IsShort p.handed.all.cut p.handed.short;
   written = p.handed.all.written;
 }
-
-none_left : (xs : List ℕ) → (0 < length xs → ⊥) → xs ≡ []
-none_left [] h = refl
-none_left (x ∷ xs) h = absurd (h (omega arith))
-
-whole_there : (origin held : Option (List ℕ)) (stream : List ℕ) (f : Framing) (agent : Agent) → AllHanded origin held stream f agent → (0 < length f.held → ⊥) → IsWhole stream
-whole_there origin held stream f agent h none = h.all.cut.parts ∙ ap (λ (r : List ℕ). concat (frames_in stream) ++ r) (none_left f.held none) ∙ append-nil (concat (frames_in stream))
 
 pub answered : (first now origin held : Option (List ℕ)) (session : Session) → Piped first now origin held session → IsAtEnd now → (0 < length session.framer.held → ⊥) → Answers first now origin held
 unfolding pipe_text
@@ -162,14 +149,11 @@ answered first now origin held session p end none = record {
   input = p.stream;
   read = reads_all first now p.stream p.read p.few;
   at_end = end;
-  whole = whole_there origin held p.stream session.framer session.agent p.handed none;
+  whole = all_frames most_frame session.framer p.stream p.handed.all.cut none;
   written = subst (Gains origin held) (sym (append-nil (replies_text (frames_in p.stream)))) p.handed.all.written;
 }
 
 -- ---- before the first read
-
-no_frames : frames_in [] ≡ []
-no_frames = frames_short most_frame [] (front_none most_frame [] 0 refl)
 
 pub begun : (first origin : Option (List ℕ)) (agent : Agent) (framer : Framing) (replies : List ℕ) → StandsFor [] agent → framer ≡ record { limit = most_frame; before = 0; held = [] } → HasHandedOut framer [] [] → Piped first first origin origin (record { agent = agent; framer = framer; replies = replies })
 begun first origin agent framer replies stands is cut = record {
@@ -177,7 +161,7 @@ begun first origin agent framer replies stands is cut = record {
   read = Consumes-nil first;
   few = omega arith;
   handed = record {
-    all = subst (λ (fs : List (List ℕ)). Handed origin origin [] fs framer agent) (sym no_frames) (record { cut = cut; limit = ap (λ (f : Framing). f.limit) is; stands = stands; written = Gains-nil origin });
+    all = subst (λ (fs : List (List ℕ)). Handed origin origin [] fs framer agent) (sym (no_frames most_frame)) (record { cut = cut; limit = ap (λ (f : Framing). f.limit) is; stands = stands; written = Gains-nil origin });
     short = ap (λ (f : Framing). front most_frame f.held) is ∙ front_none most_frame [] 0 refl;
   };
 }
@@ -207,10 +191,7 @@ pub behind_some : (chunk : List ℕ) (count fits : ℕ) → fits < count → cou
 behind_some chunk count fits few held = omega (arith, few, length-drop fits (take count chunk), length-take-le count chunk held)
 
 pub flooded : (first next origin held : Option (List ℕ)) (input behind : List ℕ) (f : Framing) (agent : Agent) → Reads first next input behind → 0 < length behind → AllHanded origin held input f agent → Floods first next origin held
-flooded first next origin held input behind f agent r some h = record { input = input; behind = behind; read = r; over = some; short = no_bad_size origin held input f agent h; written = h.all.written }
-
-pub taken_there : (first now origin held : Option (List ℕ)) (session : Session) → (p : Piped first now origin held session) → length p.stream ≡ session.framer.before + length session.framer.held
-taken_there first now origin held session p = taken_all origin held p.stream session.framer session.agent p.handed
+flooded first next origin held input behind f agent r some h = record { input = input; behind = behind; read = r; over = some; short = behind_frames most_frame f input IsShort h.all.cut h.short; written = h.all.written }
 
 -- memory ran out before the first read
 pub memory_first : (first origin : Option (List ℕ)) → EndsSo NoMemory first first origin origin

@@ -1,11 +1,10 @@
 -- What a command does to its input and its output, by the bytes that it read. Content is optional: the words on it hold
 -- where it is told.
-use Rattle.std.specs.Prelude.{◌≡◌, ◌<◌, ◌≤◌, ℕ, List, [], ◌∷◌, ◌++◌, length, drop, Option, Bool, true, false, codes}
-use Rattle.std.specs.List.{concat}
+use Rattle.std.specs.Prelude.{◌≡◌, ◌<◌, ◌≤◌, ℕ, List, [], ◌∷◌, ◌++◌, length, Option, Bool, true, false, codes}
 use Rattle.std.specs.Str.{bytes_eq}
 use Rattle.std.specs.Io.KnownBytes.{Consumes, IsAtEnd}
 use Rattle.wire_base.specs.Streams.{Gains}
-use Rattle.nine_frames.specs.Streams.{front, IsBad, IsShort, frames}
+use Rattle.nine_frames.specs.Streams.{frames, end_of, HasBadSize, HasNoBadSize, IsFrames}
 use Rattle.factotum_program.specs.declared.status.Status.{Status}
 use Rattle.factotum_program.specs.declared.status.Status.TheVariants.{Fine, Usage, ReadFault, WriteFault, BadFrame, Torn, NoMemory, Flood}
 use Rattle.factotum_program.specs.Pipe.{most_frame, replies_text, pipe_text}
@@ -26,18 +25,6 @@ most_input = 1099511627776
 abbrev pub frames_in : List ℕ → List (List ℕ)
 frames_in input = frames most_frame input
 
--- the input is whole frames, one behind the other, and nothing else
-abbrev pub IsWhole : List ℕ → Type 0
-IsWhole input = input ≡ concat (frames_in input)
-
--- so far the whole frames of the input reach
-abbrev pub end_of : List ℕ → ℕ
-end_of input = length (concat (frames_in input))
-
--- what stands behind the whole frames of an input may yet become one: it has no bad size
-abbrev pub HasNoBadSize : List ℕ → Type 0
-HasNoBadSize input = front most_frame (drop (end_of input) input) ≡ IsShort
-
 -- The bytes that were read: the input within the limit, and what was read behind it, which is something only where the
 -- input is as long as the limit.
 pub record Reads (old new : Option (List ℕ)) (input behind : List ℕ) : Type 0 where
@@ -50,7 +37,7 @@ pub record Answers (left_old left_new held_old held_new : Option (List ℕ)) : T
   pub input : List ℕ
   pub read : Reads left_old left_new input []
   pub at_end : IsAtEnd left_new
-  pub whole : IsWhole input
+  pub whole : IsFrames most_frame input
   pub written : Gains held_old held_new (pipe_text (frames_in input))
 
 -- a size that no frame has stands behind the whole frames, whose replies were written
@@ -58,8 +45,8 @@ pub record MeetsBadFrame (at size : ℕ) (left_old left_new held_old held_new : 
   pub input : List ℕ
   pub behind : List ℕ
   pub read : Reads left_old left_new input behind
-  pub place : at ≡ end_of input
-  pub bad : front most_frame (drop at input) ≡ IsBad size
+  pub place : at ≡ end_of most_frame input
+  pub bad : HasBadSize most_frame input size
   pub written : Gains held_old held_new (replies_text (frames_in input))
 
 -- the input was read to its end, which is inside the frame that begins behind the whole ones, whose replies were written
@@ -67,9 +54,9 @@ pub record EndsInside (at : ℕ) (left_old left_new held_old held_new : Option (
   pub input : List ℕ
   pub read : Reads left_old left_new input []
   pub at_end : IsAtEnd left_new
-  pub place : at ≡ end_of input
+  pub place : at ≡ end_of most_frame input
   pub inside : at < length input
-  pub short : HasNoBadSize input
+  pub short : HasNoBadSize most_frame input
   pub written : Gains held_old held_new (replies_text (frames_in input))
 
 -- more than the limit was read, and no bad size within it; the replies to the whole frames within it were written
@@ -78,14 +65,14 @@ pub record Floods (left_old left_new held_old held_new : Option (List ℕ)) : Ty
   pub behind : List ℕ
   pub read : Reads left_old left_new input behind
   pub over : 0 < length behind
-  pub short : HasNoBadSize input
+  pub short : HasNoBadSize most_frame input
   pub written : Gains held_old held_new (replies_text (frames_in input))
 
 -- what was read has no bad size, and the replies to its whole frames were written
 pub record RepliesSoFar (left_old left_new held_old held_new : Option (List ℕ)) : Type 0 where
   pub input : List ℕ
   pub read : Reads left_old left_new input []
-  pub short : HasNoBadSize input
+  pub short : HasNoBadSize most_frame input
   pub written : Gains held_old held_new (replies_text (frames_in input))
 
 -- a front of a text was written; where a write failed some of the text is missing

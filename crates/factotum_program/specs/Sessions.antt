@@ -1,8 +1,8 @@
 -- Of the code alone: where a pipe stands between two reads, and what its parts tell each other.
-use Rattle.std.specs.Prelude.{◌≡◌, ◌≤◌, ℕ, ◌+◌, List, [], length, drop, Option, Some, None, ◌⊎◌}
+use Rattle.std.specs.Prelude.{◌≡◌, ◌≤◌, ℕ, ◌+◌, List, [], length, Option, Some, None, ◌⊎◌}
 use Rattle.std.specs.Io.KnownBytes.{Consumes}
 use Rattle.wire_base.specs.Streams.{Gains}
-use Rattle.nine_frames.specs.Streams.{front, IsBad, IsShort}
+use Rattle.nine_frames.specs.Streams.{front, IsBad, IsShort, end_of, HasBadSize}
 use Rattle.nine_frames.specs.Framed.{Framing}
 use Rattle.nine_frames.specs.Framing.{HasHandedOut}
 use Rattle.nine_frames.specs.declared.framer.Next.{Next}
@@ -13,7 +13,7 @@ use Rattle.factotum_program.specs.declared.status.Status.{Status}
 use Rattle.factotum_program.specs.declared.status.Status.TheVariants.{NoMemory, WriteFault, BadFrame}
 use Rattle.factotum_program.specs.declared.pipe.Session.{Session}
 use Rattle.factotum_program.specs.Pipe.{most_frame, after_frames, replies_text}
-use Rattle.factotum_program.specs.Commands.{most_input, frames_in, end_of, GainsPart}
+use Rattle.factotum_program.specs.Commands.{most_input, frames_in, GainsPart}
 
 -- the frame that was found, or that there is none yet
 abbrev pub next_of : Option (List ℕ) → Next
@@ -38,8 +38,8 @@ pub record AllHanded (origin held : Option (List ℕ)) (stream : List ℕ) (fram
 
 -- why not all were answered: a bad size behind them, or a front of the replies was written
 pub record MeetsBad (at size : ℕ) (origin held : Option (List ℕ)) (stream : List ℕ) : Type 0 where
-  pub place : at ≡ end_of stream
-  pub bad : front most_frame (drop at stream) ≡ IsBad size
+  pub place : at ≡ end_of most_frame stream
+  pub bad : HasBadSize most_frame stream size
   pub written : Gains origin held (replies_text (frames_in stream))
 
 -- how many bytes a session has taken

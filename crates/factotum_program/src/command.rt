@@ -1,7 +1,9 @@
 // The command words, and what each command does.
 ghost use Rattle.std.specs.Prelude.{◌≡◌, ◌≤◌, ◌↔◌, ◌⊎◌, List, ℕ, length, Some};
 ghost use Rattle.wire_base.specs.Causes.{Rose};
-ghost use Rattle.factotum_program.specs.Commands.{is_pipe, IsPipe, IsWhole, Answers, MeetsBadFrame, EndsInside, Floods, RepliesSoFar, RepliesInPart, most_input};
+ghost use Rattle.nine_frames.specs.Streams.{IsFrames};
+ghost use Rattle.factotum_program.specs.Pipe.{most_frame};
+ghost use Rattle.factotum_program.specs.Commands.{is_pipe, IsPipe, Answers, MeetsBadFrame, EndsInside, Floods, RepliesSoFar, RepliesInPart, most_input};
 
 use crate::pipe::answer_input;
 use crate::status::Status;
@@ -75,7 +77,7 @@ pub fn run_command<R: Source, W: Sink>(
     ensures counted_writes { W.faults output.old ≤ W.faults output.new }
 
     // What is told, valid and without faults is answered, unless memory runs out.
-    ensures complete { (content : List ℕ) → IsPipe words.now → R.left input.old ≡ Some content → IsWhole content → length content ≤ most_input
+    ensures complete { (content : List ℕ) → IsPipe words.now → R.left input.old ≡ Some content → IsFrames most_frame content → length content ≤ most_input
         → (Rose (R.faults input.old) (R.faults input.new) → ⊥) → (Rose (W.faults output.old) (W.faults output.new) → ⊥) → (result ≡ Status.Fine) ⊎ (result ≡ Status.NoMemory) }
 {
     run(alloc, words, input, output)

@@ -9,7 +9,7 @@ use Rattle.std.proofs.lemmas.List.Folds.{concat-append}
 use Rattle.wire_base.specs.Readers.{number, value_of}
 use Rattle.wire_base.proofs.ReaderLaws.{ok_is}
 use Rattle.nine_messages.specs.Decoding.{IsFrame}
-use Rattle.nine_frames.specs.Streams.{Front, IsWhole, IsBad, IsShort, size_of, is_bad, front_with, front, frames_up_to, frames}
+use Rattle.nine_frames.specs.Streams.{Front, IsWhole, IsBad, IsShort, size_of, is_bad, front_with, front, frames_up_to, frames, end_of, HasBadSize, IsFrames}
 use Rattle.nine_frames.specs.Framed.{Framing}
 use Rattle.nine_frames.specs.Framing.{IsWithin, HasHandedOut, HandsOut, Answers, Continues}
 use Rattle.nine_frames.specs.declared.framer.Next.{Next}
@@ -237,6 +237,53 @@ continues old new (Whole frame) a stream handed has = (
 continues old new NotYet a stream handed has = handed_all old.limit stream old.held handed (stream_frames old stream handed has) (frames_short old.limit old.held a.0)
 continues old new (BadSize at size) a stream handed has =
     (handed_all old.limit stream old.held handed (stream_frames old stream handed has) (frames_bad old.limit old.held size a.0), a.1 ∙ has.place)
+
+-- so many bytes were fed
+pub length_fed : (f : Framing) (stream : List ℕ) (handed : List (List ℕ)) → HasHandedOut f stream handed → length stream ≡ f.before + length f.held
+length_fed f stream handed has = omega (arith, ap length has.parts, length-append (concat handed) f.held, has.place)
+
+-- ---- what stands behind the frames of a stream
+
+pub no_frames : (limit : ℕ) → frames limit [] ≡ []
+no_frames limit = frames_short limit [] (front_none limit [] 0 refl)
+
+-- what is held where all of them were handed out
+pub behind_frames : (limit : ℕ) (f : Framing) (stream : List ℕ) (is : Front) → HasHandedOut f stream (frames limit stream) → front limit f.held ≡ is → front limit (drop (end_of limit stream) stream) ≡ is
+behind_frames limit f stream is has e = ap (front limit) (ap (drop (end_of limit stream)) has.parts ∙ drop_at (concat (frames limit stream)) f.held (end_of limit stream) refl) ∙ e
+
+none_left : (xs : List ℕ) → (0 < length xs → ⊥) → xs ≡ []
+none_left [] none = refl
+none_left (x ∷ xs) none = absurd (none (omega arith))
+
+-- and where nothing is
+pub all_frames : (limit : ℕ) (f : Framing) (stream : List ℕ) → HasHandedOut f stream (frames limit stream) → (0 < length f.held → ⊥) → IsFrames limit stream
+all_frames limit f stream has none = has.parts ∙ ap (λ (held : List ℕ). concat (frames limit stream) ++ held) (none_left f.held none) ∙ append-nil (concat (frames limit stream))
+
+bad_some : (limit size : ℕ) (stream : List ℕ) → front limit stream ≡ IsBad size → length stream ≡ 0 → ⊥
+bad_some limit size [] bad none = let e : IsShort ≡ IsBad size = sym (front_none limit [] 0 refl) ∙ bad in (cc)
+bad_some limit size (b ∷ stream) bad none = absurd (omega (arith, none))
+
+-- no frame stands behind a bad size
+frames_stay : (limit size : ℕ) (stream more behind : List ℕ) → stream ≡ concat (frames limit stream) ++ behind → front limit behind ≡ IsBad size → frames limit (stream ++ more) ≡ frames limit stream
+frames_stay limit size stream more behind parts bad =
+    ap (λ (bytes : List ℕ). frames limit (bytes ++ more)) parts
+    ∙ ap (frames limit) (append_assoc (concat (frames limit stream)) behind more)
+    ∙ handed_then limit (frames limit stream) (behind ++ more) (each_within limit stream)
+    ∙ ap (λ (fs : List (List ℕ)). frames limit stream ++ fs) (frames_bad limit (behind ++ more) size (bad_stays limit size behind more bad))
+    ∙ append-nil (frames limit stream)
+
+-- so that no front of whole frames has one
+pub no_bad_size : (limit size : ℕ) (whole stream more : List ℕ) → IsFrames limit whole → whole ≡ stream ++ more → HasBadSize limit stream size → ⊥
+no_bad_size limit size whole stream more is parts has =
+    let s = all_of_front limit stream in
+    let fs = frames limit stream in
+    let behind : drop (end_of limit stream) stream ≡ s.0 = ap (drop (end_of limit stream)) s.1 ∙ drop_at (concat fs) s.0 (end_of limit stream) refl in
+    let bad : front limit s.0 ≡ IsBad size = ap (front limit) (sym behind) ∙ has in
+    let same : frames limit whole ≡ fs = ap (frames limit) parts ∙ frames_stay limit size stream more s.0 s.1 bad in
+    let long : length whole ≡ length (concat fs) = ap length is ∙ ap (λ (gs : List (List ℕ)). length (concat gs)) same in
+    bad_some limit size s.0 bad (omega (arith, long, ap length parts, length-append stream more, ap length s.1, length-append (concat fs) s.0))
+
+-- ---- one step of a framer
 
 -- what is taken off the front of what is held
 pub taken_off : (limit before at size : ℕ) (bytes frame : List ℕ) → front limit (drop at bytes) ≡ IsWhole size → frame ≡ take size (drop at bytes)

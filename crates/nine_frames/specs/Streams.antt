@@ -2,6 +2,7 @@
 -- lowest first, which counts itself. A size under 7, which is that of a message without fields, and one over a limit
 -- are bad, and nothing is read behind them.
 use Rattle.std.specs.Prelude.{◌≡◌, ℕ, zero, suc, ◌<◌, ◌≤◌, List, [], ◌∷◌, length, take, drop, Option, Some, None, Bool, ◌||◌, nat_lt, nat_le, if◌then◌else◌}
+use Rattle.std.specs.List.{concat}
 use Rattle.std.specs.Int.{w32}
 use Rattle.wire_base.specs.Readers.{number, value_of}
 
@@ -39,3 +40,19 @@ frames_up_to (suc most) limit stream = elim (front limit stream) [
 -- the whole frames at the front of a stream, up to the first bad size: there are no more of them than bytes
 unfoldable pub frames : ℕ → List ℕ → List (List ℕ)
 frames limit stream = frames_up_to (length stream) limit stream
+
+-- so far they reach
+abbrev pub end_of : ℕ → List ℕ → ℕ
+end_of limit stream = length (concat (frames limit stream))
+
+-- this bad size stands behind them
+abbrev pub HasBadSize : ℕ → List ℕ → ℕ → Type 0
+HasBadSize limit stream size = front limit (drop (end_of limit stream) stream) ≡ IsBad size
+
+-- what stands behind them may yet become a frame: it has no bad size
+abbrev pub HasNoBadSize : ℕ → List ℕ → Type 0
+HasNoBadSize limit stream = front limit (drop (end_of limit stream) stream) ≡ IsShort
+
+-- the stream is whole frames, one behind the other, and nothing else
+abbrev pub IsFrames : ℕ → List ℕ → Type 0
+IsFrames limit stream = stream ≡ concat (frames limit stream)

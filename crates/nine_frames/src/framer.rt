@@ -3,8 +3,8 @@
 //     bytes:  handed out .. held ..
 //                          ^ front
 //
-// The bytes before the front are let go when they are at least half of all, so that each byte is moved at most once
-// for each time that it is fed.
+// The bytes before the front are let go when they are at least half of all: then no more bytes are moved than were
+// handed out since they were last let go, so that all moves together are no more bytes than the stream has.
 ghost use Rattle.std.specs.Prelude.{◌≡◌, ◌≤◌, ◌<◌, ◌+◌, ◌^◌, ℕ, List, [], ◌++◌, length, drop, IfOk, OnOk, OnErr};
 ghost use Rattle.nine_frames.specs.Streams.{front};
 ghost use Rattle.nine_frames.specs.AtFronts.{shown};

@@ -1,23 +1,22 @@
 -- The lines of a stream's frames, frame by frame and piece by piece, and what a showing has written where it ends.
-use Rattle.std.proofs.Common.{◌≡◌, ℕ, ◌+◌, ◌-◌, ◌<◌, ◌≤◌, List, [], ◌∷◌, ◌++◌, length, drop, Option, Ok, Err, refl, sym, ap, subst, ◌∙◌, append_assoc, append-nil, length-append, inl, inr, arith}
+use Rattle.std.proofs.Common.{◌≡◌, ℕ, ◌+◌, ◌-◌, ◌<◌, ◌≤◌, List, [], ◌∷◌, ◌++◌, length, Option, Ok, Err, refl, sym, ap, subst, ◌∙◌, append_assoc, append-nil, length-append, inl, inr, arith}
 use Rattle.std.specs.Prelude.{Result, OnOk, IfErr}
 use Rattle.std.specs.List.{concat}
 use Rattle.std.specs.Io.KnownBytes.{Consumes, IsAtEnd}
 use Rattle.std.proofs.KnownBytes.{Consumes-nil, Consumes-trans}
-use Rattle.std.proofs.lemmas.List.{drop_at}
 use Rattle.wire_base.specs.Streams.{Gains}
 use Rattle.wire_base.specs.Whole.{GainsFront}
 use Rattle.wire_base.proofs.StreamLemmas.{Gains-nil, Gains-trans}
-use Rattle.nine_frames.specs.Streams.{front, frames}
+use Rattle.nine_frames.specs.Streams.{front, IsBad, IsShort, frames, end_of, HasNoBadSize, IsFrames}
 use Rattle.nine_frames.specs.Framed.{Framing}
 use Rattle.nine_frames.specs.Framing.{HasHandedOut, Answers}
 use Rattle.nine_frames.specs.declared.framer.Next.TheVariants.{Whole, NotYet, BadSize as BadNext}
-use Rattle.nine_frames.proofs.StreamLaws.{continues, more_frames, frames_short, front_none, handed_then}
+use Rattle.nine_frames.proofs.StreamLaws.{continues, more_frames, front_none, handed_then, length_fed, no_frames, behind_frames, all_frames}
 use Rattle.nine_print.specs.declared.stream.ShowEnd.{ShowEnd}
 use Rattle.nine_print.specs.declared.stream.ShowEnd.TheVariants.{Fine, ReadFault, WriteFault, BadSize, Torn, NoMemory, Flood}
 use Rattle.nine_print.specs.declared.stream.Showing.{Showing}
 use Rattle.nine_print.specs.Lines.{line_of, bad_size_line, torn_line}
-use Rattle.nine_print.specs.Shown.{most_frame, most_input, lines_from, lines_of, frames_in, end_of, HasNoBadSize, IsBadText, IsTornText, Shows}
+use Rattle.nine_print.specs.Shown.{most_frame, most_input, lines_from, lines_of, frames_in, IsBadText, IsTornText, Shows}
 use Rattle.nine_print.specs.Showing.{Handed, AllHanded, IsSome, StopsAt, CutsAt, Told, Shown}
 
 -- ---- lines
@@ -68,11 +67,11 @@ pub meets_bad : (so_far stream : List ℕ) (handed : List (List ℕ)) (old new :
 meets_bad so_far stream handed old new at size lines later h a is =
     let c = continues old new (BadNext at size) a stream handed h.cut in
     let all : frames_in stream ≡ handed = ap (λ (limit : ℕ). frames limit stream) (sym h.limit) ∙ c.0 in
-    let place : at ≡ end_of stream = c.1 ∙ ap (λ (fs : List (List ℕ)). length (concat fs)) (sym all) in
-    let rest : drop (end_of stream) stream ≡ old.held = ap (drop (end_of stream)) h.cut.parts ∙ drop_at (concat handed) old.held (end_of stream) (ap (λ (fs : List (List ℕ)). length (concat fs)) (sym all)) in
+    let cut : HasHandedOut old stream (frames_in stream) = subst (HasHandedOut old stream) (sym all) h.cut in
+    let place : at ≡ end_of most_frame stream = a.1 ∙ cut.place in
     record {
       size = size;
-      bad = ap (front most_frame) rest ∙ ap (λ (limit : ℕ). front limit old.held) (sym h.limit) ∙ a.0;
+      bad = behind_frames most_frame old stream (IsBad size) cut (ap (λ (limit : ℕ). front limit old.held) (sym h.limit) ∙ a.0);
       lines = ap (λ (t : List ℕ). so_far ++ t) is ∙ sym (append_assoc so_far lines (bad_size_line at size)) ∙ ap (λ (t : List ℕ). t ++ bad_size_line at size) (h.text ∙ ap lines_of (sym all)) ∙ ap (λ (n : ℕ). lines_of (frames_in stream) ++ bad_size_line n size) place;
     }
 
@@ -165,19 +164,11 @@ cut_shows Torn first left origin held input read few cut = absurd cut
 cut_shows NoMemory first left origin held input read few cut = record { input = input; read = read; flood = (λ e. absurd (cc), λ over. absurd (omega (arith, few, over))); ends = cut }
 cut_shows Flood first left origin held input read few cut = absurd cut
 
-taken_all : (so_far stream : List ℕ) (f : Framing) (lines : List ℕ) → AllHanded so_far stream f lines → length stream ≡ f.before + length f.held
-taken_all so_far stream f lines h = omega (arith, ap length h.all.cut.parts, length-append (concat (frames_in stream)) f.held, h.all.cut.place)
-
 pub taken_there : (first now origin held : Option (List ℕ)) (showing : Showing) → (s : Shown first now origin held showing) → length s.stream ≡ showing.framer.before + length showing.framer.held
-taken_there first now origin held showing s = taken_all (lines_of (frames_in s.stream)) s.stream showing.framer showing.lines s.told.handed
+taken_there first now origin held showing s = length_fed showing.framer s.stream (frames_in s.stream) s.told.handed.all.cut
 
-no_bad_size : (so_far stream : List ℕ) (f : Framing) (lines : List ℕ) → AllHanded so_far stream f lines → HasNoBadSize stream
-no_bad_size so_far stream f lines h =
-    let rest : drop (end_of stream) stream ≡ f.held = ap (drop (end_of stream)) h.all.cut.parts ∙ drop_at (concat (frames_in stream)) f.held (end_of stream) refl in
-    ap (front most_frame) rest ∙ h.short
-
-pub no_bad_there : (first now origin held : Option (List ℕ)) (showing : Showing) → (s : Shown first now origin held showing) → HasNoBadSize s.stream
-no_bad_there first now origin held showing s = no_bad_size (lines_of (frames_in s.stream)) s.stream showing.framer showing.lines s.told.handed
+pub no_bad_there : (first now origin held : Option (List ℕ)) (showing : Showing) → (s : Shown first now origin held showing) → HasNoBadSize most_frame s.stream
+no_bad_there first now origin held showing s = behind_frames most_frame showing.framer s.stream IsShort s.told.handed.all.cut s.told.handed.short
 
 pub read_fails : (first now next origin held : Option (List ℕ)) (showing : Showing) → Shown first now origin held showing → next ≡ now → Shows ReadFault first next origin held
 read_fails first now next origin held showing s keeps = record {
@@ -202,14 +193,10 @@ shown_more first now next origin held old new taken s more few after told = reco
 
 -- ---- the end of the input
 
-none_left : (xs : List ℕ) → length xs ≡ 0 → xs ≡ []
-none_left [] h = refl
-none_left (x ∷ xs) h = absurd (omega (arith, h))
-
 pub fine_end : (first now origin held : Option (List ℕ)) (showing : Showing) → Shown first now origin held showing → IsAtEnd now → length showing.framer.held ≡ 0 → Shows Fine first now origin held
 fine_end first now origin held showing s end none =
     let fs = frames_in s.stream in
-    let whole : s.stream ≡ concat fs = s.told.handed.all.cut.parts ∙ ap (λ (r : List ℕ). concat fs ++ r) (none_left showing.framer.held none) ∙ append-nil (concat fs) in
+    let whole : IsFrames most_frame s.stream = all_frames most_frame showing.framer s.stream s.told.handed.all.cut (λ some. omega (arith, some, none)) in
     record {
       input = s.stream;
       read = s.read;
@@ -227,13 +214,13 @@ memory_end first now origin held showing s = record {
 
 torn_text : (first now origin held : Option (List ℕ)) (showing : Showing) (later : List ℕ) → (s : Shown first now origin held showing) → 0 < length showing.framer.held → later ≡ showing.lines ++ torn_line showing.framer.before (length showing.framer.held) → IsTornText s.stream (lines_of (frames_in s.stream) ++ later)
 torn_text first now origin held showing later s some is =
-    let place : showing.framer.before ≡ end_of s.stream = s.told.handed.all.cut.place in
+    let place : showing.framer.before ≡ end_of most_frame s.stream = s.told.handed.all.cut.place in
     let there = taken_there first now origin held showing s in
-    let count : length showing.framer.held ≡ length s.stream - end_of s.stream = omega (arith, place, there) in
+    let count : length showing.framer.held ≡ length s.stream - end_of most_frame s.stream = omega (arith, place, there) in
     record {
       short = no_bad_there first now origin held showing s;
       inside = omega (arith, some, place, there);
-      lines = ap (λ (t : List ℕ). lines_of (frames_in s.stream) ++ t) (is ∙ ap (λ (l : List ℕ). l ++ torn_line showing.framer.before (length showing.framer.held)) s.told.none ∙ ap (λ (at : ℕ). torn_line at (length showing.framer.held)) place ∙ ap (torn_line (end_of s.stream)) count);
+      lines = ap (λ (t : List ℕ). lines_of (frames_in s.stream) ++ t) (is ∙ ap (λ (l : List ℕ). l ++ torn_line showing.framer.before (length showing.framer.held)) s.told.none ∙ ap (λ (at : ℕ). torn_line at (length showing.framer.held)) place ∙ ap (torn_line (end_of most_frame s.stream)) count);
     }
 
 pub torn_end : (first now origin before after : Option (List ℕ)) (showing : Showing) (later : List ℕ) → Shown first now origin before showing → IsAtEnd now → 0 < length showing.framer.held → later ≡ showing.lines ++ torn_line showing.framer.before (length showing.framer.held) → Gains before after later → Shows Torn first now origin after
@@ -254,9 +241,6 @@ write_end first now origin before after showing later s end some is p = record {
 
 -- ---- before the first read
 
-no_frames : frames_in [] ≡ []
-no_frames = frames_short most_frame [] (front_none most_frame [] 0 refl)
-
 pub begun : (first origin : Option (List ℕ)) (showing : Showing) → showing.framer ≡ record { limit = most_frame; before = 0; held = [] } → HasHandedOut showing.framer [] [] → showing.lines ≡ [] → Shown first first origin origin showing
 begun first origin showing is cut none = record {
   stream = [];
@@ -264,10 +248,10 @@ begun first origin showing is cut none = record {
   few = omega arith;
   told = record {
     handed = record {
-      all = subst (λ (fs : List (List ℕ)). Handed (lines_of fs) [] fs showing.framer showing.lines) (sym no_frames) (record { cut = cut; limit = ap (λ (f : Framing). f.limit) is; text = none });
+      all = subst (λ (fs : List (List ℕ)). Handed (lines_of fs) [] fs showing.framer showing.lines) (sym (no_frames most_frame)) (record { cut = cut; limit = ap (λ (f : Framing). f.limit) is; text = none });
       short = ap (λ (f : Framing). front most_frame f.held) is ∙ front_none most_frame [] 0 refl;
     };
     none = none;
-    written = subst (λ (fs : List (List ℕ)). Gains origin origin (lines_of fs)) (sym no_frames) (Gains-nil origin);
+    written = subst (λ (fs : List (List ℕ)). Gains origin origin (lines_of fs)) (sym (no_frames most_frame)) (Gains-nil origin);
   };
 }

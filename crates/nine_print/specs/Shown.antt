@@ -1,11 +1,10 @@
 -- What is shown of a stream: the lines of its whole frames, and what a showing that ended so has read and written.
 -- Content is optional: the words on it hold where it is told.
-use Rattle.std.specs.Prelude.{◌≡◌, ◌<◌, ◌↔◌, ◌⊎◌, ℕ, ◌+◌, ◌-◌, List, [], ◌∷◌, ◌++◌, length, drop, Option}
-use Rattle.std.specs.List.{concat}
+use Rattle.std.specs.Prelude.{◌≡◌, ◌<◌, ◌↔◌, ◌⊎◌, ℕ, ◌+◌, ◌-◌, List, [], ◌∷◌, ◌++◌, length, Option}
 use Rattle.std.specs.Io.KnownBytes.{Consumes, IsAtEnd}
 use Rattle.wire_base.specs.Streams.{Gains}
 use Rattle.wire_base.specs.Whole.{GainsFront}
-use Rattle.nine_frames.specs.Streams.{front, IsBad, IsShort, frames}
+use Rattle.nine_frames.specs.Streams.{frames, end_of, HasBadSize, HasNoBadSize, IsFrames}
 use Rattle.nine_print.specs.declared.stream.ShowEnd.{ShowEnd}
 use Rattle.nine_print.specs.declared.stream.ShowEnd.TheVariants.{Fine, ReadFault, WriteFault, BadSize, Torn, NoMemory, Flood}
 use Rattle.nine_print.specs.Lines.{line_of, bad_size_line, torn_line}
@@ -41,34 +40,22 @@ lines_of frames = lines_from 0 frames
 abbrev pub frames_in : List ℕ → List (List ℕ)
 frames_in input = frames most_frame input
 
--- so far they reach
-abbrev pub end_of : List ℕ → ℕ
-end_of input = length (concat (frames_in input))
-
--- what stands behind them has no bad size
-abbrev pub HasNoBadSize : List ℕ → Type 0
-HasNoBadSize input = front most_frame (drop (end_of input) input) ≡ IsShort
-
--- the input is whole frames, one behind the other, and nothing else
-abbrev pub IsWhole : List ℕ → Type 0
-IsWhole input = input ≡ concat (frames_in input)
-
--- The text of such an input: the lines of its frames.
+-- The text of an input that is whole frames and nothing else: their lines.
 pub record IsWholeText (input text : List ℕ) : Type 0 where
-  pub whole : IsWhole input
+  pub whole : IsFrames most_frame input
   pub lines : text ≡ lines_of (frames_in input)
 
 -- Of one with a size that no frame has behind its whole frames: their lines, and the line of that size.
 pub record IsBadText (input text : List ℕ) : Type 0 where
   pub size : ℕ
-  pub bad : front most_frame (drop (end_of input) input) ≡ IsBad size
-  pub lines : text ≡ lines_of (frames_in input) ++ bad_size_line (end_of input) size
+  pub bad : HasBadSize most_frame input size
+  pub lines : text ≡ lines_of (frames_in input) ++ bad_size_line (end_of most_frame input) size
 
 -- Of one that ends inside a frame: the lines of its whole frames, and the line that tells how many bytes of one follow.
 pub record IsTornText (input text : List ℕ) : Type 0 where
-  pub short : HasNoBadSize input
-  pub inside : end_of input < length input
-  pub lines : text ≡ lines_of (frames_in input) ++ torn_line (end_of input) (length input - end_of input)
+  pub short : HasNoBadSize most_frame input
+  pub inside : end_of most_frame input < length input
+  pub lines : text ≡ lines_of (frames_in input) ++ torn_line (end_of most_frame input) (length input - end_of most_frame input)
 
 -- the lines of the first of the whole frames were written, of each the whole line
 pub record ShowsSome (held_old held_new : Option (List ℕ)) (input : List ℕ) : Type 0 where
@@ -84,7 +71,7 @@ IsText left input text = (text ≡ lines_of (frames_in input)) ⊎ (IsBadText in
 -- how a showing that has read this input ends: what is left of the source, and what was written
 abbrev pub EndsSo : ShowEnd → Option (List ℕ) → Option (List ℕ) → Option (List ℕ) → List ℕ → Type 0
 EndsSo Fine left held_old held_new input = IsAtEnd left × ((text : List ℕ) × IsWholeText input text × Gains held_old held_new text)
-EndsSo ReadFault left held_old held_new input = HasNoBadSize input × Gains held_old held_new (lines_of (frames_in input))
+EndsSo ReadFault left held_old held_new input = HasNoBadSize most_frame input × Gains held_old held_new (lines_of (frames_in input))
 EndsSo WriteFault left held_old held_new input = (text : List ℕ) × IsText left input text × GainsFront held_old held_new text
 EndsSo BadSize left held_old held_new input = (text : List ℕ) × IsBadText input text × Gains held_old held_new text
 EndsSo Torn left held_old held_new input = IsAtEnd left × ((text : List ℕ) × IsTornText input text × Gains held_old held_new text)

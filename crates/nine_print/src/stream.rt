@@ -5,11 +5,12 @@ ghost use Rattle.std.specs.Io.KnownBytes.{IsAtEnd};
 ghost use Rattle.wire_base.specs.Causes.{Rose};
 ghost use Rattle.wire_base.specs.Streams.{Gains};
 ghost use Rattle.wire_base.specs.Whole.{GainsFront};
+ghost use Rattle.nine_frames.specs.Streams.{IsFrames};
 ghost use Rattle.nine_codec.specs.Encoded.{Extends};
 ghost use Rattle.nine_print.specs.Values.{number_text};
 ghost use Rattle.nine_print.specs.Lines.{bad_size_line, torn_line};
 ghost use Rattle.nine_print.specs.declared.stream.ShowEnd.TheVariants.{NoMemory};
-ghost use Rattle.nine_print.specs.Shown.{end_number, most_input, IsWhole, Shows};
+ghost use Rattle.nine_print.specs.Shown.{end_number, most_frame, most_input, Shows};
 ghost use Rattle.nine_print.specs.Showing.{Handed, AllHanded, StopsAt, CutsAt, Told, Shown, taken_by};
 
 use crate::line::put_line;
@@ -297,7 +298,7 @@ pub fn show<R: Source, W: Sink>(alloc: Global, input: &mut R, output: &mut W) ->
     ensures counted_writes { W.faults output.old ≤ W.faults output.new }
 
     // What is told, valid and without faults is shown to its end, unless memory runs out.
-    ensures complete { (content : List ℕ) → R.left input.old ≡ Some content → IsWhole content → length content ≤ most_input
+    ensures complete { (content : List ℕ) → R.left input.old ≡ Some content → IsFrames most_frame content → length content ≤ most_input
         → (Rose (R.faults input.old) (R.faults input.new) → ⊥) → (Rose (W.faults output.old) (W.faults output.new) → ⊥) → (result ≡ ShowEnd.Fine) ⊎ (result ≡ ShowEnd.NoMemory) }
 {
     match show_input(alloc, input, output) {
