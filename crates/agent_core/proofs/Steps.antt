@@ -1,5 +1,5 @@
 -- What is told of a history after one more event, against what is kept.
-use Rattle.std.proofs.Common.{◌≡◌, ℕ, ◌+◌, ◌≤◌, ◌<◌, List, [], ◌∷◌, ◌++◌, length, get_or, drop, map, reverse, Bool, true, false, cond, eqb, ltb, Equal, Greater, ◌&&◌, not, Option, Some, None, refl, sym, ap, subst, ◌∙◌, inl, inr, arith}
+use Rattle.std.proofs.Common.{◌≡◌, ℕ, ◌+◌, ◌≤◌, ◌<◌, List, [], ◌∷◌, ◌++◌, length, get_or, drop, map, reverse, Bool, true, false, cond, eqb, ltb, Equal, Greater, Option, Some, None, refl, sym, ap, subst, ◌∙◌, inl, inr, arith}
 use Rattle.std.specs.Ordering.{nat_cmp, is_eq}
 use Rattle.std.specs.BTreeMap.{is_at}
 use Rattle.std.proofs.lemmas.Bool.{cases_Bool, eq-eqb, eqb-true, ne_eqb, ltb-true, ltb-false, false≢true}
@@ -7,19 +7,18 @@ use Rattle.std.proofs.lemmas.List.{drop_all, drop-drop, drop-append-le, length-r
 use Rattle.nine_messages.specs.declared.message.RMsg.{RMsg}
 use Rattle.nine_messages.specs.Messages.{r_frame}
 use Rattle.agent_history.specs.declared.event.Event.{Event}
-use Rattle.agent_history.specs.declared.event.Event.TheVariants.{Request, Hang, Answer, NoAnswer, NoRoom, Take, TakeAsk}
-use Rattle.agent_history.specs.Deeds.{Deed, Hung, fid_of, next_of, text_of}
+use Rattle.agent_history.specs.declared.event.Event.TheVariants.{Request, Take}
+use Rattle.agent_history.specs.Deeds.{Deed, fid_of, next_of, text_of}
 use Rattle.agent_history.specs.Requests.{after_frame, reply_to}
 use Rattle.agent_history.specs.Histories.{History, has_stopped, was_opened, was_hung, is_gone, deeds, replies, taken, untaken, answer, first_reply}
 use Rattle.agent_history.specs.declared.event.StepAnswer.TheVariants as a
 use Rattle.agent_history.proofs.DeedLaws.{SameFor, same_for_none, elsewhere}
-use Rattle.agent_history.proofs.HistoryLaws.{or_right, hung_opened, taken_given}
+use Rattle.agent_history.proofs.HistoryLaws.{hung_opened, taken_given}
 use Rattle.agent_core.specs.declared.connection.Connection.{Connection}
 use Rattle.agent_core.specs.declared.shared.Shared.{Shared}
 use Rattle.agent_core.specs.declared.refused.Reply.{Reply}
-use Rattle.agent_core.specs.Connections.{IsFresh, IsHungUp, Keeps, Shares, kept_fid, kept_text, text_in, reply_bytes}
-use Rattle.fid_table.specs.Held.{Table, fid_at, held_in}
-use Rattle.agent_core.specs.Agents.{opened_at, KeepsAt, Stands}
+use Rattle.agent_core.specs.Connections.{Keeps, Shares, kept_fid, kept_text, reply_bytes}
+use Rattle.agent_core.specs.Agents.{KeepsAt, Stands}
 
 same : (a : ℕ) → eqb a a ≡ true
 same a = eq-eqb a a refl

@@ -14,7 +14,6 @@ use Rattle.agent_history.specs.Deeds.{Deed, msize_of, fid_of, held_by, next_of, 
 use Rattle.agent_history.specs.Requests.{refusal, after, reply_of, after_frame, reply_to}
 use Rattle.nine_messages.specs.declared.message.TBody.{TBody}
 use Rattle.nine_messages.specs.declared.message.TBody.TheVariants as t
-use Rattle.nine_messages.specs.declared.message.RMsg.{RMsg}
 use Rattle.nine_messages.specs.declared.message.RBody.TheVariants as r
 use Rattle.nine_messages.specs.Messages.{r_frame}
 use Rattle.ctl_lines.specs.Faults.{line_text}

@@ -1,5 +1,5 @@
 // Reads and writes of the files that are open.
-ghost use Rattle.std.specs.Prelude.{◌≡◌, ◌++◌, ◌∷◌, ◌≤◌, ◌<◌, ◌+◌, ◌-◌, ◌^◌, ◌==◌, List, ℕ, Some, true, length, option_map, OnOk, OnErr, IfOk, if◌then◌else◌};
+ghost use Rattle.std.specs.Prelude.{◌≡◌, ◌∷◌, ◌≤◌, ◌<◌, ◌+◌, ◌-◌, ◌^◌, ◌==◌, List, ℕ, Some, true, length, option_map, OnOk, OnErr, IfOk, if◌then◌else◌};
 ghost use Rattle.nine_messages.specs.declared.message.TBody.TheVariants as t;
 ghost use Rattle.nine_messages.specs.declared.message.RBody.TheVariants as r;
 ghost use Rattle.nine_messages.specs.Messages.{r_frame};
@@ -8,7 +8,6 @@ ghost use Rattle.file_tree.specs.Faults.{fault_text};
 ghost use Rattle.file_tree.specs.Calls.{dir_fault, node_of};
 ghost use Rattle.file_tree.specs.Directories.{dir_bytes, dir_end};
 ghost use Rattle.fid_table.specs.Held.{is_open_directory, next_at, state_at};
-ghost use Rattle.key_lists.specs.Listing.{list_text};
 ghost use Rattle.agent_history.specs.Deeds.{Deed, Browsed, Listed, fid_of, keys_of};
 ghost use Rattle.agent_history.specs.Requests.{ctl_text, effective, lets_read, lets_write, piece, written};
 ghost use Rattle.agent_history.specs.Lines.{lines_of, after_lines, lines_fault};

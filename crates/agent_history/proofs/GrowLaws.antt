@@ -11,7 +11,6 @@ use Rattle.nine_messages.specs.Decoding.{request_of}
 use Rattle.file_tree.specs.declared.tree.Node.{Node}
 use Rattle.file_tree.specs.declared.tree.Node.TheVariants.{Root, Factotum, Rpc, Ctl, Confirm, Needkey, Proto, Log}
 use Rattle.file_tree.specs.declared.tree.FidState.{FidState}
-use Rattle.file_tree.specs.declared.fault.FidFault.{FidFault}
 use Rattle.file_tree.specs.Faults.{fault_text}
 use Rattle.file_tree.specs.Tree.{is_exclusive, lead_to}
 use Rattle.file_tree.specs.Directories.{dir_end}

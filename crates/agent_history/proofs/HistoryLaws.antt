@@ -1,11 +1,9 @@
 -- What holds of every history: a connection that was hung up had been opened, no more replies are taken than were
 -- given, and a stop stays.
-use Rattle.std.proofs.Common.{◌≡◌, ℕ, suc, ◌≤◌, [], ◌∷◌, length, Bool, true, false, eqb, leb, ltb, ◌&&◌, ◌||◌, not, refl, inl, inr, arith}
-use Rattle.std.specs.List.{list_any}
-use Rattle.std.proofs.lemmas.Bool.{cases_Bool, or_cases, and_parts, ltb-true, leb-true, le-leb}
-use Rattle.agent_history.specs.declared.event.Event.{Event}
+use Rattle.std.proofs.Common.{◌≡◌, ℕ, ◌≤◌, [], ◌∷◌, length, Bool, true, false, eqb, ltb, ◌&&◌, ◌||◌, not, refl, inl, inr, arith}
+use Rattle.std.proofs.lemmas.Bool.{cases_Bool, or_cases, and_parts, ltb-true}
 use Rattle.agent_history.specs.declared.event.Event.TheVariants.{Request, Hang, Answer, NoAnswer, NoRoom, Take, TakeAsk, Stop}
-use Rattle.agent_history.specs.Histories.{History, is_stop, has_stopped, most_events, was_opened, was_hung, is_gone, replies, taken}
+use Rattle.agent_history.specs.Histories.{History, was_opened, was_hung, is_gone, replies, taken}
 
 pub or_right : (x y : Bool) → y ≡ true → (x || y) ≡ true
 or_right true y e = refl

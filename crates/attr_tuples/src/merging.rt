@@ -1,6 +1,5 @@
 // Tuples merged.
-ghost use Rattle.std.specs.Prelude.{◌≡◌, ◌≤◌, ◌++◌, length, filter, IfOk};
-ghost use Rattle.attr_tuples.specs.Attributes.{is_tuple};
+ghost use Rattle.std.specs.Prelude.{◌≡◌, length, filter};
 ghost use Rattle.attr_tuples.specs.Merging.{is_new, merged, Merges};
 
 use crate::attr::Attr;

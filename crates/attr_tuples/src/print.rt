@@ -1,5 +1,5 @@
 // Tuples as text.
-ghost use Rattle.std.specs.Prelude.{◌≡◌, ◌∷◌, ◌++◌, length, take, map, OnOk, OnErr};
+ghost use Rattle.std.specs.Prelude.{◌≡◌, ◌++◌, length, take, map, OnOk, OnErr};
 ghost use Rattle.attr_tuples.specs.Printing.{ending_text, attr_text, printed_text, public_text};
 ghost use Rattle.attr_tuples.specs.Steps.{seen, others_text};
 

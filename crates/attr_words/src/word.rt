@@ -1,5 +1,5 @@
 // Words of a line, taken one by one.
-ghost use Rattle.std.specs.Prelude.{◌≡◌, ◌+◌, ◌≤◌, ◌++◌, ◌∷◌, [], length, drop, not, position, IfOk, if◌then◌else◌};
+ghost use Rattle.std.specs.Prelude.{◌≡◌, ◌+◌, ◌≤◌, ◌++◌, length, drop, not, position, IfOk};
 ghost use Rattle.attr_words.specs.Words.{is_gap, stops, kept, place_after, first_word, gap_len};
 ghost use Rattle.attr_words.specs.Taking.{Takes};
 

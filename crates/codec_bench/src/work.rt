@@ -2,7 +2,7 @@
 // any of it from being left out.
 ghost use Rattle.nine_messages.specs.Decoding.{IsFrame};
 ghost use Rattle.nine_messages.specs.Messages.{t_given, r_given};
-ghost use Rattle.std.specs.Prelude.{IfSome, IfOk};
+ghost use Rattle.std.specs.Prelude.{IfSome};
 
 use nine_codec::{RBody, RMsg, TBody, TMsg, decode_r, decode_t, encode_r, encode_t};
 use std::alloc::Global;

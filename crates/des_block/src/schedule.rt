@@ -1,5 +1,5 @@
 // The key schedule, and the cipher on blocks of eight bytes.
-ghost use Rattle.std.specs.Prelude.{◌≡◌, ℕ, ◌≤◌, Bool, List, IsTrue, nat_le};
+ghost use Rattle.std.specs.Prelude.{◌≡◌, ℕ, Bool, List, IsTrue, nat_le};
 ghost use Rattle.std.specs.List.{list_all};
 ghost use Rattle.des_block.specs.Bits.{bits_of};
 ghost use Rattle.des_block.specs.Schedule.{SameButParity, deciphered_with, enciphered_with, key_schedule, round_keys};

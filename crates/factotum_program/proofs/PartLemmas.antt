@@ -1,10 +1,9 @@
 -- A front of a text that was written.
-use Rattle.std.proofs.Common.{◌≡◌, ℕ, ◌+◌, ◌<◌, List, [], ◌++◌, length, length-append, Option, refl, sym, ap, subst, ◌∙◌, append_assoc, append-nil, arith}
+use Rattle.std.proofs.Common.{◌≡◌, ℕ, ◌+◌, List, [], ◌++◌, length-append, Option, sym, ap, subst, ◌∙◌, append_assoc, arith}
 use Rattle.wire_base.specs.Streams.{Gains}
-use Rattle.wire_base.specs.Whole.{GainsFront}
-use Rattle.wire_base.proofs.StreamLemmas.{Gains-trans, Gains-nil}
+use Rattle.wire_base.proofs.StreamLemmas.{Gains-trans}
 use Rattle.factotum_program.specs.declared.status.Status.{Status}
-use Rattle.factotum_program.specs.declared.status.Status.TheVariants.{NoMemory, WriteFault}
+use Rattle.factotum_program.specs.declared.status.Status.TheVariants.{NoMemory}
 use Rattle.factotum_program.specs.Commands.{GainsPart}
 
 -- what one step put out, into an empty buffer, was written behind what stood

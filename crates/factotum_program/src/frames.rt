@@ -1,16 +1,16 @@
 // The frames of one connection, each answered before the next: a request, and then takes until there is no reply, each
 // reply written at once.
-ghost use Rattle.std.specs.Prelude.{◌≡◌, ◌++◌, [], ◌∷◌, ◌+◌, ◌<◌, ◌≤◌, List, ℕ, Option, true, length, IfOk, IfErr, OnOk};
+ghost use Rattle.std.specs.Prelude.{◌≡◌, ◌∷◌, ◌+◌, ◌<◌, ◌≤◌, List, ℕ, Option, true, length, IfOk, IfErr, OnOk};
 ghost use Rattle.wire_base.specs.Causes.{Rose};
 ghost use Rattle.wire_base.specs.Streams.{Gains};
 ghost use Rattle.nine_messages.specs.Decoding.{IsFrame};
-ghost use Rattle.nine_frames.specs.Framing.{HasHandedOut, Answers};
+ghost use Rattle.nine_frames.specs.Framing.{Answers};
 ghost use Rattle.agent_history.specs.declared.event.Event.TheVariants.{Request, Take};
 ghost use Rattle.agent_history.specs.Histories.{History, untaken, answer};
 ghost use Rattle.agent_history.specs.Laws.{is_reply};
 ghost use Rattle.agent_core.specs.Agents.{StandsFor, kept_replies};
-ghost use Rattle.factotum_program.specs.Commands.{GainsPart, frames_in};
-ghost use Rattle.factotum_program.specs.Pipe.{most_frame, zeros, take_until, after_frame, after_frames, text_of, replies_text};
+ghost use Rattle.factotum_program.specs.Commands.{GainsPart};
+ghost use Rattle.factotum_program.specs.Pipe.{zeros, take_until, after_frame, text_of};
 ghost use Rattle.factotum_program.specs.Sessions.{next_of, HasNoNext, Handed, AllHanded, StopsAt, IsCut};
 
 use crate::status::Status;

@@ -1,7 +1,7 @@
 // One connection of 9P on an input and an output: a piece of the input is read, the frames that are whole with it are
 // answered, and then the next piece is read.
 ghost use Rattle.std.specs.Prelude.{◌≡◌, ◌++◌, ◌+◌, ◌<◌, ◌≤◌, List, ℕ, Option, true, false, length, IfOk, IfErr, OnOk};
-ghost use Rattle.std.specs.Io.KnownBytes.{Consumes, IsAtEnd};
+ghost use Rattle.std.specs.Io.KnownBytes.{IsAtEnd};
 ghost use Rattle.wire_base.specs.Causes.{Rose};
 ghost use Rattle.factotum_program.specs.Commands.{most_input, Answers, EndsSo};
 ghost use Rattle.factotum_program.specs.Sessions.{AllHanded, Piped, StopsAt, taken_by};

@@ -1,5 +1,5 @@
 -- The modes in which a file is opened.
-use Rattle.std.proofs.Common.{◌≡◌, ◌<◌, ℕ, Bool, true, false, Option, Some, None, refl, sym, ap, ◌∙◌}
+use Rattle.std.proofs.Common.{◌≡◌, ◌<◌, ℕ, Bool, true, Option, Some, None, refl, sym, ap, ◌∙◌}
 use Rattle.std.specs.Prelude.{◌↔◌, is_none}
 use Rattle.std.proofs.lemmas.Bool.{agree_below_at}
 use Rattle.file_tree.specs.declared.tree.Node.{Node}

@@ -1,6 +1,6 @@
 -- The requests on fids, one after the other: the tests that refuse it, in their order, and what it makes of a fid.
 -- A fid that isn't held has no state. After section 5 of the Plan 9 manual (attach(5), walk(5), open(5), clunk(5)).
-use Rattle.std.specs.Prelude.{ℕ, List, [], ◌∷◌, Bool, true, false, not, ◌&&◌, ◌||◌, ◌==◌, nat_le, bit_and, Option, Some, None, is_some, is_none, if◌then◌else◌}
+use Rattle.std.specs.Prelude.{ℕ, List, [], ◌∷◌, Bool, true, false, not, ◌&&◌, ◌||◌, ◌==◌, nat_le, bit_and, Option, Some, None, is_some, is_none}
 use Rattle.wire_base.specs.Rules.{first_told}
 use Rattle.file_tree.specs.declared.tree.Node.{Node}
 use Rattle.file_tree.specs.declared.tree.Node.TheVariants.{Root}

@@ -1,6 +1,6 @@
 // The tests of each request on a fid, in their order: the first that holds refuses it.
 ghost use Rattle.std.specs.Prelude.{◌≡◌};
-ghost use Rattle.file_tree.specs.Calls.{attach_fault, dir_fault, executes, has_other_bits, is_denied, is_full, lacks_first, open_fault, reads, removes_on_close, truncates, walk_fault, writes};
+ghost use Rattle.file_tree.specs.Calls.{attach_fault, dir_fault, is_denied, lacks_first, open_fault, reads, walk_fault, writes};
 
 use crate::fault::FidFault;
 use crate::tree::{FidState, Node};

@@ -1,5 +1,5 @@
 // Cases by hand from the rules of keys; the DES keys are what bench/vectors/ring_keys.py prints.
-ghost use Rattle.std.specs.Prelude.{◌+◌, ◌≤◌, ◌<◌, IfOk, length};
+ghost use Rattle.std.specs.Prelude.{◌+◌, ◌≤◌, ◌<◌, length};
 
 use crate::{AddFault, DeleteFault, Key, KeyRing};
 use attr_tuples::{Attr, Tuple, Value};

@@ -1,5 +1,5 @@
 // Requests, read field by field from the left.
-ghost use Rattle.std.specs.Prelude.{◌≡◌, ◌<◌, ◌^◌, length, IfOk, Ok};
+ghost use Rattle.std.specs.Prelude.{◌<◌, IfOk, Ok};
 ghost use Rattle.std.specs.Int.{w16};
 ghost use Rattle.wire_base.specs.Readers.{Gives, string, times, listed};
 ghost use Rattle.nine_messages.specs.declared.message.TMsg.{TMsg};

@@ -1,7 +1,7 @@
 // Replies, written field by field behind what the output holds.
-ghost use Rattle.std.specs.Prelude.{◌≡◌, ◌+◌, ◌-◌, ◌≤◌, ◌<◌, ◌^◌, ◌++◌, [], ◌∷◌, length, take, OnOk, OnErr};
+ghost use Rattle.std.specs.Prelude.{◌≡◌, ◌+◌, ◌-◌, ◌≤◌, ◌<◌, ◌^◌, ◌++◌, [], length, OnOk, OnErr};
 ghost use Rattle.std.specs.List.{flat_map};
-ghost use Rattle.std.specs.Int.{w8, w16, w32, to_le_bytes};
+ghost use Rattle.std.specs.Int.{w16, w32, to_le_bytes};
 ghost use Rattle.wire_base.specs.Readers.{counted, spelled, listing};
 ghost use Rattle.nine_messages.specs.Messages.{frame, qid_text, r_given, r_frame};
 ghost use Rattle.nine_messages.specs.declared.message.RBody.TheVariants as r;

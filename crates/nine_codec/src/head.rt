@@ -1,7 +1,7 @@
 // The head of a message, and how what was begun is taken back. The layout of each message:
 //
 //     size[4] type[1] tag[2] fields
-ghost use Rattle.std.specs.Prelude.{◌≡◌, ◌-◌, ◌<◌, ◌^◌, ◌++◌, [], ◌∷◌, take, OnOk, OnErr};
+ghost use Rattle.std.specs.Prelude.{◌≡◌, ◌-◌, ◌<◌, ◌^◌, ◌++◌, take, OnOk, OnErr};
 ghost use Rattle.std.specs.Int.{w8, to_le_bytes};
 ghost use Rattle.nine_codec.specs.Encoded.{head};
 

@@ -1,15 +1,12 @@
 -- The frames of a stream, step by step.
-use Rattle.std.proofs.Common.{◌≡◌, ℕ, zero, suc, ◌+◌, ◌<◌, ◌≤◌, List, [], ◌∷◌, ◌++◌, length, take, drop, Bool, true, false, cond, ltb, leb, ◌||◌, ◌⊎◌, Ok, Err, refl, sym, ap, subst, ◌∙◌, append_assoc, append-nil, length-append, length-drop, length-take, take-append-drop, arith, inl, inr}
-use Rattle.std.specs.Prelude.{Some, None}
+use Rattle.std.proofs.Common.{◌≡◌, ℕ, zero, suc, ◌+◌, ◌<◌, ◌≤◌, List, [], ◌∷◌, ◌++◌, length, take, drop, Bool, true, false, ltb, leb, ◌||◌, ◌⊎◌, Ok, Err, refl, sym, ap, subst, ◌∙◌, append_assoc, append-nil, length-append, length-drop, length-take, take-append-drop, arith, inl, inr}
 use Rattle.std.specs.List.{AllByRecursion, concat}
 use Rattle.std.specs.Int.{w32, from_le_bytes}
-use Rattle.std.proofs.lemmas.Bool.{cases_Bool, cases_lt, ltb-false, ltb-true, le-ltb, lt-ltb, leb-true, le-leb}
+use Rattle.std.proofs.lemmas.Bool.{cases_Bool, cases_lt, ltb-false, le-ltb, lt-ltb, leb-true, le-leb}
 use Rattle.std.proofs.lemmas.List.{take-append-le, take_at, drop_at, drop-drop}
 use Rattle.std.proofs.lemmas.List.Folds.{concat-append}
-use Rattle.wire_base.specs.Readers.{number, value_of}
-use Rattle.wire_base.proofs.ReaderLaws.{ok_is}
-use Rattle.nine_messages.specs.Decoding.{IsFrame}
-use Rattle.nine_frames.specs.Streams.{Front, IsWhole, IsBad, IsShort, size_of, is_bad, front_with, front, frames_up_to, frames, end_of, HasBadSize, IsFrames}
+use Rattle.wire_base.specs.Readers.{number}
+use Rattle.nine_frames.specs.Streams.{Front, IsWhole, IsBad, IsShort, is_bad, front, frames_up_to, frames, end_of, HasBadSize, IsFrames}
 use Rattle.nine_frames.specs.Framed.{Framing}
 use Rattle.nine_frames.specs.Framing.{IsWithin, HasHandedOut, HandsOut, Answers, Continues}
 use Rattle.nine_frames.specs.declared.framer.Next.{Next}

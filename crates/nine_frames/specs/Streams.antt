@@ -1,7 +1,7 @@
 -- The frames of a stream, after intro(5) of the Plan 9 manual: each message begins with a size of four bytes, the
 -- lowest first, which counts itself. A size under 7, which is that of a message without fields, and one over a limit
 -- are bad, and nothing is read behind them.
-use Rattle.std.specs.Prelude.{◌≡◌, ℕ, zero, suc, ◌<◌, ◌≤◌, List, [], ◌∷◌, length, take, drop, Option, Some, None, Bool, ◌||◌, nat_lt, nat_le, if◌then◌else◌}
+use Rattle.std.specs.Prelude.{◌≡◌, ℕ, zero, suc, List, [], ◌∷◌, length, take, drop, Option, Some, None, Bool, ◌||◌, nat_lt, nat_le, if◌then◌else◌}
 use Rattle.std.specs.List.{concat}
 use Rattle.std.specs.Int.{w32}
 use Rattle.wire_base.specs.Readers.{number, value_of}

@@ -1,7 +1,7 @@
 // Laws of the frames of a stream, each the contract of a function that does nothing.
-ghost use Rattle.std.specs.Prelude.{◌≡◌, ℕ, List, [], ◌∷◌, ◌++◌};
+ghost use Rattle.std.specs.Prelude.{◌≡◌, ℕ, List, [], ◌++◌};
 ghost use Rattle.std.specs.List.{AllByRecursion, concat};
-ghost use Rattle.nine_frames.specs.Streams.{front, IsBad, IsShort, frames};
+ghost use Rattle.nine_frames.specs.Streams.{front, IsBad, frames};
 ghost use Rattle.nine_frames.specs.Framing.{IsWithin};
 
 /// The frames of a stream whose front was handed out are the rest of the frames; more of the stream changes none of

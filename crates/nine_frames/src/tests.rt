@@ -1,5 +1,5 @@
 // Streams in pieces. The stream is a session over a ctl file, written out from section 5 of the Plan 9 manual.
-ghost use Rattle.std.specs.Prelude.{◌≡◌, ◌+◌, ◌<◌, ◌≤◌, length, OnOk};
+ghost use Rattle.std.specs.Prelude.{◌<◌};
 
 use crate::{Framer, Next};
 use std::process::Abort;

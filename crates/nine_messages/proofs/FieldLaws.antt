@@ -1,8 +1,8 @@
 -- What holds of the fields of a message and of a whole frame, whatever the direction.
-use Rattle.std.proofs.Common.{◌≡◌, ℕ, ◌+◌, ◌<◌, ◌≤◌, ◌^◌, List, [], ◌++◌, length, drop, cond, eqb, Result, Ok, Err, refl, sym, ap, subst, ◌∙◌, append-nil, arith, inl, inr}
+use Rattle.std.proofs.Common.{◌≡◌, ℕ, ◌+◌, ◌<◌, ◌^◌, List, [], ◌++◌, length, drop, cond, eqb, Result, Ok, Err, refl, sym, ap, subst, ◌∙◌, append-nil, arith, inl, inr}
 use Rattle.std.proofs.lemmas.Bool.{eqb-true, cases_Bool}
 use Rattle.std.specs.Int.{w8, w16, w32, w64, to_le_bytes}
-use Rattle.wire_base.specs.Readers.{Reader, number, both, converted}
+use Rattle.wire_base.specs.Readers.{Reader, number, converted}
 use Rattle.wire_base.proofs.ReaderLaws.{AreBytes, Taken, Taken-then, Spells, bind_ok, ok_is, wide8, wide16, wide32, wide64, number_spells}
 use Rattle.nine_messages.specs.Messages.{frame}
 use Rattle.nine_messages.specs.Decoding.{no_message, as_one}

@@ -1,7 +1,7 @@
 -- The bytes of the messages of 9P2000, after section 5 of the Plan 9 manual (intro(5), version(5), attach(5),
 -- flush(5), walk(5), open(5), read(5), clunk(5), remove(5), stat(5), error(5)). Each message has one spelling: size, type, tag, and its
 -- fields in order. Numbers are little-endian.
-use Rattle.std.specs.Prelude.{◌≡◌, ℕ, ◌+◌, ◌-◌, ◌<◌, ◌≤◌, ◌^◌, List, [], ◌∷◌, ◌++◌, length}
+use Rattle.std.specs.Prelude.{◌≡◌, ℕ, ◌+◌, ◌-◌, ◌<◌, ◌≤◌, ◌^◌, List, [], ◌++◌, length}
 use Rattle.std.specs.Int.{w8, w16, w32, w64, to_le_bytes}
 use Rattle.wire_base.specs.Readers.{counted, spelled, listing, FitsList, IsString}
 use Rattle.nine_messages.specs.declared.qid.Qid.{Qid}

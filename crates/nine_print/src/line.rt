@@ -1,8 +1,7 @@
 // The line of a frame.
-ghost use Rattle.std.specs.Prelude.{◌≡◌, ◌++◌, [], ◌∷◌, OnOk, OnErr, IfOk, string_bytes, length, take, codes, ◌≤◌};
+ghost use Rattle.std.specs.Prelude.{◌≡◌, ◌++◌, OnOk, OnErr};
 ghost use Rattle.nine_codec.specs.Encoded.{Extends};
 ghost use Rattle.nine_messages.specs.Decoding.{IsFrame, t_reading, r_reading};
-ghost use Rattle.nine_print.specs.Values.{number_text, tag_text};
 ghost use Rattle.nine_print.specs.Lines.{type_of, tag_of, bad_text, t_line_of, r_line_of, line_of};
 
 use crate::reply::put_reply;

@@ -1,8 +1,8 @@
 // The lines of replies.
-ghost use Rattle.std.specs.Prelude.{◌≡◌, ◌++◌, [], ◌∷◌, OnOk, OnErr, IfOk, string_bytes, length, take, codes, ◌≤◌};
+ghost use Rattle.std.specs.Prelude.{◌≡◌, ◌++◌, OnOk, OnErr, codes};
 ghost use Rattle.nine_codec.specs.Encoded.{Extends};
 ghost use Rattle.std.specs.List.{flat_map};
-ghost use Rattle.nine_print.specs.Values.{number_text, tag_text, string_text, qid_shown, content_text};
+ghost use Rattle.nine_print.specs.Values.{number_text, qid_shown};
 ghost use Rattle.nine_print.specs.Lines.{qids_text, r_word, r_shown, r_line};
 
 use crate::request::put_version;

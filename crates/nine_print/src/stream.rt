@@ -1,13 +1,12 @@
 // A stream of frames of both directions, shown line by line: a piece of the input is read, the lines of the frames that
 // are whole with it are written, and then the next piece is read.
-ghost use Rattle.std.specs.Prelude.{◌≡◌, ◌++◌, ◌+◌, ◌<◌, ◌≤◌, ◌∷◌, [], List, ℕ, Option, Some, true, false, length, ◌⊎◌, OnOk, OnErr, IfOk, IfErr};
+ghost use Rattle.std.specs.Prelude.{◌≡◌, ◌++◌, ◌+◌, ◌<◌, ◌≤◌, [], List, ℕ, Option, Some, true, false, length, ◌⊎◌, OnOk, OnErr, IfOk, IfErr};
 ghost use Rattle.std.specs.Io.KnownBytes.{IsAtEnd};
 ghost use Rattle.wire_base.specs.Causes.{Rose};
 ghost use Rattle.wire_base.specs.Streams.{Gains};
 ghost use Rattle.wire_base.specs.Whole.{GainsFront};
 ghost use Rattle.nine_frames.specs.Streams.{IsFrames};
 ghost use Rattle.nine_codec.specs.Encoded.{Extends};
-ghost use Rattle.nine_print.specs.Values.{number_text};
 ghost use Rattle.nine_print.specs.Lines.{bad_size_line, torn_line};
 ghost use Rattle.nine_print.specs.declared.stream.ShowEnd.TheVariants.{NoMemory};
 ghost use Rattle.nine_print.specs.Shown.{end_number, most_frame, most_input, Shows};

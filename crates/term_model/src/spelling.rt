@@ -1,5 +1,5 @@
 // The bytes of a term.
-ghost use Rattle.std.specs.Prelude.{◌≡◌, ◌++◌, ◌≤◌, ◌+◌, Ok, Err, OnOk, OnErr, length, take, drop, option_map, map};
+ghost use Rattle.std.specs.Prelude.{◌≡◌, ◌≤◌, Ok, Err, OnOk, OnErr, length, take, drop, option_map, map};
 ghost use Rattle.term_trees.specs.declared.spelling.SpellFault.TheVariants.{NoAtom, BadSeal, NoMemory};
 ghost use Rattle.term_trees.specs.Spellings.{spelling, spelling_all, atom_bytes, bytes_of, seal_bytes, digest_bytes};
 ghost use Rattle.term_trees.specs.Trees.{seal, digest};

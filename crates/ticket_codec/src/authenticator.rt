@@ -1,5 +1,5 @@
 // The authenticator, sealed under the key of a ticket.
-ghost use Rattle.std.specs.Prelude.{◌≡◌, ◌↔◌, length};
+ghost use Rattle.std.specs.Prelude.{◌≡◌, ◌↔◌};
 ghost use Rattle.seal_mode.specs.Sealing.{opened, sealed};
 ghost use Rattle.ticket_codec.specs.Authenticator.{IsAuthenticator, authenticator_of, authenticator_text};
 ghost use Rattle.ticket_codec.specs.declared.authenticator.Authenticator.{Authenticator};

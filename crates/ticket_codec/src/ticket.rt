@@ -1,5 +1,5 @@
 // The ticket, sealed under the key of the one who is to open it.
-ghost use Rattle.std.specs.Prelude.{ℕ, ◌≡◌, ◌≢◌, ◌↔◌, ◌≤◌, length, Ok, Err};
+ghost use Rattle.std.specs.Prelude.{ℕ, ◌≡◌, ◌≢◌, ◌↔◌, Ok, Err};
 ghost use Rattle.seal_mode.specs.Sealing.{opened, sealed};
 ghost use Rattle.ticket_codec.specs.Fields.{FirstBad};
 ghost use Rattle.ticket_codec.specs.Ticket.{IsTicket, ticket_names, ticket_of, ticket_text};

@@ -1,8 +1,7 @@
 // What the rule and the contracts of the calls say, sentence by sentence. Each law is the contract of a function that
 // does nothing.
-ghost use Rattle.std.specs.Prelude.{◌≡◌, ◌≢◌, ℕ, ◌+◌, ◌<◌, ◌≤◌, ◌↔◌, ◌⊎◌, List, [], ◌∷◌, ◌++◌, All, length, slice_index, true, false, Option, Some};
+ghost use Rattle.std.specs.Prelude.{◌≡◌, ◌≢◌, ℕ, ◌+◌, ◌<◌, ◌≤◌, ◌↔◌, ◌⊎◌, List, [], ◌∷◌, ◌++◌, All, length, slice_index, true, Option, Some};
 ghost use mathlib.Core.Option.{some, none};
-ghost use lib.ListN.{get_elem?};
 ghost use Rattle.atomic_table.specs.Table.{State};
 ghost use Rattle.turn_lock.specs.declared.views.Entry.{Entry};
 ghost use Rattle.turn_lock.specs.declared.views.Stage.TheVariants.{HasTurn};

@@ -13,7 +13,7 @@ pub trait Logged {
 pub trait TurnCall<S: Logged> {
     type Reply;
 
-    ghost use Rattle.std.specs.Prelude.{◌≡◌, List, ◌++◌, Option, option_to_list};
+    ghost use Rattle.std.specs.Prelude.{List, ◌++◌, Option, option_to_list};
 
     // The entry that it makes, if it makes one: its event, by the call before and the reply.
     ghost entry: { Self → Self.Reply → Option S.Event };

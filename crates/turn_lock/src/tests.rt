@@ -1,4 +1,4 @@
-ghost use Rattle.std.specs.Prelude.{◌≡◌, ℕ, ◌%◌, ◌^◌, [], ◌++◌, length, IfSome, Some, None};
+ghost use Rattle.std.specs.Prelude.{◌≡◌, ◌%◌, ◌^◌, ◌++◌, length, IfSome, Some, None};
 ghost use Rattle.turn_lock.specs.Counting.{countdown, IsCountedByTwo};
 ghost use Rattle.turn_lock.specs.Fronts.{events, own};
 ghost use Rattle.turn_lock.specs.Seats.{front, numbers, IsSeatOf, Turned};

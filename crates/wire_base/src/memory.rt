@@ -50,7 +50,7 @@ pub struct FaultPlan {
 }
 
 impl FaultPlan {
-    ghost use Rattle.std.specs.Prelude.{[], false, true};
+    ghost use Rattle.std.specs.Prelude.{false, true};
     ghost use Rattle.wire_base.specs.Memory.{CountsCall, CountsFault, calls_of, fails_next, failing_calls, faults_of};
 
     /// No call was made yet; those whose numbers are in `fails` will fail, counted from 1.
@@ -179,7 +179,7 @@ impl MemSink {
 }
 
 impl Sink for MemSink {
-    ghost use Rattle.std.specs.Prelude.{Some, ◌++◌, IsTrue};
+    ghost use Rattle.std.specs.Prelude.{Some, IsTrue};
     ghost use Rattle.wire_base.specs.Causes.{Rose};
     ghost use Rattle.wire_base.specs.Memory.{CountsCall, TakesAll, fails_next, faults_of, held_bytes, sink_plan};
     ghost use Rattle.wire_base.specs.Streams.{Writes, write_failed};

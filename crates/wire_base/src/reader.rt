@@ -1,7 +1,7 @@
 // Readers of fields. Each is given the whole bytes and the place of its field, and answers the value and the
 // place behind it, or the place of the fault.
 ghost use Rattle.std.specs.Prelude.{◌≡◌, drop};
-ghost use Rattle.std.specs.Int.{Width, w8, w16, w32, w64, byte_len};
+ghost use Rattle.std.specs.Int.{w8, w16, w32, w64};
 ghost use Rattle.wire_base.specs.Readers.{Finds, Gives, number, block, string, no_more};
 ghost use Rattle.wire_base.specs.declared.reader.CodecFault.TheVariants.{Bad, NoMemory};
 

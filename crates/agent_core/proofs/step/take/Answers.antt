@@ -1,4 +1,4 @@
-use Rattle.std.proofs.Common.{◌≡◌, ℕ, List, ◌++◌, ◌<◌, length, drop, true, false, sym, refl, ap, ◌∙◌, arith, append-nil}
+use Rattle.std.proofs.Common.{◌≡◌, ◌++◌, ◌<◌, length, drop, true, false, sym, refl, ap, ◌∙◌, arith, append-nil}
 use Rattle.agent_history.specs.Histories.{was_hung, Answered}
 use Rattle.agent_core.proofs.Steps.{front_is, take_hung, take_live, answer_hung, answer_some}
 use Rattle.agent_core.proofs.step.take.Goals as goal

@@ -1,4 +1,4 @@
-use Rattle.std.proofs.Common.{◌≡◌, List, ℕ, suc, [], length, ◌∷◌, ◌++◌, Option, arith, sym, subst, append-nil}
+use Rattle.std.proofs.Common.{suc, length, ◌∷◌, arith, sym, subst, append-nil}
 use Rattle.std.proofs.lemmas.Result.{err_from_is_err_and, on_ok_weaker, IfErr-weaker}
 use Rattle.wire_base.specs.Streams.{Gains}
 use Rattle.agent_history.specs.declared.event.Event.TheVariants.{Request}

@@ -1,4 +1,4 @@
-use Rattle.std.proofs.Common.{◌≡◌, List, ℕ, [], length, ◌∷◌, ◌++◌, Option, Some, None, arith, sym, ap, length-append}
+use Rattle.std.proofs.Common.{[], length, ◌∷◌, ◌++◌, arith, ap, length-append}
 use Rattle.std.proofs.lemmas.Result.{err_from_is_err_and}
 use Rattle.factotum_program.specs.Pipe.{after_frames}
 use Rattle.factotum_program.proofs.PipeLemmas.{handed_more, handed_all, stops_in_frame, stops_between, cut_reads, next_reads}

@@ -1,4 +1,4 @@
-use Rattle.std.proofs.Common.{◌∷◌, ◌≤◌, arith, sym}
+use Rattle.std.proofs.Common.{◌∷◌, arith}
 use Rattle.std.proofs.lemmas.Result.{err_from_is_err_and}
 use Rattle.agent_history.specs.declared.event.Event.TheVariants.{Take}
 use Rattle.factotum_program.specs.Pipe.{take_until, text_of}

@@ -1,4 +1,4 @@
-use Rattle.std.proofs.Common.{◌≡◌, ℕ, ◌<◌, ◌≤◌, List, length, Option}
+use Rattle.std.proofs.Common.{ℕ, ◌<◌, ◌≤◌, List, length, Option}
 use Rattle.wire_base.specs.Streams.{Gains}
 use Rattle.agent_history.specs.Histories.{History, untaken}
 use Rattle.agent_core.specs.Agents.{StandsFor, kept_replies}

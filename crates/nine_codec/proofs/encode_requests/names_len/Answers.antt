@@ -1,5 +1,4 @@
-use Rattle.std.proofs.Common.{◌≡◌, ◌≤◌, ◌+◌, length, take, ap, arith}
-use Rattle.std.specs.List.{flat_map}
+use Rattle.std.proofs.Common.{length, ap, arith}
 use Rattle.wire_base.specs.Readers.{spelled}
 use Rattle.nine_codec.proofs.FrameLemmas.{part_len}
 use Rattle.nine_codec.proofs.encode_requests.names_len.Goals as goal

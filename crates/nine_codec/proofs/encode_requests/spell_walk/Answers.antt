@@ -1,4 +1,4 @@
-use Rattle.std.proofs.Common.{◌≡◌, ◌≤◌, ◌<◌, length, arith}
+use Rattle.std.proofs.Common.{arith}
 use Rattle.std.proofs.lemmas.Result.{on_ok_weaker}
 use Rattle.nine_codec.proofs.FrameLemmas.{framed_four, names_small}
 use Rattle.nine_codec.proofs.encode_requests.spell_walk.Goals as goal

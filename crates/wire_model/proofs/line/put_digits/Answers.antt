@@ -1,4 +1,4 @@
-use Rattle.std.proofs.Common.{◌≡◌, [], ◌∷◌, ◌++◌, ◌∙◌}
+use Rattle.std.proofs.Common.{[], ◌∷◌, ◌++◌, ◌∙◌}
 use Rattle.wire_model.proofs.LineLemmas.{no_digits, digits_more}
 use Rattle.wire_model.proofs.line.put_digits.Goals as goal
 

@@ -1,5 +1,4 @@
-use Rattle.std.proofs.Common.{List, refl, sym, subst}
-use Rattle.agent_history.specs.Deeds.{Deed}
+use Rattle.std.proofs.Common.{sym, subst}
 use Rattle.agent_core.specs.declared.shared.Shared.{Shared}
 use Rattle.agent_core.specs.Connections.{Shares, FrameServed}
 use Rattle.agent_core.proofs.FrameSteps.{answered_frame, keeps_still}

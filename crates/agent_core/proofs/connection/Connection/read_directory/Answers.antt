@@ -1,5 +1,4 @@
-use Rattle.std.proofs.Common.{ap, arith}
-use Rattle.std.specs.Prelude.{length}
+use Rattle.std.proofs.Common.{arith}
 use Rattle.file_tree.specs.Calls.{node_of}
 use Rattle.fid_table.specs.Held.{state_at}
 use Rattle.agent_core.proofs.TreeLemmas.{dir_bytes_short}

@@ -1,4 +1,4 @@
-use Rattle.std.proofs.Common.{refl, sym, ◌∙◌, subst}
+use Rattle.std.proofs.Common.{sym, ◌∙◌}
 use Rattle.std.proofs.lemmas.Result.{err_from_is_err_and}
 use Rattle.agent_core.proofs.FrameSteps.{frame_over, frame_none, frame_unversioned, frame_told, refused_told, unread_told, writes_few}
 use Rattle.agent_core.proofs.connection.Connection.try_frame.Goals as goal

@@ -1,4 +1,4 @@
-use Rattle.std.proofs.Common.{Option, ap, arith, length}
+use Rattle.std.proofs.Common.{Option, ap, arith}
 use Rattle.std.proofs.lemmas.List.{length-map}
 use Rattle.file_tree.specs.declared.tree.Node.{Node}
 use Rattle.file_tree.specs.declared.walk.Nodes.{Nodes}

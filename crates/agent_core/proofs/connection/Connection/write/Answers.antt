@@ -1,4 +1,4 @@
-use Rattle.std.proofs.Common.{◌≡◌, Some, refl, sym, ap, ◌∙◌}
+use Rattle.std.proofs.Common.{refl, sym, ◌∙◌}
 use Rattle.agent_core.proofs.RequestSteps.{state_is, told_served, write_allowed, write_served, held_ok}
 use Rattle.agent_core.proofs.connection.Connection.write.Goals as goal
 

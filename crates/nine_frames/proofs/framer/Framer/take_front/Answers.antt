@@ -1,4 +1,4 @@
-use Rattle.std.proofs.Common.{◌≡◌, ◌∙◌, sym, ap, take, drop, List, ℕ}
+use Rattle.std.proofs.Common.{◌≡◌, ◌∙◌, sym, ap, take, drop}
 use Rattle.nine_frames.specs.Streams.{front}
 use Rattle.nine_frames.proofs.StreamLaws.{taken_off, whole_there}
 use Rattle.nine_frames.proofs.framer.Framer.take_front.Goals as goal
