@@ -235,7 +235,7 @@ continues old new NotYet a stream handed has = handed_all old.limit stream old.h
 continues old new (BadSize at size) a stream handed has =
     (handed_all old.limit stream old.held handed (stream_frames old stream handed has) (frames_bad old.limit old.held size a.0), a.1 ∙ has.place)
 
--- so many bytes were fed
+-- how many bytes were fed
 pub length_fed : (f : Framing) (stream : List ℕ) (handed : List (List ℕ)) → HasHandedOut f stream handed → length stream ≡ f.before + length f.held
 length_fed f stream handed has = omega (arith, ap length has.parts, length-append (concat handed) f.held, has.place)
 
@@ -244,7 +244,7 @@ length_fed f stream handed has = omega (arith, ap length has.parts, length-appen
 pub no_frames : (limit : ℕ) → frames limit [] ≡ []
 no_frames limit = frames_short limit [] (front_none limit [] 0 refl)
 
--- what is held where all of them were handed out
+-- where all of them were handed out, that is what the framer holds
 pub behind_frames : (limit : ℕ) (f : Framing) (stream : List ℕ) (is : Front) → HasHandedOut f stream (frames limit stream) → front limit f.held ≡ is → front limit (drop (end_of limit stream) stream) ≡ is
 behind_frames limit f stream is has e = ap (front limit) (ap (drop (end_of limit stream)) has.parts ∙ drop_at (concat (frames limit stream)) f.held (end_of limit stream) refl) ∙ e
 
@@ -252,7 +252,7 @@ none_left : (xs : List ℕ) → (0 < length xs → ⊥) → xs ≡ []
 none_left [] none = refl
 none_left (x ∷ xs) none = absurd (none (omega arith))
 
--- and where nothing is
+-- and where it holds nothing, they are the whole stream
 pub all_frames : (limit : ℕ) (f : Framing) (stream : List ℕ) → HasHandedOut f stream (frames limit stream) → (0 < length f.held → ⊥) → IsFrames limit stream
 all_frames limit f stream has none = has.parts ∙ ap (λ (held : List ℕ). concat (frames limit stream) ++ held) (none_left f.held none) ∙ append-nil (concat (frames limit stream))
 
