@@ -3,3 +3,4 @@ pub mod WordLemmas
 pub mod PartLemmas
 pub mod SayLemmas
 pub mod LineLemmas
+pub mod CutLemmas

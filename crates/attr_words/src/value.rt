@@ -16,10 +16,7 @@ pub fn put_value(text: &[u8], out: &mut Bytes) -> Result<(), NoMemory>
     }
     let before = out.len();
     let done = append_quoted(text, out);
-    if done.is_err() {
-        out.truncate(before);
-    }
-    done
+    out.undo_on_err(before, done)
 }
 
 fn check_needs_quotes(text: &[u8]) -> bool

@@ -3,9 +3,8 @@
 //     bytes:  handed out .. held ..
 //                          ^ front
 //
-// The bytes before the front are let go when they are at least half of all: then no more bytes are moved than were
-// handed out since they were last let go, so that all moves together are no more bytes than the stream has.
-ghost use Rattle.std.specs.Prelude.{◌≡◌, ◌≤◌, ◌<◌, ◌+◌, ◌^◌, ℕ, List, [], ◌++◌, length, drop, IfOk, OnOk, OnErr};
+// When a piece comes, the bytes before the front are let go where they are at least half of all.
+ghost use Rattle.std.specs.Prelude.{◌≡◌, ◌≤◌, ◌<◌, ◌+◌, ◌-◌, ◌^◌, ℕ, List, [], ◌++◌, length, drop, IfOk, OnOk, OnErr};
 ghost use Rattle.nine_frames.specs.Streams.{front};
 ghost use Rattle.nine_frames.specs.AtFronts.{shown};
 ghost use Rattle.nine_frames.specs.Framed.{Framing};
@@ -49,6 +48,21 @@ fn at_front(limit: u32, held: &[u8]) -> AtFront
         return AtFront::Part;
     }
     AtFront::Frame(size as usize)
+}
+
+// Lets go of what was handed out where it is at least half of what is kept, so that it is less than half from then on.
+fn let_go(bytes: &mut Vec<u8>, front: &mut usize)
+    requires { front.old ≤ length bytes.old.items }
+    ensures held { drop front.new bytes.new.items ≡ drop front.old bytes.old.items }
+    ensures within { front.new ≤ length bytes.new.items }
+    ensures few { front.new ≤ length bytes.new.items - front.new }
+{
+    let held = bytes.len() - *front;
+    if *front >= held {
+        bytes.copy_within(*front.., 0);
+        bytes.truncate(held);
+        *front = 0;
+    }
 }
 
 /// Cuts a stream into its frames, each handed out once and in order.
@@ -101,26 +115,22 @@ impl Framer {
         self.before
     }
 
-    // Lets go of what was handed out.
-    fn let_go(&mut self)
-        ensures { self.new ≡ self.old }
-    {
-        let held = self.bytes.len() - self.front;
-        if self.front >= held {
-            self.bytes.copy_within(self.front.., 0);
-            self.bytes.truncate(held);
-            self.front = 0;
-        }
-    }
-
     /// Takes the next piece of the stream, which stays under 2^63 bytes.
     pub fn feed(&mut self, piece: &[u8]) -> Result<(), NoMemory>
         requires { self.old.before + length self.old.held + length piece.now < 2 ^ 63 }
-        ensures ok { OnOk result (self.new ≡ record { limit = self.old.limit; before = self.old.before; held = self.old.held ++ piece.now }) }
-        ensures stream { OnOk result ((stream : List ℕ) (handed : List (List ℕ)) → HasHandedOut self.old stream handed → HasHandedOut self.new (stream ++ piece.now) handed) }
+        ensures ok { OnOk result (self.new
+            ≡ record {
+              limit = self.old.limit;
+              before = self.old.before;
+              held = self.old.held
+                  ++ piece.now;
+            }) }
+        ensures stream { OnOk result ((stream : List ℕ) (handed : List (List ℕ))
+            → HasHandedOut self.old stream handed
+            → HasHandedOut self.new (stream ++ piece.now) handed) }
         ensures err { OnErr result (self.new ≡ self.old) }
     {
-        self.let_go();
+        let_go(&mut self.bytes, &mut self.front);
         self.bytes.extend_from_slice(piece)?;
         Ok(())
     }
@@ -149,7 +159,9 @@ impl Framer {
     /// The next frame of the stream, where it is whole.
     pub fn next(&mut self) -> Result<Next, NoMemory>
         ensures answer { IfOk result (λ next. Answers self.old self.new next) }
-        ensures stream { IfOk result (λ next. (stream : List ℕ) (handed : List (List ℕ)) → HasHandedOut self.old stream handed → Continues self.old self.new next stream handed) }
+        ensures stream { IfOk result (λ next. (stream : List ℕ) (handed : List (List ℕ))
+            → HasHandedOut self.old stream handed
+            → Continues self.old self.new next stream handed) }
         ensures err { OnErr result (self.new ≡ self.old) }
     {
         self.take_front()

@@ -3,22 +3,15 @@ use Rattle.std.proofs.Common.{◌≡◌, ℕ, ◌<◌, ◌≤◌, cond, ltb, Lis
 use Rattle.std.specs.Prelude.{◌↔◌, Result, slice_index}
 use Rattle.std.proofs.lemmas.Bool.{cases_Bool, le-ltb, lt-ltb, ltb-true, ltb-false}
 use Rattle.std.proofs.lemmas.List.{length-append, length-drop}
-use Rattle.wire_base.specs.Names.{IsName, name_field}
+use Rattle.wire_base.specs.Names.{name_field}
 use Rattle.ticket_codec.specs.Fields.{FirstBad, field, name_in, ◌>>=◌}
+use Rattle.ticket_codec.specs.Fitting.{FitsRequest}
 use Rattle.ticket_codec.specs.Request.{request_names, request_text, IsRequest, request_fields, request_of}
 use Rattle.ticket_codec.specs.declared.request.TicketReq.{TicketReq}
 use Rattle.ticket_codec.specs.declared.fault.FieldFault.{FieldFault}
 use Rattle.ticket_codec.specs.declared.fault.FieldFault.TheVariants.{Short}
 use Rattle.ticket_codec.proofs.FaultLaws.{first_bad, none_bad}
 use Rattle.ticket_codec.proofs.FieldLaws.{name_holds, name_read, bind_ok, field_here, behind_field, name_here, behind_name, length-name_field, NeverShort, never_short, bind_never_short, name_never_short}
-
--- a request whose names fit their fields
-pub record FitsRequest (r : TicketReq) : Type 0 where
-  pub authid : IsName 28 r.authid
-  pub authdom : IsName 48 r.authdom
-  pub chal : length r.chal ≡ 8
-  pub hostid : IsName 28 r.hostid
-  pub uid : IsName 28 r.uid
 
 abbrev fine : TicketReq → Result TicketReq FieldFault
 fine r = Ok r

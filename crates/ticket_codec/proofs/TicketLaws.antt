@@ -10,8 +10,8 @@ use Rattle.ticket_codec.specs.declared.fault.FieldFault.TheVariants.{Short}
 use Rattle.ticket_codec.proofs.FaultLaws.{first_bad, none_bad}
 use Rattle.ticket_codec.proofs.FieldLaws.{name_holds, name_read, bind_ok, field_here, behind_field, name_here, behind_name, never_short, bind_never_short, name_never_short}
 
--- a ticket whose names and other fields fit
-pub record FitsTicket (t : Ticket) : Type 0 where
+-- a ticket whose names and other fields have the sizes of their fields
+pub record HasSizes (t : Ticket) : Type 0 where
   pub chal : length t.chal ≡ 8
   pub cuid : IsName 28 t.cuid
   pub suid : IsName 28 t.suid
@@ -67,7 +67,7 @@ regrouped : (num : ℕ) (a b c d : List ℕ) → num ∷ [] ++ a ++ b ++ c ++ d 
 regrouped num a b c d = simp (append_assoc, append-nil)
 
 -- a ticket as it is written is read again
-pub ticket_written : (t : Ticket) → FitsTicket t → ticket_of (ticket_text t) ≡ Ok t
+pub ticket_written : (t : Ticket) → HasSizes t → ticket_of (ticket_text t) ≡ Ok t
 unfolding ticket_text
 ticket_written t fits =
     let bytes = t.num ∷ [] ++ t.chal ++ name_field 28 t.cuid ++ name_field 28 t.suid ++ t.key.0 in

@@ -1,6 +1,7 @@
 pub use Rattle.wire_base.specs.Names
 pub use Rattle.seal_mode.specs.Sealing
 pub mod Fields
+pub mod Fitting
 pub mod Request
 pub mod Ticket
 pub mod Authenticator

@@ -54,7 +54,8 @@ pub fn seal_auth(a: &Authenticator, k: &Key7) -> [u8; 13]
 /// Opens an authenticator; any 13 bytes are one. Under a wrong key its fields are whatever comes out.
 pub fn open_auth(input: &[u8; 13], k: &Key7) -> Authenticator
     ensures value { result ≡ authenticator_of (opened k.now.0 input.now) }
-    ensures layout { (a : Authenticator) → (result ≡ a) ↔ IsAuthenticator (opened k.now.0 input.now) a }
+    ensures layout { (a : Authenticator)
+        → (result ≡ a) ↔ IsAuthenticator (opened k.now.0 input.now) a }
 {
     let mut bytes = *input;
     open_seal(k, &mut bytes);

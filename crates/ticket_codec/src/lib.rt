@@ -7,6 +7,7 @@ mod fault;
 mod field;
 mod info;
 mod kind;
+mod laws;
 mod request;
 mod ticket;
 mod writer;
@@ -18,9 +19,11 @@ pub use kind::{
     AUTH_AC, AUTH_APOP, AUTH_AS, AUTH_CRAM, AUTH_ERR, AUTH_OK, AUTH_OK_VAR, AUTH_PASS, AUTH_TC,
     AUTH_TP, AUTH_TREQ, AUTH_TS,
 };
+pub use laws::{kinds_are_those_of_the_manual, what_is_asked_is_read, what_is_sealed_is_opened};
 pub use request::{TicketReq, read_req, write_req};
 pub use ticket::{Ticket, open_ticket, seal_ticket};
 pub use wire_base::{AuthInfo, Name};
+pub use writer::RecordWriter;
 
 #[cfg(test)]
 mod tests;

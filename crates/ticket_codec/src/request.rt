@@ -67,7 +67,8 @@ fn request_fields(input: &[u8]) -> Result<TicketReq, FieldFault>
 pub fn read_req(input: &[u8]) -> Result<TicketReq, FieldFault>
     ensures value { result ≡ request_of input.now }
     ensures layout { (r : TicketReq) → (result ≡ Ok r) ↔ IsRequest input.now r }
-    ensures fault { (fault : FieldFault) → 141 ≤ length input.now → (result ≡ Err fault) ↔ FirstBad request_names input.now fault }
+    ensures fault { (fault : FieldFault) → 141 ≤ length input.now
+        → (result ≡ Err fault) ↔ FirstBad request_names input.now fault }
     ensures short { (result ≡ Err (Short 141)) ↔ (length input.now < 141) }
 {
     if input.len() < REQUEST_BYTES {

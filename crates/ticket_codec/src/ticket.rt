@@ -70,7 +70,8 @@ pub fn seal_ticket(t: &Ticket, k: &Key7) -> [u8; 72]
 pub fn open_ticket(input: &[u8; 72], k: &Key7) -> Result<Ticket, FieldFault>
     ensures value { result ≡ ticket_of (opened k.now.0 input.now) }
     ensures layout { (t : Ticket) → (result ≡ Ok t) ↔ IsTicket (opened k.now.0 input.now) t }
-    ensures fault { (fault : FieldFault) → (result ≡ Err fault) ↔ FirstBad ticket_names (opened k.now.0 input.now) fault }
+    ensures fault { (fault : FieldFault)
+        → (result ≡ Err fault) ↔ FirstBad ticket_names (opened k.now.0 input.now) fault }
     ensures never_short { (need : ℕ) → result ≢ Err (Short need) }
 {
     let mut bytes = *input;

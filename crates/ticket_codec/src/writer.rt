@@ -9,7 +9,7 @@ use wire_base::Name;
 
 /// The front of a record of `N` bytes, as contracts see it.
 #[derive(Drop)]
-pub(crate) struct RecordWriter<const N: usize> {
+pub struct RecordWriter<const N: usize> {
     bytes: [u8; N],
     at: usize,
 }
@@ -28,7 +28,8 @@ impl<const N: usize> Model for RecordWriter<N> {
 }
 
 impl<const N: usize> RecordWriter<N> {
-    pub(crate) fn new() -> RecordWriter<N>
+    /// Nothing yet.
+    pub fn new() -> RecordWriter<N>
         ensures { result ≡ [] }
     {
         RecordWriter {
@@ -37,7 +38,8 @@ impl<const N: usize> RecordWriter<N> {
         }
     }
 
-    pub(crate) fn put(&mut self, piece: &[u8])
+    /// A piece.
+    pub fn put(&mut self, piece: &[u8])
         requires { length self.old + length piece.now ≤ N }
         ensures value { self.new ≡ self.old ++ piece.now }
         ensures size { length self.new ≡ length self.old + length piece.now }
@@ -49,7 +51,8 @@ impl<const N: usize> RecordWriter<N> {
         self.at = end;
     }
 
-    fn put_nuls(&mut self, count: usize)
+    /// So many NULs.
+    pub fn put_nuls(&mut self, count: usize)
         requires { length self.old + count ≤ N }
         ensures value { self.new ≡ self.old ++ replicate count 0 }
         ensures size { length self.new ≡ length self.old + count }
@@ -62,7 +65,7 @@ impl<const N: usize> RecordWriter<N> {
     }
 
     /// A field of `M` bytes that holds the name, with NULs to the end.
-    pub(crate) fn put_name<const M: usize>(&mut self, name: &Name<M>)
+    pub fn put_name<const M: usize>(&mut self, name: &Name<M>)
         requires { length self.old + M ≤ N }
         ensures value { self.new ≡ self.old ++ name_field M name.now }
         ensures size { length self.new ≡ length self.old + M }
@@ -74,7 +77,7 @@ impl<const N: usize> RecordWriter<N> {
     }
 
     /// A length of two bytes, the lowest first, and the text.
-    pub(crate) fn put_counted(&mut self, text: &[u8])
+    pub fn put_counted(&mut self, text: &[u8])
         requires room { length self.old + 2 + length text.now ≤ N }
         requires short { length text.now < 2 ^ 16 }
         ensures value { self.new ≡ self.old ++ counted w16 text.now }
@@ -85,7 +88,7 @@ impl<const N: usize> RecordWriter<N> {
     }
 
     /// What was written so far.
-    pub(crate) fn written(&self) -> &[u8]
+    pub fn written(&self) -> &[u8]
         ensures { result.now ≡ self.now }
     {
         let whole = &self.bytes[..];
@@ -93,7 +96,7 @@ impl<const N: usize> RecordWriter<N> {
     }
 
     /// The whole record.
-    pub(crate) fn finish(self) -> [u8; N]
+    pub fn finish(self) -> [u8; N]
         requires { length self ≡ N }
         ensures { result ≡ self.entry }
     {

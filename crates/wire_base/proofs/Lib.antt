@@ -2,5 +2,4 @@ pub mod TextLemmas
 pub mod ReaderLaws
 pub mod LoopLaws
 pub mod PlaceLaws
-pub mod StreamLemmas
 pub mod FrontLemmas

@@ -1,10 +1,5 @@
 pub mod Texts
 pub mod Readers
-pub mod Adapters
-pub mod Causes
-pub mod Memory
+pub mod Kinds
 pub mod Names
-pub mod Steady
-pub mod Streams
-pub mod Whole
 pub mod Rules

@@ -56,7 +56,7 @@ impl Bytes {
         }
     }
 
-    /// No bytes, with room for so many.
+    /// No bytes yet, where so many are expected.
     pub fn with_capacity(alloc: Global, capacity: usize) -> Result<Bytes, NoMemory>
         ensures { IfOk result (λ bytes. bytes ≡ []) }
     {
@@ -123,7 +123,19 @@ impl Bytes {
         self.list.truncate(count);
     }
 
-    /// Leaves no bytes, and keeps the memory for the next.
+    /// Where what was to be appended behind the first bytes, so many, wasn't done, what was begun of it is taken back.
+    pub fn undo_on_err<T, E>(&mut self, before: usize, done: Result<T, E>) -> Result<T, E>
+        ensures result { result ≡ done }
+        ensures ok { OnOk result (self.new ≡ self.old) }
+        ensures err { OnErr result (self.new ≡ take before self.old) }
+    {
+        if done.is_err() {
+            self.truncate(before);
+        }
+        done
+    }
+
+    /// Leaves no bytes.
     pub fn clear(&mut self)
         ensures { self.new ≡ [] }
     {
@@ -159,6 +171,11 @@ mod tests {
         }
         let mut moved = Bytes::from_vec(copy.into_vec());
         assert_eq!(rt; moved.as_slice(), b"hello!".as_slice());
+        moved.append(b"??")?;
+        for (done, left) in [(Ok(7), "hello!??"), (Err("no"), "hello!")] {
+            assert_eq!(rt; moved.undo_on_err(6, done), done);
+            assert_eq!(rt; moved.as_slice(), left.as_bytes());
+        }
         moved.clear();
         assert_eq!(rt; moved.as_slice(), b"".as_slice());
         let sliced = Bytes::from_slice(rt.alloc(), b"\x00\xff")?;

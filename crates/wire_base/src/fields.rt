@@ -80,10 +80,7 @@ pub fn put_str(text: &[u8], out: &mut Bytes) -> Result<(), NoMemory>
     let before = out.len();
     put_u16(text.len() as u16, out)?;
     let done = out.append(text);
-    if done.is_err() {
-        out.truncate(before);
-    }
-    done
+    out.undo_on_err(before, done)
 }
 
 #[cfg(test)]

@@ -1,9 +1,10 @@
 // Text: bytes that are UTF-8 and hold no NUL.
-ghost use Rattle.std.specs.Prelude.{◌≡◌, [], ◌∷◌, ◌++◌, OnOk, OnErr, length, true, IfOk, IfSome, IsSome, IsTrue, ◌↔◌};
+ghost use Rattle.std.specs.Prelude.{◌≡◌, length, true, IfOk, IfSome, IsSome, IsTrue, ◌↔◌};
 ghost use Rattle.std.specs.Str.{IsUtf8};
 ghost use Rattle.wire_base.specs.Texts.{is_text};
 
 use crate::bytes::NoMemory;
+use crate::list::List;
 use std::alloc::Global;
 use std::marker::Model;
 
@@ -77,48 +78,8 @@ impl Text {
     }
 }
 
-/// A list of texts, in order.
-#[derive(Debug, Drop)]
-pub struct TextList {
-    list: Vec<Text>,
-}
-
-impl Model for TextList {
-    ghost use Rattle.std.specs.Prelude.{ℕ, List};
-    ghost use Rattle.std.specs.Coded.{coded_list, coded_ℕ};
-
-    ghost Value = { List (List ℕ) };
-
-    ghost coded = { coded_list (coded_list coded_ℕ) };
-
-    ghost view = { λ t. t.list.items };
-}
-
-impl TextList {
-    /// No texts. It takes no memory.
-    pub fn new(alloc: Global) -> TextList
-        ensures { result ≡ [] }
-    {
-        TextList {
-            list: Vec::new(alloc),
-        }
-    }
-
-    /// Puts a text last. A text that finds no room is dropped.
-    pub fn push(&mut self, text: Text) -> Result<(), NoMemory>
-        ensures ok { OnOk result (self.new ≡ self.old ++ text ∷ []) }
-        ensures err { OnErr result (self.new ≡ self.old) }
-    {
-        self.list.push(text)?;
-        Ok(())
-    }
-
-    pub fn as_slice(&self) -> &[Text]
-        ensures { result.now ≡ self.now }
-    {
-        &self.list
-    }
-}
+/// Texts, in order.
+pub type TextList = List<Text>;
 
 #[cfg(test)]
 mod tests {
@@ -155,22 +116,6 @@ mod tests {
                 }
                 None => assert!(rt; !is_text, "{name}"),
             }
-        }
-        Ok(())
-    }
-
-    #[test]
-    fn texts_stand_in_their_order(rt: HostRuntime) -> Result<(), Fail> {
-        let words = ["so", "", "so"];
-        let mut texts = TextList::new(rt.alloc());
-        assert!(rt; texts.as_slice().is_empty());
-        for word in words {
-            let text = Text::from_slice(rt.alloc(), word.as_bytes())?;
-            texts.push(text.ok_or("no text")?)?;
-        }
-        assert_eq!(rt; texts.as_slice().len(), words.len());
-        for (text, word) in texts.as_slice().iter().zip(words) {
-            assert_eq!(rt; text.as_slice(), word.as_bytes());
         }
         Ok(())
     }

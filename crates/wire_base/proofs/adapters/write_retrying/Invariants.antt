@@ -1,6 +1,0 @@
--- The writes that were interrupted put nothing.
-use Rattle.std.specs.Io.KnownBytes.{Keeps}
-use Rattle.wire_base.proofs.adapters.write_retrying.Given as goal
-
-abbrev pub invariant-loop : goal.invariant-loop
-invariant-loop g l = Keeps (g.W.Write.contents l.initial.writer) (g.W.Write.contents l.writer)

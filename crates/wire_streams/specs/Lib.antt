@@ -1,0 +1,9 @@
+pub mod Adapters
+pub mod Causes
+pub mod Dials
+pub mod MemDials
+pub mod Memory
+pub mod Steady
+pub mod Streams
+pub mod Whole
+pub mod Words
