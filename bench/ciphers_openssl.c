@@ -19,12 +19,17 @@ enum {
 	DIGEST_LEN = 16,
 	ANSWER_LEN = 32,
 	TEXT_LEN = 1024,
+	KEY_LEN = 7,
+	PASSWORD_LEN = 27,
+	TICKET_LEN = 72,
 };
 
 /* The inputs of cipher_bench. */
 static const DES_cblock des_key = {0x13, 0x34, 0x57, 0x79, 0x9b, 0xbc, 0xdf, 0xf1};
 static const DES_cblock first_block = {0x01, 0x23, 0x45, 0x67, 0x89, 0xab, 0xcd, 0xef};
-static const unsigned char seal_key[7] = {0x12, 0x69, 0x5b, 0xc9, 0xb7, 0xb7, 0xf8};
+static const unsigned char seal_key[KEY_LEN] = {0x12, 0x69, 0x5b, 0xc9, 0xb7, 0xb7, 0xf8};
+static const unsigned char other_key[KEY_LEN] = {0x0e, 0x32, 0x92, 0x32, 0xea, 0x6d, 0x0d};
+static const char first_password[] = "correct horse battery stapl";
 static const char first_challenge[] = "<0123456789abcdef@dbc.mtview.ca>";
 static const char secret[] = "tanstaaftanstaaf";
 
@@ -56,11 +61,11 @@ static void run_encrypt(uint64_t rounds)
 }
 
 /* Eight groups of seven bits from the high end, each followed by a bit that DES does not read. */
-static void expand_key(const unsigned char key[7], DES_cblock *out)
+static void expand_key(const unsigned char key[KEY_LEN], DES_cblock *out)
 {
 	uint64_t bits = 0;
 
-	for (int i = 0; i < 7; i++)
+	for (int i = 0; i < KEY_LEN; i++)
 		bits = bits << 8 | key[i];
 	for (int i = 0; i < BLOCK_LEN; i++)
 		(*out)[i] = (unsigned char)((bits >> (49 - 7 * i) & 0x7f) << 1);
@@ -77,7 +82,7 @@ static void encrypt_at(unsigned char *text, DES_key_schedule *schedule)
 }
 
 /* The blocks at 0, 7, 14 and so on, and then the block that ends the text, if bytes are left. */
-static void seal(const unsigned char key[7], unsigned char *text, size_t len)
+static void seal(const unsigned char key[KEY_LEN], unsigned char *text, size_t len)
 {
 	DES_cblock expanded;
 	DES_key_schedule schedule;
@@ -128,6 +133,66 @@ static void run_cram(uint64_t rounds)
 	print_hex(answer, ANSWER_LEN);
 }
 
+/* DES of the last block under itself, key schedule included, one block a round. */
+static void run_keyed(uint64_t rounds)
+{
+	DES_cblock block;
+	DES_key_schedule schedule;
+
+	memcpy(block, first_block, BLOCK_LEN);
+	for (uint64_t i = 0; i < rounds; i++) {
+		DES_set_key_unchecked(&block, &schedule);
+		DES_ecb_encrypt(&block, &block, &schedule, DES_ENCRYPT);
+	}
+	print_hex(block, BLOCK_LEN);
+}
+
+/* The key that eight bytes make. */
+static void window_key(const unsigned char *window, unsigned char key[KEY_LEN])
+{
+	for (int i = 0; i < KEY_LEN; i++)
+		key[i] = (unsigned char)((window[i] >> i) + (window[i + 1] << (7 - i)));
+}
+
+/* The key of a password of 27 bytes, as passtokey of authsrv(2) makes it. */
+static void password_key(const unsigned char *password, unsigned char key[KEY_LEN])
+{
+	static const int starts[] = {8, 16, PASSWORD_LEN - BLOCK_LEN};
+	unsigned char buffer[PASSWORD_LEN + 1] = {0};
+
+	memcpy(buffer, password, PASSWORD_LEN);
+	window_key(buffer, key);
+	for (size_t i = 0; i < sizeof starts / sizeof starts[0]; i++) {
+		seal(key, buffer + starts[i], BLOCK_LEN);
+		window_key(buffer + starts[i], key);
+	}
+}
+
+/* The key of the last password, which takes the place of its first bytes, one a round. */
+static void run_password(uint64_t rounds)
+{
+	unsigned char password[PASSWORD_LEN], key[KEY_LEN];
+
+	memcpy(password, first_password, PASSWORD_LEN);
+	for (uint64_t i = 0; i < rounds; i++) {
+		password_key(password, key);
+		memcpy(password, key, KEY_LEN);
+	}
+	print_hex(password, PASSWORD_LEN);
+}
+
+/* The seals of a pair of tickets under two keys, key schedules included, one pair a round. */
+static void run_tickets(uint64_t rounds)
+{
+	unsigned char ticket[TICKET_LEN] = {0};
+
+	for (uint64_t i = 0; i < rounds; i++) {
+		seal(seal_key, ticket, TICKET_LEN);
+		seal(other_key, ticket, TICKET_LEN);
+	}
+	print_hex(ticket, TICKET_LEN);
+}
+
 static uint64_t parse_rounds(const char *text)
 {
 	char *end;
@@ -142,15 +207,25 @@ static uint64_t parse_rounds(const char *text)
 
 int main(int argc, char **argv)
 {
-	if (argc != 3)
-		fail("usage: ciphers_openssl encrypt|seal|cram ROUNDS");
-	if (strcmp(argv[1], "encrypt") == 0)
-		run_encrypt(parse_rounds(argv[2]));
-	else if (strcmp(argv[1], "seal") == 0)
-		run_seal(parse_rounds(argv[2]));
-	else if (strcmp(argv[1], "cram") == 0)
-		run_cram(parse_rounds(argv[2]));
-	else
-		fail("the work is one of encrypt, seal and cram");
-	return 0;
+	static const struct {
+		const char *name;
+		void (*run)(uint64_t rounds);
+	} works[] = {
+		{"encrypt", run_encrypt},
+		{"seal", run_seal},
+		{"cram", run_cram},
+		{"keyed", run_keyed},
+		{"password", run_password},
+		{"tickets", run_tickets},
+	};
+
+	if (argc == 3) {
+		for (size_t i = 0; i < sizeof works / sizeof works[0]; i++) {
+			if (strcmp(argv[1], works[i].name) == 0) {
+				works[i].run(parse_rounds(argv[2]));
+				return 0;
+			}
+		}
+	}
+	fail("usage: ciphers_openssl encrypt|seal|cram|keyed|password|tickets ROUNDS");
 }

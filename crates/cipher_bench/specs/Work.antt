@@ -1,11 +1,12 @@
 -- What a run of the bench computes: a cipher that is applied again and again, each time to its own
 -- last result, from a fixed first input on.
-use Rattle.std.specs.Prelude.{ℕ, zero, suc, List, [], ◌∷◌, codes, replicate}
+use Rattle.std.specs.Prelude.{ℕ, zero, suc, List, [], ◌∷◌, ◌++◌, codes, drop, replicate}
 use Rattle.des_block.specs.Schedule.{enciphered}
+use Rattle.seal_mode.specs.Passwords.{password_key}
 use Rattle.seal_mode.specs.Sealing.{sealed}
 use Rattle.md5_answers.specs.Answer.{cram_digits}
 use Rattle.cipher_bench.specs.declared.work.Work.{Work}
-use Rattle.cipher_bench.specs.declared.work.Work.TheVariants.{Encrypt, Seal, Cram}
+use Rattle.cipher_bench.specs.declared.work.Work.TheVariants.{Encrypt, Seal, Cram, Keyed, Password, Tickets}
 
 -- the step applied n times, each time to its own last result
 unfoldable pub repeated : (List ℕ → List ℕ) → ℕ → List ℕ → List ℕ
@@ -36,9 +37,33 @@ secret = codes "tanstaaftanstaaf"
 abbrev pub first_challenge : List ℕ
 first_challenge = codes "<0123456789abcdef@dbc.mtview.ca>"
 
--- what so many rounds of the work make of its first input: DES of a block, the
--- tickets' seal of a text, or CRAM-MD5's answer to a challenge
+-- the key of the second ticket
+abbrev pub other_key : List ℕ
+other_key = 0x0e ∷ 0x32 ∷ 0x92 ∷ 0x32 ∷ 0xea ∷ 0x6d ∷ 0x0d ∷ []
+
+-- the first ticket
+abbrev pub first_ticket : List ℕ
+first_ticket = replicate 72 0
+
+-- a text sealed under one key and then under another
+abbrev pub sealed_by_both : List ℕ → List ℕ → List ℕ → List ℕ
+sealed_by_both one other text = sealed other (sealed one text)
+
+-- the first password, and what stands in its place behind a round: its key in the place of its first
+-- seven bytes
+abbrev pub first_password : List ℕ
+first_password = codes "correct horse battery stapl"
+
+unfoldable pub next_password : List ℕ → List ℕ
+next_password last = password_key last ++ drop 7 last
+
+-- what so many rounds of the work make of its first input: DES of a block, the tickets' seal of a text,
+-- CRAM-MD5's answer to a challenge, DES of a block under itself, the key of a password, or the seals of
+-- a pair of tickets
 unfoldable pub final_bytes : Work → ℕ → List ℕ
 final_bytes Encrypt rounds = repeated (enciphered des_key) rounds first_block
 final_bytes Seal rounds = repeated (sealed seal_key) rounds first_text
 final_bytes Cram rounds = repeated (λ last. cram_digits last secret) rounds first_challenge
+final_bytes Keyed rounds = repeated (λ last. enciphered last last) rounds first_block
+final_bytes Password rounds = repeated next_password rounds first_password
+final_bytes Tickets rounds = repeated (sealed_by_both seal_key other_key) rounds first_ticket

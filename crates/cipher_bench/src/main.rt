@@ -1,5 +1,5 @@
-//! Repeats DES, the seal of tickets or the CRAM-MD5 answer a given number of times, each result
-//! being the next input, and prints the last result: the program that bench/ciphers measures.
+//! Repeats DES, the seal of tickets, the CRAM-MD5 answer or a password's key a given number of times,
+//! each result being the next input, and prints the last result: what bench/ciphers measures.
 #![tactic(auto)]
 
 use anyhow::bail;
@@ -23,17 +23,17 @@ fn main(rt: HostRuntime) -> anyhow::Result<()> {
     let _program = args.next();
     match (args.next(), args.next(), args.next()) {
         (None, None, None) => {
-            for work in [Work::Encrypt, Work::Seal, Work::Cram] {
+            for work in Work::ALL {
                 report(&rt, work, FEW_ROUNDS)?;
             }
             Ok(())
         }
         (Some(word), Some(count), None) => {
             let Some(work) = Work::named(word.as_str()) else {
-                bail!("the work is one of encrypt, seal and cram");
+                bail!("the work is one of encrypt, seal, cram, keyed, password and tickets");
             };
             report(&rt, work, count.as_str().parse::<u64>()?)
         }
-        _ => bail!("usage: cipher_bench [encrypt|seal|cram ROUNDS]"),
+        _ => bail!("usage: cipher_bench [encrypt|seal|cram|keyed|password|tickets ROUNDS]"),
     }
 }

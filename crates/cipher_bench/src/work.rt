@@ -6,11 +6,11 @@ ghost use Rattle.hex.specs.Hex.{encode_lower};
 ghost use Rattle.des_block.specs.Schedule.{enciphered};
 ghost use Rattle.md5_answers.specs.Answer.{cram_digits};
 ghost use Rattle.seal_mode.specs.Sealing.{sealed};
-ghost use Rattle.cipher_bench.specs.Work.{final_bytes, repeated};
+ghost use Rattle.cipher_bench.specs.Work.{final_bytes, next_password, repeated, sealed_by_both};
 
 use des_block::Schedule;
 use md5_answers::cram_answer;
-use seal_mode::{Key7, seal};
+use seal_mode::{Key7, pass_to_key, seal};
 use std::alloc::{AllocError, Allocator};
 
 const DES_KEY: [u8; 8] = [0x13, 0x34, 0x57, 0x79, 0x9b, 0xbc, 0xdf, 0xf1];
@@ -18,6 +18,10 @@ const DES_KEY: [u8; 8] = [0x13, 0x34, 0x57, 0x79, 0x9b, 0xbc, 0xdf, 0xf1];
 const FIRST_BLOCK: [u8; 8] = [0x01, 0x23, 0x45, 0x67, 0x89, 0xab, 0xcd, 0xef];
 
 const SEAL_KEY: [u8; 7] = [0x12, 0x69, 0x5b, 0xc9, 0xb7, 0xb7, 0xf8];
+
+const OTHER_KEY: [u8; 7] = [0x0e, 0x32, 0x92, 0x32, 0xea, 0x6d, 0x0d];
+
+const FIRST_PASSWORD: &[u8; 27] = b"correct horse battery stapl";
 
 const FIRST_CHALLENGE: &[u8; 32] = b"<0123456789abcdef@dbc.mtview.ca>";
 
@@ -32,19 +36,42 @@ pub enum Work {
     Seal,
     /// The CRAM-MD5 answer to a challenge of 32 bytes.
     Cram,
+    /// DES of a block, with the schedule of a key that is that block.
+    Keyed,
+    /// The key of a password of 27 bytes, which takes the place of its first seven.
+    Password,
+    /// The seals of a pair of tickets: 72 bytes under one key and then under another, with both
+    /// schedules.
+    Tickets,
 }
 
 impl Work {
+    /// Every work.
+    pub const ALL: [Work; 6] = [
+        Work::Encrypt,
+        Work::Seal,
+        Work::Cram,
+        Work::Keyed,
+        Work::Password,
+        Work::Tickets,
+    ];
+
     /// The work of this name, as an argument of the program gives it.
     pub fn named(name: &str) -> Option<Work>
         ensures encrypt { (result ≡ Some Work.Encrypt) ↔ (name.now ≡ codes "encrypt") }
         ensures seal { (result ≡ Some Work.Seal) ↔ (name.now ≡ codes "seal") }
         ensures cram { (result ≡ Some Work.Cram) ↔ (name.now ≡ codes "cram") }
+        ensures keyed { (result ≡ Some Work.Keyed) ↔ (name.now ≡ codes "keyed") }
+        ensures password { (result ≡ Some Work.Password) ↔ (name.now ≡ codes "password") }
+        ensures tickets { (result ≡ Some Work.Tickets) ↔ (name.now ≡ codes "tickets") }
     {
         match name {
             "encrypt" => Some(Work::Encrypt),
             "seal" => Some(Work::Seal),
             "cram" => Some(Work::Cram),
+            "keyed" => Some(Work::Keyed),
+            "password" => Some(Work::Password),
+            "tickets" => Some(Work::Tickets),
             _ => None,
         }
     }
@@ -87,6 +114,55 @@ fn answered(secret: &[u8], challenge: [u8; 32], rounds: u64) -> [u8; 32]
     last
 }
 
+// The block after so many encryptions of it under itself.
+#[tactic(auto, using(crate::proofs::RepeatLemmas::repeated_none, crate::proofs::RepeatLemmas::repeated_more), unfolding(des_block::specs::Schedule::enciphered))]
+fn keyed(block: [u8; 8], rounds: u64) -> [u8; 8]
+    ensures { result ≡ repeated (λ last. enciphered last last) rounds block }
+{
+    let mut last = block;
+    'rounds: for round in 0..rounds {
+        let next = Schedule::new(&last).encrypt(last);
+        last = next;
+    }
+    last
+}
+
+// The password with its key in the place of its first bytes.
+#[tactic(auto, unfolding(crate::specs::Work::next_password))]
+fn next_password(last: &[u8; 27]) -> [u8; 27]
+    ensures { result ≡ next_password last.now }
+{
+    let key = pass_to_key(last);
+    let mut next = *last;
+    next[..7].copy_from_slice(&key.0);
+    next
+}
+
+// The password after so many keys.
+#[tactic(auto, using(crate::proofs::RepeatLemmas::repeated_none, crate::proofs::RepeatLemmas::repeated_more))]
+fn passwords(first: [u8; 27], rounds: u64) -> [u8; 27]
+    ensures { result ≡ repeated next_password rounds first }
+{
+    let mut last = first;
+    'rounds: for round in 0..rounds {
+        let next = next_password(&last);
+        last = next;
+    }
+    last
+}
+
+// Seals the text under both keys so many times.
+#[tactic(auto, using(crate::proofs::RepeatLemmas::repeated_none, crate::proofs::RepeatLemmas::repeated_more))]
+fn tickets(one: &Key7, other: &Key7, text: &mut [u8], rounds: u64)
+    requires { 8 ≤ length text.old }
+    ensures { text.new ≡ repeated (sealed_by_both one.now.0 other.now.0) rounds text.old }
+{
+    'rounds: for round in 0..rounds {
+        seal(one, text);
+        seal(other, text);
+    }
+}
+
 /// What `rounds` rounds of the work make of its first input, as hexadecimal digits in lower case.
 ///
 /// Fails only where there is no memory for the digits.
@@ -106,5 +182,12 @@ pub fn final_digits<A: Allocator>(
             hex::encode(alloc, text)
         }
         Work::Cram => hex::encode(alloc, answered(SECRET, *FIRST_CHALLENGE, rounds)),
+        Work::Keyed => hex::encode(alloc, keyed(FIRST_BLOCK, rounds)),
+        Work::Password => hex::encode(alloc, passwords(*FIRST_PASSWORD, rounds)),
+        Work::Tickets => {
+            let mut text = [0u8; 72];
+            tickets(&Key7(SEAL_KEY), &Key7(OTHER_KEY), &mut text, rounds);
+            hex::encode(alloc, text)
+        }
     }
 }

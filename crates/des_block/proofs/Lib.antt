@@ -3,3 +3,5 @@ pub mod RoundLemmas
 pub mod ByteLaws
 pub mod CipherLaws
 pub mod ParityLaws
+pub mod WordLaws
+pub mod TableLaws

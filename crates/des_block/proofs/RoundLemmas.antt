@@ -1,35 +1,15 @@
--- The steps of the loops over the selection functions, the rounds and the key schedule.
-use Rattle.std.proofs.Common.{◌≡◌, ℕ, zero, suc, ◌+◌, ◌*◌, ◌/◌, ◌%◌, ◌<◌, ◌≤◌, ◌==◌, Bool, List, [], ◌∷◌, ◌++◌, length, take, drop, get_or, refl, sym, ap, ◌∙◌, arith, rules, add-one}
+-- The steps of the loops over the rounds and the key schedule.
+use Rattle.std.proofs.Common.{◌≡◌, ℕ, ◌+◌, ◌<◌, ◌≤◌, Bool, List, [], ◌∷◌, ◌++◌, length, take, drop, get_or, refl, sym, ap, ◌∙◌}
 use Rattle.std.proofs.Math.ListN.{set}
-use Rattle.std.proofs.lemmas.List.{append-nil, append_assoc, take_more_set, drop_more, drop_all, drop-drop, take_all}
-use Rattle.des_block.specs.Bits.{binary, permuted, xored}
+use Rattle.std.proofs.lemmas.List.{append-nil, append_assoc, take_more_set, drop_more, drop_all, take_all}
+use Rattle.des_block.specs.Bits.{permuted, xored}
 use Rattle.des_block.specs.Tables.{PC2}
-use Rattle.des_block.specs.Rounds.{selected, all_selected, cipher_function, after_rounds}
+use Rattle.des_block.specs.Rounds.{selected, cipher_function, after_rounds}
 use Rattle.des_block.specs.Schedule.{shifted_left, round_keys}
-
--- four bits as the code writes them
-pub nibble_is : (n : ℕ) → (n / 8 % 2 == 1) ∷ (n / 4 % 2 == 1) ∷ (n / 2 % 2 == 1) ∷ (n % 2 == 1) ∷ [] ≡ binary 4 n
-nibble_is n = search rules
 
 pub length-selected : (table : List ℕ) (six : List Bool) → length (selected table six) ≡ 4
 unfolding selected
 length-selected table six = refl
-
--- one more selection function
-all_selected-more : (tables : List (List ℕ)) (bits : List Bool) (i : ℕ) → i < length tables → all_selected (take (suc i) tables) bits ≡ all_selected (take i tables) bits ++ selected (get_or tables i []) (take 6 (drop (6 * i) bits))
-unfolding all_selected
-all_selected-more [] bits i l = absurd (omega arith)
-all_selected-more (table ∷ tables) bits zero l = append-nil _
-all_selected-more (table ∷ tables) bits (suc i) l =
-    ap (λ (xs : List Bool). selected table (take 6 bits) ++ xs)
-    (all_selected-more tables (drop 6 bits) i (omega arith)
-    ∙ ap (λ (xs : List Bool). all_selected (take i tables) (drop 6 bits) ++ selected (get_or tables i []) (take 6 xs)) (drop-drop (6 * i) 6 bits ∙ ap (λ (k : ℕ). drop k bits) (omega arith)))
-    ∙ sym (append_assoc (selected table (take 6 bits)) _ _)
-
-pub select_step : (tables : List (List ℕ)) (bits out : List Bool) (i : ℕ) → i < length tables → out ≡ all_selected (take i tables) bits → out ++ selected (get_or tables i []) (take 6 (drop (6 * i) bits)) ≡ all_selected (take (i + 1) tables) bits
-select_step tables bits out i l h =
-    ap (λ (xs : List Bool). xs ++ selected (get_or tables i []) (take 6 (drop (6 * i) bits))) h
-    ∙ sym (rw add-one (all_selected-more tables bits i l))
 
 -- a round
 pub round_step : (keys : List (List Bool)) (i : ℕ) (left right next key : List Bool) → i < length keys → key ≡ get_or keys i [] → next ≡ xored left (cipher_function right key) → after_rounds (drop (i + 1) keys) right next ≡ after_rounds (drop i keys) left right

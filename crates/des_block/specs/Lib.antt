@@ -2,3 +2,4 @@ pub mod Bits
 pub mod Tables
 pub mod Rounds
 pub mod Schedule
+pub mod Rows

@@ -2,11 +2,14 @@
 //! round keys made from a key, and the enciphering and deciphering of a block under it.
 #![tactic(auto)]
 
-mod bits;
+mod key_choices;
+mod look_ups;
+mod permutations;
 mod rounds;
 mod schedule;
-mod tables;
+mod words;
 
+pub use rounds::combined;
 pub use schedule::Schedule;
 
 #[cfg(test)]

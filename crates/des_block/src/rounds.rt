@@ -1,69 +1,80 @@
-// The enciphering of a block of 64 bits under round keys.
-ghost use Rattle.std.specs.Prelude.{◌≡◌, length};
-ghost use Rattle.des_block.specs.Rounds.{after_rounds, all_selected, cipher_function, encrypt_bits, selected};
+// The enciphering of a block of 64 bits under round keys, by words.
+ghost use Rattle.std.specs.Prelude.{◌≡◌, ◌<◌, ◌++◌, ◌∷◌, ◌^◌, [], true, map, slice_index_or};
+ghost use Rattle.des_block.specs.Bits.{binary, bit_numbered, number_of};
+ghost use Rattle.des_block.specs.Tables.{selections};
+ghost use Rattle.des_block.specs.Rounds.{after_rounds, cipher_function, encrypt_bits};
+ghost use Rattle.des_block.specs.Rows.{are_combined, combined_bits};
 
-use crate::bits::{join, number, permute, split, xor};
-use crate::tables::{EXPANSION, FINAL_PERMUTATION, INITIAL_PERMUTATION, PERMUTATION, SELECTIONS};
+use crate::look_ups::COMBINED;
+use crate::permutations::{FINAL, INITIAL};
+use crate::words::look_up;
 
-/// A round key.
-pub type RoundKey = [bool; 48];
-
-/// What a selection function makes of six bits.
-fn select(table: &[u8; 64], six: &[bool]) -> [bool; 4]
-    requires { length six.now ≡ 6 }
-    ensures { result ≡ selected table.now six.now }
+// The entry of combined rows for six bits.
+fn entry(rows: &[[u32; 64]; 8], number: u8, six: u8) -> u32
+    requires number { number < 8 }
+    requires six { six < 64 }
+    ensures { are_combined 0 selections rows.now ≡ true
+        → result ≡ number_of (combined_bits number (slice_index_or selections number [])
+        (binary 6 six)) }
 {
-    let row = usize::from(number(&[six[0], six[5]]));
-    let column = usize::from(number(&[six[1], six[2], six[3], six[4]]));
-    let value = table[16 * row + column];
-    [
-        value / 8 % 2 == 1,
-        value / 4 % 2 == 1,
-        value / 2 % 2 == 1,
-        value % 2 == 1,
-    ]
+    rows[usize::from(number)][usize::from(six)]
 }
 
-/// What the selection functions make of six bits each.
-fn select_all(tables: &[[u8; 64]; 8], bits: &[bool; 48]) -> [bool; 32]
-    ensures { result ≡ all_selected tables.now bits.now }
+/// What a selection function, numbered from 0, makes of six bits, put into its place among 32 bits that are zero
+/// elsewhere and permuted by P: the look-up of a round. Bit 1 is the high bit.
+pub fn combined(number: u8, six: u8) -> u32
+    requires number { number < 8 }
+    requires six { six < 64 }
+    ensures { result ≡ number_of (combined_bits number (slice_index_or selections number [])
+        (binary 6 six)) }
 {
-    let mut out = [false; 32];
-    for i in 0..8 {
-        out[4 * i..4 * i + 4].copy_from_slice(&select(&tables[i], &bits[6 * i..6 * i + 6]));
+    entry(&COMBINED, number, six)
+}
+
+// The 34 bits of which each six from every fourth on are those that the table E chooses: the bits, the last one before
+// them and the first one behind them.
+fn widened(bits: u32) -> u64
+    ensures { binary 34 result
+        ≡ (bit_numbered (binary 32 bits) 32 ∷ binary 32 bits)
+        ++ bit_numbered (binary 32 bits) 1 ∷ [] }
+{
+    let bits = u64::from(bits);
+    (bits & 1) << 33 | bits << 1 | bits >> 31
+}
+
+// The function f of the rounds.
+fn round_function(right: u32, key: u64) -> u32
+    ensures { binary 32 result ≡ cipher_function (binary 32 right) (binary 48 key) }
+{
+    let wide = widened(right);
+    let mut sum = 0;
+    for number in 0..8 {
+        let six = (wide >> (28 - 4 * number) ^ key >> (42 - 6 * number)) & 63;
+        sum ^= combined(number, six as u8);
     }
-    out
+    sum
 }
 
-/// The function f of the rounds.
-fn round_function(right: &[bool; 32], key: &RoundKey) -> [bool; 32]
-    ensures { result ≡ cipher_function right.now key.now }
-{
-    let mixed = xor(&permute(&EXPANSION, right), key);
-    permute(&PERMUTATION, &select_all(&SELECTIONS, &mixed))
-}
-
-/// The halves after a round for each round key.
-fn run_rounds(
-    keys: &[RoundKey; 16],
-    left: [bool; 32],
-    right: [bool; 32],
-) -> ([bool; 32], [bool; 32])
-    ensures { result ≡ after_rounds keys.now left right }
+// The halves after a round for each round key.
+fn run_rounds(keys: &[u64; 16], left: u32, right: u32) -> (u32, u32)
+    ensures { (binary 32 result.0, binary 32 result.1)
+        ≡ after_rounds (map (binary 48) keys.now) (binary 32 left) (binary 32 right) }
 {
     let mut halves = (left, right);
     for key in keys {
         let (left, right) = halves;
-        halves = (right, xor(&left, &round_function(&right, key)));
+        halves = (right, left ^ round_function(right, *key));
     }
     halves
 }
 
 /// A block enciphered under these round keys.
-pub fn encipher(keys: &[RoundKey; 16], block: &[bool; 64]) -> [bool; 64]
-    ensures { result ≡ encrypt_bits keys.now block.now }
+pub fn encipher(keys: &[u64; 16], block: u64) -> u64
+    ensures { binary 64 result ≡ encrypt_bits (map (binary 48) keys.now) (binary 64 block) }
 {
-    let (left, right) = split::<32, 64>(&permute(&INITIAL_PERMUTATION, block));
+    let block = look_up(&INITIAL, block);
+    let left = (block >> 32) as u32;
+    let right = (block & 0xffff_ffff) as u32;
     let (left, right) = run_rounds(keys, left, right);
-    permute(&FINAL_PERMUTATION, &join::<32, 64>(&right, &left))
+    look_up(&FINAL, u64::from(right) << 32 | u64::from(left))
 }

@@ -1,39 +1,56 @@
 // The key schedule, and the cipher on blocks of eight bytes.
-ghost use Rattle.std.specs.Prelude.{◌≡◌, ℕ, Bool, List, IsTrue, nat_le};
+ghost use Rattle.std.specs.Prelude.{◌≡◌, ◌<◌, ◌≤◌, ◌^◌, ℕ, Bool, List, IsTrue, map, nat_le};
 ghost use Rattle.std.specs.List.{list_all};
-ghost use Rattle.des_block.specs.Bits.{bits_of};
-ghost use Rattle.des_block.specs.Schedule.{SameButParity, deciphered_with, enciphered_with, key_schedule, round_keys};
+ghost use Rattle.des_block.specs.Bits.{binary, bits_of};
+ghost use Rattle.des_block.specs.Schedule.{SameButParity, deciphered_with, enciphered_with, key_schedule, round_keys, shifted_left};
 
-use crate::bits::{block_bits, block_bytes, join, permute, split};
-use crate::rounds::{RoundKey, encipher};
-use crate::tables::{KEY_CHOICE_1, KEY_CHOICE_2, LEFT_SHIFTS};
+use crate::key_choices::{CHOICE_1, CHOICE_2, LEFT_SHIFTS};
+use crate::rounds::encipher;
+use crate::words::{block_of, look_up, word_of};
 use std::marker::Model;
 
 /// The sixteen round keys of a key. A contract sees it as their list, each a list of 48 bits.
 #[derive(Drop)]
 pub struct Schedule {
-    keys: [RoundKey; 16],
+    keys: [u64; 16],
 }
 
 impl Model for Schedule {
+    ghost use Rattle.std.specs.Prelude.{map, Bool, List};
+    ghost use Rattle.des_block.specs.Bits.{binary};
+
     ghost Value = { List (List Bool) };
 
-    ghost view = { λ s. s.keys };
+    ghost view = { λ s. map (binary 48) s.keys };
 }
 
-/// The round keys from C and D on, each after so many shifts to the left.
-fn make_round_keys(shifts: &[u8; 16], c: [bool; 28], d: [bool; 28]) -> [RoundKey; 16]
-    requires { IsTrue (list_all (λ places. nat_le places 28) shifts.now) }
-    ensures { result ≡ round_keys shifts.now c d }
+// The low 28 bits of a word.
+const LOW_28: u64 = (1 << 28) - 1;
+
+// 28 bits shifted left by so many places, the first ones coming round to the end.
+fn shifted(half: u64, places: u8) -> u64
+    requires half { half < 2 ^ 28 }
+    requires places { places ≤ 28 }
+    ensures value { binary 28 result ≡ shifted_left places (binary 28 half) }
+    ensures small { result < 2 ^ 28 }
 {
-    let mut keys = [[false; 48]; 16];
+    (half << places | half >> (28 - places)) & LOW_28
+}
+
+// The round keys from C and D on, each after so many shifts to the left.
+fn make_round_keys(shifts: &[u8; 16], c: u64, d: u64) -> [u64; 16]
+    requires shifts { IsTrue (list_all (λ places. nat_le places 28) shifts.now) }
+    requires c { c < 2 ^ 28 }
+    requires d { d < 2 ^ 28 }
+    ensures { map (binary 48) result ≡ round_keys shifts.now (binary 28 c) (binary 28 d) }
+{
+    let mut keys = [0; 16];
     let mut c = c;
     let mut d = d;
     for i in 0..16 {
-        let places = usize::from(shifts[i]);
-        c.rotate_left(places);
-        d.rotate_left(places);
-        keys[i] = permute(&KEY_CHOICE_2, &join::<28, 56>(&c, &d));
+        c = shifted(c, shifts[i]);
+        d = shifted(d, shifts[i]);
+        keys[i] = look_up(&CHOICE_2, c << 28 | d);
     }
     keys
 }
@@ -45,10 +62,19 @@ impl Schedule {
         ensures parity_plays_no_part { (other : List ℕ) → SameButParity key.now other
             → key_schedule (bits_of other) ≡ result }
     {
-        let (c, d) = split::<28, 56>(&permute(&KEY_CHOICE_1, &block_bits(key)));
+        let chosen = look_up(&CHOICE_1, word_of(key));
+        let c = chosen >> 28 & LOW_28;
+        let d = chosen & LOW_28;
         Schedule {
             keys: make_round_keys(&LEFT_SHIFTS, c, d),
         }
+    }
+
+    /// The round keys in the order of enciphering, each 48 bits, the high one first.
+    pub fn rounds(&self) -> &[u64; 16]
+        ensures { map (binary 48) result.now ≡ self.now }
+    {
+        &self.keys
     }
 
     /// The block enciphered (FIPS 46-3, "Enciphering").
@@ -56,7 +82,7 @@ impl Schedule {
         ensures value { result ≡ enciphered_with self.now block }
         ensures undone { deciphered_with self.now result ≡ block }
     {
-        block_bytes(&encipher(&self.keys, &block_bits(&block)))
+        block_of(encipher(&self.keys, word_of(&block)))
     }
 
     /// The block deciphered (FIPS 46-3, "Deciphering").
@@ -66,6 +92,6 @@ impl Schedule {
     {
         let mut keys = self.keys;
         keys.reverse();
-        block_bytes(&encipher(&keys, &block_bits(&block)))
+        block_of(encipher(&keys, word_of(&block)))
     }
 }

@@ -1,5 +1,5 @@
 // Answers that were computed elsewhere.
-use super::Schedule;
+use super::{Schedule, combined};
 
 // What bench/vectors/des.py prints: answers of OpenSSL to the inputs of NBS SP 500-20.
 const VARIABLE_PLAINTEXT: [u64; 64] = [
@@ -157,4 +157,15 @@ fn known_answers(rt: HostRuntime) {
         assert_eq!(rt; encrypted(key, 0), cipher, "key bit {bit}");
         assert_eq!(rt; decrypted(key, cipher), 0, "key bit {bit}");
     }
+}
+
+// The first and the last round key of a worked example of the standard, and entries of the first and the last selection
+// function.
+#[test]
+fn round_keys_and_look_ups(rt: HostRuntime) {
+    let schedule = Schedule::new(&0x133457799bbcdff1u64.to_be_bytes());
+    assert_eq!(rt; schedule.rounds()[0], 0x1b02effc7072);
+    assert_eq!(rt; schedule.rounds()[15], 0xcb3d8b0e17f5);
+    assert_eq!(rt; combined(0, 0), 0x00808200);
+    assert_eq!(rt; combined(7, 63), 0x08020800);
 }

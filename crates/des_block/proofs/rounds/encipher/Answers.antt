@@ -1,19 +1,21 @@
-use Rattle.std.proofs.Common.{List, Bool, take, drop, ap, ◌∙◌}
+use Rattle.std.proofs.Common.{ℕ, ◌≡◌, ◌*◌, ◌/◌, ◌%◌, ◌^◌, map, refl, ap, arith, ◌∙◌, bit_or}
+use Rattle.std.proofs.lemmas.Nat.{and_mask, or_shifted}
+use Rattle.des_block.specs.Bits.{binary, permuted}
 use Rattle.des_block.specs.Tables.{IP, IP_inverse}
-use Rattle.des_block.specs.Bits.{permuted}
-use Rattle.des_block.specs.Rounds.{encrypt_bits, after_rounds, swapped_halves}
+use Rattle.des_block.specs.Rounds.{after_rounds}
+use Rattle.des_block.proofs.TableLaws.{block_is}
 use Rattle.des_block.proofs.rounds.encipher.Goals as goal
 
 pub returns : goal.returns
-unfolding encrypt_bits IP IP_inverse
+unfolding IP IP_inverse permuted
 returns c =
-    let keys = c.args.keys.now in
-    let input = permuted IP c.args.block.now in
-    c.permute-2.ensures
-    ∙ ap (λ (bits : List Bool). permuted IP_inverse bits)
-    (c.join.ensures ∙ ap swapped_halves
-    (c.run_rounds.ensures
-    ∙ ap (λ (bits : List Bool). after_rounds keys bits c.split.result.1)
-    (c.split.ensures.first ∙ ap (λ (bits : List Bool). take 32 bits) c.permute.ensures)
-    ∙ ap (λ (bits : List Bool). after_rounds keys (take 32 input) bits)
-    (c.split.ensures.second ∙ ap (λ (bits : List Bool). drop 32 bits) c.permute.ensures)))
+    let mid = c.look_up-block.result in
+    let left = c.run_rounds-left.result.0 in
+    let right = c.run_rounds-left.result.1 in
+    let keys = map (binary 48) c.args.keys.now in
+    block_is keys c.args.block mid left right _ c.look_up.result (c.look_up-block.ensures IP refl)
+    (c.run_rounds-left.ensures ∙ ap (λ (n : ℕ). after_rounds keys (binary 32 (mid / 2 ^ 32)) (binary 32 n)) (and_mask mid 32))
+    (omega (arith, c.from-2.ensures))
+    (ap (λ (n : ℕ). bit_or n c.from-2.result) (let e : c.from.result * 2 ^ 32 % 2 ^ 64 ≡ c.from.result * 2 ^ 32 = omega (arith, c.from.ensures) in e)
+    ∙ or_shifted c.from.result 32 c.from-2.result (omega (arith, c.from-2.ensures)) ∙ omega (arith, c.from.ensures, c.from-2.ensures))
+    (c.look_up.ensures IP_inverse refl)

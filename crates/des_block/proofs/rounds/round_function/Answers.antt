@@ -1,13 +1,17 @@
-use Rattle.std.proofs.Common.{List, Bool, ap, ◌∙◌}
-use Rattle.des_block.specs.Tables.{E, P, S1, S2, S3, S4, S5, S6, S7, S8, selections}
-use Rattle.des_block.specs.Bits.{permuted, xored}
-use Rattle.des_block.specs.Rounds.{cipher_function, all_selected}
+use Rattle.std.proofs.Common.{ap, arith, ◌∙◌}
+use Rattle.std.proofs.lemmas.Nat.{and_mask}
+use Rattle.des_block.specs.Bits.{binary}
+use Rattle.des_block.proofs.TableLaws.{six_is, round_look_up, round_begin, round_end}
 use Rattle.des_block.proofs.rounds.round_function.Goals as goal
 
+pub loop-number-init : goal.loop-number-init
+loop-number-init c = round_begin c.args.right c.args.key
+
+pub loop-number-preserved : goal.loop-number-preserved
+loop-number-preserved c =
+    round_look_up c.args.right c.args.key c.loop-number.sum _ c.combined-sum.result c.loop-number.number (omega arith)
+    (ap (binary 6) (and_mask _ 6) ∙ six_is c.args.right c.args.key c.widened-wide.result c.loop-number.number (omega arith) c.widened-wide.ensures)
+    c.combined-sum.ensures c.loop-number.invariant
+
 pub returns : goal.returns
-unfolding cipher_function E P S1 S2 S3 S4 S5 S6 S7 S8 selections
-returns c =
-    c.permute-2.ensures
-    ∙ ap (λ (bits : List Bool). permuted P bits)
-    (c.select_all.ensures ∙ ap (λ (bits : List Bool). all_selected selections bits)
-    (c.xor-mixed.ensures ∙ ap (λ (bits : List Bool). xored bits c.args.key.now) c.permute.ensures))
+returns c = c.loop-number.invariant ∙ round_end c.args.right c.args.key c.loop-number.number (omega arith)

@@ -1,12 +1,20 @@
-use Rattle.std.proofs.Common.{List, Bool, refl, ap, sym, arith, ◌∙◌}
-use Rattle.des_block.specs.Bits.{xored}
+use Rattle.std.proofs.Common.{◌≡◌, length, map, ap, sym, arith, ◌∙◌, []}
+use Rattle.std.proofs.lemmas.List.{length-map, get_or-map}
+use Rattle.des_block.specs.Bits.{binary, xored}
+use Rattle.des_block.proofs.WordLaws.{binary_xor}
 use Rattle.des_block.proofs.RoundLemmas.{round_step, rounds_all}
 use Rattle.des_block.proofs.rounds.run_rounds.Goals as goal
 
 pub loop-key-preserved : goal.loop-key-preserved
 loop-key-preserved c =
-    round_step c.args.keys.now c.loop-key.key-index _ _ c.xor.result _ (omega arith) refl (c.xor.ensures ∙ ap (λ (bits : List Bool). xored c.loop-key.halves.0 bits) c.round_function.ensures)
+    let keys = map (binary 48) c.args.keys.now in
+    let many : length keys ≡ 16 = length-map c.args.keys.now (binary 48) ∙ omega arith in
+    round_step keys c.loop-key.key-index _ _ _ (binary 48 _) (omega (arith, many)) (sym (get_or-map (binary 48) c.args.keys.now c.loop-key.key-index 0 [] (omega arith)))
+    (binary_xor 32 _ _ ∙ ap (xored (binary 32 c.loop-key.halves.0)) c.round_function.ensures)
     ∙ c.loop-key.invariant
 
 pub returns : goal.returns
-returns c = sym (rounds_all c.args.keys.now c.loop-key.key-index _ _ (omega arith)) ∙ c.loop-key.invariant
+returns c =
+    let keys = map (binary 48) c.args.keys.now in
+    let many : length keys ≡ 16 = length-map c.args.keys.now (binary 48) ∙ omega arith in
+    sym (rounds_all keys c.loop-key.key-index _ _ (omega (arith, many))) ∙ c.loop-key.invariant
