@@ -86,10 +86,10 @@ move_given P fails p = tt
 
 deed_given : (P : Tree → Type 0) (s : Setting) (deed : Deed) → OfDeed P s deed → Each P (deed_labels s.domain s.grants deed)
 deed_given P s (got number t) p = tt
-deed_given P s (gives_tickets number chal cuid suid) p = p
+deed_given P s (gives_tickets number) p = p
 deed_given P s (gives_challenge kind number head) p = p
-deed_given P s (gives_vouch kind number chal user) p = p
-deed_given P s (refuses bytes) p = p
+deed_given P s (gives_vouch kind number first) p = p
+deed_given P s (refuses number bytes) p = p
 
 -- what was given
 pub of_given : (P : Tree → Type 0) (s : Setting) → ((bytes : List ℕ) → P (plain bytes)) → (past : Run) → OfRun P s past → Each P (given s past)
@@ -127,10 +127,10 @@ come P At s h past p fails d g = tt
 
 arrive : (P : Tree → Type 0) (At : Run → Type 0) (s : Setting) → Holds P At s → (past : Run) → OfRun P s past → (deed : Deed) → Arrives s past deed → Each P (deed_labels s.domain s.grants deed) → OfDeed P s deed
 arrive P At s h past p (got number t) d g = h.derived (known s past) (of_known P At s h past p) t d.1
-arrive P At s h past p (gives_tickets number chal cuid suid) d g = g
+arrive P At s h past p (gives_tickets number) d g = g
 arrive P At s h past p (gives_challenge kind number head) d g = g
-arrive P At s h past p (gives_vouch kind number chal user) d g = g
-arrive P At s h past p (refuses bytes) d g = g
+arrive P At s h past p (gives_vouch kind number first) d g = g
+arrive P At s h past p (refuses number bytes) d g = g
 
 pub of_all : (P : Tree → Type 0) (At : Run → Type 0) (s : Setting) → Holds P At s → (run : Run) → IsRun s run → At run → OfRun P s run
 of_all P At s h [] begins at = tt

@@ -2,3 +2,8 @@ pub mod Labels
 pub mod SecrecyLaws
 pub mod ProvenanceLaws
 pub mod LoginLaws
+pub mod Parts
+pub mod OnceLaws
+pub mod SessionLaws
+pub mod FormLaws
+pub mod GiftLaws

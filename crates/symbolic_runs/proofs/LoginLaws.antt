@@ -1,13 +1,15 @@
 -- Logins written out are runs, step by step.
-use Rattle.std.proofs.Common.{◌≡◌, ℕ, List, Some, length, refl, arith}
+use Rattle.std.proofs.Common.{◌≡◌, ℕ, List, true, Some, length, refl, arith}
+use Rattle.term_trees.specs.declared.kind.MacKind.{MacKind}
+use Rattle.term_trees.specs.Trees.{same_kind}
 use Rattle.term_trees.specs.Derivations.{by_knowing, in_public}
 use Rattle.symbolic_runs.specs.Forms.{AreFields}
 use Rattle.symbolic_runs.specs.Moves.{AreNames, client_challenge, client_request, client_question, client_answer, client_ticket, client_proof, client_accepts, server_challenge, server_request, server_ticket, server_accepts, server_proof, mail_client_challenge, mail_client_answer, mail_question, mail_answer, mail_challenge_on, mail_user, mail_digest, mail_second_question, mail_second_answer, mail_accepts}
 use Rattle.symbolic_runs.specs.Sessions.{comes, grants_tickets, challenges, vouches}
 use Rattle.symbolic_runs.specs.Runs.{IsRun, begins, then_starts, then_talks, then_moves, then_serves}
-use Rattle.symbolic_runs.specs.Logins.{Login, p9sk1_setting, p9sk1_login, p9any_login, MailLogin, mail_setting, cram_login}
+use Rattle.symbolic_runs.specs.Logins.{Login, p9sk1_setting, p9sk1_login, p9any_login, MailLogin, mail_setting, mail_login}
 
-pub p9sk1_is_run : (login : Login) → AreFields login.offered → AreFields login.asked → AreNames login.cuid login.suid → IsRun (p9sk1_setting login.user login.host) (p9sk1_login login)
+pub p9sk1_is_run : (login : Login) → AreFields login.offered → AreFields login.asked → AreNames login.cuid login.suid → IsRun (p9sk1_setting login) (p9sk1_login login)
 p9sk1_is_run login offered asked names =
     then_moves (
     then_moves (
@@ -35,7 +37,7 @@ p9sk1_is_run login offered asked names =
     ) (omega arith) (client_question login.offered login.asked offered) tt
     ) (comes refl) (refl, (by_knowing 0 refl))
     ) (grants_tickets login.asked (Some login.host) (Some login.user) asked refl (0, omega arith, refl)) tt
-    ) (omega arith) (client_answer login.asked) (by_knowing 0 refl)
+    ) (omega arith) client_answer (by_knowing 0 refl)
     ) (omega arith) (client_ticket login.asked names) tt
     ) (omega arith) (server_ticket login.offered) (by_knowing 0 refl)
     ) (omega arith) (server_accepts login.offered names) tt
@@ -43,8 +45,8 @@ p9sk1_is_run login offered asked names =
     ) (omega arith) client_proof (by_knowing 0 refl)
     ) (omega arith) client_accepts tt
 
-pub p9any_is_run : (login : Login) (offers choice : List ℕ) → AreFields login.offered → AreFields login.asked → AreNames login.cuid login.suid → IsRun (p9sk1_setting login.user login.host) (p9any_login login offers choice)
-p9any_is_run login offers choice offered asked names =
+pub p9any_is_run : (login : Login) (offers heard choice taken : List ℕ) → AreFields login.offered → AreFields login.asked → AreNames login.cuid login.suid → IsRun (p9sk1_setting login) (p9any_login login offers heard choice taken)
+p9any_is_run login offers heard choice taken offered asked names =
     then_moves (
     then_moves (
     then_moves (
@@ -79,7 +81,7 @@ p9any_is_run login offers choice offered asked names =
     ) (omega arith) (client_question login.offered login.asked offered) tt
     ) (comes refl) (refl, (by_knowing 0 refl))
     ) (grants_tickets login.asked (Some login.host) (Some login.user) asked refl (0, omega arith, refl)) tt
-    ) (omega arith) (client_answer login.asked) (by_knowing 0 refl)
+    ) (omega arith) client_answer (by_knowing 0 refl)
     ) (omega arith) (client_ticket login.asked names) tt
     ) (omega arith) (server_ticket login.offered) (by_knowing 0 refl)
     ) (omega arith) (server_accepts login.offered names) tt
@@ -87,8 +89,8 @@ p9any_is_run login offers choice offered asked names =
     ) (omega arith) client_proof (by_knowing 0 refl)
     ) (omega arith) client_accepts tt
 
-pub cram_is_run : (login : MailLogin) → AreFields login.first → AreFields login.second → AreNames login.second.uid login.second.uid → length login.head ≡ 6 → IsRun (mail_setting login.user login.host login.domain) (cram_login login)
-cram_is_run login first second names six =
+pub mail_is_run : (kind : MacKind) (login : MailLogin) → same_kind kind kind ≡ true → AreFields login.first → AreFields login.second → AreNames login.second.uid login.second.uid → length login.head ≡ 6 → IsRun (mail_setting kind login) (mail_login kind login)
+mail_is_run kind login same first second names six =
     then_moves {conv = 1} (
     then_moves {conv = 1} (
     then_serves (
@@ -115,10 +117,10 @@ cram_is_run login first second names six =
     ) (omega arith) (mail_challenge_on six) tt
     ) (omega arith) mail_client_challenge (by_knowing 0 refl)
     ) (omega arith) mail_client_answer tt
-    ) (omega arith) mail_user (in_public login.name)
+    ) (omega arith) mail_user (in_public _)
     ) (omega arith) mail_digest (by_knowing 0 refl)
     ) (omega arith) (mail_second_question login.second) tt
     ) (comes refl) (refl, (by_knowing 0 refl))
-    ) (vouches login.second (Some login.host) login.user 0 second refl (0, omega arith, refl) refl) tt
+    ) (vouches login.second (Some login.host) login.user second refl (0, omega arith, refl) (rw same refl)) tt
     ) (omega arith) mail_second_answer (by_knowing 0 refl)
-    ) (omega arith) (mail_accepts login.second names refl) tt
+    ) (omega arith) (mail_accepts login.second names refl refl) tt

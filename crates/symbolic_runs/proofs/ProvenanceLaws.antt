@@ -8,7 +8,7 @@ use Rattle.symbolic_runs.specs.Moves.{Role, Move, takes, hears, gives, asks, acc
 use Rattle.symbolic_runs.specs.Sessions.{Deed, got, gives_tickets, gives_challenge, gives_vouch, refuses, deed_labels, SessionRow, comes, grants_tickets, challenges, vouches, refusal}
 use Rattle.symbolic_runs.specs.Runs.{Setting, Event, Run, moves, serves, own_of, moves_of, deeds_of, move_labels, known, IsRun}
 use Rattle.symbolic_runs.specs.Secrets.{Guarded}
-use Rattle.symbolic_runs.specs.Origins.{Seals, client_seals, server_seals, ticket_for_client, ticket_for_server, vouched_ticket, vouched_proof, Digests, client_digests, Origin}
+use Rattle.symbolic_runs.specs.Origins.{Seals, client_seals, server_seals, seals_for_client, seals_for_server, vouches_by_ticket, vouches_by_proof, Digests, client_digests, Origin}
 use Rattle.symbolic_runs.proofs.Labels.{Each, each_at, each_append, OfMoves, OfDeed, OfDeeds, Holds, of_all, of_known}
 use Rattle.symbolic_runs.proofs.SecrecyLaws.{guarded, guarded_holds}
 
@@ -61,9 +61,9 @@ moved_traced : (s : Setting) (run past : Run) (conv : ℕ) (role : Role) (histor
 moved_traced s run past conv role history move at r m client_challenge g = (tt, tt)
 moved_traced s run past conv role history move at r m client_request g = tt
 moved_traced s run past conv role history move at r m (client_question fields asked whole) g = ((tt, (tt, (tt, (g.0.1.1.1.0, (tt, (tt, tt)))))), tt)
-moved_traced s run past conv role history move at r m (client_answer asked) g = tt
-moved_traced s run past conv role history move at r m (client_ticket asked {chal} {key} {handed} {cuid} {suid} {before} names) g =
-    ((g.0.1.1.0, (((λ unknown. record { later = at.0; event = moves conv move; past = past; place = at.1; made = client_seals asked cuid suid before r m }), (λ k. (tt, (g.1.0.1.1.1.0, (tt, tt))))), tt)), tt)
+moved_traced s run past conv role history move at r m client_answer g = tt
+moved_traced s run past conv role history move at r m (client_ticket asked {chal} {key} {handed} {r = request} {w = word} {cuid} {suid} names) g =
+    ((g.0.1.1.0, (((λ unknown. record { later = at.0; event = moves conv move; past = past; place = at.1; made = client_seals asked cuid suid _ r m }), (λ k. (tt, (g.1.0.1.1.1.0, (tt, tt))))), tt)), tt)
 moved_traced s run past conv role history move at r m client_proof g = tt
 moved_traced s run past conv role history move at r m client_accepts g = tt
 moved_traced s run past conv role history move at r m server_challenge g = tt
@@ -81,7 +81,7 @@ moved_traced s run past conv role history move at r m mail_user g = tt
 moved_traced s run past conv role history move at r m mail_digest g = tt
 moved_traced s run past conv role history move at r m (mail_second_question fields) g = (((tt, (tt, (tt, (tt, (tt, (tt, tt)))))), (g.0, tt)), tt)
 moved_traced s run past conv role history move at r m mail_second_answer g = tt
-moved_traced s run past conv role history move at r m (mail_accepts fields names field) g = tt
+moved_traced s run past conv role history move at r m (mail_accepts fields names client_field server_field) g = tt
 moved_traced s run past conv role history move at r m breaks g = tt
 
 -- what the authentication server gives is traced where all before it is
@@ -92,19 +92,19 @@ served_traced s run past session before deed at row (grants_tickets {number} fie
   (
     tt,
     (
-      ((λ unknown. record { later = at.0; event = serves session deed; past = past; place = at.1; made = ticket_for_client row }), (λ k. (tt, (g.0.1.1.1.0, (tt, (tt, (tt, tt))))))),
-      (((λ unknown. record { later = at.0; event = serves session deed; past = past; place = at.1; made = ticket_for_server row }), (λ k. (tt, (g.0.1.1.1.0, (tt, (tt, (tt, tt))))))), tt),
+      ((λ unknown. record { later = at.0; event = serves session deed; past = past; place = at.1; made = seals_for_client row }), (λ k. (tt, (g.0.1.1.1.0, (tt, (tt, (tt, tt))))))),
+      (((λ unknown. record { later = at.0; event = serves session deed; past = past; place = at.1; made = seals_for_server row }), (λ k. (tt, (g.0.1.1.1.0, (tt, (tt, (tt, tt))))))), tt),
     ),
   ),
   tt,
 )
 served_traced s run past session before deed at row (challenges fields whole free six) g = ((tt, ((tt, (tt, (tt, tt))), tt)), tt)
-served_traced s run past session before deed at row (vouches {number} fields server name first whole used speaks holds) g = (
+served_traced s run past session before deed at row (vouches {number} fields server name whole used speaks holds) g = (
   (
     tt,
     (
-      ((λ unknown. record { later = at.0; event = serves session deed; past = past; place = at.1; made = vouched_ticket row }), (λ k. (tt, (g.0.0.1.1.1.0, (tt, (tt, (tt, tt))))))),
-      (((λ unknown. record { later = at.0; event = serves session deed; past = past; place = at.1; made = vouched_proof row }), (λ k. (tt, (g.0.0.1.1.1.0, (tt, tt))))), tt),
+      ((λ unknown. record { later = at.0; event = serves session deed; past = past; place = at.1; made = vouches_by_ticket row }), (λ k. (tt, (g.0.0.1.1.1.0, (tt, (tt, (tt, tt))))))),
+      (((λ unknown. record { later = at.0; event = serves session deed; past = past; place = at.1; made = vouches_by_proof row }), (λ k. (tt, (g.0.0.1.1.1.0, (tt, tt))))), tt),
     ),
   ),
   tt,
@@ -144,17 +144,17 @@ each_first A B (t ∷ ts) p = (p.0.0, each_first A B ts p.1)
 
 of_deed_first : (A B : Tree → Type 0) (s : Setting) (deed : Deed) → OfDeed (λ t. A t × B t) s deed → OfDeed A s deed
 of_deed_first A B s (got number t) p = p.0
-of_deed_first A B s (gives_tickets number chal cuid suid) p = each_first A B (deed_labels s.domain s.grants (gives_tickets number chal cuid suid)) p
+of_deed_first A B s (gives_tickets number) p = each_first A B (deed_labels s.domain s.grants (gives_tickets number)) p
 of_deed_first A B s (gives_challenge kind number head) p = each_first A B (deed_labels s.domain s.grants (gives_challenge kind number head)) p
-of_deed_first A B s (gives_vouch kind number chal user) p = each_first A B (deed_labels s.domain s.grants (gives_vouch kind number chal user)) p
-of_deed_first A B s (refuses bytes) p = each_first A B (deed_labels s.domain s.grants (refuses bytes)) p
+of_deed_first A B s (gives_vouch kind number first) p = each_first A B (deed_labels s.domain s.grants (gives_vouch kind number first)) p
+of_deed_first A B s (refuses number bytes) p = each_first A B (deed_labels s.domain s.grants (refuses number bytes)) p
 
 of_deed_second : (A B : Tree → Type 0) (s : Setting) (deed : Deed) → OfDeed (λ t. A t × B t) s deed → OfDeed B s deed
 of_deed_second A B s (got number t) p = p.1
-of_deed_second A B s (gives_tickets number chal cuid suid) p = each_second A B (deed_labels s.domain s.grants (gives_tickets number chal cuid suid)) p
+of_deed_second A B s (gives_tickets number) p = each_second A B (deed_labels s.domain s.grants (gives_tickets number)) p
 of_deed_second A B s (gives_challenge kind number head) p = each_second A B (deed_labels s.domain s.grants (gives_challenge kind number head)) p
-of_deed_second A B s (gives_vouch kind number chal user) p = each_second A B (deed_labels s.domain s.grants (gives_vouch kind number chal user)) p
-of_deed_second A B s (refuses bytes) p = each_second A B (deed_labels s.domain s.grants (refuses bytes)) p
+of_deed_second A B s (gives_vouch kind number first) p = each_second A B (deed_labels s.domain s.grants (gives_vouch kind number first)) p
+of_deed_second A B s (refuses number bytes) p = each_second A B (deed_labels s.domain s.grants (refuses number bytes)) p
 
 of_deeds_first : (A B : Tree → Type 0) (s : Setting) (before : List Deed) → OfDeeds (λ t. A t × B t) s before → OfDeeds A s before
 of_deeds_first A B s [] p = tt

@@ -37,7 +37,7 @@ moved_guarded : (s : Setting) (own : Own) (role : Role) (before : List Move) (mo
 moved_guarded s own role before move w client_challenge g = (w, tt)
 moved_guarded s own role before move w client_request g = tt
 moved_guarded s own role before move w (client_question fields asked whole) g = (let x = g.0.1.1.1.0 in (tt, (tt, (tt, (x, (tt, (tt, tt)))))), tt)
-moved_guarded s own role before move w (client_answer asked) g = tt
+moved_guarded s own role before move w client_answer g = tt
 moved_guarded s own role before move w (client_ticket asked names) g = ((g.0.1.1.0, ((λ _. (tt, (g.1.0.1.1.1.0, (tt, tt)))), tt)), tt)
 moved_guarded s own role before move w client_proof g = tt
 moved_guarded s own role before move w client_accepts g = tt
@@ -55,7 +55,7 @@ moved_guarded s own role before move w mail_user g = tt
 moved_guarded s own role before move w mail_digest g = tt
 moved_guarded s own role before move w (mail_second_question fields) g = (((tt, (tt, (tt, (w, (tt, (tt, tt)))))), (g.0, tt)), tt)
 moved_guarded s own role before move w mail_second_answer g = tt
-moved_guarded s own role before move w (mail_accepts fields names field) g = tt
+moved_guarded s own role before move w (mail_accepts fields names client_field server_field) g = tt
 moved_guarded s own role before move w breaks g = tt
 
 -- a key under which a ticket was sealed may be known only where the grant is exposed
@@ -76,7 +76,7 @@ served_guarded s before deed (comes idle) g = tt
 served_guarded s before deed (grants_tickets {number} fields server client whole used speaks) g =
     ((tt, ((λ k. (tt, (g.0.1.1.1.0, (tt, (tt, (client_exposed s (s.grants number).used number k, tt)))))), ((λ k. (tt, (g.0.1.1.1.0, (tt, (tt, (server_exposed s (s.grants number).used number k, tt)))))), tt))), tt)
 served_guarded s before deed (challenges fields whole free six) g = ((tt, ((tt, (tt, (tt, tt))), tt)), tt)
-served_guarded s before deed (vouches {number} fields server name first whole used speaks holds) g =
+served_guarded s before deed (vouches {number} fields server name whole used speaks holds) g =
     ((tt, ((λ k. (tt, (g.0.0.1.1.1.0, (tt, (tt, (server_exposed s (s.grants number).used number k, tt)))))), ((λ _. (tt, (g.0.0.1.1.1.0, (tt, tt)))), tt))), tt)
 served_guarded s before deed refusal g = (tt, tt)
 

@@ -1,6 +1,6 @@
 -- The messages of Plan 9's authentication protocols as trees (authsrv(6) of the Plan 9 manual): a record is its fields
 -- one behind the other. A public field is all its bytes: a kind 1, a name 28, a domain 48, an id 4.
-use Rattle.std.specs.Prelude.{◌≡◌, ℕ, List, [], ◌∷◌, length}
+use Rattle.std.specs.Prelude.{◌≡◌, ℕ, List, [], ◌∷◌, ◌++◌, length, ◌==◌, if◌then◌else◌}
 use Rattle.term_trees.specs.declared.kind.MacKind.{MacKind}
 use Rattle.term_trees.specs.declared.kind.MacKind.TheVariants.{Apop, Cram}
 use Rattle.term_trees.specs.Trees.{Tree, plain, challenge, joined, seal, none, piece}
@@ -45,6 +45,11 @@ pub record AreFields (fields : Fields) : Type 0 where
   pub hostid : length fields.hostid ≡ 28
   pub uid : length fields.uid ≡ 28
 
+-- the text of a name's field: what stands before its first NUL
+abbrev pub name_text : List ℕ → List ℕ
+name_text [] = []
+name_text (byte ∷ bytes) = if byte == 0 then [] else byte ∷ name_text bytes
+
 -- two trees one behind the other
 abbrev pub pair : Tree → Tree → Tree
 pair a b = joined (piece a (piece b none))
@@ -79,4 +84,4 @@ vouch for_the_server proof = joined (piece (plain answer_ok) (piece for_the_serv
 
 -- the challenge of a mail login: `<`, the digits of the word of the request, `@`, the domain and `>`
 abbrev pub mail_challenge : List ℕ → ℕ → Tree
-mail_challenge domain number = joined (piece (plain (60 ∷ [])) (piece (challenge number) (piece (plain domain) none)))
+mail_challenge domain number = joined (piece (plain (60 ∷ [])) (piece (challenge number) (piece (plain (64 ∷ (domain ++ 62 ∷ []))) none)))

@@ -4,6 +4,9 @@ pub mod Forms
 pub mod Moves
 pub mod Sessions
 pub mod Runs
+pub mod Places
+pub mod Gifts
 pub mod Secrets
 pub mod Origins
 pub mod Logins
+pub mod Statements

@@ -5,7 +5,7 @@
 use Rattle.std.specs.Prelude.{◌≡◌, ℕ, List, [], ◌∷◌, length}
 use Rattle.term_trees.specs.declared.kind.MacKind.{MacKind}
 use Rattle.term_trees.specs.Trees.{Tree, plain, seal, digest}
-use Rattle.symbolic_runs.specs.Forms.{ticket_request, for_server, for_client, by_client, mail_request, Fields, AreFields, pair, request, ticket, authenticator, tickets, client_message, server_message, vouch}
+use Rattle.symbolic_runs.specs.Forms.{ticket_request, for_server, for_client, by_client, mail_request, Fields, AreFields, name_text, pair, request, ticket, authenticator, tickets, client_message, server_message, vouch}
 
 pub data Role : Type 0 where
   -- a p9sk1 client, for itself or speaking for another
@@ -46,14 +46,12 @@ pub data Row (own : Own) : Role → List Move → Move → Type 0 where
   client_request : {t : Tree} → Row own client (gives own.word ∷ []) (takes t)
   client_question : (fields asked : Fields) {chal : Tree} → AreFields fields →
       Row own client (takes (request ticket_request fields chal) ∷ gives own.word ∷ []) (asks (request ticket_request asked chal))
-  client_answer : (asked : Fields) {chal t : Tree} {before : List Move} →
-      Row own client (asks (request ticket_request asked chal) ∷ before) (hears t)
-  client_ticket : (asked : Fields) {chal key handed : Tree} {cuid suid : List ℕ} {before : List Move} → AreNames cuid suid →
-      Row own client (hears (tickets (seal own.key (ticket for_client chal cuid suid key)) handed) ∷ asks (request ticket_request asked chal) ∷ before) (gives (client_message handed key chal))
-  client_proof : {chal key handed t : Tree} {before : List Move} →
-      Row own client (gives (client_message handed key chal) ∷ before) (takes t)
-  client_accepts : {chal key handed : Tree} {cuid suid : List ℕ} {before : List Move} →
-      Row own client (takes (server_message key own.word) ∷ gives (client_message handed key chal) ∷ hears (tickets (seal own.key (ticket for_client chal cuid suid key)) handed) ∷ before) (accepts suid)
+  client_answer : {q r w t : Tree} → Row own client (asks q ∷ takes r ∷ gives w ∷ []) (hears t)
+  client_ticket : (asked : Fields) {chal key handed r w : Tree} {cuid suid : List ℕ} → AreNames cuid suid →
+      Row own client (hears (tickets (seal own.key (ticket for_client chal cuid suid key)) handed) ∷ asks (request ticket_request asked chal) ∷ takes r ∷ gives w ∷ []) (gives (client_message handed key chal))
+  client_proof : {g a q r w t : Tree} → Row own client (gives g ∷ hears a ∷ asks q ∷ takes r ∷ gives w ∷ []) (takes t)
+  client_accepts : {chal key handed q r w : Tree} {cuid suid : List ℕ} →
+      Row own client (takes (server_message key own.word) ∷ gives (client_message handed key chal) ∷ hears (tickets (seal own.key (ticket for_client chal cuid suid key)) handed) ∷ asks q ∷ takes r ∷ gives w ∷ []) (accepts suid)
   -- p9sk1's server: the client's challenge, the request, the ticket with an authenticator, its own authenticator
   server_challenge : {t : Tree} → Row own server [] (takes t)
   server_request : {y : Tree} (fields : Fields) →
@@ -79,7 +77,7 @@ pub data Row (own : Own) : Role → List Move → Move → Type 0 where
       Row own (mail_server kind) (takes r ∷ takes (plain user) ∷ gives t ∷ hears a ∷ asks q ∷ []) (asks (pair (request (mail_request kind) fields own.word) r))
   mail_second_answer : {kind : MacKind} {q a t r u v : Tree} {user : List ℕ} →
       Row own (mail_server kind) (asks v ∷ takes r ∷ takes (plain user) ∷ gives t ∷ hears a ∷ asks q ∷ []) (hears u)
-  mail_accepts : {kind : MacKind} {q a t r key : Tree} {user u : List ℕ} (fields : Fields) → AreNames u u → fields.uid ≡ u →
-      Row own (mail_server kind) (hears (vouch (seal own.key (ticket for_server own.word u u key)) (seal key (authenticator by_client own.word))) ∷ asks (pair (request (mail_request kind) fields own.word) r) ∷ takes r ∷ takes (plain user) ∷ gives t ∷ hears a ∷ asks q ∷ []) (accepts u)
+  mail_accepts : {kind : MacKind} {q a t r key : Tree} {user cuid suid : List ℕ} (fields : Fields) → AreNames cuid suid → name_text cuid ≡ user → name_text suid ≡ user →
+      Row own (mail_server kind) (hears (vouch (seal own.key (ticket for_server own.word cuid suid key)) (seal key (authenticator by_client own.word))) ∷ asks (pair (request (mail_request kind) fields own.word) r) ∷ takes r ∷ takes (plain user) ∷ gives t ∷ hears a ∷ asks q ∷ []) (accepts suid)
   -- a test failed behind what came, or none followed: nothing comes behind this
   breaks : {role : Role} {before : List Move} → Row own role before fails

@@ -1,10 +1,10 @@
 -- Where seals and digests come from: the rows that seal and digest, and a place in a run where one of them did.
 use Rattle.std.specs.Prelude.{◌≡◌, ℕ, List, [], ◌∷◌, ◌++◌}
 use Rattle.term_trees.specs.declared.kind.MacKind.{MacKind}
-use Rattle.term_trees.specs.Trees.{Tree, long_key, ticket_key, password, nonce, seal, digest}
+use Rattle.term_trees.specs.Trees.{Tree, long_key, password, nonce, seal, digest}
 use Rattle.symbolic_runs.specs.Forms.{ticket_request, for_server, for_client, by_client, by_server, Fields, pair, request, ticket, authenticator, tickets, client_message, server_message}
 use Rattle.symbolic_runs.specs.Moves.{client, server, mail_client, Move, takes, hears, gives, asks, accepts}
-use Rattle.symbolic_runs.specs.Sessions.{gives_tickets, gives_vouch, key_for_server, key_for_client, SessionRow}
+use Rattle.symbolic_runs.specs.Sessions.{gives_tickets, gives_vouch, ticket_for_client, ticket_for_server, vouched_ticket, vouched_proof, SessionRow}
 use Rattle.symbolic_runs.specs.Runs.{Setting, Event, moves, serves, Run, moves_of, deeds_of}
 
 -- an event after this past makes this seal
@@ -18,15 +18,15 @@ pub data Seals (s : Setting) (past : Run) : Event → Tree → Type 0 where
       moves_of conv past ≡ accepts suid ∷ takes (pair (seal (long_key (s.holder conv)) (ticket for_server (nonce conv) cuid suid key)) (seal key (authenticator by_client (nonce conv)))) ∷ gives (request ticket_request fields (nonce conv)) ∷ takes y ∷ [] →
       Seals s past (moves conv (gives (server_message key y))) (seal key (authenticator by_server y))
   -- the two tickets of an answer to a ticket request
-  ticket_for_client : {session number : ℕ} {chal : Tree} {cuid suid : List ℕ} → SessionRow s.domain s.grants (deeds_of session past) (gives_tickets number chal cuid suid) →
-      Seals s past (serves session (gives_tickets number chal cuid suid)) (seal (key_for_client (s.grants number).used number) (ticket for_client chal cuid suid (ticket_key number)))
-  ticket_for_server : {session number : ℕ} {chal : Tree} {cuid suid : List ℕ} → SessionRow s.domain s.grants (deeds_of session past) (gives_tickets number chal cuid suid) →
-      Seals s past (serves session (gives_tickets number chal cuid suid)) (seal (key_for_server (s.grants number).used number) (ticket for_server chal cuid suid (ticket_key number)))
+  seals_for_client : {session number : ℕ} → SessionRow s.domain s.grants (deeds_of session past) (gives_tickets number) →
+      Seals s past (serves session (gives_tickets number)) (ticket_for_client (s.grants number) number)
+  seals_for_server : {session number : ℕ} → SessionRow s.domain s.grants (deeds_of session past) (gives_tickets number) →
+      Seals s past (serves session (gives_tickets number)) (ticket_for_server (s.grants number) number)
   -- the ticket and the authenticator that vouch for a right answer
-  vouched_ticket : {session number : ℕ} {kind : MacKind} {chal : Tree} {user : List ℕ} → SessionRow s.domain s.grants (deeds_of session past) (gives_vouch kind number chal user) →
-      Seals s past (serves session (gives_vouch kind number chal user)) (seal (key_for_server (s.grants number).used number) (ticket for_server chal user user (ticket_key number)))
-  vouched_proof : {session number : ℕ} {kind : MacKind} {chal : Tree} {user : List ℕ} → SessionRow s.domain s.grants (deeds_of session past) (gives_vouch kind number chal user) →
-      Seals s past (serves session (gives_vouch kind number chal user)) (seal (ticket_key number) (authenticator by_client chal))
+  vouches_by_ticket : {session number first : ℕ} {kind : MacKind} → SessionRow s.domain s.grants (deeds_of session past) (gives_vouch kind number first) →
+      Seals s past (serves session (gives_vouch kind number first)) (vouched_ticket (s.grants number) number)
+  vouches_by_proof : {session number first : ℕ} {kind : MacKind} → SessionRow s.domain s.grants (deeds_of session past) (gives_vouch kind number first) →
+      Seals s past (serves session (gives_vouch kind number first)) (vouched_proof (s.grants number) number)
 
 -- an event after this past makes this digest: a mail client's answer to what it took, by its holder's password
 pub data Digests (s : Setting) (past : Run) : Event → Tree → Type 0 where

@@ -6,9 +6,8 @@ use Rattle.term_trees.specs.Derivations.{Derives}
 use Rattle.symbolic_runs.specs.Moves.{Role, Move, takes, hears, gives, asks, Own, Row}
 use Rattle.symbolic_runs.specs.Sessions.{Grant, Deed, got, deed_labels, SessionRow}
 
--- the setting of a run: the names whose keys and passwords are betrayed, the authentication server's domain as its
--- challenges name it, the role and the holder of each conversation by the number of its start, and what was used at each
--- request by its number
+-- the setting of a run: the names whose keys and passwords are betrayed, the authentication server's domain, the role and
+-- the holder of each conversation by the number of its start, and what was used and granted at each request by its number
 pub record Setting : Type 0 where
   pub compromised : List (List ℕ)
   pub domain : List ℕ

@@ -11,22 +11,26 @@ pub data Used : Type 0 where
   keys : Option (List ℕ) → Option (List ℕ) → Used
   key_and_password : Option (List ℕ) → List ℕ → Used
 
--- what a request used, and the names that may speak for its user
+-- what a request used, the names that may speak for its user, and what its tickets hold: the challenge, and the fields
+-- of the host's and of the user's name
 pub record Grant : Type 0 where
   pub used : Used
   pub speakers : List (List ℕ)
+  pub chal : Tree
+  pub host : List ℕ
+  pub user : List ℕ
 
 pub data Deed : Type 0 where
   -- a request came, under this number
   got : ℕ → Tree → Deed
-  -- tickets for a request: the challenge, and the two users
-  gives_tickets : ℕ → Tree → List ℕ → List ℕ → Deed
+  -- tickets for this request
+  gives_tickets : ℕ → Deed
   -- a challenge, behind these bytes
   gives_challenge : MacKind → ℕ → List ℕ → Deed
-  -- a right answer is vouched for: the challenge of the server, and the user
-  gives_vouch : MacKind → ℕ → Tree → List ℕ → Deed
+  -- at this request a right answer is vouched for: an answer to the challenge that was given at that request
+  gives_vouch : MacKind → ℕ → ℕ → Deed
   -- anything else is answered by these bytes
-  refuses : List ℕ → Deed
+  refuses : ℕ → List ℕ → Deed
 
 -- the key of a name, or one made up
 abbrev pub server_key : Option (List ℕ) → ℕ → Tree
@@ -46,25 +50,38 @@ abbrev pub key_for_client : Used → ℕ → Tree
 key_for_client (keys server client) number = client_key client number
 key_for_client (key_and_password server name) number = junk_key (2 * number + 1)
 
--- what is given by a deed
-abbrev pub tickets_given : Used → ℕ → Tree → List ℕ → List ℕ → Tree
-tickets_given used number chal cuid suid = tickets (seal (key_for_client used number) (ticket for_client chal cuid suid (ticket_key number))) (seal (key_for_server used number) (ticket for_server chal cuid suid (ticket_key number)))
+-- the tickets of a request, and what vouches for a right answer: a ticket, and an authenticator under its key
+abbrev pub ticket_for_client : Grant → ℕ → Tree
+ticket_for_client grant number = seal (key_for_client grant.used number) (ticket for_client grant.chal grant.host grant.user (ticket_key number))
 
-abbrev pub vouch_given : Used → ℕ → Tree → List ℕ → Tree
-vouch_given used number chal user = vouch (seal (key_for_server used number) (ticket for_server chal user user (ticket_key number))) (seal (ticket_key number) (authenticator by_client chal))
+abbrev pub ticket_for_server : Grant → ℕ → Tree
+ticket_for_server grant number = seal (key_for_server grant.used number) (ticket for_server grant.chal grant.host grant.user (ticket_key number))
+
+abbrev pub vouched_ticket : Grant → ℕ → Tree
+vouched_ticket grant number = seal (key_for_server grant.used number) (ticket for_server grant.chal grant.user grant.user (ticket_key number))
+
+abbrev pub vouched_proof : Grant → ℕ → Tree
+vouched_proof grant number = seal (ticket_key number) (authenticator by_client grant.chal)
+
+-- what is given by a deed
+abbrev pub tickets_given : Grant → ℕ → Tree
+tickets_given grant number = tickets (ticket_for_client grant number) (ticket_for_server grant number)
+
+abbrev pub vouch_given : Grant → ℕ → Tree
+vouch_given grant number = vouch (vouched_ticket grant number) (vouched_proof grant number)
 
 abbrev pub deed_labels : List ℕ → (ℕ → Grant) → Deed → List Tree
 deed_labels domain grants (got number t) = []
-deed_labels domain grants (gives_tickets number chal cuid suid) = tickets_given (grants number).used number chal cuid suid ∷ []
+deed_labels domain grants (gives_tickets number) = tickets_given (grants number) number ∷ []
 deed_labels domain grants (gives_challenge kind number head) = pair (plain head) (mail_challenge domain number) ∷ []
-deed_labels domain grants (gives_vouch kind number chal user) = vouch_given (grants number).used number chal user ∷ []
-deed_labels domain grants (refuses bytes) = plain bytes ∷ []
+deed_labels domain grants (gives_vouch kind number first) = vouch_given (grants number) number ∷ []
+deed_labels domain grants (refuses number bytes) = plain bytes ∷ []
 
 -- the request whose challenge of a kind a session holds after its deeds, the newest first
 abbrev pub held : List Deed → MacKind → Option ℕ
 held [] kind = None
 held (gives_challenge other number head ∷ before) kind = if same_kind other kind then Some number else None
-held (gives_vouch other number chal user ∷ before) kind = None
+held (gives_vouch other number first ∷ before) kind = None
 held (deed ∷ before) kind = held before kind
 
 -- whether every request of a session was answered
@@ -80,12 +97,12 @@ MaySpeak speakers None = Unit
 -- the next deed of a session after its deeds, the newest first
 pub data SessionRow (domain : List ℕ) (grants : ℕ → Grant) : List Deed → Deed → Type 0 where
   comes : {before : List Deed} {number : ℕ} {t : Tree} → is_idle before ≡ true → SessionRow domain grants before (got number t)
-  grants_tickets : {before : List Deed} {number : ℕ} (fields : Fields) {chal : Tree} {cuid suid : List ℕ} (server client : Option (List ℕ)) → AreFields fields →
+  grants_tickets : {before : List Deed} {number : ℕ} (fields : Fields) (server client : Option (List ℕ)) → AreFields fields →
       (grants number).used ≡ keys server client → MaySpeak (grants number).speakers client →
-      SessionRow domain grants (got number (request ticket_request fields chal) ∷ before) (gives_tickets number chal cuid suid)
+      SessionRow domain grants (got number (request ticket_request fields (grants number).chal) ∷ before) (gives_tickets number)
   challenges : {before : List Deed} {number : ℕ} (fields : Fields) {chal : Tree} {kind : MacKind} {head : List ℕ} → AreFields fields → held before kind ≡ None → length head ≡ 6 →
       SessionRow domain grants (got number (request (mail_request kind) fields chal) ∷ before) (gives_challenge kind number head)
-  vouches : {before : List Deed} {number : ℕ} (fields : Fields) {chal : Tree} {kind : MacKind} {user : List ℕ} (server : Option (List ℕ)) (name : List ℕ) (first : ℕ) → AreFields fields →
+  vouches : {before : List Deed} {number first : ℕ} (fields : Fields) {kind : MacKind} (server : Option (List ℕ)) (name : List ℕ) → AreFields fields →
       (grants number).used ≡ key_and_password server name → Contains (grants number).speakers name → held before kind ≡ Some first →
-      SessionRow domain grants (got number (pair (request (mail_request kind) fields chal) (digest kind (password name) (mail_challenge domain first))) ∷ before) (gives_vouch kind number chal user)
-  refusal : {before : List Deed} {number : ℕ} {t : Tree} {bytes : List ℕ} → SessionRow domain grants (got number t ∷ before) (refuses bytes)
+      SessionRow domain grants (got number (pair (request (mail_request kind) fields (grants number).chal) (digest kind (password name) (mail_challenge domain first))) ∷ before) (gives_vouch kind number first)
+  refusal : {before : List Deed} {number : ℕ} {t : Tree} {bytes : List ℕ} → SessionRow domain grants (got number t ∷ before) (refuses number bytes)

@@ -5,6 +5,12 @@
 mod laws;
 
 pub use laws::{
-    a_cram_login_is_a_run, a_p9any_login_is_a_run, a_p9sk1_login_is_a_run, digests_have_an_origin,
-    guarded_terms_are_closed, seals_have_an_origin, symbolic_secrecy,
+    a_challenge_is_vouched_for_in_its_session, a_challenge_is_vouched_for_once,
+    a_conversation_accepts_once, a_conversation_moves_behind_its_start, a_conversation_starts_once,
+    a_cram_login_is_a_run, a_p9any_login_is_a_run, a_p9sk1_login_is_a_run,
+    a_part_of_a_run_is_a_run, a_place_has_one_event, an_apop_login_is_a_run,
+    digests_have_an_origin, each_move_is_in_its_turn, each_request_comes_once,
+    each_request_is_answered_once, each_turn_is_taken_once, forms_are_injective,
+    gifts_are_computed, guarded_terms_are_closed, seals_have_an_origin, symbolic_secrecy,
+    what_follows_from_less_follows_from_more, what_is_known_stays_known,
 };

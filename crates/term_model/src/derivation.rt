@@ -12,8 +12,12 @@ use wire_base::NoMemory;
 /// Whether each step's rule holds. Where it does, each conclusion follows from what is known. A proof without steps
 /// holds and proves nothing.
 pub fn check_derivation(known: &[Term], proof: &Proof) -> Result<bool, NoMemory>
-    ensures exactly { IfOk result (λ holds. holds ≡ is_some (conclusions (map tree known.now) proof.now)) }
-    ensures derives { result ≡ Ok true → (ends : List Tree) × IsProof (map tree known.now) proof.now ends × ((index : ℕ) (t : Tree) → slice_get ends index ≡ Some t → Derives (map tree known.now) t) }
+    ensures exactly { IfOk result (λ holds. holds
+        ≡ is_some (conclusions (map tree known.now) proof.now)) }
+    ensures derives { result ≡ Ok true
+        → (ends : List Tree) × IsProof (map tree known.now) proof.now ends
+        × ((index : ℕ) (t : Tree) → slice_get ends index ≡ Some t
+        → Derives (map tree known.now) t) }
 {
     let ends = conclude(known, proof)?;
     Ok(ends.is_some())
@@ -21,7 +25,8 @@ pub fn check_derivation(known: &[Term], proof: &Proof) -> Result<bool, NoMemory>
 
 /// What the steps conclude, one term each, in order. None exactly where a step's rule doesn't hold.
 pub fn conclude(known: &[Term], proof: &Proof) -> Result<Option<Terms>, NoMemory>
-    ensures { IfOk result (λ ends. option_map trees ends ≡ option_map trees_of (conclusions (map tree known.now) proof.now)) }
+    ensures { IfOk result (λ ends. option_map trees ends
+        ≡ option_map trees_of (conclusions (map tree known.now) proof.now)) }
 {
     let alloc = proof.allocator();
     let mut done = Vec::new(alloc);
@@ -40,7 +45,8 @@ fn conclude_step(
     done: &[Term],
     step: &ProofStep,
 ) -> Result<Option<Term>, NoMemory>
-    ensures { IfOk result (λ found. option_map tree found ≡ conclusion (map tree known.now) (map tree done.now) step.now) }
+    ensures { IfOk result (λ found. option_map tree found
+        ≡ conclusion (map tree known.now) (map tree done.now) step.now) }
 {
     match step {
         ProofStep::Known(index) => copy_at(alloc, known, *index),
@@ -69,7 +75,8 @@ fn copy_at(alloc: Global, terms: &[Term], place: u32) -> Result<Option<Term>, No
 }
 
 fn join(alloc: Global, done: &[Term], places: &[u32]) -> Result<Option<Term>, NoMemory>
-    ensures { IfOk result (λ found. option_map tree found ≡ option_map joined (pieces_at (map tree done.now) places.now)) }
+    ensures { IfOk result (λ found. option_map tree found
+        ≡ option_map joined (pieces_at (map tree done.now) places.now)) }
 {
     let mut pieces = Vec::with_capacity(alloc, places.len())?;
     for place in places {
@@ -82,7 +89,8 @@ fn join(alloc: Global, done: &[Term], places: &[u32]) -> Result<Option<Term>, No
 }
 
 fn take_part(alloc: Global, done: &[Term], of: u32, index: u32) -> Result<Option<Term>, NoMemory>
-    ensures { IfOk result (λ found. option_map tree found ≡ option_and_then (λ t. part_of t index) (slice_get (map tree done.now) of)) }
+    ensures { IfOk result (λ found. option_map tree found
+        ≡ option_and_then (λ t. part_of t index) (slice_get (map tree done.now) of)) }
 {
     match term_at(done, of) {
         Some(whole) => copy_part(alloc, whole, index),
@@ -108,7 +116,9 @@ fn copy_part(alloc: Global, whole: &Term, index: u32) -> Result<Option<Term>, No
 }
 
 fn seal_up(alloc: Global, done: &[Term], key: u32, body: u32) -> Result<Option<Term>, NoMemory>
-    ensures { IfOk result (λ found. option_map tree found ≡ option_and_then (λ k. option_map (seal k) (slice_get (map tree done.now) body)) (slice_get (map tree done.now) key)) }
+    ensures { IfOk result (λ found. option_map tree found
+        ≡ option_and_then (λ k. option_map (seal k) (slice_get (map tree done.now) body))
+        (slice_get (map tree done.now) key)) }
 {
     match term_at(done, key) {
         None => Ok(None),
@@ -128,7 +138,9 @@ fn seal_of(alloc: Global, key: &Term, body: &Term) -> Result<Term, NoMemory>
 }
 
 fn open_up(alloc: Global, done: &[Term], sealed: u32, key: u32) -> Result<Option<Term>, NoMemory>
-    ensures { IfOk result (λ found. option_map tree found ≡ option_and_then (λ s. option_and_then (body_of s) (slice_get (map tree done.now) key)) (slice_get (map tree done.now) sealed)) }
+    ensures { IfOk result (λ found. option_map tree found
+        ≡ option_and_then (λ s. option_and_then (body_of s) (slice_get (map tree done.now) key))
+        (slice_get (map tree done.now) sealed)) }
 {
     match term_at(done, sealed) {
         None => Ok(None),
@@ -141,7 +153,8 @@ fn open_up(alloc: Global, done: &[Term], sealed: u32, key: u32) -> Result<Option
 
 // A seal opens with its own key alone.
 fn copy_body(alloc: Global, sealed: &Term, key: &Term) -> Result<Option<Term>, NoMemory>
-    ensures { IfOk result (λ found. option_map tree found ≡ body_of (tree sealed.now) (tree key.now)) }
+    ensures { IfOk result (λ found. option_map tree found
+        ≡ body_of (tree sealed.now) (tree key.now)) }
 {
     match sealed {
         Term::Seal(own_key, body) => {
@@ -170,7 +183,9 @@ fn digest_up(
     secret: u32,
     body: u32,
 ) -> Result<Option<Term>, NoMemory>
-    ensures { IfOk result (λ found. option_map tree found ≡ option_and_then (λ p. option_map (digest kind p) (slice_get (map tree done.now) body)) (slice_get (map tree done.now) secret)) }
+    ensures { IfOk result (λ found. option_map tree found
+        ≡ option_and_then (λ p. option_map (digest kind p) (slice_get (map tree done.now) body))
+        (slice_get (map tree done.now) secret)) }
 {
     match term_at(done, secret) {
         None => Ok(None),

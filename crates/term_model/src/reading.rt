@@ -36,7 +36,8 @@ impl Reading {
     /// nothing changes.
     pub fn set(&mut self, atom: Term, spelled: Bytes) -> Result<bool, NoMemory>
         ensures exactly { IfOk result (λ taken. taken ≡ is_atom (tree atom)) }
-        ensures changed { result ≡ Ok true → atoms_of self.new ≡ with_atom (tree atom) spelled (atoms_of self.old) }
+        ensures changed { result ≡ Ok true
+            → atoms_of self.new ≡ with_atom (tree atom) spelled (atoms_of self.old) }
         ensures kept { result ≡ Ok false → atoms_of self.new ≡ atoms_of self.old }
         ensures err { OnErr result (atoms_of self.new ≡ atoms_of self.old) }
     {
@@ -55,14 +56,16 @@ impl Reading {
 
     /// The bytes of an atom. None exactly where it has none.
     pub fn bytes_of(&self, atom: &Term) -> Option<&[u8]>
-        ensures { option_map (λ bytes. bytes.now) result ≡ bytes_of (atoms_of self.now) (tree atom.now) }
+        ensures { option_map (λ bytes. bytes.now) result
+            ≡ bytes_of (atoms_of self.now) (tree atom.now) }
     {
         let place = self.place_of(atom)?;
         Some(self.list[place].bytes.as_slice())
     }
 
     fn place_of(&self, atom: &Term) -> Option<usize>
-        ensures { result ≡ position (λ entry. same_tree (tree entry.atom) (tree atom.now)) self.now.list.items }
+        ensures { result ≡ position (λ entry. same_tree (tree entry.atom) (tree atom.now))
+            self.now.list.items }
     {
         self.list.iter().position(|entry| entry.atom.same(atom))
     }

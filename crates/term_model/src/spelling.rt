@@ -1,8 +1,8 @@
 // The bytes of a term.
-ghost use Rattle.std.specs.Prelude.{◌≡◌, ◌≤◌, Ok, Err, OnOk, OnErr, length, take, drop, option_map, map};
+ghost use Rattle.std.specs.Prelude.{◌≡◌, ◌≤◌, None, Ok, Err, true, OnOk, OnErr, length, take, drop, option_map, map};
 ghost use Rattle.term_trees.specs.declared.spelling.SpellFault.TheVariants.{NoAtom, BadSeal, NoMemory};
 ghost use Rattle.term_trees.specs.Spellings.{spelling, spelling_all, atom_bytes, bytes_of, seal_bytes, digest_bytes};
-ghost use Rattle.term_trees.specs.Trees.{seal, digest};
+ghost use Rattle.term_trees.specs.Trees.{digest, is_atom, seal};
 ghost use Rattle.term_trees.specs.Views.{tree, trees_of};
 ghost use Rattle.term_model.specs.Answers.{atoms_of, behind, key_option, Writes};
 
@@ -17,10 +17,17 @@ use wire_base::Bytes;
 /// seven bytes or whose body is shorter than eight. The first fault from the left is told, the key before the body and
 /// an atom before the seal that holds it. After a refusal `out` is as before.
 pub fn spell(reading: &Reading, term: &Term, out: &mut Bytes) -> Result<(), SpellFault>
-    ensures ok { OnOk result (behind out.old (spelling (atoms_of reading.now) (tree term.now)) ≡ Ok out.new) }
-    ensures no_atom { result ≡ Err NoAtom → spelling (atoms_of reading.now) (tree term.now) ≡ Err NoAtom }
-    ensures bad_seal { result ≡ Err BadSeal → spelling (atoms_of reading.now) (tree term.now) ≡ Err BadSeal }
+    ensures ok { OnOk result (behind out.old (spelling (atoms_of reading.now) (tree term.now))
+        ≡ Ok out.new) }
+    ensures no_atom { result ≡ Err NoAtom
+        → spelling (atoms_of reading.now) (tree term.now) ≡ Err NoAtom }
+    ensures bad_seal { result ≡ Err BadSeal
+        → spelling (atoms_of reading.now) (tree term.now) ≡ Err BadSeal }
     ensures err { OnErr result (out.new ≡ out.old) }
+
+    // An atom that has no bytes is refused before memory is taken.
+    ensures missing { is_atom (tree term.now) ≡ true
+        → bytes_of (atoms_of reading.now) (tree term.now) ≡ None → result ≡ Err NoAtom }
 {
     let mut list = mem::replace(out, Bytes::new(reading.allocator())).into_vec();
     let before = list.len();
@@ -35,7 +42,10 @@ pub fn spell(reading: &Reading, term: &Term, out: &mut Bytes) -> Result<(), Spel
 // Appends the bytes of a term. After a refusal more may stand behind what stood.
 #[cycle(write)]
 fn write_term(reading: &Reading, term: &Term, list: &mut Vec<u8>) -> Result<(), SpellFault>
-    ensures { Writes (spelling (atoms_of reading.now) (tree term.now)) list.old.items result list.new.items }
+    ensures writes { Writes (spelling (atoms_of reading.now) (tree term.now))
+        list.old.items result list.new.items }
+    ensures missing { is_atom (tree term.now) ≡ true
+        → bytes_of (atoms_of reading.now) (tree term.now) ≡ None → result ≡ Err NoAtom }
 {
     match term {
         Term::Pub(bytes) => put(list, bytes.as_slice()),
@@ -52,7 +62,10 @@ fn write_term(reading: &Reading, term: &Term, list: &mut Vec<u8>) -> Result<(), 
 }
 
 fn write_atom(reading: &Reading, atom: &Term, list: &mut Vec<u8>) -> Result<(), SpellFault>
-    ensures { Writes (atom_bytes (bytes_of (atoms_of reading.now) (tree atom.now))) list.old.items result list.new.items }
+    ensures writes { Writes (atom_bytes (bytes_of (atoms_of reading.now) (tree atom.now)))
+        list.old.items result list.new.items }
+    ensures missing { bytes_of (atoms_of reading.now) (tree atom.now) ≡ None
+        → result ≡ Err NoAtom }
 {
     match reading.bytes_of(atom) {
         Some(bytes) => put(list, bytes),
@@ -62,7 +75,8 @@ fn write_atom(reading: &Reading, atom: &Term, list: &mut Vec<u8>) -> Result<(), 
 
 #[cycle(write)]
 fn write_pieces(reading: &Reading, pieces: &[Term], list: &mut Vec<u8>) -> Result<(), SpellFault>
-    ensures { Writes (spelling_all (atoms_of reading.now) (trees_of (map tree pieces.now))) list.old.items result list.new.items }
+    ensures { Writes (spelling_all (atoms_of reading.now) (trees_of (map tree pieces.now)))
+        list.old.items result list.new.items }
 {
     for piece in pieces {
         write_term(reading, piece, list)?;
@@ -78,7 +92,8 @@ fn write_seal(
     body: &Term,
     list: &mut Vec<u8>,
 ) -> Result<(), SpellFault>
-    ensures { Writes (spelling (atoms_of reading.now) (seal (tree key.now) (tree body.now))) list.old.items result list.new.items }
+    ensures { Writes (spelling (atoms_of reading.now) (seal (tree key.now) (tree body.now)))
+        list.old.items result list.new.items }
 {
     let from = list.len();
     write_term(reading, key, list)?;
@@ -96,7 +111,8 @@ fn write_digest(
     text: &Term,
     list: &mut Vec<u8>,
 ) -> Result<(), SpellFault>
-    ensures { Writes (spelling (atoms_of reading.now) (digest kind (tree secret.now) (tree text.now))) list.old.items result list.new.items }
+    ensures { Writes (spelling (atoms_of reading.now)
+        (digest kind (tree secret.now) (tree text.now))) list.old.items result list.new.items }
 {
     let from = list.len();
     write_term(reading, secret, list)?;
@@ -120,7 +136,9 @@ fn key_of(bytes: &[u8]) -> Option<Key7>
 // Seals what stands from a place on.
 fn seal_from(key: Option<Key7>, list: &mut Vec<u8>, from: usize) -> Result<(), SpellFault>
     requires { from ≤ length list.old.items }
-    ensures value { (key_bytes : _) → option_map (λ k. k.0) key ≡ key_option key_bytes → Writes (seal_bytes key_bytes (drop from list.old.items)) (take from list.old.items) result list.new.items }
+    ensures value { (key_bytes : _) → option_map (λ k. k.0) key ≡ key_option key_bytes
+        → Writes (seal_bytes key_bytes (drop from list.old.items)) (take from list.old.items)
+        result list.new.items }
 {
     match key {
         Some(key) if list.len() - from >= 8 => {

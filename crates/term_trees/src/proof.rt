@@ -1,53 +1,9 @@
 // Derivations step by step.
-ghost use Rattle.std.specs.Prelude.{◌≡◌, ◌++◌, ◌∷◌, [], OnOk, OnErr};
-
 use crate::kind::MacKind;
-use std::alloc::Global;
-use std::marker::Model;
-use wire_base::{Bytes, NoMemory};
+use wire_base::{Bytes, List};
 
-/// A list of places, counted from 0.
-#[derive(Debug, Drop)]
-pub struct Places {
-    list: Vec<u32>,
-}
-
-impl Model for Places {
-    ghost use Rattle.std.specs.Prelude.{ℕ, List};
-    ghost use Rattle.std.specs.Coded.{coded_list, coded_ℕ};
-
-    ghost Value = { List ℕ };
-
-    ghost coded = { coded_list coded_ℕ };
-
-    ghost view = { λ p. p.list.items };
-}
-
-impl Places {
-    /// No places. It takes no memory.
-    pub fn new(alloc: Global) -> Places
-        ensures { result ≡ [] }
-    {
-        Places {
-            list: Vec::new(alloc),
-        }
-    }
-
-    /// Puts a place last.
-    pub fn push(&mut self, place: u32) -> Result<(), NoMemory>
-        ensures ok { OnOk result (self.new ≡ self.old ++ place ∷ []) }
-        ensures err { OnErr result (self.new ≡ self.old) }
-    {
-        self.list.push(place)?;
-        Ok(())
-    }
-
-    pub fn as_slice(&self) -> &[u32]
-        ensures { result.now ≡ self.now }
-    {
-        &self.list
-    }
-}
+/// Places, counted from 0.
+pub type Places = List<u32>;
 
 /// One step of a derivation. The number of `Known` is a place among what is known, and `index` a place in a `Cat`; all
 /// other numbers name earlier steps. All count from 0.
@@ -83,47 +39,4 @@ pub enum ProofStep {
 }
 
 /// A derivation: its steps, in order.
-#[derive(Debug, Drop)]
-pub struct Proof {
-    list: Vec<ProofStep>,
-}
-
-impl Model for Proof {
-    ghost use Rattle.std.specs.Prelude.{List};
-    ghost use Rattle.term_trees.specs.declared.proof.ProofStep.{ProofStep};
-
-    ghost Value = { List ProofStep };
-
-    ghost view = { λ p. p.list.items };
-}
-
-impl Proof {
-    /// No steps. It takes no memory.
-    pub fn new(alloc: Global) -> Proof
-        ensures { result ≡ [] }
-    {
-        Proof {
-            list: Vec::new(alloc),
-        }
-    }
-
-    /// Puts a step last. A step that finds no room is dropped.
-    pub fn push(&mut self, step: ProofStep) -> Result<(), NoMemory>
-        ensures ok { OnOk result (self.new ≡ self.old ++ step ∷ []) }
-        ensures err { OnErr result (self.new ≡ self.old) }
-    {
-        self.list.push(step)?;
-        Ok(())
-    }
-
-    pub fn as_slice(&self) -> &[ProofStep]
-        ensures { result.now ≡ self.now }
-    {
-        &self.list
-    }
-
-    /// The allocator of its list.
-    pub fn allocator(&self) -> Global {
-        *self.list.allocator()
-    }
-}
+pub type Proof = List<ProofStep>;

@@ -45,7 +45,7 @@ fn a_record_is_its_steps_lines(rt: HostRuntime) -> Result<(), Fail> {
     let alloc = rt.alloc();
     let wire = mail_record(alloc)?;
     let mut out = Bytes::new(alloc);
-    for step in wire.steps() {
+    for step in wire.as_slice() {
         print_step(step, &mut out)?;
     }
     let expected = "start c apop client 0000000000000000\n\
