@@ -1,11 +1,11 @@
 // Replies, read field by field from the left.
-ghost use Rattle.std.specs.Prelude.{◌<◌, IfOk, Ok};
+ghost use Rattle.std.specs.Prelude.{◌≡◌, ◌<◌, Err, IfOk, Ok, true};
 ghost use Rattle.std.specs.Int.{w16};
 ghost use Rattle.wire_base.specs.Readers.{Finds, Gives, times, listed};
 ghost use Rattle.nine_messages.specs.declared.message.RMsg.{RMsg};
 ghost use Rattle.nine_messages.specs.Messages.{r_given, IsReply};
 ghost use Rattle.nine_messages.specs.Decoding.{IsFrame, qid_parts_at, qid_at, version_reply_at, auth_reply_at, attach_reply_at, error_reply_at, walk_reply_at, open_reply_at, create_reply_at, read_reply_at, write_reply_at, stat_reply_at, bare_reply_at, r_body_at, r_reading};
-ghost use Rattle.nine_codec.specs.Decoded.{Decodes};
+ghost use Rattle.nine_codec.specs.Decoded.{Decodes, HasType, r_takes_memory};
 
 use crate::fault::DecodeFault;
 use nine_messages::{Qid, QidList, RBody, RMsg};
@@ -29,12 +29,12 @@ fn qid_parts(frame: &[u8], at: usize) -> Result<(Qid, usize), BadField>
 
 // The same, with a fault at its first byte.
 #[tactic(auto, unfolding(nine_messages::specs::Decoding::qid_at))]
-fn qid(frame: &[u8], at: usize) -> Result<(Qid, usize), CodecFault>
-    ensures { Gives (λ x. x) result (qid_at frame.now at) }
+fn qid(frame: &[u8], at: usize) -> Result<(Qid, usize), BadField>
+    ensures { Finds (λ x. x) result (qid_at frame.now at) }
 {
     match qid_parts(frame, at) {
         Ok(found) => Ok(found),
-        Err(_) => Err(CodecFault::Bad(BadField { at })),
+        Err(_) => Err(BadField { at }),
     }
 }
 
@@ -78,16 +78,16 @@ fn version(alloc: Global, frame: &[u8], at: usize) -> Result<(RBody, usize), Cod
 }
 
 #[tactic(auto, unfolding(nine_messages::specs::Decoding::auth_reply_at))]
-fn auth(frame: &[u8], at: usize) -> Result<(RBody, usize), CodecFault>
-    ensures { Gives (λ x. x) result (auth_reply_at frame.now at) }
+fn auth(frame: &[u8], at: usize) -> Result<(RBody, usize), BadField>
+    ensures { Finds (λ x. x) result (auth_reply_at frame.now at) }
 {
     let (aqid, at) = qid(frame, at)?;
     Ok((RBody::Auth { aqid }, at))
 }
 
 #[tactic(auto, unfolding(nine_messages::specs::Decoding::attach_reply_at))]
-fn attach(frame: &[u8], at: usize) -> Result<(RBody, usize), CodecFault>
-    ensures { Gives (λ x. x) result (attach_reply_at frame.now at) }
+fn attach(frame: &[u8], at: usize) -> Result<(RBody, usize), BadField>
+    ensures { Finds (λ x. x) result (attach_reply_at frame.now at) }
 {
     let (qid, at) = qid(frame, at)?;
     Ok((RBody::Attach { qid }, at))
@@ -110,8 +110,8 @@ fn walk(alloc: Global, frame: &[u8], at: usize) -> Result<(RBody, usize), CodecF
 }
 
 #[tactic(auto, unfolding(nine_messages::specs::Decoding::open_reply_at))]
-fn open(frame: &[u8], at: usize) -> Result<(RBody, usize), CodecFault>
-    ensures { Gives (λ x. x) result (open_reply_at frame.now at) }
+fn open(frame: &[u8], at: usize) -> Result<(RBody, usize), BadField>
+    ensures { Finds (λ x. x) result (open_reply_at frame.now at) }
 {
     let (qid, at) = qid(frame, at)?;
     let (iounit, at) = u32_at(frame, at)?;
@@ -119,8 +119,8 @@ fn open(frame: &[u8], at: usize) -> Result<(RBody, usize), CodecFault>
 }
 
 #[tactic(auto, unfolding(nine_messages::specs::Decoding::create_reply_at))]
-fn create(frame: &[u8], at: usize) -> Result<(RBody, usize), CodecFault>
-    ensures { Gives (λ x. x) result (create_reply_at frame.now at) }
+fn create(frame: &[u8], at: usize) -> Result<(RBody, usize), BadField>
+    ensures { Finds (λ x. x) result (create_reply_at frame.now at) }
 {
     let (qid, at) = qid(frame, at)?;
     let (iounit, at) = u32_at(frame, at)?;
@@ -137,8 +137,8 @@ fn read(alloc: Global, frame: &[u8], at: usize) -> Result<(RBody, usize), CodecF
 }
 
 #[tactic(auto, unfolding(nine_messages::specs::Decoding::write_reply_at))]
-fn write(frame: &[u8], at: usize) -> Result<(RBody, usize), CodecFault>
-    ensures { Gives (λ x. x) result (write_reply_at frame.now at) }
+fn write(frame: &[u8], at: usize) -> Result<(RBody, usize), BadField>
+    ensures { Finds (λ x. x) result (write_reply_at frame.now at) }
 {
     let (count, at) = u32_at(frame, at)?;
     Ok((RBody::Write { count }, at))
@@ -156,19 +156,20 @@ fn stat(alloc: Global, frame: &[u8], at: usize) -> Result<(RBody, usize), CodecF
 // The fields of a reply of this type.
 #[tactic(auto, unfolding(nine_messages::specs::Decoding::r_body_at, nine_messages::specs::Decoding::bare_reply_at))]
 fn body(alloc: Global, kind: u8, frame: &[u8], at: usize) -> Result<(RBody, usize), CodecFault>
-    ensures { Gives (λ x. x) result (r_body_at kind frame.now at) }
+    ensures read { Gives (λ x. x) result (r_body_at kind frame.now at) }
+    ensures memory { result ≡ Err CodecFault.NoMemory → r_takes_memory kind ≡ true }
 {
     match kind {
         101 => version(alloc, frame, at),
-        103 => auth(frame, at),
-        105 => attach(frame, at),
+        103 => Ok(auth(frame, at)?),
+        105 => Ok(attach(frame, at)?),
         107 => error(alloc, frame, at),
         109 => Ok((RBody::Flush, at)),
         111 => walk(alloc, frame, at),
-        113 => open(frame, at),
-        115 => create(frame, at),
+        113 => Ok(open(frame, at)?),
+        115 => Ok(create(frame, at)?),
         117 => read(alloc, frame, at),
-        119 => write(frame, at),
+        119 => Ok(write(frame, at)?),
         121 => Ok((RBody::Clunk, at)),
         123 => Ok((RBody::Remove, at)),
         125 => stat(alloc, frame, at),
@@ -179,7 +180,8 @@ fn body(alloc: Global, kind: u8, frame: &[u8], at: usize) -> Result<(RBody, usiz
 
 #[tactic(auto, unfolding(nine_messages::specs::Decoding::r_reading))]
 fn reply(alloc: Global, frame: &[u8]) -> Result<RMsg, CodecFault>
-    ensures { Gives (λ x. x) result (r_reading frame.now) }
+    ensures read { Gives (λ x. x) result (r_reading frame.now) }
+    ensures memory { result ≡ Err CodecFault.NoMemory → HasType r_takes_memory frame.now }
 {
     let (kind, _) = u8_at(frame, 4)?;
     let (tag, _) = u16_at(frame, 5)?;
@@ -201,6 +203,8 @@ pub fn decode_r(alloc: Global, frame: &[u8]) -> Result<RMsg, DecodeFault>
     ensures only { (m : RMsg) → IsReply frame.now m → Decodes result (Ok m) }
     // Which fault it is.
     ensures exact { Decodes result (r_reading frame.now) }
+    // Memory is wanted only where a message of the frame's type has a text, bytes or a list.
+    ensures memory { result ≡ Err DecodeFault.NoMemory → HasType r_takes_memory frame.now }
 {
     match reply(alloc, frame) {
         Ok(message) => Ok(message),

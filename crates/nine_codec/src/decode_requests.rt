@@ -1,11 +1,11 @@
 // Requests, read field by field from the left.
-ghost use Rattle.std.specs.Prelude.{◌<◌, IfOk, Ok};
+ghost use Rattle.std.specs.Prelude.{◌≡◌, ◌<◌, Err, IfOk, Ok, true};
 ghost use Rattle.std.specs.Int.{w16};
-ghost use Rattle.wire_base.specs.Readers.{Gives, string, times, listed};
+ghost use Rattle.wire_base.specs.Readers.{Finds, Gives, string, times, listed};
 ghost use Rattle.nine_messages.specs.declared.message.TMsg.{TMsg};
 ghost use Rattle.nine_messages.specs.Messages.{t_given, IsRequest};
 ghost use Rattle.nine_messages.specs.Decoding.{IsFrame, version_at, auth_at, attach_at, flush_at, walk_at, open_at, create_at, read_at, write_at, clunk_at, remove_at, stat_at, wstat_at, t_body_at, t_reading};
-ghost use Rattle.nine_codec.specs.Decoded.{Decodes};
+ghost use Rattle.nine_codec.specs.Decoded.{Decodes, HasType, t_takes_memory};
 
 use crate::fault::DecodeFault;
 use nine_messages::{TBody, TMsg};
@@ -84,8 +84,8 @@ fn attach(alloc: Global, frame: &[u8], at: usize) -> Result<(TBody, usize), Code
 }
 
 #[tactic(auto, unfolding(nine_messages::specs::Decoding::flush_at))]
-fn flush(frame: &[u8], at: usize) -> Result<(TBody, usize), CodecFault>
-    ensures { Gives (λ x. x) result (flush_at frame.now at) }
+fn flush(frame: &[u8], at: usize) -> Result<(TBody, usize), BadField>
+    ensures { Finds (λ x. x) result (flush_at frame.now at) }
 {
     let (oldtag, at) = u16_at(frame, at)?;
     Ok((TBody::Flush { oldtag }, at))
@@ -102,8 +102,8 @@ fn walk(alloc: Global, frame: &[u8], at: usize) -> Result<(TBody, usize), CodecF
 }
 
 #[tactic(auto, unfolding(nine_messages::specs::Decoding::open_at))]
-fn open(frame: &[u8], at: usize) -> Result<(TBody, usize), CodecFault>
-    ensures { Gives (λ x. x) result (open_at frame.now at) }
+fn open(frame: &[u8], at: usize) -> Result<(TBody, usize), BadField>
+    ensures { Finds (λ x. x) result (open_at frame.now at) }
 {
     let (fid, at) = u32_at(frame, at)?;
     let (mode, at) = u8_at(frame, at)?;
@@ -128,8 +128,8 @@ fn create(alloc: Global, frame: &[u8], at: usize) -> Result<(TBody, usize), Code
 }
 
 #[tactic(auto, unfolding(nine_messages::specs::Decoding::read_at))]
-fn read(frame: &[u8], at: usize) -> Result<(TBody, usize), CodecFault>
-    ensures { Gives (λ x. x) result (read_at frame.now at) }
+fn read(frame: &[u8], at: usize) -> Result<(TBody, usize), BadField>
+    ensures { Finds (λ x. x) result (read_at frame.now at) }
 {
     let (fid, at) = u32_at(frame, at)?;
     let (offset, at) = u64_at(frame, at)?;
@@ -154,24 +154,24 @@ fn write(alloc: Global, frame: &[u8], at: usize) -> Result<(TBody, usize), Codec
 }
 
 #[tactic(auto, unfolding(nine_messages::specs::Decoding::clunk_at))]
-fn clunk(frame: &[u8], at: usize) -> Result<(TBody, usize), CodecFault>
-    ensures { Gives (λ x. x) result (clunk_at frame.now at) }
+fn clunk(frame: &[u8], at: usize) -> Result<(TBody, usize), BadField>
+    ensures { Finds (λ x. x) result (clunk_at frame.now at) }
 {
     let (fid, at) = u32_at(frame, at)?;
     Ok((TBody::Clunk { fid }, at))
 }
 
 #[tactic(auto, unfolding(nine_messages::specs::Decoding::remove_at))]
-fn remove(frame: &[u8], at: usize) -> Result<(TBody, usize), CodecFault>
-    ensures { Gives (λ x. x) result (remove_at frame.now at) }
+fn remove(frame: &[u8], at: usize) -> Result<(TBody, usize), BadField>
+    ensures { Finds (λ x. x) result (remove_at frame.now at) }
 {
     let (fid, at) = u32_at(frame, at)?;
     Ok((TBody::Remove { fid }, at))
 }
 
 #[tactic(auto, unfolding(nine_messages::specs::Decoding::stat_at))]
-fn stat(frame: &[u8], at: usize) -> Result<(TBody, usize), CodecFault>
-    ensures { Gives (λ x. x) result (stat_at frame.now at) }
+fn stat(frame: &[u8], at: usize) -> Result<(TBody, usize), BadField>
+    ensures { Finds (λ x. x) result (stat_at frame.now at) }
 {
     let (fid, at) = u32_at(frame, at)?;
     Ok((TBody::Stat { fid }, at))
@@ -190,21 +190,22 @@ fn wstat(alloc: Global, frame: &[u8], at: usize) -> Result<(TBody, usize), Codec
 // The fields of a request of this type.
 #[tactic(auto, unfolding(nine_messages::specs::Decoding::t_body_at))]
 fn body(alloc: Global, kind: u8, frame: &[u8], at: usize) -> Result<(TBody, usize), CodecFault>
-    ensures { Gives (λ x. x) result (t_body_at kind frame.now at) }
+    ensures read { Gives (λ x. x) result (t_body_at kind frame.now at) }
+    ensures memory { result ≡ Err CodecFault.NoMemory → t_takes_memory kind ≡ true }
 {
     match kind {
         100 => version(alloc, frame, at),
         102 => auth(alloc, frame, at),
         104 => attach(alloc, frame, at),
-        108 => flush(frame, at),
+        108 => Ok(flush(frame, at)?),
         110 => walk(alloc, frame, at),
-        112 => open(frame, at),
+        112 => Ok(open(frame, at)?),
         114 => create(alloc, frame, at),
-        116 => read(frame, at),
+        116 => Ok(read(frame, at)?),
         118 => write(alloc, frame, at),
-        120 => clunk(frame, at),
-        122 => remove(frame, at),
-        124 => stat(frame, at),
+        120 => Ok(clunk(frame, at)?),
+        122 => Ok(remove(frame, at)?),
+        124 => Ok(stat(frame, at)?),
         126 => wstat(alloc, frame, at),
         _ => Err(CodecFault::Bad(BadField { at: 4 })),
     }
@@ -212,7 +213,8 @@ fn body(alloc: Global, kind: u8, frame: &[u8], at: usize) -> Result<(TBody, usiz
 
 #[tactic(auto, unfolding(nine_messages::specs::Decoding::t_reading))]
 fn request(alloc: Global, frame: &[u8]) -> Result<TMsg, CodecFault>
-    ensures { Gives (λ x. x) result (t_reading frame.now) }
+    ensures read { Gives (λ x. x) result (t_reading frame.now) }
+    ensures memory { result ≡ Err CodecFault.NoMemory → HasType t_takes_memory frame.now }
 {
     let (kind, _) = u8_at(frame, 4)?;
     let (tag, _) = u16_at(frame, 5)?;
@@ -234,6 +236,8 @@ pub fn decode_t(alloc: Global, frame: &[u8]) -> Result<TMsg, DecodeFault>
     ensures only { (m : TMsg) → IsRequest frame.now m → Decodes result (Ok m) }
     // Which fault it is.
     ensures exact { Decodes result (t_reading frame.now) }
+    // Memory is wanted only where a message of the frame's type has a text, bytes or a list.
+    ensures memory { result ≡ Err DecodeFault.NoMemory → HasType t_takes_memory frame.now }
 {
     match request(alloc, frame) {
         Ok(message) => Ok(message),

@@ -7,7 +7,7 @@ ghost use Rattle.nine_messages.specs.Messages.{frame, qid_text, r_given, r_frame
 ghost use Rattle.nine_messages.specs.declared.message.RBody.TheVariants as r;
 ghost use Rattle.nine_codec.specs.Encoded.{Extends};
 
-use crate::head::{kept, put_head};
+use crate::head::put_head;
 use nine_messages::{Qid, RBody, RMsg};
 use wire_base::{Bytes, NoMemory, put_str, put_u16, put_u32};
 
@@ -38,7 +38,8 @@ fn put_qids(qids: &[Qid], out: &mut Bytes) -> Result<(), NoMemory>
 
 fn spell_version(tag: u16, msize: u32, version: &[u8], out: &mut Bytes) -> Result<(), NoMemory>
     requires { length version.now < 2 ^ 16 }
-    ensures ok { OnOk result (out.new ≡ out.old ++ frame 101 tag (to_le_bytes w32 msize ++ spelled version.now)) }
+    ensures ok { OnOk result (out.new
+        ≡ out.old ++ frame 101 tag (to_le_bytes w32 msize ++ spelled version.now)) }
     ensures err { OnErr result (Extends out.old out.new) }
 {
     put_head(6 + version.len(), 101, tag, out)?;
@@ -76,7 +77,8 @@ fn spell_walk(tag: u16, qids: &[Qid], out: &mut Bytes) -> Result<(), NoMemory>
 
 // A reply of this type that is a qid and the unit of reads and writes.
 fn spell_opened(kind: u8, tag: u16, qid: &Qid, iounit: u32, out: &mut Bytes) -> Result<(), NoMemory>
-    ensures ok { OnOk result (out.new ≡ out.old ++ frame kind tag (qid_text qid.now ++ to_le_bytes w32 iounit)) }
+    ensures ok { OnOk result (out.new
+        ≡ out.old ++ frame kind tag (qid_text qid.now ++ to_le_bytes w32 iounit)) }
     ensures err { OnErr result (Extends out.old out.new) }
 {
     put_head(17, kind, tag, out)?;
@@ -123,43 +125,47 @@ fn spell_bare(kind: u8, tag: u16, out: &mut Bytes) -> Result<(), NoMemory>
 /// Appends the reply that agrees to a version.
 pub fn put_version(tag: u16, msize: u32, version: &[u8], out: &mut Bytes) -> Result<(), NoMemory>
     requires { length version.now < 2 ^ 16 }
-    ensures ok { OnOk result (out.new ≡ out.old ++ r_frame (record { tag = tag; body = r.Version msize version.now })) }
+    ensures ok { OnOk result (out.new
+        ≡ out.old ++ r_frame (record { tag = tag; body = r.Version msize version.now })) }
     ensures err { OnErr result (out.new ≡ out.old) }
 {
     let before = out.len();
     let done = spell_version(tag, msize, version, out);
-    kept(before, done, out)
+    out.undo_on_err(before, done)
 }
 
 /// Appends the reply that names the file over which the user is authenticated.
 pub fn put_auth(tag: u16, aqid: &Qid, out: &mut Bytes) -> Result<(), NoMemory>
-    ensures ok { OnOk result (out.new ≡ out.old ++ r_frame (record { tag = tag; body = r.Auth aqid.now })) }
+    ensures ok { OnOk result (out.new
+        ≡ out.old ++ r_frame (record { tag = tag; body = r.Auth aqid.now })) }
     ensures err { OnErr result (out.new ≡ out.old) }
 {
     let before = out.len();
     let done = spell_qid(103, tag, aqid, out);
-    kept(before, done, out)
+    out.undo_on_err(before, done)
 }
 
 /// Appends the reply to an attach.
 pub fn put_attach(tag: u16, qid: &Qid, out: &mut Bytes) -> Result<(), NoMemory>
-    ensures ok { OnOk result (out.new ≡ out.old ++ r_frame (record { tag = tag; body = r.Attach qid.now })) }
+    ensures ok { OnOk result (out.new
+        ≡ out.old ++ r_frame (record { tag = tag; body = r.Attach qid.now })) }
     ensures err { OnErr result (out.new ≡ out.old) }
 {
     let before = out.len();
     let done = spell_qid(105, tag, qid, out);
-    kept(before, done, out)
+    out.undo_on_err(before, done)
 }
 
 /// Appends the reply that says why a request was refused.
 pub fn put_error(tag: u16, ename: &[u8], out: &mut Bytes) -> Result<(), NoMemory>
     requires { length ename.now < 2 ^ 16 }
-    ensures ok { OnOk result (out.new ≡ out.old ++ r_frame (record { tag = tag; body = r.Error ename.now })) }
+    ensures ok { OnOk result (out.new
+        ≡ out.old ++ r_frame (record { tag = tag; body = r.Error ename.now })) }
     ensures err { OnErr result (out.new ≡ out.old) }
 {
     let before = out.len();
     let done = spell_error(tag, ename, out);
-    kept(before, done, out)
+    out.undo_on_err(before, done)
 }
 
 /// Appends the reply that a request is given up.
@@ -169,59 +175,64 @@ pub fn put_flush(tag: u16, out: &mut Bytes) -> Result<(), NoMemory>
 {
     let before = out.len();
     let done = spell_bare(109, tag, out);
-    kept(before, done, out)
+    out.undo_on_err(before, done)
 }
 
 /// Appends the reply that names the files that a walk came through.
 pub fn put_walk(tag: u16, qids: &[Qid], out: &mut Bytes) -> Result<(), NoMemory>
     requires { length qids.now ≤ 16 }
-    ensures ok { OnOk result (out.new ≡ out.old ++ r_frame (record { tag = tag; body = r.Walk qids.now })) }
+    ensures ok { OnOk result (out.new
+        ≡ out.old ++ r_frame (record { tag = tag; body = r.Walk qids.now })) }
     ensures err { OnErr result (out.new ≡ out.old) }
 {
     let before = out.len();
     let done = spell_walk(tag, qids, out);
-    kept(before, done, out)
+    out.undo_on_err(before, done)
 }
 
 /// Appends the reply to an open.
 pub fn put_open(tag: u16, qid: &Qid, iounit: u32, out: &mut Bytes) -> Result<(), NoMemory>
-    ensures ok { OnOk result (out.new ≡ out.old ++ r_frame (record { tag = tag; body = r.Open qid.now iounit })) }
+    ensures ok { OnOk result (out.new
+        ≡ out.old ++ r_frame (record { tag = tag; body = r.Open qid.now iounit })) }
     ensures err { OnErr result (out.new ≡ out.old) }
 {
     let before = out.len();
     let done = spell_opened(113, tag, qid, iounit, out);
-    kept(before, done, out)
+    out.undo_on_err(before, done)
 }
 
 /// Appends the reply to a create.
 pub fn put_create(tag: u16, qid: &Qid, iounit: u32, out: &mut Bytes) -> Result<(), NoMemory>
-    ensures ok { OnOk result (out.new ≡ out.old ++ r_frame (record { tag = tag; body = r.Create qid.now iounit })) }
+    ensures ok { OnOk result (out.new
+        ≡ out.old ++ r_frame (record { tag = tag; body = r.Create qid.now iounit })) }
     ensures err { OnErr result (out.new ≡ out.old) }
 {
     let before = out.len();
     let done = spell_opened(115, tag, qid, iounit, out);
-    kept(before, done, out)
+    out.undo_on_err(before, done)
 }
 
 /// Appends the reply that hands over what was read.
 pub fn put_read(tag: u16, content: &[u8], out: &mut Bytes) -> Result<(), NoMemory>
     requires { length content.now < 2 ^ 32 - 11 }
-    ensures ok { OnOk result (out.new ≡ out.old ++ r_frame (record { tag = tag; body = r.Read content.now })) }
+    ensures ok { OnOk result (out.new
+        ≡ out.old ++ r_frame (record { tag = tag; body = r.Read content.now })) }
     ensures err { OnErr result (out.new ≡ out.old) }
 {
     let before = out.len();
     let done = spell_read(tag, content, out);
-    kept(before, done, out)
+    out.undo_on_err(before, done)
 }
 
 /// Appends the reply that says how many bytes were written.
 pub fn put_write(tag: u16, count: u32, out: &mut Bytes) -> Result<(), NoMemory>
-    ensures ok { OnOk result (out.new ≡ out.old ++ r_frame (record { tag = tag; body = r.Write count })) }
+    ensures ok { OnOk result (out.new
+        ≡ out.old ++ r_frame (record { tag = tag; body = r.Write count })) }
     ensures err { OnErr result (out.new ≡ out.old) }
 {
     let before = out.len();
     let done = spell_write(tag, count, out);
-    kept(before, done, out)
+    out.undo_on_err(before, done)
 }
 
 /// Appends the reply that a fid was given up.
@@ -231,28 +242,30 @@ pub fn put_clunk(tag: u16, out: &mut Bytes) -> Result<(), NoMemory>
 {
     let before = out.len();
     let done = spell_bare(121, tag, out);
-    kept(before, done, out)
+    out.undo_on_err(before, done)
 }
 
 /// Appends the reply that a file was removed.
 pub fn put_remove(tag: u16, out: &mut Bytes) -> Result<(), NoMemory>
-    ensures ok { OnOk result (out.new ≡ out.old ++ r_frame (record { tag = tag; body = r.Remove })) }
+    ensures ok { OnOk result (out.new
+        ≡ out.old ++ r_frame (record { tag = tag; body = r.Remove })) }
     ensures err { OnErr result (out.new ≡ out.old) }
 {
     let before = out.len();
     let done = spell_bare(123, tag, out);
-    kept(before, done, out)
+    out.undo_on_err(before, done)
 }
 
 /// Appends the reply that hands over a stat.
 pub fn put_stat(tag: u16, stat: &[u8], out: &mut Bytes) -> Result<(), NoMemory>
     requires { length stat.now < 2 ^ 16 }
-    ensures ok { OnOk result (out.new ≡ out.old ++ r_frame (record { tag = tag; body = r.Stat stat.now })) }
+    ensures ok { OnOk result (out.new
+        ≡ out.old ++ r_frame (record { tag = tag; body = r.Stat stat.now })) }
     ensures err { OnErr result (out.new ≡ out.old) }
 {
     let before = out.len();
     let done = spell_stat(tag, stat, out);
-    kept(before, done, out)
+    out.undo_on_err(before, done)
 }
 
 /// Appends the reply that a stat was changed.
@@ -262,7 +275,7 @@ pub fn put_wstat(tag: u16, out: &mut Bytes) -> Result<(), NoMemory>
 {
     let before = out.len();
     let done = spell_bare(127, tag, out);
-    kept(before, done, out)
+    out.undo_on_err(before, done)
 }
 
 /// Appends the one spelling of a reply.

@@ -7,7 +7,7 @@ ghost use Rattle.nine_messages.specs.Messages.{frame, t_given, t_frame};
 ghost use Rattle.nine_messages.specs.declared.message.TBody.TheVariants as t;
 ghost use Rattle.nine_codec.specs.Encoded.{Extends};
 
-use crate::head::{kept, put_head, put_u8};
+use crate::head::{put_head, put_u8};
 use nine_messages::{TBody, TMsg, Text};
 use wire_base::{Bytes, NoMemory, put_str, put_u16, put_u32, put_u64};
 
@@ -37,7 +37,8 @@ fn put_names(names: &[Text], out: &mut Bytes) -> Result<(), NoMemory>
 
 fn spell_version(tag: u16, msize: u32, version: &[u8], out: &mut Bytes) -> Result<(), NoMemory>
     requires { length version.now < 2 ^ 16 }
-    ensures ok { OnOk result (out.new ≡ out.old ++ frame 100 tag (to_le_bytes w32 msize ++ spelled version.now)) }
+    ensures ok { OnOk result (out.new
+        ≡ out.old ++ frame 100 tag (to_le_bytes w32 msize ++ spelled version.now)) }
     ensures err { OnErr result (Extends out.old out.new) }
 {
     put_head(6 + version.len(), 100, tag, out)?;
@@ -54,7 +55,9 @@ fn spell_auth(
 ) -> Result<(), NoMemory>
     requires uname { length uname.now < 2 ^ 16 }
     requires aname { length aname.now < 2 ^ 16 }
-    ensures ok { OnOk result (out.new ≡ out.old ++ frame 102 tag (to_le_bytes w32 afid ++ spelled uname.now ++ spelled aname.now)) }
+    ensures ok { OnOk result (out.new
+        ≡ out.old ++ frame 102 tag (to_le_bytes w32 afid ++ spelled uname.now
+        ++ spelled aname.now)) }
     ensures err { OnErr result (Extends out.old out.new) }
 {
     put_head(8 + uname.len() + aname.len(), 102, tag, out)?;
@@ -73,7 +76,9 @@ fn spell_attach(
 ) -> Result<(), NoMemory>
     requires uname { length uname.now < 2 ^ 16 }
     requires aname { length aname.now < 2 ^ 16 }
-    ensures ok { OnOk result (out.new ≡ out.old ++ frame 104 tag (to_le_bytes w32 fid ++ to_le_bytes w32 afid ++ spelled uname.now ++ spelled aname.now)) }
+    ensures ok { OnOk result (out.new
+        ≡ out.old ++ frame 104 tag (to_le_bytes w32 fid ++ to_le_bytes w32 afid ++ spelled uname.now
+        ++ spelled aname.now)) }
     ensures err { OnErr result (Extends out.old out.new) }
 {
     put_head(12 + uname.len() + aname.len(), 104, tag, out)?;
@@ -99,7 +104,9 @@ fn spell_walk(
     out: &mut Bytes,
 ) -> Result<(), NoMemory>
     requires { FitsList 16 IsString names.now }
-    ensures ok { OnOk result (out.new ≡ out.old ++ frame 110 tag (to_le_bytes w32 fid ++ to_le_bytes w32 newfid ++ listing w16 spelled names.now)) }
+    ensures ok { OnOk result (out.new
+        ≡ out.old ++ frame 110 tag (to_le_bytes w32 fid ++ to_le_bytes w32 newfid
+        ++ listing w16 spelled names.now)) }
     ensures err { OnErr result (Extends out.old out.new) }
 {
     put_head(10 + names_len(names), 110, tag, out)?;
@@ -110,7 +117,8 @@ fn spell_walk(
 }
 
 fn spell_open(tag: u16, fid: u32, mode: u8, out: &mut Bytes) -> Result<(), NoMemory>
-    ensures ok { OnOk result (out.new ≡ out.old ++ frame 112 tag (to_le_bytes w32 fid ++ to_le_bytes w8 mode)) }
+    ensures ok { OnOk result (out.new
+        ≡ out.old ++ frame 112 tag (to_le_bytes w32 fid ++ to_le_bytes w8 mode)) }
     ensures err { OnErr result (Extends out.old out.new) }
 {
     put_head(5, 112, tag, out)?;
@@ -127,7 +135,9 @@ fn spell_create(
     out: &mut Bytes,
 ) -> Result<(), NoMemory>
     requires { length name.now < 2 ^ 16 }
-    ensures ok { OnOk result (out.new ≡ out.old ++ frame 114 tag (to_le_bytes w32 fid ++ spelled name.now ++ to_le_bytes w32 perm ++ to_le_bytes w8 mode)) }
+    ensures ok { OnOk result (out.new
+        ≡ out.old ++ frame 114 tag (to_le_bytes w32 fid ++ spelled name.now ++ to_le_bytes w32 perm
+        ++ to_le_bytes w8 mode)) }
     ensures err { OnErr result (Extends out.old out.new) }
 {
     put_head(11 + name.len(), 114, tag, out)?;
@@ -138,7 +148,9 @@ fn spell_create(
 }
 
 fn spell_read(tag: u16, fid: u32, offset: u64, count: u32, out: &mut Bytes) -> Result<(), NoMemory>
-    ensures ok { OnOk result (out.new ≡ out.old ++ frame 116 tag (to_le_bytes w32 fid ++ to_le_bytes w64 offset ++ to_le_bytes w32 count)) }
+    ensures ok { OnOk result (out.new
+        ≡ out.old ++ frame 116 tag (to_le_bytes w32 fid ++ to_le_bytes w64 offset
+        ++ to_le_bytes w32 count)) }
     ensures err { OnErr result (Extends out.old out.new) }
 {
     put_head(16, 116, tag, out)?;
@@ -155,7 +167,9 @@ fn spell_write(
     out: &mut Bytes,
 ) -> Result<(), NoMemory>
     requires { length content.now < 2 ^ 32 - 23 }
-    ensures ok { OnOk result (out.new ≡ out.old ++ frame 118 tag (to_le_bytes w32 fid ++ to_le_bytes w64 offset ++ counted w32 content.now)) }
+    ensures ok { OnOk result (out.new
+        ≡ out.old ++ frame 118 tag (to_le_bytes w32 fid ++ to_le_bytes w64 offset
+        ++ counted w32 content.now)) }
     ensures err { OnErr result (Extends out.old out.new) }
 {
     put_head(16 + content.len(), 118, tag, out)?;
@@ -176,7 +190,8 @@ fn spell_fid(kind: u8, tag: u16, fid: u32, out: &mut Bytes) -> Result<(), NoMemo
 
 fn spell_wstat(tag: u16, fid: u32, stat: &[u8], out: &mut Bytes) -> Result<(), NoMemory>
     requires { length stat.now < 2 ^ 16 }
-    ensures ok { OnOk result (out.new ≡ out.old ++ frame 126 tag (to_le_bytes w32 fid ++ counted w16 stat.now)) }
+    ensures ok { OnOk result (out.new
+        ≡ out.old ++ frame 126 tag (to_le_bytes w32 fid ++ counted w16 stat.now)) }
     ensures err { OnErr result (Extends out.old out.new) }
 {
     put_head(6 + stat.len(), 126, tag, out)?;
@@ -238,5 +253,5 @@ pub fn encode_t(m: &TMsg, out: &mut Bytes) -> Result<(), NoMemory>
 {
     let before = out.len();
     let done = spell(m, out);
-    kept(before, done, out)
+    out.undo_on_err(before, done)
 }

@@ -1,7 +1,7 @@
-// The head of a message, and how what was begun is taken back. The layout of each message:
+// The head of a message. The layout of each message:
 //
 //     size[4] type[1] tag[2] fields
-ghost use Rattle.std.specs.Prelude.{◌≡◌, ◌-◌, ◌<◌, ◌^◌, ◌++◌, take, OnOk, OnErr};
+ghost use Rattle.std.specs.Prelude.{◌≡◌, ◌-◌, ◌<◌, ◌^◌, ◌++◌, OnOk, OnErr};
 ghost use Rattle.std.specs.Int.{w8, to_le_bytes};
 ghost use Rattle.nine_codec.specs.Encoded.{head};
 
@@ -25,20 +25,4 @@ pub(crate) fn put_u8(value: u8, out: &mut Bytes) -> Result<(), NoMemory>
     ensures err { OnErr result (out.new ≡ out.old) }
 {
     out.push(value)
-}
-
-// What was begun and found no memory is taken back.
-pub(crate) fn kept(
-    before: usize,
-    done: Result<(), NoMemory>,
-    out: &mut Bytes,
-) -> Result<(), NoMemory>
-    ensures result { result ≡ done }
-    ensures ok { OnOk result (out.new ≡ out.old) }
-    ensures err { OnErr result (out.new ≡ take before out.old) }
-{
-    if done.is_err() {
-        out.truncate(before);
-    }
-    done
 }

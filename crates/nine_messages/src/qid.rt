@@ -1,9 +1,5 @@
 // The server's name for a file.
-ghost use Rattle.std.specs.Prelude.{◌≡◌, [], ◌∷◌, ◌++◌, OnOk, OnErr};
-
-use std::alloc::Global;
-use std::marker::Model;
-use wire_base::NoMemory;
+use wire_base::List;
 
 /// A qid: the type byte of the file, its version and its path.
 #[derive(Clone, Copy, Debug, PartialEq, Eq)]
@@ -13,46 +9,8 @@ pub struct Qid {
     pub path: u64,
 }
 
-/// A list of qids, in order.
-#[derive(Debug, Drop)]
-pub struct QidList {
-    list: Vec<Qid>,
-}
-
-impl Model for QidList {
-    ghost use Rattle.std.specs.Prelude.{List};
-    ghost use Rattle.nine_messages.specs.declared.qid.Qid.{Qid};
-
-    ghost Value = { List Qid };
-
-    ghost view = { λ q. q.list.items };
-}
-
-impl QidList {
-    /// No qids. It takes no memory.
-    pub fn new(alloc: Global) -> QidList
-        ensures { result ≡ [] }
-    {
-        QidList {
-            list: Vec::new(alloc),
-        }
-    }
-
-    /// Puts a qid last.
-    pub fn push(&mut self, qid: Qid) -> Result<(), NoMemory>
-        ensures ok { OnOk result (self.new ≡ self.old ++ qid ∷ []) }
-        ensures err { OnErr result (self.new ≡ self.old) }
-    {
-        self.list.push(qid)?;
-        Ok(())
-    }
-
-    pub fn as_slice(&self) -> &[Qid]
-        ensures { result.now ≡ self.now }
-    {
-        &self.list
-    }
-}
+/// Qids, in order.
+pub type QidList = List<Qid>;
 
 #[cfg(test)]
 mod tests {

@@ -4,9 +4,9 @@ use Rattle.std.specs.Prelude.{Result, OnOk, IfErr}
 use Rattle.std.specs.List.{concat}
 use Rattle.std.specs.Io.KnownBytes.{Consumes, IsAtEnd}
 use Rattle.std.proofs.KnownBytes.{Consumes-nil, Consumes-trans}
-use Rattle.wire_base.specs.Streams.{Gains}
-use Rattle.wire_base.specs.Whole.{GainsFront}
-use Rattle.wire_base.proofs.StreamLemmas.{Gains-nil, Gains-trans}
+use Rattle.wire_streams.specs.Streams.{Gains}
+use Rattle.wire_streams.specs.Whole.{GainsFront}
+use Rattle.wire_streams.proofs.StreamLemmas.{Gains-nil, Gains-trans}
 use Rattle.nine_frames.specs.Streams.{front, IsBad, IsShort, frames, end_of, HasNoBadSize, IsFrames}
 use Rattle.nine_frames.specs.Framed.{Framing}
 use Rattle.nine_frames.specs.Framing.{HasHandedOut, Answers}

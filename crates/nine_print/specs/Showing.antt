@@ -1,8 +1,8 @@
 -- Of the code alone: where a showing stands between two reads, and what its parts tell each other.
 use Rattle.std.specs.Prelude.{◌≡◌, ◌≤◌, ℕ, ◌+◌, List, [], ◌++◌, length, Option}
 use Rattle.std.specs.Io.KnownBytes.{Consumes}
-use Rattle.wire_base.specs.Streams.{Gains}
-use Rattle.wire_base.specs.Whole.{GainsFront}
+use Rattle.wire_streams.specs.Streams.{Gains}
+use Rattle.wire_streams.specs.Whole.{GainsFront}
 use Rattle.nine_frames.specs.Streams.{front, IsShort}
 use Rattle.nine_frames.specs.Framed.{Framing}
 use Rattle.nine_frames.specs.Framing.{HasHandedOut}

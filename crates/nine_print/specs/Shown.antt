@@ -2,8 +2,8 @@
 -- Content is optional: the words on it hold where it is told.
 use Rattle.std.specs.Prelude.{◌≡◌, ◌<◌, ◌↔◌, ◌⊎◌, ℕ, ◌+◌, ◌-◌, List, [], ◌∷◌, ◌++◌, length, Option}
 use Rattle.std.specs.Io.KnownBytes.{Consumes, IsAtEnd}
-use Rattle.wire_base.specs.Streams.{Gains}
-use Rattle.wire_base.specs.Whole.{GainsFront}
+use Rattle.wire_streams.specs.Streams.{Gains}
+use Rattle.wire_streams.specs.Whole.{GainsFront}
 use Rattle.nine_frames.specs.Streams.{frames, end_of, HasBadSize, HasNoBadSize, IsFrames}
 use Rattle.nine_print.specs.declared.stream.ShowEnd.{ShowEnd}
 use Rattle.nine_print.specs.declared.stream.ShowEnd.TheVariants.{Fine, ReadFault, WriteFault, BadSize, Torn, NoMemory, Flood}

@@ -111,8 +111,5 @@ pub fn put_line(alloc: Global, at: u64, frame: &[u8], out: &mut Bytes) -> Result
 {
     let before = out.len();
     let done = append_line(alloc, at, frame, out);
-    if done.is_err() {
-        out.truncate(before);
-    }
-    done
+    out.undo_on_err(before, done)
 }

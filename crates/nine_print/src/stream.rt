@@ -2,9 +2,9 @@
 // are whole with it are written, and then the next piece is read.
 ghost use Rattle.std.specs.Prelude.{◌≡◌, ◌++◌, ◌+◌, ◌<◌, ◌≤◌, [], List, ℕ, Option, Some, true, false, length, ◌⊎◌, OnOk, OnErr, IfOk, IfErr};
 ghost use Rattle.std.specs.Io.KnownBytes.{IsAtEnd};
-ghost use Rattle.wire_base.specs.Causes.{Rose};
-ghost use Rattle.wire_base.specs.Streams.{Gains};
-ghost use Rattle.wire_base.specs.Whole.{GainsFront};
+ghost use Rattle.wire_streams.specs.Causes.{Rose};
+ghost use Rattle.wire_streams.specs.Streams.{Gains};
+ghost use Rattle.wire_streams.specs.Whole.{GainsFront};
 ghost use Rattle.nine_frames.specs.Streams.{IsFrames};
 ghost use Rattle.nine_codec.specs.Encoded.{Extends};
 ghost use Rattle.nine_print.specs.Lines.{bad_size_line, torn_line};
@@ -17,7 +17,7 @@ use crate::value::put_number;
 use nine_frames::{Framer, Next};
 use nine_messages::{Bytes, NoMemory};
 use std::alloc::Global;
-use wire_base::{Got, Sink, Source, write_all};
+use wire_streams::{Got, Sink, Source, write_all};
 
 /// The greatest size of a frame.
 const MOST_FRAME: u32 = 1 << 24;
@@ -89,10 +89,7 @@ fn put_bad_size(alloc: Global, at: u64, size: u32, out: &mut Bytes) -> Result<()
 {
     let before = out.len();
     let done = append_bad_size(alloc, at, size, out);
-    if done.is_err() {
-        out.truncate(before);
-    }
-    done
+    out.undo_on_err(before, done)
 }
 
 #[tactic(auto, unfolding(crate::specs::Lines::torn_line))]

@@ -7,7 +7,8 @@ use nine_messages::Bytes;
 use std::alloc::Global;
 use std::process::Abort;
 use std::test::Fail;
-use wire_base::{MemSink, MemSource, u32_at};
+use wire_base::u32_at;
+use wire_streams::{MemSink, MemSource};
 
 // A frame's bytes are its size.
 fn check_whole(rt: &impl Abort, frame: &[u8])

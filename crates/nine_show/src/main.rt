@@ -4,7 +4,7 @@
 
 use nine_print::show;
 use std::process::ExitCode;
-use wire_base::{ReadSource, WriteSink};
+use wire_streams::{ReadSource, WriteSink};
 
 fn main(rt: HostRuntime) -> ExitCode {
     let mut input = ReadSource::new(rt.stdin());

@@ -1,5 +1,6 @@
 use Rattle.std.proofs.lemmas.Result.{err_from_is_err_and}
 use Rattle.wire_base.specs.Readers.{times}
+use Rattle.wire_base.specs.declared.reader.CodecFault.TheVariants.{Bad}
 use Rattle.nine_messages.specs.Decoding.{qid_at}
 use Rattle.wire_base.proofs.LoopLaws.{goes_on, ends, is_done}
 use Rattle.nine_codec.proofs.decode_replies.qids_at.Goals as goal
@@ -7,7 +8,7 @@ use Rattle.nine_codec.proofs.decode_replies.qids_at.Goals as goal
 pub returns-in_err-qid : goal.returns-in_err-qid
 returns-in_err-qid c =
     let p = err_from_is_err_and c.from_residual.result c.from_residual.ensures.1 in
-    rw (p.1, p.2) (ends qid_at c.in_err-qid.field-0.0 c.loop.qids c.args.count c.loop.counter c.args.bytes.now c.loop.next (times qid_at c.args.count c.args.bytes.now c.args.at) c.loop-test.true c.in_err-qid.ensures c.loop.invariant)
+    rw (p.1, p.2) (ends qid_at (Bad c.in_err-qid.field-0.0) c.loop.qids c.args.count c.loop.counter c.args.bytes.now c.loop.next (times qid_at c.args.count c.args.bytes.now c.args.at) c.loop-test.true c.in_err-qid.ensures c.loop.invariant)
 
 pub loop-preserved : goal.loop-preserved
 loop-preserved c =
