@@ -8,3 +8,4 @@ pub mod GrammarLemmas
 pub mod ToldLemmas
 pub mod PrintedLemmas
 pub mod MergeLemmas
+pub mod FormLaws

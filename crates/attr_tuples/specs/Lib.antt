@@ -5,3 +5,5 @@ pub mod Matching
 pub mod Grammar
 pub mod Merging
 pub mod Steps
+pub mod Giving
+pub mod Forms

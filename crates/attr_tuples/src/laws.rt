@@ -3,7 +3,14 @@ ghost use Rattle.std.specs.Prelude.{◌≡◌, ℕ, List, ◌↔◌, Ok, Err, tr
 ghost use Rattle.attr_tuples.specs.declared.attr.Attr.{Attr};
 ghost use Rattle.attr_tuples.specs.Printing.{hidden, printed_text, public_text};
 ghost use Rattle.attr_tuples.specs.Equality.{public_equal, public_part, same_attr};
-ghost use Rattle.attr_tuples.specs.Attributes.{is_tuple};
+ghost use Rattle.std.specs.Str.{bytes_eq};
+ghost use Rattle.wire_base.specs.Names.{IsName};
+ghost use Rattle.wire_base.specs.Texts.{is_text};
+ghost use Rattle.attr_tuples.specs.Attributes.{is_tuple, is_value};
+ghost use Rattle.attr_tuples.specs.Forms.{is_dom, is_user};
+ghost use Rattle.attr_tuples.specs.Giving.{gives};
+ghost use Rattle.attr_tuples.specs.Matching.{holds};
+ghost use Rattle.attr_tuples.specs.declared.attr.Value.TheVariants.{Is};
 ghost use Rattle.attr_tuples.specs.declared.fault.TupleFault.{TupleFault};
 ghost use Rattle.attr_tuples.specs.Grammar.{Reads, Refuses, tuple_of};
 
@@ -36,4 +43,23 @@ pub fn tuples_are_what_they_say()
 /// A tuple that is printed is read back as it was.
 pub fn printed_tuples_are_read()
     ensures { (attrs : List Attr) → is_tuple attrs ≡ true → tuple_of (printed_text attrs) ≡ Ok attrs }
+{}
+
+/// A text that is a user is a name of a field of 28 bytes, one that is a domain of 48, and both are values.
+pub fn users_and_domains_are_names()
+    ensures user { (text : List ℕ) → is_text text ≡ true → is_user text ≡ true
+        → IsName 28 text }
+    ensures user_value { (text : List ℕ) → is_text text ≡ true → is_user text ≡ true
+        → is_value (Is text) ≡ true }
+    ensures dom { (text : List ℕ) → is_text text ≡ true → is_dom text ≡ true
+        → IsName 48 text }
+    ensures dom_value { (text : List ℕ) → is_text text ≡ true → is_dom text ≡ true
+        → is_value (Is text) ≡ true }
+{}
+
+/// A tuple gives a name just this value exactly where it holds an attribute of this name and this value.
+pub fn what_is_given_is_held()
+    ensures { (name text : List ℕ) (attrs : List Attr)
+        → gives name (λ other. bytes_eq other text) attrs
+        ≡ holds attrs (record { name = name; value = Is text }) }
 {}

@@ -4,6 +4,8 @@
 mod attr;
 mod compare;
 mod fault;
+mod forms;
+mod giving;
 #[cfg(test)]
 mod grammar_tests;
 mod laws;
@@ -17,9 +19,12 @@ mod tuple;
 pub use attr::{Attr, Value};
 pub use compare::{has_name, is_named, is_secret_name, matches, public_equal, value_of};
 pub use fault::{MergeFault, TupleFault};
+pub use forms::{is_dom, is_user};
+pub use giving::{gives, gives_any, gives_dom, gives_user, is_given, is_named_once};
 pub use laws::{
     printed_tuples_are_read, public_equal_compares, public_equal_hides_secrets,
-    public_text_hides_secrets, tuples_are_what_they_say,
+    public_text_hides_secrets, tuples_are_what_they_say, users_and_domains_are_names,
+    what_is_given_is_held,
 };
 pub use merging::merge;
 pub use parse::parse_tuple;

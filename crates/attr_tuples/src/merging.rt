@@ -1,16 +1,19 @@
 // Tuples merged.
-ghost use Rattle.std.specs.Prelude.{◌≡◌, length, filter};
+ghost use Rattle.std.specs.Prelude.{◌≡◌, ◌<◌, Err, filter, length};
 ghost use Rattle.attr_tuples.specs.Merging.{is_new, merged, Merges};
+ghost use Rattle.attr_tuples.specs.declared.fault.MergeFault.TheVariants.{TooMany};
 
 use crate::attr::Attr;
 use crate::compare::has_name;
 use crate::fault::MergeFault;
 use crate::tuple::{MOST_ATTRIBUTES, Tuple};
 
-/// The attributes of `a`, and behind them those of `b` whose names `a` lacks. More than 36 are refused before memory
-/// is taken.
+/// The attributes of `a`, and behind them those of `b` whose names `a` lacks.
 pub fn merge(a: &Tuple, b: &Tuple) -> Result<Tuple, MergeFault>
-    ensures { Merges result a.now b.now }
+    ensures answer { Merges result a.now b.now }
+
+    // More than 36 are refused before memory is taken.
+    ensures refused { 36 < length (merged a.now b.now) → result ≡ Err TooMany }
 {
     if count_new(a.attrs(), b.attrs()) > MOST_ATTRIBUTES - a.attrs().len() {
         return Err(MergeFault::TooMany);

@@ -1,10 +1,11 @@
 // Tuples read from text.
-ghost use Rattle.std.specs.Prelude.{◌≡◌, ◌==◌, true, position, IfOk};
+ghost use Rattle.std.specs.Prelude.{◌≡◌, ◌==◌, Err, false, true, position, IfOk};
 ghost use Rattle.wire_base.specs.Texts.{is_text};
-ghost use Rattle.attr_words.specs.Lines.{is_line};
+ghost use Rattle.attr_words.specs.Lines.{is_line, line_len};
 ghost use Rattle.attr_tuples.specs.Attributes.{is_value};
 ghost use Rattle.attr_tuples.specs.Grammar.{attr_of, words_from, tuple_of, Answers};
 ghost use Rattle.attr_tuples.specs.Steps.{ending_value, ReadsName};
+ghost use Rattle.attr_tuples.specs.declared.fault.TupleFault.TheVariants.{NotText};
 
 use crate::attr::{Attr, Value, build_text};
 use crate::fault::TupleFault;
@@ -19,7 +20,10 @@ use wire_base::{Bytes, NoMemory};
 /// all others.
 #[tactic(auto, unfolding(crate::specs::Grammar::tuple_of))]
 pub fn parse_tuple(alloc: Global, text: &[u8]) -> Result<Tuple, TupleFault>
-    ensures { Answers result (tuple_of text.now) }
+    ensures answer { Answers result (tuple_of text.now) }
+
+    // What is no text is refused before memory is taken.
+    ensures no_text { is_line text.now ≡ false → result ≡ Err (NotText (line_len text.now)) }
 {
     let len = line_len(text);
     if len != text.len() {

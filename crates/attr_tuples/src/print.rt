@@ -41,10 +41,7 @@ fn print_seen(tuple: &Tuple, secrets: Secrets, out: &mut Bytes) -> Result<(), No
 {
     let before = out.len();
     let done = append_attrs(tuple.attrs(), secrets, out);
-    if done.is_err() {
-        out.truncate(before);
-    }
-    done
+    out.undo_on_err(before, done)
 }
 
 // What is appended before memory runs out stays, in this function and in those below.

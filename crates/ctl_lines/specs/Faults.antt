@@ -1,6 +1,7 @@
--- The texts that refuse lines of ctl.
-use Rattle.std.specs.Prelude.{ℕ, List, codes}
-use Rattle.agent_history.specs.Lines.{add_text, delete_text}
+-- The texts that refuse lines of ctl, and which lines take no memory.
+use Rattle.std.specs.Prelude.{ℕ, List, [], ◌∷◌, take, Bool, true, not, ◌&&◌, ◌||◌, codes}
+use Rattle.std.specs.Str.{bytes_eq}
+use Rattle.key_lists.specs.CtlLines.{add_text, delete_text}
 use Rattle.ctl_lines.specs.declared.fault.LineFault.{LineFault}
 use Rattle.ctl_lines.specs.declared.fault.LineFault.TheVariants.{UnknownVerb, BadTuple, Add, Delete}
 
@@ -10,3 +11,12 @@ line_text UnknownVerb = codes "unknown ctl verb"
 line_text BadTuple = codes "bad tuple"
 line_text (Add fault) = add_text fault
 line_text (Delete fault) = delete_text fault
+
+-- a tuple stands behind the verb of the line
+abbrev pub has_tuple_verb : List ℕ → Bool
+has_tuple_verb line = bytes_eq (take 4 line) (codes "key ") || bytes_eq (take 7 line) (codes "delkey ")
+
+-- no line has a tuple, up to the first that is none but `debug`: the verb of that one isn't known
+abbrev pub has_no_tuple : List (List ℕ) → Bool
+has_no_tuple [] = true
+has_no_tuple (line ∷ lines) = not (has_tuple_verb line) && (not (bytes_eq line (codes "debug")) || has_no_tuple lines)

@@ -1,6 +1,6 @@
 // Why a line of ctl is refused.
 ghost use Rattle.std.specs.Prelude.{◌≡◌, ◌<◌, length};
-ghost use Rattle.agent_history.specs.Lines.{add_text, delete_text};
+ghost use Rattle.key_lists.specs.CtlLines.{add_text, delete_text};
 ghost use Rattle.ctl_lines.specs.Faults.{line_text};
 
 use key_lists::{AddFault, DeleteFault};

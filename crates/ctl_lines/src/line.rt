@@ -1,8 +1,9 @@
 // One line of ctl.
-ghost use Rattle.std.specs.Prelude.{◌≡◌, nat_le, length, None, Some, IfOk, if◌then◌else◌};
+ghost use Rattle.std.specs.Prelude.{◌≡◌, nat_le, length, false, None, Some, IfOk, Ok, if◌then◌else◌};
 ghost use Rattle.key_lists.specs.Edits.{Add, Delete};
-ghost use Rattle.agent_history.specs.Lines.{few_of, line_with, most_attrs, read_line};
-ghost use Rattle.ctl_lines.specs.Steps.{said_by};
+ghost use Rattle.key_lists.specs.CtlLines.{few_of, line_with, most_attrs, read_line};
+ghost use Rattle.ctl_lines.specs.Faults.{has_tuple_verb};
+ghost use Rattle.ctl_lines.specs.Steps.{bare_line, said_by};
 
 use crate::fault::LineFault;
 use attr_tuples::{Tuple, TupleFault, parse_tuple};
@@ -23,10 +24,11 @@ pub enum Said {
     Nothing(LineFault),
 }
 
-/// Reads a line, which isn't empty. A line that can't be read costs no more memory than its tuple.
-#[tactic(auto, unfolding(agent_history::specs::Lines::read_line))]
+/// Reads a line, which isn't empty. A verb that isn't known is refused before memory is taken: a tuple alone takes any.
+#[tactic(auto, unfolding(key_lists::specs::CtlLines::read_line))]
 pub fn read_line(alloc: Global, line: &[u8]) -> Result<Said, NoMemory>
-    ensures { IfOk result (λ said. said_by said ≡ read_line line.now) }
+    ensures said { IfOk result (λ said. said_by said ≡ read_line line.now) }
+    ensures bare { has_tuple_verb line.now ≡ false → result ≡ Ok (bare_line line.now) }
 {
     if let Some(key) = line.strip_prefix(b"key ".as_slice()) {
         return read_key(alloc, key);

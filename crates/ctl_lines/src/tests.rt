@@ -39,7 +39,7 @@ type Write = (
     &'static str,
 );
 
-static WRITES: [Write; 52] = [
+static WRITES: [Write; 53] = [
     // Each refusal.
     ("no verb", "", "keys", "unknown ctl verb", ""),
     ("an open quote", "", "key a='b", "bad tuple", ""),
@@ -221,6 +221,13 @@ static WRITES: [Write; 52] = [
         "33 attributes",
         "",
         "key proto=apop user=a !password=b x x x x x x x x x x x x x x x x x x x x x x x x x x x x x x",
+        "bad tuple",
+        "",
+    ),
+    (
+        "37 words",
+        "",
+        "key proto=apop user=a !password=b x x x x x x x x x x x x x x x x x x x x x x x x x x x x x x x x x x",
         "bad tuple",
         "",
     ),

@@ -1,11 +1,11 @@
 -- What the lines of ctl make of the keys, and words in which the laws of it are stated. A history of lines is a list of
 -- those that were accepted, the newest first, so that what stands behind a line is the history before it.
-use Rattle.std.specs.Prelude.{◌≡◌, ℕ, ◌+◌, ◌<◌, ◌≤◌, List, [], ◌∷◌, Bool, false, if◌then◌else◌, All, AllPairs}
+use Rattle.std.specs.Prelude.{◌≡◌, ℕ, ◌+◌, ◌<◌, ◌≤◌, List, [], ◌∷◌, Bool, false, if◌then◌else◌, All, AllPairs, length}
 use Rattle.std.specs.List.{list_any}
 use Rattle.attr_tuples.specs.declared.attr.Attr.{Attr}
 use Rattle.attr_tuples.specs.Equality.{public_equal}
 use Rattle.attr_tuples.specs.Matching.{matches}
-use Rattle.key_lists.specs.Lists.{KeyEntry, KeyList, no_keys, added, deleted}
+use Rattle.key_lists.specs.Lists.{KeyEntry, KeyList, no_keys, added, deleted, most_keys}
 
 -- An accepted line of ctl on keys: it adds a key, or deletes those that match a template.
 pub data KeyEdit : Type 0 where
@@ -46,3 +46,7 @@ pub record IsOrdered (list : KeyList) : Type 0 where
   pub rising : AllPairs (λ first second. first.serial < second.serial) list.keys
   pub counted : All (λ key. (1 ≤ key.serial) × (key.serial ≤ list.ever_added)) list.keys
   pub apart : AllPairs (λ first second. public_equal first.tuple second.tuple ≡ false) list.keys
+
+-- there are no more keys than a list holds
+pub record IsBounded (list : KeyList) : Type 0 where
+  pub few : length list.keys ≤ most_keys

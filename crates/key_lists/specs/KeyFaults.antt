@@ -1,14 +1,15 @@
 -- Which tuples are keys. After factotum(4) of the Plan 9 manual: a key names its protocol, its user, for p9sk1 its
--- domain too, and a secret; the protocols, the lengths of names (those of authsrv(6)'s fields without their NUL) and
--- the order of the rules are this project's.
-use Rattle.std.specs.Prelude.{ℕ, List, [], ◌∷◌, Bool, true, false, not, ◌&&◌, ◌||◌, ◌==◌, nat_le, length, find, codes, Option, Some, None}
-use Rattle.std.specs.List.{list_all, list_any}
+-- domain too, and a secret; the protocols and the order of the rules are this project's.
+use Rattle.std.specs.Prelude.{ℕ, List, [], ◌∷◌, Bool, true, false, not, ◌&&◌, ◌||◌, find, codes, Option, Some, None}
+use Rattle.std.specs.List.{list_any}
 use Rattle.std.specs.Str.{bytes_eq}
 use Rattle.wire_base.specs.Rules.{Rule, first_told}
 use Rattle.attr_tuples.specs.declared.attr.Attr.{Attr}
 use Rattle.attr_tuples.specs.declared.attr.Value.{Value}
 use Rattle.attr_tuples.specs.declared.attr.Value.TheVariants.{Is, Ask, Bare}
-use Rattle.attr_tuples.specs.Attributes.{is_named, is_named_once, is_given}
+use Rattle.attr_tuples.specs.Attributes.{is_named, is_given}
+use Rattle.attr_tuples.specs.Forms.{is_user, is_dom, is_hex_key}
+use Rattle.attr_tuples.specs.Giving.{gives, gives_once, is_any}
 use Rattle.attr_tuples.specs.Matching.{has_name}
 use Rattle.key_lists.specs.declared.fault.AddFault.{AddFault}
 use Rattle.key_lists.specs.declared.fault.AddFault.TheVariants.{AskInKey, NoProto, UnknownProto, NoUser, NoDom, BadName, NoSecret, BadHex}
@@ -24,47 +25,9 @@ is_asked a = asks a.value
     asks (Is text) = false
     asks Bare = false
 
--- some attribute of the name is given a value that passes a test
-abbrev pub gives : List ℕ → (List ℕ → Bool) → List Attr → Bool
-gives name test key = list_any (λ a. is_named name a && is_given test a.value) key
-
--- just one attribute has the name, and it is given a value that passes a test
-abbrev pub gives_once : List ℕ → (List ℕ → Bool) → List Attr → Bool
-gives_once name test key = is_named_once name key && gives name test key
-
--- ---- values
-
--- any value, an empty one too
-abbrev pub is_any : List ℕ → Bool
-is_any text = true
-
 -- a protocol whose keys are kept
 abbrev pub is_protocol : List ℕ → Bool
 is_protocol text = bytes_eq text (codes "p9sk1") || (bytes_eq text (codes "apop") || bytes_eq text (codes "cram"))
-
--- a byte of a name: above the blank
-abbrev pub is_above_blank : ℕ → Bool
-is_above_blank b = nat_le 33 b
-
--- a byte of a domain is no `@` either
-abbrev pub is_dom_byte : ℕ → Bool
-is_dom_byte b = nat_le 33 b && not (b == 64)
-
--- a user: 1 to 27 such bytes
-abbrev pub is_user : List ℕ → Bool
-is_user text = nat_le 1 (length text) && (nat_le (length text) 27 && list_all is_above_blank text)
-
--- a domain: 1 to 47 such bytes
-abbrev pub is_dom : List ℕ → Bool
-is_dom text = nat_le 1 (length text) && (nat_le (length text) 47 && list_all is_dom_byte text)
-
--- a hexadecimal digit, in either case
-abbrev pub is_hex_digit : ℕ → Bool
-is_hex_digit b = nat_le 48 b && nat_le b 57 || (nat_le 65 b && nat_le b 70 || nat_le 97 b && nat_le b 102)
-
--- seven bytes in hexadecimal digits
-abbrev pub is_hex_key : List ℕ → Bool
-is_hex_key text = (length text == 14) && list_all is_hex_digit text
 
 -- ---- the rules
 

@@ -13,7 +13,8 @@ use Rattle.key_lists.specs.declared.fault.AddFault.TheVariants.{Full}
 use Rattle.key_lists.specs.declared.fault.DeleteFault.{DeleteFault}
 use Rattle.key_lists.specs.declared.fault.DeleteFault.TheVariants.{SecretValue, NoneMatched}
 use Rattle.wire_base.specs.Rules.{first_told}
-use Rattle.key_lists.specs.KeyFaults.{key_rules, gives, is_any}
+use Rattle.attr_tuples.specs.Giving.{gives, is_any}
+use Rattle.key_lists.specs.KeyFaults.{key_rules}
 
 -- a key of a list: its attributes, and its number
 pub record KeyEntry : Type 0 where

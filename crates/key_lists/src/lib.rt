@@ -11,7 +11,8 @@ pub use batch_laws::{a_batch_may_be_cut_in_two, a_batch_numbers_its_keys};
 pub use edit::{Edit, EditFault, EditList};
 pub use fault::{AddFault, DeleteFault};
 pub use laws::{
-    a_domain_is_offered_once, deleting_drops_what_matches, keys_are_the_lines_in_order,
-    numbers_rise_and_keys_are_apart, offers_end_where_they_no_longer_fit,
+    a_domain_is_offered_once, a_list_stays_bounded, deleting_drops_what_matches,
+    keys_are_found_in_order, keys_are_the_lines_in_order, numbers_rise_and_keys_are_apart,
+    offers_are_read_as_their_domains, offers_end_where_they_no_longer_fit,
     the_first_broken_rule_is_told, the_list_shows_no_secret,
 };

@@ -13,7 +13,8 @@ use Rattle.key_lists.specs.declared.fault.DeleteFault.TheVariants.{SecretValue, 
 use Rattle.wire_base.specs.Rules.{Rule, first_told}
 use Rattle.key_lists.specs.KeyFaults.{key_rules, key_fault}
 use Rattle.key_lists.specs.Lists.{KeyEntry, KeyList, is_full, add_fault, next_entry, tells_secret, matching, delete_fault}
-use Rattle.key_lists.specs.Edits.{IsOrdered}
+use Rattle.key_ring.specs.Parts.{IsRing}
+use Rattle.key_lists.proofs.BoundLaws.{bounded_added, bounded_deleted}
 use Rattle.key_lists.proofs.OrderLaws.{ordered_added, ordered_deleted, nothing_deleted}
 
 -- ---- adding
@@ -86,11 +87,11 @@ ample_left key list room good free full none = elim (cases_Bool (is_full key lis
 pub refused_none : (key : List Attr) (list seen : KeyList) (result : Result ℕ AddFault) → list ≡ seen → key_fault key ≡ None → (is_full key list.keys ≡ true → ⊥) → IfSome (add_fault key seen) (λ f. result ≡ Err f)
 refused_none key list seen result same good free = none_told (add_fault key seen) result (ap (add_fault key) (sym same) ∙ free_key key list good free)
 
--- the keys after one was put last are in order
-pub ordered_put : (key : List Attr) (list : KeyList) (kept keys : List KeyEntry) (new : KeyEntry) (put : Bool) → IsOrdered list → kept ≡ filter (λ old. not (public_equal key old.tuple)) list.keys → new ≡ next_entry key list → keys ≡ cond put (kept ++ new ∷ []) kept → put ≡ true → IsOrdered (record { keys = keys; ever_added = list.ever_added + 1 })
-ordered_put key list kept keys new put o is_kept is_new is_put done =
+-- the keys after one was put last are in order, and no more than a list holds
+pub ring_put : (key : List Attr) (list : KeyList) (kept keys : List KeyEntry) (new : KeyEntry) (put : Bool) → IsRing list → (is_full key list.keys ≡ true → ⊥) → kept ≡ filter (λ old. not (public_equal key old.tuple)) list.keys → new ≡ next_entry key list → keys ≡ cond put (kept ++ new ∷ []) kept → put ≡ true → IsRing (record { keys = keys; ever_added = list.ever_added + 1 })
+ring_put key list kept keys new put o free is_kept is_new is_put done =
     let at_end : filter (λ old. not (public_equal key old.tuple)) list.keys ++ next_entry key list ∷ [] ≡ keys = sym (is_put ∙ ap (λ (b : Bool). cond b (kept ++ new ∷ []) kept) done ∙ ap (λ (xs : List KeyEntry). xs ++ new ∷ []) is_kept ∙ ap (λ (x : KeyEntry). filter (λ old. not (public_equal key old.tuple)) list.keys ++ x ∷ []) is_new) in
-    subst (λ (xs : List KeyEntry). IsOrdered (record { keys = xs; ever_added = list.ever_added + 1 })) at_end (ordered_added key list o)
+    subst (λ (xs : List KeyEntry). IsRing (record { keys = xs; ever_added = list.ever_added + 1 })) at_end (record { ordered = ordered_added key list o.ordered; bounded = bounded_added key list o.bounded free })
 
 -- ---- deleting
 
@@ -117,8 +118,8 @@ count_told template list seen count same h e some =
     rw (ap (delete_fault template) (sym same) ∙ some_matched template list h (λ z. some (z ∙ sym e))) (ap Ok (e ∙ ap (matching template) same))
 
 -- what is left in order, and where nothing matched the same
-pub ordered_without : (template : List Attr) (list : KeyList) (keys : List KeyEntry) → keys ≡ filter (λ key. not (matches template key.tuple)) list.keys → IsOrdered list → IsOrdered (record { keys = keys; ever_added = list.ever_added })
-ordered_without template list keys e o = subst (λ (xs : List KeyEntry). IsOrdered (record { keys = xs; ever_added = list.ever_added })) (sym e) (ordered_deleted template list o)
+pub ring_without : (template : List Attr) (list : KeyList) (keys : List KeyEntry) → keys ≡ filter (λ key. not (matches template key.tuple)) list.keys → IsRing list → IsRing (record { keys = keys; ever_added = list.ever_added })
+ring_without template list keys e o = subst (λ (xs : List KeyEntry). IsRing (record { keys = xs; ever_added = list.ever_added })) (sym e) (record { ordered = ordered_deleted template list o.ordered; bounded = bounded_deleted template list o.bounded })
 
 pub unchanged_without : (template : List Attr) (list : KeyList) (keys : List KeyEntry) (seen : KeyList) → keys ≡ filter (λ key. not (matches template key.tuple)) list.keys → list ≡ seen → 0 ≡ matching template list → record { keys = keys; ever_added = list.ever_added } ≡ seen
 unchanged_without template list keys seen e same none =

@@ -1,7 +1,7 @@
 -- What a key holds, whose tuple breaks no rule.
 use Rattle.std.proofs.Common.{◌≡◌, ℕ, List, [], ◌∷◌, Bool, true, false, cond, not, ◌&&◌, ◌||◌, eqb, length, Option, Some, None, codes, refl, sym, ap, ◌∙◌, inl, inr, arith}
 use Rattle.std.specs.Borrow.{Bor}
-use Rattle.std.specs.Prelude.{is_some, find, option_map, unwrap_or, IsSome, IfSome}
+use Rattle.std.specs.Prelude.{is_some, find, option_map, IsSome, IfSome}
 use Rattle.wire_base.specs.declared.text.Text.{Text}
 use Rattle.std.specs.List.{filter, list_all, slice_get, cons_option}
 use Rattle.std.proofs.lemmas.Bool.{cases_Bool, and_parts, and_from, or_cases, or_parts, eqb-true, not-true, not-false, not_from_false}
@@ -11,12 +11,14 @@ use Rattle.attr_tuples.specs.declared.attr.Value.{Value}
 use Rattle.attr_tuples.specs.declared.attr.Value.TheVariants.{Is, Ask, Bare}
 use Rattle.attr_tuples.specs.Attributes.{is_named, is_named_once, is_given}
 use Rattle.attr_tuples.specs.Matching.{has_name, value_of, texts_of, given_text}
-use Rattle.seal_mode.specs.Passwords.{password_key}
 use Rattle.key_lists.specs.declared.fault.AddFault.{AddFault}
 use Rattle.key_lists.specs.declared.fault.AddFault.TheVariants.{AskInKey}
-use Rattle.key_ring.specs.DesKeys.{hex_of, spelled, digits_or_password, des_key}
+use Rattle.attr_tuples.specs.Forms.{is_user, is_dom, is_hex_key}
+use Rattle.attr_tuples.specs.Giving.{gives, gives_once, is_any}
+use Rattle.key_digits.specs.Digits.{digits_or_password}
+use Rattle.key_ring.specs.DesKeys.{hex_of, des_key}
 use Rattle.wire_base.specs.Rules.{Rule, first_told}
-use Rattle.key_lists.specs.KeyFaults.{key_rules, key_fault, gives, gives_once, is_any, is_user, is_dom, is_p9sk1, is_hex_key, is_bad_hex, has_bad_name, has_secret}
+use Rattle.key_lists.specs.KeyFaults.{key_rules, key_fault, is_p9sk1, is_bad_hex, has_bad_name, has_secret}
 
 -- ---- the value of a name
 
@@ -190,10 +192,14 @@ password_found key seen name found same h n e p = found_some found _ (e ∙ ap (
 
 -- ---- the DES key
 
-pub key_of_digits : (key : List Attr) (digits : List ℕ) → Some digits ≡ hex_of key → spelled digits ≡ des_key key
-unfolding des_key
-key_of_digits key digits e = ap (λ (found : Option (List ℕ)). digits_or_password found (unwrap_or (value_of (codes "!password") key) [])) e
+-- what is looked up for the digits of a key is digits
+pub found_digits : (key : List Attr) (found : Option (Bor Text)) → key_fault key ≡ None → option_map (λ (digits : Bor Text). digits.now) found ≡ hex_of key → IfSome found (λ digits. is_hex_key digits.now ≡ true)
+found_digits key None h e = tt
+found_digits key (Some digits) h e = good_digits key digits.now h (sym e)
 
-pub key_of_password : (key : List Attr) → None ≡ hex_of key → password_key (unwrap_or (value_of (codes "!password") key) []) ≡ des_key key
+-- the key that is chosen by what is looked up
+pub chosen_key : (key : List Attr) (name : List ℕ) (digits password : Option (List ℕ)) → name ≡ codes "!password" → digits ≡ hex_of key → password ≡ value_of name key → digits_or_password digits password ≡ des_key key
 unfolding des_key
-key_of_password key e = ap (λ (found : Option (List ℕ)). digits_or_password found (unwrap_or (value_of (codes "!password") key) [])) e
+chosen_key key name digits password n d p =
+    ap (λ (found : Option (List ℕ)). digits_or_password found password) d
+    ∙ ap (digits_or_password (hex_of key)) (p ∙ ap (λ (name : List ℕ). value_of name key) n)

@@ -1,5 +1,5 @@
-pub mod HexLemmas
 pub mod KeyLemmas
 pub mod PlaceLemmas
 pub mod AnswerLemmas
 pub mod OfferLemmas
+pub mod SearchLemmas

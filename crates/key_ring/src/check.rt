@@ -1,19 +1,19 @@
 // What is asked of a tuple before it is a key. Nothing here takes memory.
-ghost use Rattle.std.specs.Prelude.{◌≡◌, ◌&&◌, not, codes, filter, find, length, option_copied};
-ghost use Rattle.std.specs.List.{list_all, list_any};
-ghost use Rattle.std.specs.Str.{bytes_eq};
-ghost use Rattle.attr_tuples.specs.Attributes.{is_named, is_named_once, is_given};
+ghost use Rattle.std.specs.Prelude.{◌≡◌, ◌&&◌, not, codes, find, option_copied};
+ghost use Rattle.std.specs.List.{list_any};
+ghost use Rattle.attr_tuples.specs.Attributes.{is_named, is_given};
+ghost use Rattle.attr_tuples.specs.Forms.{is_dom, is_hex_key};
+ghost use Rattle.attr_tuples.specs.Giving.{gives, gives_once};
 ghost use Rattle.attr_tuples.specs.Matching.{has_name};
-ghost use Rattle.key_lists.specs.KeyFaults.{key_fault, is_asked, gives, gives_once, is_any, is_protocol, is_above_blank, is_dom_byte, is_user, is_dom, is_hex_key, is_p9sk1, has_secret, is_bad_hex, has_bad_name};
+ghost use Rattle.key_lists.specs.KeyFaults.{key_fault, is_asked, is_protocol, is_p9sk1, has_secret, is_bad_hex, has_bad_name};
 ghost use Rattle.key_lists.specs.Lists.{tells_secret};
 
-use crate::des::decode_hex;
-use attr_tuples::{Attr, Tuple, Value, has_name, is_named, is_secret_name};
+use attr_tuples::{
+    Attr, Tuple, Value, gives, gives_any, gives_dom, gives_user, has_name, is_given, is_named,
+    is_named_once, is_secret_name,
+};
+use key_digits::decode_key;
 use key_lists::AddFault;
-
-const MOST_USER_BYTES: usize = 27;
-
-const MOST_DOM_BYTES: usize = 47;
 
 /// The first rule of keys that the tuple breaks, if it breaks one.
 #[tactic(auto, unfolding(key_lists::specs::KeyFaults::key_fault))]
@@ -44,18 +44,6 @@ pub fn find_fault(tuple: &Tuple) -> Option<AddFault>
 
 // ---- attributes
 
-fn check_named_once(attrs: &[Attr], name: &[u8]) -> bool
-    ensures { result ≡ is_named_once name.now attrs.now }
-{
-    count_named(attrs, name) == 1
-}
-
-fn count_named(attrs: &[Attr], name: &[u8]) -> usize
-    ensures { result ≡ length (filter (is_named name.now) attrs.now) }
-{
-    attrs.iter().filter(|attr| is_named(attr, name)).count()
-}
-
 fn check_asks(attrs: &[Attr]) -> bool
     ensures { result ≡ list_any is_asked attrs.now }
 {
@@ -71,45 +59,11 @@ fn check_asked(attr: &Attr) -> bool
     }
 }
 
-fn check_given(value: &Value) -> bool
-    ensures { result ≡ is_given is_any value.now }
-{
-    match value {
-        Value::Is(_) => true,
-        Value::Ask | Value::Bare => false,
-    }
-}
-
-fn check_given_as(value: &Value, text: &[u8]) -> bool
-    ensures { result ≡ is_given (λ given. bytes_eq given text.now) value.now }
-{
-    match value {
-        Value::Is(given) => given.as_slice() == text,
-        Value::Ask | Value::Bare => false,
-    }
-}
-
-// Whether an attribute of the name has any value.
-fn check_gives_any(attrs: &[Attr], name: &[u8]) -> bool
-    ensures { result ≡ gives name.now is_any attrs.now }
-{
-    attrs
-        .iter()
-        .any(|attr| is_named(attr, name) && check_given(&attr.value))
-}
-
-/// Whether an attribute of the name has this value.
-pub fn check_gives(attrs: &[Attr], name: &[u8], text: &[u8]) -> bool
-    ensures { result ≡ gives name.now (λ given. bytes_eq given text.now) attrs.now }
-{
-    attrs.iter().any(|attr| is_named(attr, name) && check_given_as(&attr.value, text))
-}
-
 /// Whether a secret attribute has a value.
 pub fn check_tells_secret(attrs: &[Attr]) -> bool
     ensures { result ≡ list_any tells_secret attrs.now }
 {
-    attrs.iter().any(|attr| is_secret_name(attr.name.as_slice()) && check_given(&attr.value))
+    attrs.iter().any(|attr| is_secret_name(attr.name.as_slice()) && is_given(&attr.value))
 }
 
 // ---- the protocol
@@ -118,13 +72,13 @@ pub fn check_tells_secret(attrs: &[Attr]) -> bool
 pub fn check_p9sk1(attrs: &[Attr]) -> bool
     ensures { result ≡ is_p9sk1 attrs.now }
 {
-    check_gives(attrs, b"proto".as_slice(), b"p9sk1".as_slice())
+    gives(attrs, b"proto".as_slice(), b"p9sk1".as_slice())
 }
 
 fn check_protocol(attrs: &[Attr]) -> bool
     ensures { result ≡ gives_once (codes "proto") is_protocol attrs.now }
 {
-    check_named_once(attrs, b"proto".as_slice()) && gives_protocol(attrs)
+    is_named_once(attrs, b"proto".as_slice()) && gives_protocol(attrs)
 }
 
 fn gives_protocol(attrs: &[Attr]) -> bool
@@ -154,81 +108,13 @@ fn check_protocol_text(text: &[u8]) -> bool
 fn check_bad_name(attrs: &[Attr]) -> bool
     ensures { result ≡ has_bad_name attrs.now }
 {
-    !check_user(attrs) || check_bad_dom(attrs)
+    !gives_user(attrs) || check_bad_dom(attrs)
 }
 
 fn check_bad_dom(attrs: &[Attr]) -> bool
     ensures { result ≡ (has_name attrs.now (codes "dom") && not (gives_once (codes "dom") is_dom attrs.now)) }
 {
-    has_name(attrs, b"dom".as_slice()) && !check_dom(attrs)
-}
-
-fn check_user(attrs: &[Attr]) -> bool
-    ensures { result ≡ gives_once (codes "user") is_user attrs.now }
-{
-    check_named_once(attrs, b"user".as_slice()) && gives_user(attrs)
-}
-
-fn check_dom(attrs: &[Attr]) -> bool
-    ensures { result ≡ gives_once (codes "dom") is_dom attrs.now }
-{
-    check_named_once(attrs, b"dom".as_slice()) && gives_dom(attrs)
-}
-
-fn gives_user(attrs: &[Attr]) -> bool
-    ensures { result ≡ gives (codes "user") is_user attrs.now }
-{
-    let name = b"user".as_slice();
-    attrs.iter().any(|attr| is_named(attr, name) && check_user_value(&attr.value))
-}
-
-fn gives_dom(attrs: &[Attr]) -> bool
-    ensures { result ≡ gives (codes "dom") is_dom attrs.now }
-{
-    let name = b"dom".as_slice();
-    attrs.iter().any(|attr| is_named(attr, name) && check_dom_value(&attr.value))
-}
-
-fn check_user_value(value: &Value) -> bool
-    ensures { result ≡ is_given is_user value.now }
-{
-    match value {
-        Value::Is(text) => check_user_text(text.as_slice()),
-        Value::Ask | Value::Bare => false,
-    }
-}
-
-fn check_dom_value(value: &Value) -> bool
-    ensures { result ≡ is_given is_dom value.now }
-{
-    match value {
-        Value::Is(text) => check_dom_text(text.as_slice()),
-        Value::Ask | Value::Bare => false,
-    }
-}
-
-fn check_user_text(text: &[u8]) -> bool
-    ensures { result ≡ is_user text.now }
-{
-    text.len() >= 1 && text.len() <= MOST_USER_BYTES && all_above_blank(text)
-}
-
-fn check_dom_text(text: &[u8]) -> bool
-    ensures { result ≡ is_dom text.now }
-{
-    text.len() >= 1 && text.len() <= MOST_DOM_BYTES && all_dom_bytes(text)
-}
-
-fn all_above_blank(text: &[u8]) -> bool
-    ensures { result ≡ list_all is_above_blank text.now }
-{
-    text.iter().all(|byte| *byte > b' ')
-}
-
-fn all_dom_bytes(text: &[u8]) -> bool
-    ensures { result ≡ list_all is_dom_byte text.now }
-{
-    text.iter().all(|byte| *byte > b' ' && *byte != b'@')
+    has_name(attrs, b"dom".as_slice()) && !gives_dom(attrs)
 }
 
 // ---- secrets
@@ -236,8 +122,8 @@ fn all_dom_bytes(text: &[u8]) -> bool
 fn check_secret(attrs: &[Attr]) -> bool
     ensures { result ≡ has_secret attrs.now }
 {
-    check_gives_any(attrs, b"!password".as_slice())
-        || check_p9sk1(attrs) && check_gives_any(attrs, b"!hex".as_slice())
+    gives_any(attrs, b"!password".as_slice())
+        || check_p9sk1(attrs) && gives_any(attrs, b"!hex".as_slice())
 }
 
 fn check_bad_hex(attrs: &[Attr]) -> bool
@@ -259,7 +145,7 @@ fn check_hex_value(value: &Value) -> bool
     ensures { result ≡ is_given is_hex_key value.now }
 {
     match value {
-        Value::Is(text) => decode_hex(text.as_slice()).is_some(),
+        Value::Is(text) => decode_key(text.as_slice()).is_some(),
         Value::Ask | Value::Bare => false,
     }
 }

@@ -30,7 +30,8 @@ impl Model for Key {
 impl Key {
     ghost use Rattle.std.specs.Prelude.{◌≡◌, Some, None, codes, true, false, IfOk, IfSome, IsSome, option_map};
     ghost use Rattle.attr_tuples.specs.Matching.{value_of};
-    ghost use Rattle.key_lists.specs.KeyFaults.{key_fault, is_user, is_dom, is_p9sk1};
+    ghost use Rattle.attr_tuples.specs.Forms.{is_user, is_dom};
+    ghost use Rattle.key_lists.specs.KeyFaults.{key_fault, is_p9sk1};
     ghost use Rattle.key_ring.specs.DesKeys.{des_key};
 
     // The key of a tuple that is one. Its DES key is made here, once for all.

@@ -4,17 +4,17 @@ ghost use Rattle.std.specs.List.{after_first, flat_map};
 ghost use Rattle.std.specs.Str.{bytes_eq};
 ghost use Rattle.attr_tuples.specs.Equality.{public_equal};
 ghost use Rattle.attr_tuples.specs.Matching.{has_name, matches};
-ghost use Rattle.key_lists.specs.KeyFaults.{gives};
+ghost use Rattle.attr_tuples.specs.Giving.{gives};
 ghost use Rattle.key_lists.specs.Lists.{KeyEntry, is_full, serves, add_fault, added, delete_fault, deleted, matching};
 ghost use Rattle.key_lists.specs.Edits.{IsOrdered};
-ghost use Rattle.key_ring.specs.Parts.{list_of};
+ghost use Rattle.key_ring.specs.Parts.{IsRing, list_of};
 ghost use Rattle.key_lists.specs.Listing.{key_text};
 
 use crate::batch::carry_all;
-use crate::check::{check_gives, check_tells_secret, find_fault};
+use crate::check::{check_tells_secret, find_fault};
 use crate::key::Key;
 use crate::offer::append_offers;
-use attr_tuples::{Tuple, has_name, matches, print_public, public_equal};
+use attr_tuples::{Tuple, gives, has_name, matches, print_public, public_equal};
 use key_lists::{AddFault, DeleteFault, EditFault, EditList};
 use std::alloc::Global;
 use std::marker::Model;
@@ -32,18 +32,18 @@ pub struct KeyRing {
 
 impl Model for KeyRing {
     ghost use Rattle.key_lists.specs.Lists.{KeyList};
-    ghost use Rattle.key_lists.specs.Edits.{IsOrdered};
+    ghost use Rattle.key_ring.specs.Parts.{IsRing};
 
     ghost Value = { KeyList };
 
     ghost view = { λ r. record { keys = r.keys.items; ever_added = r.ever_added } };
 
-    ghost invariant = { λ r. IsOrdered (record { keys = r.keys.items; ever_added = r.ever_added }) };
+    ghost invariant = { λ r. IsRing (record { keys = r.keys.items; ever_added = r.ever_added }) };
 }
 
 impl KeyRing {
     ghost use Rattle.std.specs.Prelude.{◌≡◌, ◌+◌, ◌<◌, ◌≤◌, ◌^◌, ◌++◌, IsOk, Some, None, Ok, Err, length, IfErr, IfOk, IfSome, OnErr, OnOk, MatchOption, option_copied};
-    ghost use Rattle.key_lists.specs.Lists.{no_keys, add_fault, added, delete_fault, deleted, matching, first_serving, next_serving};
+    ghost use Rattle.key_lists.specs.Lists.{no_keys, add_fault, added, delete_fault, deleted, matching, first_serving, most_keys, next_serving, serves};
     ghost use Rattle.key_lists.specs.Listing.{list_text, offers, offers_text};
     ghost use Rattle.key_lists.specs.Edits.{IsOrdered, additions};
     ghost use Rattle.key_lists.specs.Batches.{after_edits, edits_fault};
@@ -62,6 +62,7 @@ impl KeyRing {
     pub fn len(&self) -> usize
         ensures value { result ≡ length self.now.keys }
         ensures ordered { IsOrdered self.now }
+        ensures few { length self.now.keys ≤ most_keys }
     {
         self.keys.len()
     }
@@ -111,7 +112,9 @@ impl KeyRing {
     /// The first key, in the order of the ring, that matches the template and either names no role or has this one. It
     /// takes no memory.
     pub fn find(&self, template: &Tuple, role: &[u8]) -> Option<&Key>
-        ensures { option_copied result ≡ first_serving template.now role.now self.now }
+        ensures value { option_copied result ≡ first_serving template.now role.now self.now }
+        ensures serves { IfSome (option_copied result) (λ key.
+            serves template.now role.now key ≡ true) }
     {
         find_serving(&self.keys, template, role)
     }
@@ -119,7 +122,11 @@ impl KeyRing {
     /// The first such key behind the key of a number; None too where the ring has no key of that number. It takes no
     /// memory.
     pub fn next_after(&self, template: &Tuple, role: &[u8], serial: u64) -> Option<&Key>
-        ensures { option_copied result ≡ next_serving template.now role.now serial self.now }
+        ensures value { option_copied result
+            ≡ next_serving template.now role.now serial self.now }
+        ensures serves { IfSome (option_copied result) (λ key.
+            serves template.now role.now key ≡ true) }
+        ensures greater { IfSome (option_copied result) (λ key. serial < key.serial) }
     {
         find_serving(keys_after(&self.keys, serial), template, role)
     }
@@ -132,10 +139,7 @@ impl KeyRing {
     {
         let before = out.len();
         let done = append_keys(&self.keys, out);
-        if done.is_err() {
-            out.truncate(before);
-        }
-        done
+        out.undo_on_err(before, done)
     }
 
     /// Appends an offer `p9sk1@dom` for each domain of the keys that serve the template and the role, in the order of the
@@ -149,17 +153,14 @@ impl KeyRing {
     {
         let before = out.len();
         let done = append_offers(&self.keys, template, role, out);
-        if done.is_err() {
-            out.truncate(before);
-        }
-        done
+        out.undo_on_err(before, done)
     }
 }
 
 /// Adds a key under the next number, so many having been added before. Where there is room for one more key, it takes no
 /// memory.
 pub fn add_key(keys: &mut Vec<Key>, ever_added: u64, tuple: Tuple) -> Result<u64, AddFault>
-    requires ordered { IsOrdered (list_of keys.old.items ever_added) }
+    requires ring { IsRing (list_of keys.old.items ever_added) }
     requires count { ever_added + 1 < 2 ^ 64 }
     ensures refused { IfSome (add_fault tuple (list_of keys.old.items ever_added)) (λ fault. result ≡ Err fault) }
     ensures taken { add_fault tuple (list_of keys.old.items ever_added) ≡ None → IfErr result (λ fault. fault ≡ AddFault.NoMemory) }
@@ -167,7 +168,7 @@ pub fn add_key(keys: &mut Vec<Key>, ever_added: u64, tuple: Tuple) -> Result<u64
     ensures added { OnOk result (list_of keys.new.items (ever_added + 1) ≡ added tuple (list_of keys.old.items ever_added)) }
     ensures serial { IfOk result (λ serial. serial ≡ ever_added + 1) }
     ensures unchanged { OnErr result (keys.new.items ≡ keys.old.items) }
-    ensures ordered { OnOk result (IsOrdered (list_of keys.new.items (ever_added + 1))) }
+    ensures ring { OnOk result (IsRing (list_of keys.new.items (ever_added + 1))) }
     ensures longer { vec_len keys.new ≤ vec_len keys.old + 1 }
     ensures capacity { vec_capacity keys.old ≤ vec_capacity keys.new }
 {
@@ -216,8 +217,8 @@ pub fn delete_keys(
     ever_added: u64,
     template: &Tuple,
 ) -> Result<usize, DeleteFault>
-    requires { IsOrdered (list_of keys.old.items ever_added) }
-    ensures ordered { IsOrdered (list_of keys.new.items ever_added) }
+    requires { IsRing (list_of keys.old.items ever_added) }
+    ensures ring { IsRing (list_of keys.new.items ever_added) }
     ensures answer { MatchOption (delete_fault template.now (list_of keys.old.items ever_added)) (result ≡ Ok (matching template.now (list_of keys.old.items ever_added))) (λ fault. result ≡ Err fault) }
     ensures deleted { OnOk result (list_of keys.new.items ever_added ≡ deleted template.now (list_of keys.old.items ever_added)) }
     ensures unchanged { OnErr result (keys.new.items ≡ keys.old.items) }
@@ -258,7 +259,7 @@ fn check_role(tuple: &Tuple, role: &[u8]) -> bool
 {
     let attrs = tuple.attrs();
     let name = b"role".as_slice();
-    !has_name(attrs, name) || check_gives(attrs, name, role)
+    !has_name(attrs, name) || gives(attrs, name, role)
 }
 
 fn find_serving<'a>(keys: &'a [Key], template: &Tuple, role: &[u8]) -> Option<&'a Key>

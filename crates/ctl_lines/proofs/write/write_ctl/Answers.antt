@@ -1,9 +1,9 @@
-use Rattle.agent_history.specs.Lines.{lines_of}
+use Rattle.key_lists.specs.CtlLines.{lines_of}
 use Rattle.ctl_lines.proofs.WriteLemmas.{write_keys, write_told}
 use Rattle.ctl_lines.proofs.write.write_ctl.Goals as goal
 
 pub returns-clause-keys : goal.returns-clause-keys
-returns-clause-keys c = λ done conn same. write_keys conn (lines_of c.args.content.now) done c.args.ring.now c.edit_all.new.self c.new-edits.result c.read_lines.new.edits c.in_ok-last.ensures.edits c.new-edits.ensures c.in_ok-refused.ensures.edited same
+returns-clause-keys c = write_keys (lines_of c.args.content.now) c.args.ring.now c.edit_all.new.self c.new-edits.result c.read_lines.new.edits c.in_ok-last.ensures.edits c.new-edits.ensures c.in_ok-refused.ensures.edited
 
-pub returns-clause-answer : goal.returns-clause-answer
-returns-clause-answer c = λ done conn same. write_told conn (lines_of c.args.content.now) done c.args.ring.now c.new-edits.result c.read_lines.new.edits _ _ _ c.in_ok-last.ensures.edits c.new-edits.ensures c.in_ok-last.ensures.fault c.in_ok-refused.ensures.fault c.first_fault.ensures same
+pub returns-clause-told : goal.returns-clause-told
+returns-clause-told c = write_told (lines_of c.args.content.now) c.args.ring.now c.new-edits.result c.read_lines.new.edits _ _ _ c.in_ok-last.ensures.edits c.new-edits.ensures c.in_ok-last.ensures.fault c.in_ok-refused.ensures.fault c.first_fault.ensures

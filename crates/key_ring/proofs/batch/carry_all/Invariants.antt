@@ -1,8 +1,8 @@
 use Rattle.std.proofs.Common.{◌≡◌, ◌+◌, ◌<◌, ◌≤◌, ◌^◌, map, length, vec_len, vec_capacity}
 use Rattle.std.specs.Vec.Iter.{into_iter_items, into_iter_len}
-use Rattle.key_lists.specs.Edits.{IsOrdered, additions}
+use Rattle.key_lists.specs.Edits.{additions}
 use Rattle.key_lists.specs.Batches.{after_edits, edit_of, edits_fault}
-use Rattle.key_ring.specs.Parts.{list_of}
+use Rattle.key_ring.specs.Parts.{IsRing, list_of}
 use Rattle.key_ring.proofs.batch.carry_all.Given as goal
 
 -- what is left of the edits does to the keys as they are what all of them do to the first keys
@@ -13,7 +13,7 @@ invariant-loop-edit l =
     let all = map edit_of l.fn.edits.items in
     let first = list_of l.fn.keys.items l.fn.ever_added in
     record {
-      ordered : IsOrdered list;
+      ring : IsRing list;
       count : l.ever_added + length left < 2 ^ 64;
       few : l.ever_added + length left ≤ l.fn.ever_added + length l.fn.edits.items;
       room : vec_len l.keys + additions (map edit_of left) ≤ vec_capacity l.keys;

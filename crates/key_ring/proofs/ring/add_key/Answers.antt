@@ -2,7 +2,7 @@ use Rattle.std.proofs.Common.{rules, Err, refl, ap, ◌∙◌}
 use Rattle.std.specs.Result.{is_ok}
 use Rattle.std.proofs.lemmas.Result.{err_from_is_err_and}
 use Rattle.key_ring.specs.Parts.{list_of}
-use Rattle.key_ring.proofs.AnswerLemmas.{bad_key, refused_bad, taken_bad, refused_left, taken_left, ample_left, refused_none, ordered_put}
+use Rattle.key_ring.proofs.AnswerLemmas.{bad_key, refused_bad, taken_bad, refused_left, taken_left, ample_left, refused_none, ring_put}
 use Rattle.key_ring.proofs.ring.add_key.Goals as goal
 
 pub returns-in-Some-clause-refused : goal.returns-in-Some-clause-refused
@@ -35,6 +35,6 @@ returns-clause-refused c =
     let list = list_of c.args.keys.now.items c.args.ever_added in
     refused_none c.args.tuple list list _ refl (search rules) (λ t. let e = c.in_ok-make_room.ensures.full t in cc)
 
-pub returns-clause-ordered : goal.returns-clause-ordered
-returns-clause-ordered c =
-    ordered_put c.args.tuple (list_of c.args.keys.now.items c.args.ever_added) c.make_room.new.keys.items c.push.new.self.items c.new.result (is_ok c.push.result) c.requires.ordered c.in_ok-make_room.ensures.dropped c.new.ensures c.push.ensures.items c.if-is_err.ensures.negation
+pub returns-clause-ring : goal.returns-clause-ring
+returns-clause-ring c =
+    ring_put c.args.tuple (list_of c.args.keys.now.items c.args.ever_added) c.make_room.new.keys.items c.push.new.self.items c.new.result (is_ok c.push.result) c.requires.ring (λ t. let e = c.in_ok-make_room.ensures.full t in cc) c.in_ok-make_room.ensures.dropped c.new.ensures c.push.ensures.items c.if-is_err.ensures.negation

@@ -2,7 +2,7 @@ use Rattle.std.proofs.Common.{◌≡◌, false, refl, sym, ap, ◌∙◌}
 use Rattle.std.specs.List.{list_any}
 use Rattle.key_lists.specs.Lists.{KeyList, tells_secret}
 use Rattle.key_ring.specs.Parts.{list_of}
-use Rattle.key_ring.proofs.AnswerLemmas.{secret_told, none_told_second, count_told, ordered_without, unchanged_without}
+use Rattle.key_ring.proofs.AnswerLemmas.{secret_told, none_told_second, count_told, ring_without, unchanged_without}
 use Rattle.key_ring.proofs.ring.delete_keys.Goals as goal
 
 pub returns-then-check_tells_secret-clause-answer : goal.returns-then-check_tells_secret-clause-answer
@@ -25,8 +25,8 @@ returns-clause-answer c =
     let list = list_of c.args.keys.now.items c.args.ever_added in
     count_told c.args.template.now list list _ refl tells c.drop_matching-count.ensures.count (λ e. c.if-count-eq0.false (sym e))
 
-pub returns-then-count-eq0-clause-ordered : goal.returns-then-count-eq0-clause-ordered
-returns-then-count-eq0-clause-ordered c = ordered_without c.args.template.now (list_of c.args.keys.now.items c.args.ever_added) _ c.drop_matching-count.ensures.dropped c.requires
+pub returns-then-count-eq0-clause-ring : goal.returns-then-count-eq0-clause-ring
+returns-then-count-eq0-clause-ring c = ring_without c.args.template.now (list_of c.args.keys.now.items c.args.ever_added) _ c.drop_matching-count.ensures.dropped c.requires
 
-pub returns-clause-ordered : goal.returns-clause-ordered
-returns-clause-ordered c = ordered_without c.args.template.now (list_of c.args.keys.now.items c.args.ever_added) _ c.drop_matching-count.ensures.dropped c.requires
+pub returns-clause-ring : goal.returns-clause-ring
+returns-clause-ring c = ring_without c.args.template.now (list_of c.args.keys.now.items c.args.ever_added) _ c.drop_matching-count.ensures.dropped c.requires
