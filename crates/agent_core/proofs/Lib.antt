@@ -1,4 +1,5 @@
 pub mod TreeLemmas
 pub mod RequestSteps
 pub mod FrameSteps
-pub mod Steps
+pub mod EventSteps
+pub mod AgentSteps

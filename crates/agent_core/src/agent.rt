@@ -1,102 +1,127 @@
 // The agent, and its one step.
+ghost use Rattle.std.specs.Prelude.{◌≡◌, ◌<◌, ◌≤◌, ◌*◌, ◌^◌, [], List, true, false};
+ghost use Rattle.agent_history.specs.Deeds.{Deed, is_halted};
+ghost use Rattle.agent_history.specs.Histories.{answer_after, is_reply};
 
-use crate::common::Common;
-use crate::connection::Connection;
-use crate::step::{hang_at, request_at, take_at};
+use crate::events::{Connections, Stepped, act, has_reply, is_stop};
+use crate::shared::Shared;
 use agent_history::{Event, StepAnswer};
 use std::alloc::Global;
 use std::collections::BTreeMap;
+use std::mem::replace;
 use wire_base::{Bytes, NoMemory};
 
-/// How many events an agent carries out; the next one comes as after a stop.
+/// How many events an agent carries out; it stops with the last one.
 const MOST_EVENTS: u64 = 1 << 50;
+
+/// What an agent keeps that hasn't stopped.
+#[derive(Drop)]
+pub struct Running {
+    pub connections: Connections,
+    pub shared: Shared,
+    /// How many events were carried out.
+    pub events: u64,
+    // An event adds no more keys than its frame has bytes.
+    ghost few: { shared.ring.ever_added ≤ events * 8216 },
+    ghost left: { events < 2 ^ 50 },
+}
+
+/// Whether an agent runs. One that stopped keeps nothing.
+#[derive(Drop)]
+pub enum State {
+    Runs(Running),
+    Stopped,
+}
 
 /// The agent: what it knows of each connection, and what the connections share.
 #[derive(Drop)]
 pub struct Agent {
     alloc: Global,
-    connections: BTreeMap<u64, Connection>,
-    common: Common,
-    stopped: bool,
+    state: State,
+}
+
+// What is answered after a stop.
+fn after_stop(event: &Event) -> StepAnswer
+    ensures answer { (done : List Deed) → is_halted done ≡ true
+        → answer_after done event.now ≡ (result, []) }
+    ensures none { is_reply result ≡ false }
+{
+    match event {
+        Event::Take { .. } => StepAnswer::Gone,
+        Event::TakeAsk => StepAnswer::Stopped,
+        Event::Request { .. }
+        | Event::Hang { .. }
+        | Event::Answer { .. }
+        | Event::NoAnswer { .. }
+        | Event::NoRoom { .. }
+        | Event::Stop => StepAnswer::Done,
+    }
 }
 
 impl Agent {
-    ghost use Rattle.std.specs.Prelude.{◌≡◌, ◌++◌, ◌∷◌, ◌||◌, ◌+◌, ◌<◌, ◌^◌, ℕ, [], false, IsOk, IfOk, OnOk, OnErr};
-    ghost use Rattle.std.specs.Ordering.{nat_cmp};
-    ghost use Rattle.std.specs.BTreeMap.{get};
-    ghost use Rattle.agent_history.specs.Histories.{History, has_stopped, is_stop, deeds, answer};
-    ghost use Rattle.agent_core.specs.Connections.{Shares};
-    ghost use Rattle.agent_core.specs.Agents.{StandsFor, Lives, Stands, SameAgent, IsEvent, TakesOne, TakesNone, stopped_at};
+    ghost use Rattle.std.specs.Prelude.{◌≡◌, ◌∷◌, [], IfOk, IsOk, OnOk, OnErr};
+    ghost use Rattle.agent_history.specs.Histories.{History, answer};
+    ghost use Rattle.agent_history.specs.declared.event.Event.TheVariants as events;
+    ghost use Rattle.agent_core.specs.Events.{Answers, IsEvent};
+    ghost use Rattle.agent_core.specs.Agents.{StandsFor, StandsBy, SameAgent, SameState, TakesOne, TakesOneIn, TakesNone, TakesNoneIn, GivesUpIn, gives_in};
 
     /// An agent without keys and connections.
     pub fn new(alloc: Global) -> Result<Agent, NoMemory>
         ensures { IfOk result (λ agent. StandsFor [] agent) }
     {
+        let running = Running {
+            connections: BTreeMap::new(alloc),
+            shared: Shared::new(alloc),
+            events: 0,
+        };
         Ok(Agent {
             alloc,
-            connections: BTreeMap::new(alloc),
-            common: Common::new(alloc),
-            stopped: false,
+            state: State::Runs(running),
         })
     }
 
-    // It stopped, by a stop or since it carried out all its events.
-    fn has_stopped(&self) -> bool
-        ensures stopped { result ≡ stopped_at self.now }
-        ensures room { result ≡ false → self.now.common.1 < 2 ^ 50 }
-    {
-        self.common.events() >= MOST_EVENTS || self.stopped
-    }
-
-    // What an event does while the agent runs.
-    fn act(&mut self, event: &Event, out: &mut Bytes) -> Result<StepAnswer, NoMemory>
+    // Carries out one event while the agent runs, which then keeps what it kept, or nothing.
+    fn run(&mut self, running: Running, event: &Event, out: &mut Bytes) -> Stepped
         requires event { IsEvent event.now }
-        requires room { self.old.common.1 < 2 ^ 50 }
-        ensures answer { IfOk result (λ a. (H : History) → has_stopped H ≡ false → Lives H self.old → (a ≡ (answer H event.now).0) × (out.new ≡ out.old ++ (answer H event.now).1)) }
-        ensures shares { OnOk result ((H : History) → has_stopped H ≡ false → Lives H self.old → Shares (deeds (event.now ∷ H)) self.new.common.0) }
-        ensures connections { OnOk result ((H : History) → has_stopped H ≡ false → Lives H self.old → is_stop event.now ≡ false → (q : ℕ) → Stands (event.now ∷ H) q (get nat_cmp self.new.connections q)) }
-        ensures stopped { OnOk result (self.new.stopped ≡ (self.old.stopped || is_stop event.now)) }
-        ensures events { OnOk result (self.new.common.1 ≡ self.old.common.1 + 1) }
-        ensures err { OnErr result (SameAgent self.old self.new) }
+        requires stopped { self.old.state ≡ State.Stopped }
+        ensures answer { IfOk result (λ a. (H : History) → StandsBy H (State.Runs running)
+            → Answers H event.now a out.old out.new) }
+        ensures stands { OnOk result ((H : History) → StandsBy H (State.Runs running)
+            → StandsBy (event.now ∷ H) self.new.state) }
+        ensures err { OnErr result (SameState (State.Runs running) self.new.state) }
+        ensures err_stands { OnErr result ((H : History) → StandsBy H (State.Runs running)
+            → StandsBy H self.new.state) }
         ensures err_out { OnErr result (out.new ≡ out.old) }
-        ensures fewer { IfOk result (λ a. a ≡ StepAnswer.Reply → TakesOne event.now self.old self.new) }
-        ensures takes_none { stopped_at self.old ≡ false → TakesNone event.now self.old → IsOk result }
+        ensures takes_none { TakesNoneIn event.now (State.Runs running) → IsOk result }
+        ensures fewer { IfOk result (λ a. is_reply a ≡ true
+            → TakesOneIn event.now (State.Runs running) self.new.state) }
+        ensures gives { IfOk result (λ a. is_reply a ≡ gives_in event.now (State.Runs running)) }
+        ensures gives_up { OnOk result (GivesUpIn event.now (State.Runs running) self.new.state) }
     {
-        match event {
-            Event::Request { conn, frame, .. } => {
-                let frame = frame.as_slice();
-                request_at(
-                    self.alloc,
-                    &mut self.connections,
-                    &mut self.common,
-                    *conn,
-                    frame,
-                )?;
-                Ok(StepAnswer::Done)
-            }
-            Event::Take { conn } => {
-                let answer = take_at(self.alloc, &mut self.connections, *conn, out)?;
-                self.common.count();
+        let Running {
+            mut connections,
+            mut shared,
+            events,
+        } = running;
+        match act(self.alloc, &mut connections, &mut shared, event, out) {
+            Ok(answer) => {
+                if is_stop(event) || events + 1 == MOST_EVENTS {
+                    return Ok(answer);
+                }
+                self.state = State::Runs(Running {
+                    connections,
+                    shared,
+                    events: events + 1,
+                });
                 Ok(answer)
             }
-            Event::Hang { conn } => {
-                hang_at(self.alloc, &mut self.connections, &mut self.common, *conn);
-                self.common.count();
-                Ok(StepAnswer::Done)
-            }
-            Event::TakeAsk => {
-                self.common.count();
-                Ok(StepAnswer::NoAsk)
-            }
-            Event::Answer { .. } | Event::NoAnswer { .. } | Event::NoRoom { .. } => {
-                self.common.count();
-                Ok(StepAnswer::Done)
-            }
-            Event::Stop => {
-                self.stopped = true;
-                self.connections.clear();
-                self.common.count();
-                Ok(StepAnswer::Done)
+            Err(NoMemory) => {
+                self.state = State::Runs(Running {
+                    connections,
+                    shared,
+                    events,
+                });
+                Err(NoMemory)
             }
         }
     }
@@ -105,29 +130,45 @@ impl Agent {
     ///
     /// A frame is whole and has at least 7 bytes; an answer of the authentication server has at most 160. It takes
     /// all memory first: where that runs out, the agent and `out` are as before, and the event isn't in the history.
-    pub fn step(&mut self, event: &Event, out: &mut Bytes) -> Result<StepAnswer, NoMemory>
+    pub fn step(&mut self, event: &Event, out: &mut Bytes) -> Stepped
         requires { IsEvent event.now }
 
         // It answers as the definitions say of the history before, and stands for that history and this event.
-        ensures answer { IfOk result (λ a. (H : History) → StandsFor H self.old → (a ≡ (answer H event.now).0) × (out.new ≡ out.old ++ (answer H event.now).1)) }
-        ensures stands { OnOk result ((H : History) → StandsFor H self.old → StandsFor (event.now ∷ H) self.new) }
+        ensures answer { IfOk result (λ a. (H : History) → StandsFor H self.old
+            → Answers H event.now a out.old out.new) }
+        ensures stands { OnOk result ((H : History) → StandsFor H self.old
+            → StandsFor (event.now ∷ H) self.new) }
 
         // After want of memory all is as before.
         ensures err { OnErr result (SameAgent self.old self.new) }
-        ensures err_stands { OnErr result ((H : History) → StandsFor H self.old → StandsFor H self.new) }
+        ensures err_stands { OnErr result ((H : History) → StandsFor H self.old
+            → StandsFor H self.new) }
         ensures err_out { OnErr result (out.new ≡ out.old) }
 
-        // Where it takes no memory it succeeds, and a take that gave a reply leaves one less.
+        // A take gives a reply where one is left, which leaves one less; where no memory is taken it succeeds.
+        ensures gives { IfOk result (λ a. is_reply a ≡ gives_in event.now self.old.state) }
         ensures takes_none { TakesNone event.now self.old → IsOk result }
-        ensures fewer { IfOk result (λ a. a ≡ StepAnswer.Reply → TakesOne event.now self.old self.new) }
+        ensures fewer { IfOk result (λ a. is_reply a ≡ true
+            → TakesOne event.now self.old self.new) }
+
+        // A hang and a stop give up what was kept.
+        ensures gives_up { OnOk result (GivesUpIn event.now self.old.state self.new.state) }
     {
-        if self.has_stopped() {
-            return Ok(match event {
-                Event::Take { .. } => StepAnswer::Gone,
-                Event::TakeAsk => StepAnswer::Stopped,
-                _ => StepAnswer::Done,
-            });
+        match replace(&mut self.state, State::Stopped) {
+            State::Stopped => Ok(after_stop(event)),
+            State::Runs(running) => self.run(running, event, out),
         }
-        self.act(event, out)
+    }
+
+    /// Whether a take of the connection is answered by a reply. It takes no memory.
+    pub fn has_reply(&self, conn: u64) -> bool
+        ensures gives { result ≡ gives_in (events.Take conn) self.now.state }
+        ensures told { (H : History) → StandsFor H self.now
+            → result ≡ is_reply (answer H (events.Take conn)).0 }
+    {
+        match &self.state {
+            State::Stopped => false,
+            State::Runs(running) => has_reply(&running.connections, &running.shared, conn),
+        }
     }
 }

@@ -3,31 +3,31 @@ ghost use Rattle.std.specs.Prelude.{◌≡◌, ◌∷◌, ◌≤◌, ◌<◌, �
 ghost use Rattle.nine_messages.specs.declared.message.TBody.TheVariants as t;
 ghost use Rattle.nine_messages.specs.declared.message.RBody.TheVariants as r;
 ghost use Rattle.nine_messages.specs.Messages.{r_frame};
-ghost use Rattle.file_tree.specs.declared.tree.FidState.{FidState};
 ghost use Rattle.file_tree.specs.Faults.{fault_text};
 ghost use Rattle.file_tree.specs.Calls.{dir_fault, node_of};
 ghost use Rattle.file_tree.specs.Directories.{dir_bytes, dir_end};
 ghost use Rattle.fid_table.specs.Held.{is_open_directory, next_at, state_at};
-ghost use Rattle.agent_history.specs.Deeds.{Deed, Browsed, Listed, fid_of, keys_of};
+ghost use Rattle.key_lists.specs.CtlLines.{after_lines, lines_fault, lines_of};
+ghost use Rattle.agent_history.specs.Deeds.{Deed, OfFids, Browsed, Listed, keys_of};
 ghost use Rattle.agent_history.specs.Requests.{ctl_text, effective, lets_read, lets_write, piece, written};
-ghost use Rattle.agent_history.specs.Lines.{lines_of, after_lines, lines_fault};
-ghost use Rattle.agent_core.specs.Connections.{Keeps, SameKept, SameElsewhere, Tries, Told, reply_bytes};
+ghost use Rattle.mailboxes.specs.Kept.{reply_bytes};
+ghost use Rattle.mailboxes.specs.Deliveries.{under};
+ghost use Rattle.agent_core.specs.Connections.{Keeps, SameKept, Told, Tried};
 
+use crate::call::Call;
 use crate::connection::Connection;
-use crate::fid_requests::opens_later;
+use crate::fid_requests::{USUAL_REPLY, opens_later};
 use crate::msize::Msize;
-use crate::refused::{Refusal, Refused, Reply};
+use crate::refused::{Refusal, Refused, Tried};
 use crate::shared::Shared;
 use ctl_lines::write_ctl;
 use file_tree::{Node, reads, writes};
+use mailboxes::Reply;
 use nine_codec::{put_read, put_write};
-use std::alloc::Global;
 use wire_base::{Bytes, NoMemory};
 
 // The bytes of a reply to a read that aren't content.
 const READ_OVERHEAD: u32 = 24;
-
-const USUAL_REPLY: usize = 64;
 
 const PROTOCOLS: &[u8; 22] = b"apop\ncram\np9any\np9sk1\n";
 
@@ -74,43 +74,43 @@ fn piece(text: &[u8], offset: u64, most: u32) -> &[u8]
 }
 
 // The reply that hands over what was read.
-fn read_reply(alloc: Global, tag: u16, content: &[u8]) -> Result<Reply, NoMemory>
+fn read_reply(call: Call, content: &[u8]) -> Result<Reply, NoMemory>
     requires { length content.now ≤ 8216 }
-    ensures { IfOk result (λ reply. reply_bytes reply ≡ r_frame (record { tag = tag; body = r.Read content.now })) }
+    ensures { IfOk result (λ reply. reply_bytes reply
+        ≡ r_frame (under call.tag (r.Read content.now))) }
 {
-    let mut reply = Bytes::with_capacity(alloc, USUAL_REPLY + content.len())?;
-    put_read(tag, content, &mut reply)?;
+    let mut reply = Bytes::with_capacity(call.alloc, USUAL_REPLY + content.len())?;
+    put_read(call.tag, content, &mut reply)?;
     Ok(Reply::Spelled(reply))
 }
 
 impl Connection {
     // A read of a directory that the fid has open: as many whole records as fit.
-    fn read_directory(
-        &mut self,
-        alloc: Global,
-        tag: u16,
-        fid: u32,
-        offset: u64,
-        count: u32,
-    ) -> Result<Reply, Refused>
+    fn read_directory(&mut self, call: Call, fid: u32, offset: u64, count: u32) -> Tried
         requires open { is_open_directory (state_at self.old.fids fid) ≡ true }
         requires small { count ≤ 8216 }
-        ensures told { Told (option_map fault_text (dir_fault (next_at self.old.fids fid) offset)) (λ reply. reply_bytes reply ≡ r_frame (record { tag = tag; body = r.Read (dir_bytes (node_of (state_at self.old.fids fid)) offset count) })) result }
-        ensures keeps { OnOk result ((done : List Deed) (conn : ℕ) → Keeps done conn self.old → Keeps (Browsed conn fid (dir_end (node_of (state_at self.old.fids fid)) offset count) ∷ done) conn self.new) }
-        ensures elsewhere { SameElsewhere self.old self.new }
+        ensures told { Told (option_map fault_text (dir_fault (next_at self.old.fids fid) offset))
+            (λ reply. reply_bytes reply
+            ≡ r_frame (under call.tag (r.Read (dir_bytes (node_of
+            (state_at self.old.fids fid)) offset count)))) result }
+        ensures keeps { OnOk result ((done : List Deed) (conn : ℕ) → Keeps done conn self.old
+            → Keeps (OfFids conn (Browsed fid (dir_end (node_of
+            (state_at self.old.fids fid)) offset count)) ∷ done) conn self.new) }
+        ensures phase { self.new.phase ≡ self.old.phase }
         ensures err { OnErr result (SameKept self.old self.new) }
     {
-        let mut records = Bytes::new(alloc);
+        let mut records = Bytes::new(call.alloc);
         let end = self.fids.may_read(fid, offset, count, &mut records)?;
-        let reply = read_reply(alloc, tag, records.as_slice())?;
+        let reply = read_reply(call, records.as_slice())?;
         self.mark_read(fid, end);
         Ok(reply)
     }
 
     // The next read of the fid may begin there.
     fn mark_read(&mut self, fid: u32, end: u64)
-        ensures keeps { (done : List Deed) (conn : ℕ) → Keeps done conn self.old → Keeps (Browsed conn fid end ∷ done) conn self.new }
-        ensures elsewhere { SameElsewhere self.old self.new }
+        ensures keeps { (done : List Deed) (conn : ℕ) → Keeps done conn self.old
+            → Keeps (OfFids conn (Browsed fid end) ∷ done) conn self.new }
+        ensures phase { self.new.phase ≡ self.old.phase }
     {
         self.fids.mark_read(fid, end);
     }
@@ -118,46 +118,41 @@ impl Connection {
     // A read of ctl: from 0 on the list of keys of this moment, which the fid then keeps; else what the fid has.
     fn read_ctl(
         &mut self,
-        alloc: Global,
+        call: Call,
         shared: &Shared,
-        tag: u16,
         fid: u32,
         offset: u64,
         count: u32,
     ) -> Result<Reply, NoMemory>
         requires { count ≤ 8216 }
-        ensures reply { IfOk result (λ reply. (done : List Deed) (conn : ℕ) (state : FidState) → Keeps done conn self.old → shared.now.ring ≡ keys_of done → fid_of done conn fid ≡ Some state → reply_bytes reply ≡ r_frame (record { tag = tag; body = r.Read (piece offset count (ctl_text done conn fid offset)) })) }
-        ensures keeps { OnOk result ((done : List Deed) (conn : ℕ) (state : FidState) → Keeps done conn self.old → shared.now.ring ≡ keys_of done → fid_of done conn fid ≡ Some state → Keeps (if offset == 0 then Listed conn fid ∷ done else done) conn self.new) }
-        ensures elsewhere { SameElsewhere self.old self.new }
+        ensures reply { IfOk result (λ reply. (done : List Deed) (conn : ℕ)
+            → Keeps done conn self.old → shared.now.ring ≡ keys_of done
+            → reply_bytes reply ≡ r_frame (under call.tag (r.Read (piece offset count
+            (ctl_text done conn fid offset))))) }
+        ensures keeps { OnOk result ((done : List Deed) (conn : ℕ) → Keeps done conn self.old
+            → shared.now.ring ≡ keys_of done
+            → Keeps (if offset == 0 then OfFids conn (Listed fid) ∷ done else done) conn self.new) }
+        ensures phase { self.new.phase ≡ self.old.phase }
         ensures err { OnErr result (SameKept self.old self.new) }
     {
         if offset == 0 {
-            let mut text = Bytes::new(alloc);
+            let mut text = Bytes::new(call.alloc);
             shared.ring.list_text(&mut text)?;
-            let reply = read_reply(alloc, tag, piece(text.as_slice(), 0, count))?;
+            let reply = read_reply(call, piece(text.as_slice(), 0, count))?;
             self.texts.insert(fid, text)?;
             return Ok(reply);
         }
         match self.texts.get(&fid) {
-            Some(text) => read_reply(alloc, tag, piece(text.as_slice(), offset, count)),
-            None => read_reply(alloc, tag, &[]),
+            Some(text) => read_reply(call, piece(text.as_slice(), offset, count)),
+            None => read_reply(call, &[]),
         }
     }
 
     /// Read: of a directory, of ctl, or of the list of protocols.
     #[tactic(auto, unfolding(agent_history::specs::Requests::refusal, agent_history::specs::Requests::after, agent_history::specs::Requests::reply_of, file_tree::specs::Calls::fid_fault))]
-    pub fn read(
-        &mut self,
-        alloc: Global,
-        shared: &Shared,
-        tag: u16,
-        fid: u32,
-        offset: u64,
-        count: u32,
-    ) -> Result<Reply, Refused>
-        ensures tried { (conn : ℕ) → Tries conn tag (t.Read fid offset count) self.old self.new shared.now shared.now result }
-        ensures elsewhere { SameElsewhere self.old self.new }
-        ensures err { OnErr result (SameKept self.old self.new) }
+    pub fn read(&mut self, call: Call, shared: &Shared, fid: u32, offset: u64, count: u32) -> Tried
+        ensures { Tried call (t.Read fid offset count) self.old self.new shared.now shared.now
+            result }
     {
         let state = self.fids.file_of(fid)?;
         if state.mode.is_none() {
@@ -166,11 +161,11 @@ impl Connection {
         if !lets_read(state.mode) {
             return Err(Refused::For(Refusal::NotOpenForReading));
         }
-        let most = effective(count, self.msize);
+        let most = effective(count, self.msize());
         match state.node {
-            Node::Root | Node::Factotum => self.read_directory(alloc, tag, fid, offset, most),
-            Node::Ctl => Ok(self.read_ctl(alloc, shared, tag, fid, offset, most)?),
-            Node::Proto => Ok(read_reply(alloc, tag, piece(PROTOCOLS, offset, most))?),
+            Node::Root | Node::Factotum => self.read_directory(call, fid, offset, most),
+            Node::Ctl => Ok(self.read_ctl(call, shared, fid, offset, most)?),
+            Node::Proto => Ok(read_reply(call, piece(PROTOCOLS, offset, most))?),
             Node::Rpc | Node::Confirm | Node::Needkey | Node::Log => {
                 Err(Refused::For(Refusal::NotServed))
             }
@@ -179,19 +174,12 @@ impl Connection {
 
     /// Write of ctl: its lines are carried out, up to the first that is refused.
     #[tactic(auto, unfolding(agent_history::specs::Requests::refusal, agent_history::specs::Requests::after, agent_history::specs::Requests::reply_of, file_tree::specs::Calls::fid_fault))]
-    pub fn write(
-        &self,
-        alloc: Global,
-        shared: &mut Shared,
-        tag: u16,
-        fid: u32,
-        content: &[u8],
-    ) -> Result<Reply, Refused>
+    pub fn write(&self, call: Call, shared: &mut Shared, fid: u32, content: &[u8]) -> Tried
         requires small { length content.now ≤ 8216 }
         requires room { shared.old.ring.ever_added + 8216 < 2 ^ 64 - 1 }
-        ensures tried { (conn offset : ℕ) → Tries conn tag (t.Write fid offset content.now) self.now self.now shared.old shared.new result }
-        ensures few { shared.new.ring.ever_added ≤ shared.old.ring.ever_added + 8216 }
-        ensures err { OnErr result (shared.new ≡ shared.old) }
+        ensures { (offset : ℕ)
+            → Tried call (t.Write fid offset content.now) self.now self.now shared.old shared.new
+            result }
     {
         let state = self.fids.file_of(fid)?;
         if state.mode.is_none() {
@@ -203,32 +191,28 @@ impl Connection {
         if opens_later(state.node) {
             return Err(Refused::For(Refusal::NotServed));
         }
-        Ok(write_lines(alloc, shared, tag, content)?)
+        Ok(write_lines(call, shared, content)?)
     }
 }
 
 // Carries the lines of a write of ctl out, and says how many bytes were written, or which line was refused first.
-fn write_lines(
-    alloc: Global,
-    shared: &mut Shared,
-    tag: u16,
-    content: &[u8],
-) -> Result<Reply, NoMemory>
+fn write_lines(call: Call, shared: &mut Shared, content: &[u8]) -> Result<Reply, NoMemory>
     requires small { length content.now ≤ 8216 }
     requires room { shared.old.ring.ever_added + 8216 < 2 ^ 64 - 1 }
-    ensures said { IfOk result (λ reply. (done : List Deed) (conn : ℕ) → shared.old.ring ≡ keys_of done → reply_bytes reply ≡ r_frame (record { tag = tag; body = written content.now (lines_fault conn (lines_of content.now) done) })) }
-    ensures keys { OnOk result ((done : List Deed) (conn : ℕ) → shared.old.ring ≡ keys_of done → shared.new.ring ≡ keys_of (after_lines conn (lines_of content.now) done)) }
+    ensures said { IfOk result (λ reply. reply_bytes reply
+        ≡ r_frame (under call.tag (written content.now (lines_fault shared.old.ring
+        (lines_of content.now))))) }
+    ensures keys { OnOk result (shared.new.ring
+        ≡ after_lines shared.old.ring (lines_of content.now)) }
     ensures holders { shared.new.holders ≡ shared.old.holders }
+    ensures mailboxes { shared.new.mailboxes ≡ shared.old.mailboxes }
     ensures few { shared.new.ring.ever_added ≤ shared.old.ring.ever_added + 8216 }
     ensures err { OnErr result (shared.new ≡ shared.old) }
 {
-    let mut reply = Bytes::with_capacity(alloc, USUAL_REPLY)?;
-    put_write(tag, content.len() as u32, &mut reply)?;
-    match write_ctl(alloc, &mut shared.ring, content)? {
+    let mut reply = Bytes::with_capacity(call.alloc, USUAL_REPLY)?;
+    put_write(call.tag, content.len() as u32, &mut reply)?;
+    match write_ctl(call.alloc, &mut shared.ring, content)? {
         None => Ok(Reply::Spelled(reply)),
-        Some(fault) => Ok(Reply::Refusal {
-            tag,
-            why: Refusal::OfLine(fault),
-        }),
+        Some(fault) => Ok(Refusal::OfLine(fault).reply(call.tag)),
     }
 }

@@ -2,17 +2,15 @@
 #![tactic(auto)]
 
 mod agent;
-mod common;
+mod call;
 mod connection;
+mod events;
 mod fid_requests;
 mod file_requests;
 mod msize;
 mod refused;
 mod serve;
 mod shared;
-mod step;
-#[cfg(test)]
-mod tests;
 
 pub use agent::Agent;
 pub use agent_history::{Event, Shape, StepAnswer};

@@ -1,11 +1,12 @@
 // Why a request is refused.
-ghost use Rattle.std.specs.Prelude.{◌≡◌, ◌<◌, ◌++◌, length, OnOk, OnErr};
-ghost use Rattle.agent_core.specs.Connections.{refusal_text, reply_bytes};
+ghost use Rattle.std.specs.Prelude.{◌≡◌, ◌<◌, length};
+ghost use Rattle.mailboxes.specs.Kept.{error_frame, reply_bytes};
+ghost use Rattle.agent_core.specs.Connections.{refusal_text};
 
 use ctl_lines::LineFault;
 use file_tree::FidFault;
-use nine_codec::put_error;
-use wire_base::{Bytes, NoMemory};
+use mailboxes::{ErrorText, Reply};
+use wire_base::NoMemory;
 
 /// Why a request is refused: nothing was changed.
 #[derive(Clone, Copy, Debug, PartialEq, Eq)]
@@ -16,6 +17,8 @@ pub enum Refusal {
     BadMessage,
     /// No version is agreed.
     NoVersion,
+    /// A read of the connection waits under the same tag.
+    DuplicateTag,
     /// The largest message that is offered has fewer than 256 bytes.
     MsizeTooSmall,
     /// Nobody is authenticated here.
@@ -50,6 +53,7 @@ impl Refusal {
             Refusal::OverMsize => b"message over msize",
             Refusal::BadMessage => b"bad message",
             Refusal::NoVersion => b"no version",
+            Refusal::DuplicateTag => b"duplicate tag",
             Refusal::MsizeTooSmall => b"msize too small",
             Refusal::NoAuthentication => b"authentication not required",
             Refusal::BadAfid => b"bad afid",
@@ -63,6 +67,16 @@ impl Refusal {
             Refusal::OfLine(fault) => fault.text(),
         }
     }
+
+    /// The reply that tells it. It takes no memory.
+    pub fn reply(self, tag: u16) -> Reply
+        ensures { reply_bytes result ≡ error_frame (refusal_text self) tag }
+    {
+        Reply::Refused {
+            tag,
+            text: ErrorText::new(self.text()),
+        }
+    }
 }
 
 /// Why a request wasn't answered by what it asked for. It changed nothing, but that a remove gives up its fid and that the
@@ -72,6 +86,9 @@ pub enum Refused {
     For(Refusal),
     NoMemory,
 }
+
+/// What a request that was tried comes to.
+pub(crate) type Tried = Result<Reply, Refused>;
 
 impl From<NoMemory> for Refused {
     ghost use Rattle.std.specs.Prelude.{◌≡◌};
@@ -105,26 +122,6 @@ impl From<FidFault> for Refused {
         match fault {
             FidFault::NoMemory => Refused::NoMemory,
             fault => Refused::For(Refusal::OfFid(fault)),
-        }
-    }
-}
-
-/// A reply that wasn't taken yet. A refusal takes no memory before it is taken.
-#[derive(Drop)]
-pub enum Reply {
-    Spelled(Bytes),
-    Refusal { tag: u16, why: Refusal },
-}
-
-impl Reply {
-    /// Appends the bytes of the reply.
-    pub fn put(&self, out: &mut Bytes) -> Result<(), NoMemory>
-        ensures ok { OnOk result (out.new ≡ out.old ++ reply_bytes self.now) }
-        ensures err { OnErr result (out.new ≡ out.old) }
-    {
-        match self {
-            Reply::Spelled(bytes) => out.append(bytes.as_slice()),
-            Reply::Refusal { tag, why } => put_error(*tag, why.text(), out),
         }
     }
 }

@@ -2,11 +2,14 @@
 ghost use Rattle.std.specs.Prelude.{◌≡◌, ◌∷◌, [], ◌&&◌, ℕ, List, Option, true, is_some};
 ghost use Rattle.file_tree.specs.Tree.{is_exclusive};
 ghost use Rattle.file_tree.specs.Calls.{node_of};
-ghost use Rattle.agent_history.specs.Deeds.{Deed, Opened, Clunked, Versioned, Hung, fid_of, holder_of};
-ghost use Rattle.agent_core.specs.Connections.{Holds};
+ghost use Rattle.agent_history.specs.Deeds.{Deed, OfFids, OfConnection, Opened, Clunked, Versioned, Hung, fid_of, holder_of};
+ghost use Rattle.mailboxes.specs.Deliveries.{KeepsNone};
+ghost use Rattle.agent_core.specs.Connections.{Holds, Shares};
 
 use file_tree::Node;
 use key_ring::KeyRing;
+use mailboxes::Mailboxes;
+use std::alloc::Global;
 
 /// A connection and a fid of it.
 pub type Holder = (u64, u32);
@@ -33,7 +36,8 @@ impl Holders {
 
     /// Whether the file is open, and one fid alone may have it open.
     pub fn has(&self, node: Node) -> bool
-        ensures { (done : List Deed) → Holds done self.now → result ≡ (is_exclusive node && is_some (holder_of done node)) }
+        ensures { (done : List Deed) → Holds done self.now
+            → result ≡ (is_exclusive node && is_some (holder_of done node)) }
     {
         match node {
             Node::Confirm => self.confirm.is_some(),
@@ -45,7 +49,9 @@ impl Holders {
 
     /// A fid that names this file opens it.
     pub fn open(&mut self, node: Node, conn: u64, fid: u32)
-        ensures { (done : List Deed) (mode : ℕ) → is_some (fid_of done conn fid) ≡ true → node_of (fid_of done conn fid) ≡ node → Holds done self.old → Holds (Opened conn fid mode ∷ done) self.new }
+        ensures { (done : List Deed) (mode : ℕ) → is_some (fid_of done conn fid) ≡ true
+            → node_of (fid_of done conn fid) ≡ node → Holds done self.old
+            → Holds (OfFids conn (Opened fid mode) ∷ done) self.new }
     {
         let holder = Some((conn, fid));
         match node {
@@ -58,7 +64,8 @@ impl Holders {
 
     /// A fid is given up.
     pub fn clunk(&mut self, conn: u64, fid: u32)
-        ensures { (done : List Deed) → Holds done self.old → Holds (Clunked conn fid ∷ done) self.new }
+        ensures { (done : List Deed) → Holds done self.old
+            → Holds (OfFids conn (Clunked fid) ∷ done) self.new }
     {
         let stays = |holder: &Holder| !(holder.0 == conn && holder.1 == fid);
         self.confirm = self.confirm.filter(stays);
@@ -68,8 +75,10 @@ impl Holders {
 
     /// All fids of a connection are given up.
     pub fn leave(&mut self, conn: u64)
-        ensures version { (done : List Deed) (msize : Option ℕ) → Holds done self.old → Holds (Versioned conn msize ∷ done) self.new }
-        ensures hang { (done : List Deed) → Holds done self.old → Holds (Hung conn ∷ done) self.new }
+        ensures version { (done : List Deed) (msize : Option ℕ) → Holds done self.old
+            → Holds (OfFids conn (Versioned msize) ∷ done) self.new }
+        ensures hang { (done : List Deed) → Holds done self.old
+            → Holds (OfConnection conn Hung ∷ done) self.new }
     {
         let stays = |holder: &Holder| holder.0 != conn;
         self.confirm = self.confirm.filter(stays);
@@ -78,9 +87,35 @@ impl Holders {
     }
 }
 
-/// What the connections of an agent share: the keys, and who has which file open alone.
+/// What the connections of an agent share: the keys, who has which file open alone, and the replies and the reads that
+/// wait of all of them.
 #[derive(Drop)]
 pub struct Shared {
     pub ring: KeyRing,
     pub holders: Holders,
+    pub mailboxes: Mailboxes,
+}
+
+impl Shared {
+    /// No keys, no files that are open, no replies.
+    pub fn new(alloc: Global) -> Shared
+        ensures { Shares [] result }
+    {
+        Shared {
+            ring: KeyRing::new(alloc),
+            holders: Holders::new(),
+            mailboxes: Mailboxes::new(alloc),
+        }
+    }
+
+    /// A connection is hung up.
+    pub fn leave(&mut self, conn: u64)
+        ensures shares { (done : List Deed) → Shares done self.old
+            → Shares (OfConnection conn Hung ∷ done) self.new }
+        ensures ring { self.new.ring ≡ self.old.ring }
+        ensures none { KeepsNone self.new.mailboxes conn }
+    {
+        self.holders.leave(conn);
+        self.mailboxes.leave(conn);
+    }
 }

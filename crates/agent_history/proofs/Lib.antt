@@ -1,15 +1,1 @@
-pub mod HistoryLaws
-pub mod GrowLaws
-pub mod DeedLaws
-pub mod FidLaws
-pub mod ReplyLaws
-pub mod HeldLaws
-pub mod ExclusiveLaws
-pub mod TextLaws
-pub mod RefusalLaws
-pub mod HiddenLaws
-pub mod SecretLaws
-pub mod AlikeLaws
-pub mod WriteLaws
-pub mod ToldLaws
-pub mod FitLaws
+pub mod Examples

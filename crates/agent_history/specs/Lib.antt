@@ -1,5 +1,4 @@
 pub mod Deeds
-pub mod Lines
+pub mod Replies
 pub mod Requests
 pub mod Histories
-pub mod Laws

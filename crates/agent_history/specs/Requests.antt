@@ -9,7 +9,6 @@ use Rattle.wire_base.specs.Readers.{number, value_of}
 use Rattle.wire_base.specs.Rules.{Rule, first_told}
 use Rattle.nine_messages.specs.declared.message.TBody.{TBody}
 use Rattle.nine_messages.specs.declared.message.TBody.TheVariants as t
-use Rattle.nine_messages.specs.declared.message.RMsg.{RMsg}
 use Rattle.nine_messages.specs.declared.message.RBody.{RBody}
 use Rattle.nine_messages.specs.declared.message.RBody.TheVariants as r
 use Rattle.nine_messages.specs.Decoding.{request_of}
@@ -22,8 +21,15 @@ use Rattle.file_tree.specs.Stats.{record_of}
 use Rattle.file_tree.specs.Directories.{dir_bytes, dir_end}
 use Rattle.file_tree.specs.Calls.{fid_fault, attach_fault, walk_fault, open_fault, dir_fault, node_of, mode_of, is_open, reads, writes}
 use Rattle.key_lists.specs.Listing.{list_text}
-use Rattle.agent_history.specs.Deeds.{Deed, Versioned, Attached, Walked, Opened, Listed, Browsed, Clunked, msize_of, fid_of, held_by, next_of, holder_of, keys_of, text_of}
-use Rattle.agent_history.specs.Lines.{lines_of, after_lines, lines_fault}
+use Rattle.key_lists.specs.CtlLines.{CtlLine, OnKeys, Debug, lines_of, carried_out, lines_fault}
+use Rattle.agent_history.specs.Deeds.{Deed, KeyDeed, OfFids, OfKeys, OfReplies, Versioned, Attached, Walked, Opened, Listed, Browsed, Clunked, Edited, Switched, Answered, Flushed, msize_of, fid_of, held_by, next_of, holder_of, keys_of, text_of}
+use Rattle.agent_history.specs.Replies.{waits_under}
+
+-- what every request carries: its connection, its tag, and the word that was drawn for it, which nothing uses yet
+pub record Call : Type 0 where
+  pub conn : ℕ
+  pub tag : ℕ
+  pub word : List ℕ
 
 -- ---- the words of the tests
 
@@ -82,39 +88,39 @@ abbrev pub is_elsewhere : Node → ℕ → ℕ → Bool
 is_elsewhere node next offset = is_directory node && is_some (dir_fault next offset)
 
 -- what refuses a request, if anything does
-unfoldable pub refusal : List Deed → ℕ → TBody → Option (List ℕ)
-refusal done conn (t.Version msize version) = first_told ((nat_lt msize least_msize, codes "msize too small") ∷ [])
-refusal done conn (t.Auth afid uname aname) = Some (codes "authentication not required")
-refusal done conn (t.Attach fid afid uname aname) =
-    option_or (first_told ((not (afid == nofid), codes "bad afid") ∷ [])) (option_map fault_text (attach_fault (fid_of done conn fid) (held_by done conn)))
-refusal done conn (t.Flush oldtag) = None
-refusal done conn (t.Walk fid newfid wname) =
-    option_map fault_text (walk_fault (fid_of done conn fid) (fid_of done conn newfid) (fid == newfid) (held_by done conn) wname)
-refusal done conn (t.Open fid mode) =
-    let node = node_of (fid_of done conn fid) in
-    fid_first (open_fault (fid_of done conn fid) mode) (
+unfoldable pub refusal : List Deed → Call → TBody → Option (List ℕ)
+refusal done call (t.Version msize version) = first_told ((nat_lt msize least_msize, codes "msize too small") ∷ [])
+refusal done call (t.Auth afid uname aname) = Some (codes "authentication not required")
+refusal done call (t.Attach fid afid uname aname) =
+    option_or (first_told ((not (afid == nofid), codes "bad afid") ∷ [])) (option_map fault_text (attach_fault (fid_of done call.conn fid) (held_by done call.conn)))
+refusal done call (t.Flush oldtag) = None
+refusal done call (t.Walk fid newfid wname) =
+    option_map fault_text (walk_fault (fid_of done call.conn fid) (fid_of done call.conn newfid) (fid == newfid) (held_by done call.conn) wname)
+refusal done call (t.Open fid mode) =
+    let node = node_of (fid_of done call.conn fid) in
+    fid_first (open_fault (fid_of done call.conn fid) mode) (
     (is_exclusive node && is_some (holder_of done node), codes "exclusive use file already open")
     ∷ (opens_later node, codes "not served")
     ∷ [])
-refusal done conn (t.Create fid name perm mode) = fid_first (fid_fault (fid_of done conn fid)) ((true, codes "permission denied") ∷ [])
-refusal done conn (t.Read fid offset count) =
-    let node = node_of (fid_of done conn fid) in
-    fid_first (fid_fault (fid_of done conn fid)) (
-    (not (is_open (fid_of done conn fid)), codes "not open")
-    ∷ (not (lets_read (mode_of (fid_of done conn fid))), codes "not open for reading")
-    ∷ (is_elsewhere node (next_of done conn fid) offset, codes "bad directory offset")
+refusal done call (t.Create fid name perm mode) = fid_first (fid_fault (fid_of done call.conn fid)) ((true, codes "permission denied") ∷ [])
+refusal done call (t.Read fid offset count) =
+    let node = node_of (fid_of done call.conn fid) in
+    fid_first (fid_fault (fid_of done call.conn fid)) (
+    (not (is_open (fid_of done call.conn fid)), codes "not open")
+    ∷ (not (lets_read (mode_of (fid_of done call.conn fid))), codes "not open for reading")
+    ∷ (is_elsewhere node (next_of done call.conn fid) offset, codes "bad directory offset")
     ∷ (reads_later node, codes "not served")
     ∷ [])
-refusal done conn (t.Write fid offset content) =
-    fid_first (fid_fault (fid_of done conn fid)) (
-    (not (is_open (fid_of done conn fid)), codes "not open")
-    ∷ (not (lets_write (mode_of (fid_of done conn fid))), codes "not open for writing")
-    ∷ (opens_later (node_of (fid_of done conn fid)), codes "not served")
+refusal done call (t.Write fid offset content) =
+    fid_first (fid_fault (fid_of done call.conn fid)) (
+    (not (is_open (fid_of done call.conn fid)), codes "not open")
+    ∷ (not (lets_write (mode_of (fid_of done call.conn fid))), codes "not open for writing")
+    ∷ (opens_later (node_of (fid_of done call.conn fid)), codes "not served")
     ∷ [])
-refusal done conn (t.Clunk fid) = fid_first (fid_fault (fid_of done conn fid)) []
-refusal done conn (t.Remove fid) = fid_first (fid_fault (fid_of done conn fid)) []
-refusal done conn (t.Stat fid) = fid_first (fid_fault (fid_of done conn fid)) []
-refusal done conn (t.Wstat fid stat) = fid_first (fid_fault (fid_of done conn fid)) ((true, codes "permission denied") ∷ [])
+refusal done call (t.Clunk fid) = fid_first (fid_fault (fid_of done call.conn fid)) []
+refusal done call (t.Remove fid) = fid_first (fid_fault (fid_of done call.conn fid)) []
+refusal done call (t.Stat fid) = fid_first (fid_fault (fid_of done call.conn fid)) []
+refusal done call (t.Wstat fid stat) = fid_first (fid_fault (fid_of done call.conn fid)) ((true, codes "permission denied") ∷ [])
 
 -- ---- what a request does where nothing refuses it
 
@@ -125,7 +131,7 @@ agreed msize version = if is_known version then Some (min msize most_msize) else
 -- a walk does something where all of its names are there
 abbrev pub walking : ℕ → ℕ → Option Node → List Deed → List Deed
 walking conn newfid None done = done
-walking conn newfid (Some node) done = Walked conn newfid node ∷ done
+walking conn newfid (Some node) done = OfFids conn (Walked newfid node) ∷ done
 
 -- how many bytes a reply may hold of what is read: the count asked for, or what a message of the size agreed holds
 abbrev pub effective : ℕ → Option ℕ → ℕ
@@ -134,22 +140,33 @@ effective count (Some msize) = min count (msize - 24)
 
 -- a read of ctl from 0 fixes its text, and one of a directory where the next may begin
 abbrev pub reading : List Deed → ℕ → ℕ → ℕ → ℕ → Node → List Deed
-reading done conn fid offset count Root = Browsed conn fid (dir_end Root offset count) ∷ done
-reading done conn fid offset count Factotum = Browsed conn fid (dir_end Factotum offset count) ∷ done
-reading done conn fid offset count Ctl = if offset == 0 then Listed conn fid ∷ done else done
+reading done conn fid offset count Root = OfFids conn (Browsed fid (dir_end Root offset count)) ∷ done
+reading done conn fid offset count Factotum = OfFids conn (Browsed fid (dir_end Factotum offset count)) ∷ done
+reading done conn fid offset count Ctl = if offset == 0 then OfFids conn (Listed fid) ∷ done else done
 reading done conn fid offset count node = done
 
--- the deeds after it
-unfoldable pub after : List Deed → ℕ → TBody → List Deed
-after done conn (t.Version msize version) = Versioned conn (agreed msize version) ∷ done
-after done conn (t.Attach fid afid uname aname) = Attached conn fid ∷ done
-after done conn (t.Walk fid newfid wname) = walking conn newfid (lead_to (node_of (fid_of done conn fid)) wname) done
-after done conn (t.Open fid mode) = Opened conn fid mode ∷ done
-after done conn (t.Read fid offset count) = reading done conn fid offset (effective count (msize_of done conn)) (node_of (fid_of done conn fid))
-after done conn (t.Write fid offset content) = after_lines conn (lines_of content) done
-after done conn (t.Clunk fid) = Clunked conn fid ∷ done
-after done conn (t.Remove fid) = Clunked conn fid ∷ done
-after done conn body = done
+-- what a line of ctl does that is carried out
+abbrev pub line_deed : CtlLine → KeyDeed
+line_deed (OnKeys edit) = Edited edit
+line_deed Debug = Switched
+
+-- the deeds after such lines, one a line
+abbrev pub lines_done : ℕ → List CtlLine → List Deed → List Deed
+lines_done conn [] done = done
+lines_done conn (said ∷ more) done = lines_done conn more (OfKeys conn (line_deed said) ∷ done)
+
+-- the deeds after it, but for its reply
+unfoldable pub after : List Deed → Call → TBody → List Deed
+after done call (t.Version msize version) = OfFids call.conn (Versioned (agreed msize version)) ∷ done
+after done call (t.Attach fid afid uname aname) = OfFids call.conn (Attached fid) ∷ done
+after done call (t.Flush oldtag) = OfReplies call.conn (Flushed oldtag) ∷ done
+after done call (t.Walk fid newfid wname) = walking call.conn newfid (lead_to (node_of (fid_of done call.conn fid)) wname) done
+after done call (t.Open fid mode) = OfFids call.conn (Opened fid mode) ∷ done
+after done call (t.Read fid offset count) = reading done call.conn fid offset (effective count (msize_of done call.conn)) (node_of (fid_of done call.conn fid))
+after done call (t.Write fid offset content) = lines_done call.conn (carried_out (keys_of done) (lines_of content)) done
+after done call (t.Clunk fid) = OfFids call.conn (Clunked fid) ∷ done
+after done call (t.Remove fid) = OfFids call.conn (Clunked fid) ∷ done
+after done call body = done
 
 -- ---- what is replied where nothing refuses it
 
@@ -178,20 +195,20 @@ abbrev pub written : List ℕ → Option (List ℕ) → RBody
 written content None = r.Write (length content)
 written content (Some text) = r.Error text
 
-unfoldable pub reply_of : List Deed → ℕ → TBody → RBody
-reply_of done conn (t.Version msize version) = r.Version (min msize most_msize) (if is_known version then codes "9P2000" else codes "unknown")
-reply_of done conn (t.Auth afid uname aname) = r.Error (codes "authentication not required")
-reply_of done conn (t.Attach fid afid uname aname) = r.Attach (qid_of Root)
-reply_of done conn (t.Flush oldtag) = r.Flush
-reply_of done conn (t.Walk fid newfid wname) = r.Walk (map qid_of (visited (node_of (fid_of done conn fid)) wname))
-reply_of done conn (t.Open fid mode) = r.Open (qid_of (node_of (fid_of done conn fid))) 0
-reply_of done conn (t.Create fid name perm mode) = r.Error (codes "permission denied")
-reply_of done conn (t.Read fid offset count) = r.Read (content_of done conn fid offset (effective count (msize_of done conn)) (node_of (fid_of done conn fid)))
-reply_of done conn (t.Write fid offset content) = written content (lines_fault conn (lines_of content) done)
-reply_of done conn (t.Clunk fid) = r.Clunk
-reply_of done conn (t.Remove fid) = r.Error (codes "permission denied")
-reply_of done conn (t.Stat fid) = r.Stat (record_of (node_of (fid_of done conn fid)))
-reply_of done conn (t.Wstat fid stat) = r.Error (codes "permission denied")
+unfoldable pub reply_of : List Deed → Call → TBody → RBody
+reply_of done call (t.Version msize version) = r.Version (min msize most_msize) (if is_known version then codes "9P2000" else codes "unknown")
+reply_of done call (t.Auth afid uname aname) = r.Error (codes "authentication not required")
+reply_of done call (t.Attach fid afid uname aname) = r.Attach (qid_of Root)
+reply_of done call (t.Flush oldtag) = r.Flush
+reply_of done call (t.Walk fid newfid wname) = r.Walk (map qid_of (visited (node_of (fid_of done call.conn fid)) wname))
+reply_of done call (t.Open fid mode) = r.Open (qid_of (node_of (fid_of done call.conn fid))) 0
+reply_of done call (t.Create fid name perm mode) = r.Error (codes "permission denied")
+reply_of done call (t.Read fid offset count) = r.Read (content_of done call.conn fid offset (effective count (msize_of done call.conn)) (node_of (fid_of done call.conn fid)))
+reply_of done call (t.Write fid offset content) = written content (lines_fault (keys_of done) (lines_of content))
+reply_of done call (t.Clunk fid) = r.Clunk
+reply_of done call (t.Remove fid) = r.Error (codes "permission denied")
+reply_of done call (t.Stat fid) = r.Stat (record_of (node_of (fid_of done call.conn fid)))
+reply_of done call (t.Wstat fid stat) = r.Error (codes "permission denied")
 
 -- ---- frames
 
@@ -200,44 +217,62 @@ abbrev pub is_over : Option ℕ → List ℕ → Bool
 is_over None frame = false
 is_over (Some msize) frame = nat_lt msize (length frame)
 
--- a request that is answered before a version is agreed
+-- a request that is answered before a version is agreed, and whatever its tag is
 abbrev pub comes_first : TBody → Bool
 comes_first (t.Version msize version) = true
 comes_first (t.Flush oldtag) = true
 comes_first body = false
 
--- the request, where a version is agreed or it needs none, and no test of its type refuses it; or the text that does
-abbrev pub granted_body : List Deed → ℕ → TBody → Result TBody (List ℕ)
-granted_body done conn body =
-    if not (comes_first body) && not (has_version done conn) then Err (codes "no version")
-    else elim (refusal done conn body) [ Some text ↦ Err text | None ↦ Ok body ]
+-- a request that needs a version comes where none is agreed
+abbrev pub lacks_version : List Deed → Call → TBody → Bool
+lacks_version done call body = not (comes_first body) && not (has_version done call.conn)
+
+-- a request comes under the tag of a read of its connection that waits
+abbrev pub repeats_tag : List Deed → Call → TBody → Bool
+repeats_tag done call body = not (comes_first body) && waits_under done call.conn call.tag
+
+-- the request, where no test refuses it, or the text of the first one that does: a version has to be agreed, its tag has
+-- to be free, and then come the tests of its type
+abbrev pub granted_body : List Deed → Call → TBody → Result TBody (List ℕ)
+granted_body done call body =
+    if lacks_version done call body then Err (codes "no version")
+    else if repeats_tag done call body then Err (codes "duplicate tag")
+    else elim (refusal done call body) [ Some text ↦ Err text | None ↦ Ok body ]
 
 -- the request that a frame is, where nothing refuses it, or the text that does
-unfoldable pub granted : List Deed → ℕ → List ℕ → Result TBody (List ℕ)
-granted done conn frame =
-    if is_over (msize_of done conn) frame then Err (codes "message over msize")
-    else elim (request_of frame) [ None ↦ Err (codes "bad message") | Some m ↦ granted_body done conn m.body ]
+unfoldable pub granted : List Deed → Call → List ℕ → Result TBody (List ℕ)
+granted done call frame =
+    if is_over (msize_of done call.conn) frame then Err (codes "message over msize")
+    else elim (request_of frame) [ None ↦ Err (codes "bad message") | Some m ↦ granted_body done call m.body ]
 
--- the deeds after a frame: a request that is refused changes nothing
-abbrev pub after_granted : List Deed → ℕ → Result TBody (List ℕ) → List Deed
-after_granted done conn (Err text) = done
-after_granted done conn (Ok body) = after done conn body
+-- the deeds after a frame, but for its reply: a request that is refused changes nothing
+abbrev pub after_granted : List Deed → Call → Result TBody (List ℕ) → List Deed
+after_granted done call (Err text) = done
+after_granted done call (Ok body) = after done call body
 
-unfoldable pub after_frame : List Deed → ℕ → List ℕ → List Deed
-after_frame done conn frame = after_granted done conn (granted done conn frame)
-
--- the tag of a frame
-abbrev pub tag_of : List ℕ → ℕ
-tag_of frame = tag_in (value_of (number w16 frame 5))
-  where
-    tag_in : Option ℕ → ℕ
-    tag_in None = 0
-    tag_in (Some tag) = tag
+unfoldable pub after_frame : List Deed → Call → List ℕ → List Deed
+after_frame done call frame = after_granted done call (granted done call frame)
 
 -- the reply to a frame
-abbrev pub body_for : List Deed → ℕ → Result TBody (List ℕ) → RBody
-body_for done conn (Err text) = r.Error text
-body_for done conn (Ok body) = reply_of done conn body
+abbrev pub body_for : List Deed → Call → Result TBody (List ℕ) → RBody
+body_for done call (Err text) = r.Error text
+body_for done call (Ok body) = reply_of done call body
 
-unfoldable pub reply_to : List Deed → ℕ → List ℕ → RMsg
-reply_to done conn frame = record { tag = tag_of frame; body = body_for done conn (granted done conn frame) }
+unfoldable pub body_to : List Deed → Call → List ℕ → RBody
+body_to done call frame = body_for done call (granted done call frame)
+
+-- the deeds after a frame: what it does, and then its reply
+abbrev pub answered : List Deed → Call → List ℕ → List Deed
+answered done call frame = OfReplies call.conn (Answered call.tag (body_to done call frame)) ∷ after_frame done call frame
+
+-- the tag of a frame
+abbrev pub tag_in : Option ℕ → ℕ
+tag_in None = 0
+tag_in (Some tag) = tag
+
+abbrev pub tag_of : List ℕ → ℕ
+tag_of frame = tag_in (value_of (number w16 frame 5))
+
+-- what a frame carries that comes on a connection with a word
+abbrev pub call_of : ℕ → List ℕ → List ℕ → Call
+call_of conn frame word = record { conn = conn; tag = tag_of frame; word = word }

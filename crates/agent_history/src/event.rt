@@ -1,14 +1,5 @@
 // The events of an agent, each of them one step, and what a step answers.
-use wire_base::Bytes;
-
-/// Where an answer of the authentication server ends: two tickets, a challenge, or a ticket and an authenticator
-/// that vouch for a user.
-#[derive(Clone, Copy, Debug, PartialEq, Eq)]
-pub enum Shape {
-    Tickets,
-    Challenge,
-    Vouch,
-}
+use wire_base::{Bytes, Shape};
 
 /// What happens to an agent. It has no Debug, which would print the secrets that a frame writes.
 #[derive(Drop)]

@@ -5,7 +5,8 @@
 use factotum_program::{Status, print_status, run_command};
 use std::env;
 use std::process::ExitCode;
-use wire_base::{Bytes, ReadSource, Text, TextList, WriteSink, write_all};
+use wire_base::{Bytes, Text, TextList};
+use wire_streams::{ReadSource, WriteSink, write_all};
 
 // The words behind the program's name. Words that aren't text are a faulty command line.
 fn command_words(rt: &HostRuntime) -> Result<TextList, Status> {

@@ -1,7 +1,7 @@
 -- A front of a text that was written.
-use Rattle.std.proofs.Common.{◌≡◌, ℕ, ◌+◌, List, [], ◌++◌, length-append, Option, sym, ap, subst, ◌∙◌, append_assoc, arith}
-use Rattle.wire_base.specs.Streams.{Gains}
-use Rattle.wire_base.proofs.StreamLemmas.{Gains-trans}
+use Rattle.std.proofs.Common.{◌≡◌, ℕ, List, [], ◌++◌, length-append, Option, sym, ap, subst, ◌∙◌, append_assoc, arith}
+use Rattle.wire_streams.specs.Streams.{Gains}
+use Rattle.wire_streams.proofs.StreamLemmas.{Gains-trans}
 use Rattle.factotum_program.specs.declared.status.Status.{Status}
 use Rattle.factotum_program.specs.declared.status.Status.TheVariants.{NoMemory}
 use Rattle.factotum_program.specs.Commands.{GainsPart}

@@ -3,8 +3,8 @@ use Rattle.std.proofs.Common.{◌≡◌, ℕ, ◌+◌, ◌<◌, ◌≤◌, List,
 use Rattle.std.specs.Io.KnownBytes.{Consumes, IsAtEnd}
 use Rattle.std.proofs.KnownBytes.{Consumes-nil, Consumes-trans}
 use Rattle.std.proofs.lemmas.List.{take-take, length-take-le}
-use Rattle.wire_base.specs.Streams.{Gains}
-use Rattle.wire_base.proofs.StreamLemmas.{Gains-nil}
+use Rattle.wire_streams.specs.Streams.{Gains}
+use Rattle.wire_streams.proofs.StreamLemmas.{Gains-nil}
 use Rattle.nine_frames.specs.Streams.{front, IsBad, IsShort, frames}
 use Rattle.nine_frames.specs.Framed.{Framing}
 use Rattle.nine_frames.specs.Framing.{HasHandedOut, Answers as Gives}

@@ -1,48 +1,62 @@
 -- Taking until there is no reply.
-use Rattle.std.proofs.Common.{◌≡◌, ℕ, zero, suc, ◌+◌, ◌-◌, ◌<◌, List, [], ◌∷◌, ◌++◌, length, drop, Option, append_assoc, append-nil, Bool, true, false, refl, sym, ap, ◌∙◌, inl, inr, arith}
+use Rattle.std.proofs.Common.{◌≡◌, ℕ, zero, suc, ◌+◌, ◌-◌, ◌<◌, ◌≤◌, List, [], ◌∷◌, ◌++◌, length, drop, Option, append_assoc, append-nil, Bool, true, false, cond, ltb, refl, sym, ap, ◌∙◌, inl, inr, arith}
 use Rattle.std.proofs.lemmas.Bool.{cases_Bool}
 use Rattle.nine_messages.specs.declared.message.RMsg.{RMsg}
 use Rattle.agent_history.specs.declared.event.Event.TheVariants.{Request, Take}
 use Rattle.agent_history.specs.declared.event.StepAnswer.{StepAnswer}
 use Rattle.agent_history.specs.declared.event.StepAnswer.TheVariants.{Done, Reply, NoReply, Gone, Ask, DropCall, NoAsk, Stopped}
-use Rattle.agent_history.specs.Histories.{History, has_stopped, was_hung, untaken, answer, first_reply, Answered}
-use Rattle.agent_history.specs.Laws.{is_reply}
+use Rattle.agent_history.specs.Deeds.{Deed, Halted, was_opened, was_hung, is_halted}
+use Rattle.agent_history.specs.Replies.{untaken}
+use Rattle.agent_history.specs.Histories.{History, most_events, deeds, entered, taking, answer, first_reply, is_reply}
+use Rattle.mailboxes.proofs.DeliveryLemmas.{untaken_taken}
 use Rattle.agent_core.specs.declared.agent.Agent.{Agent}
 use Rattle.agent_core.specs.Agents.{StandsFor}
-use Rattle.agent_core.proofs.Steps.{untaken_taken, answer_hung}
-use Rattle.wire_base.specs.Streams.{Gains}
-use Rattle.factotum_program.specs.Pipe.{zeros, take_until, after_frame, after_frames, text_of}
+use Rattle.wire_streams.specs.Streams.{Gains}
+use Rattle.factotum_program.specs.Pipe.{zeros, take_while, after_frame, after_frames, text_of}
 
 -- where a loop of takes stands: some takes after the history, as many left to make as were said, and what was written
 pub record Going (H : History) (n : ℕ) (agent : Agent) (origin held : Option (List ℕ)) : Type 0 where
   pub history : History
   pub left : ℕ
   pub stands : StandsFor history agent
-  pub enough : length (untaken history 0) < left
-  pub same : take_until left history ≡ take_until n H
+  pub enough : length (untaken (deeds history) 0) ≤ left
+  pub same : take_while left history ≡ take_while n H
   pub told : Gains origin held (text_of history)
 
 first_left : (ms : List RMsg) → (first_reply ms).0 ≡ Reply → length (drop 1 ms) + 1 ≡ length ms
 first_left [] e = absurd (cc)
 first_left (m ∷ ms) e = omega arith
 
+untaken_entered : (done : List Deed) → untaken (entered 0 done) 0 ≡ untaken done 0
+untaken_entered done = elim (cases_Bool (was_opened done 0)) [
+  | inl is ↦ rw is refl
+  | inr is ↦ rw is refl
+]
+
+-- the deeds of a take, which the last event may end with a stop
+take_left : (done : List Deed) (ms : List RMsg) (last : Bool) → untaken done 0 ≡ ms → (first_reply ms).0 ≡ Reply
+    → length (untaken (cond last (taking 0 ms (entered 0 done)) (Halted ∷ taking 0 ms (entered 0 done))) 0) + 1 ≡ length ms
+take_left done [] last is e = absurd (cc)
+take_left done (m ∷ ms) true is e = ap (λ (rs : List RMsg). length rs + 1) (untaken_taken (entered 0 done) 0 ∙ ap (drop 1) (untaken_entered done ∙ is)) ∙ first_left (m ∷ ms) refl
+take_left done (m ∷ ms) false is e = ap (λ (rs : List RMsg). length rs + 1) (untaken_taken (entered 0 done) 0 ∙ ap (drop 1) (untaken_entered done ∙ is)) ∙ first_left (m ∷ ms) refl
+
 -- a take that found a reply leaves one less
-reply_left : (K : History) → (answer K (Take 0)).0 ≡ Reply → length (untaken (Take 0 ∷ K) 0) + 1 ≡ length (untaken K 0)
-reply_left K e = elim (cases_Bool (has_stopped K)) [
+reply_left : (K : History) → (answer K (Take 0)).0 ≡ Reply → length (untaken (deeds (Take 0 ∷ K)) 0) + 1 ≡ length (untaken (deeds K) 0)
+reply_left K e = elim (cases_Bool (is_halted (deeds K))) [
   | inl stopped ↦ absurd (let h : Gone ≡ Reply = (rw stopped at e) in (cc))
-  | inr runs ↦ elim (cases_Bool (was_hung K 0)) [
-    | inl hung ↦ absurd (let h : Gone ≡ Reply = sym (ap (λ (a : Answered). a.0) (answer_hung K 0 hung runs)) ∙ e in (cc))
-    | inr live ↦ ap (λ (ms : List RMsg). length ms + 1) (untaken_taken K 0 runs live) ∙ first_left (untaken K 0) (rw (runs, live) at e)
+  | inr runs ↦ elim (cases_Bool (was_hung (deeds K) 0)) [
+    | inl hung ↦ absurd (let h : Gone ≡ Reply = (rw (runs, hung) at e) in (cc))
+    | inr live ↦ rw (runs, live) (take_left (deeds K) (untaken (deeds K) 0) (ltb (length K + 1) most_events) refl (rw (runs, live) at e))
   ]
 ]
 
-until_more : (m : ℕ) (K : History) → 0 < m → is_reply (answer K (Take 0)).0 ≡ true → take_until m K ≡ take_until (m - 1) (Take 0 ∷ K)
+until_more : (m : ℕ) (K : History) → 0 < m → is_reply (answer K (Take 0)).0 ≡ true → take_while m K ≡ take_while (m - 1) (Take 0 ∷ K)
 until_more zero K lt e = absurd (omega arith)
-until_more (suc m) K lt e = rw e (ap (λ (k : ℕ). take_until k (Take 0 ∷ K)) (omega arith))
+until_more (suc m) K lt e = rw e (ap (λ (k : ℕ). take_while k (Take 0 ∷ K)) (omega arith))
 
-until_ends : (m : ℕ) (K : History) → 0 < m → is_reply (answer K (Take 0)).0 ≡ false → take_until m K ≡ Take 0 ∷ K
-until_ends zero K lt e = absurd (omega arith)
-until_ends (suc m) K lt e = rw e refl
+until_ends : (m : ℕ) (K : History) → is_reply (answer K (Take 0)).0 ≡ false → take_while m K ≡ K
+until_ends zero K e = refl
+until_ends (suc m) K e = rw e refl
 
 is_reply-true : (a : StepAnswer) → is_reply a ≡ true → a ≡ Reply
 is_reply-true Done e = absurd (cc)
@@ -54,38 +68,36 @@ is_reply-true (DropCall conv) e = absurd (cc)
 is_reply-true NoAsk e = absurd (cc)
 is_reply-true Stopped e = absurd (cc)
 
-pub going_more : (H : History) (n : ℕ) (old new : Agent) (origin before after : Option (List ℕ)) (found : Bool) → (g : Going H n old origin before) → found ≡ true → found ≡ is_reply (answer g.history (Take 0)).0 → Gains origin after (text_of (Take 0 ∷ g.history)) → StandsFor (Take 0 ∷ g.history) new
+pub going_more : (H : History) (n : ℕ) (old new : Agent) (origin before after : Option (List ℕ)) → (g : Going H n old origin before) → is_reply (answer g.history (Take 0)).0 ≡ true → Gains origin after (text_of (Take 0 ∷ g.history)) → StandsFor (Take 0 ∷ g.history) new
     → Going H n new origin after
-going_more H n old new origin before after found g reply said told stands =
-    let is : is_reply (answer g.history (Take 0)).0 ≡ true = sym said ∙ reply in
+going_more H n old new origin before after g is told stands =
     let less = reply_left g.history (is_reply-true (answer g.history (Take 0)).0 is) in
     record {
       history = Take 0 ∷ g.history;
       left = g.left - 1;
       stands = stands;
       enough = omega (arith, less, g.enough);
-      same = sym (until_more g.left g.history (omega (arith, g.enough)) is) ∙ g.same;
+      same = sym (until_more g.left g.history (omega (arith, less, g.enough)) is) ∙ g.same;
       told = told;
     }
 
-pub going_ends : (H : History) (n : ℕ) (old new : Agent) (origin before after : Option (List ℕ)) (found : Bool) → (g : Going H n old origin before) → found ≡ false → found ≡ is_reply (answer g.history (Take 0)).0 → Gains origin after (text_of (Take 0 ∷ g.history)) → StandsFor (Take 0 ∷ g.history) new
-    → StandsFor (take_until n H) new × Gains origin after (text_of (take_until n H))
-going_ends H n old new origin before after found g other said told stands =
-    let end : take_until n H ≡ Take 0 ∷ g.history = sym g.same ∙ until_ends g.left g.history (omega (arith, g.enough)) (sym said ∙ other) in
-    rw end (stands, told)
+pub going_ends : (H : History) (n : ℕ) (agent : Agent) (origin held : Option (List ℕ)) → (g : Going H n agent origin held) → is_reply (answer g.history (Take 0)).0 ≡ false → StandsFor (take_while n H) agent × Gains origin held (text_of (take_while n H))
+going_ends H n agent origin held g none =
+    let end : take_while n H ≡ g.history = sym g.same ∙ until_ends g.left g.history none in
+    rw end (g.stands, g.told)
 
 -- takes put out behind what was put out
-until_grows : (n : ℕ) (H : History) → (more : List ℕ) × (text_of (take_until n H) ≡ text_of H ++ more)
+until_grows : (n : ℕ) (H : History) → (more : List ℕ) × (text_of (take_while n H) ≡ text_of H ++ more)
 until_grows zero H = ([], sym (append-nil (text_of H)))
 until_grows (suc n) H = elim (cases_Bool (is_reply (answer H (Take 0)).0)) [
   | inl more ↦ let rest = until_grows n (Take 0 ∷ H) in ((answer H (Take 0)).1 ++ rest.0, rw more (rest.1 ∙ append_assoc (text_of H) (answer H (Take 0)).1 rest.0))
-  | inr none ↦ ((answer H (Take 0)).1, rw none refl)
+  | inr none ↦ ([], rw none (sym (append-nil (text_of H))))
 ]
 
 -- a frame puts out behind what was put out
 pub frame_grows : (H : History) (frame : List ℕ) → (more : List ℕ) × (text_of (after_frame H frame) ≡ text_of H ++ more)
 unfolding after_frame
-frame_grows H frame = let asked : History = Request 0 frame zeros ∷ H in let rest = until_grows (suc (length (untaken asked 0))) asked in (rest.0, rest.1 ∙ ap (λ (t : List ℕ). t ++ rest.0) (append-nil (text_of H)))
+frame_grows H frame = let asked : History = Request 0 frame zeros ∷ H in let rest = until_grows (length (untaken (deeds asked) 0)) asked in (rest.0, rest.1 ∙ ap (λ (t : List ℕ). t ++ rest.0) (append-nil (text_of H)))
 
 -- later frames put out behind what was put out
 pub frames_grow : (H : History) (frames : List (List ℕ)) → (more : List ℕ) × (text_of (after_frames H frames) ≡ text_of H ++ more)
@@ -96,8 +108,8 @@ frames_grow H (frame ∷ frames) =
     (here.0 ++ rest.0, rest.1 ∙ ap (λ (t : List ℕ). t ++ rest.0) here.1 ∙ append_assoc (text_of H) here.0 rest.0)
 
 -- what the first of the takes that are left puts out stands in front of what all of them do
-pub going_grows : (H : History) (n : ℕ) (agent : Agent) (origin held : Option (List ℕ)) → (g : Going H n agent origin held) → (more : List ℕ) × (text_of (take_until n H) ≡ text_of (Take 0 ∷ g.history) ++ more)
-going_grows H n agent origin held g = elim (cases_Bool (is_reply (answer g.history (Take 0)).0)) [
-  | inl more ↦ let rest = until_grows (g.left - 1) (Take 0 ∷ g.history) in (rest.0, ap text_of (sym g.same ∙ until_more g.left g.history (omega (arith, g.enough)) more) ∙ rest.1)
-  | inr none ↦ ([], ap text_of (sym g.same ∙ until_ends g.left g.history (omega (arith, g.enough)) none) ∙ sym (append-nil (text_of (Take 0 ∷ g.history))))
-]
+pub going_grows : (H : History) (n : ℕ) (agent : Agent) (origin held : Option (List ℕ)) → (g : Going H n agent origin held) → is_reply (answer g.history (Take 0)).0 ≡ true → (more : List ℕ) × (text_of (take_while n H) ≡ text_of (Take 0 ∷ g.history) ++ more)
+going_grows H n agent origin held g is =
+    let less = reply_left g.history (is_reply-true (answer g.history (Take 0)).0 is) in
+    let rest = until_grows (g.left - 1) (Take 0 ∷ g.history) in
+    (rest.0, ap text_of (sym g.same ∙ until_more g.left g.history (omega (arith, less, g.enough)) is) ∙ rest.1)

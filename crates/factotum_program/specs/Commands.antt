@@ -3,7 +3,7 @@
 use Rattle.std.specs.Prelude.{◌≡◌, ◌<◌, ◌≤◌, ℕ, List, [], ◌∷◌, ◌++◌, length, Option, Bool, true, false, codes}
 use Rattle.std.specs.Str.{bytes_eq}
 use Rattle.std.specs.Io.KnownBytes.{Consumes, IsAtEnd}
-use Rattle.wire_base.specs.Streams.{Gains}
+use Rattle.wire_streams.specs.Streams.{Gains}
 use Rattle.nine_frames.specs.Streams.{frames, end_of, HasBadSize, HasNoBadSize, IsFrames}
 use Rattle.factotum_program.specs.declared.status.Status.{Status}
 use Rattle.factotum_program.specs.declared.status.Status.TheVariants.{Fine, Usage, ReadFault, WriteFault, BadFrame, Torn, NoMemory, Flood}

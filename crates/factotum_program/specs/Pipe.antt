@@ -2,8 +2,8 @@
 -- the agent's own; nothing of how the program goes over its input stands here.
 use Rattle.std.specs.Prelude.{ℕ, zero, suc, List, [], ◌∷◌, ◌++◌, length, if◌then◌else◌}
 use Rattle.agent_history.specs.declared.event.Event.TheVariants.{Request, Hang, Take}
-use Rattle.agent_history.specs.Histories.{History, untaken, answer}
-use Rattle.agent_history.specs.Laws.{is_reply}
+use Rattle.agent_history.specs.Replies.{untaken}
+use Rattle.agent_history.specs.Histories.{History, deeds, answer, is_reply}
 
 -- the greatest size of a frame
 abbrev pub most_frame : ℕ
@@ -13,14 +13,14 @@ most_frame = 8216
 abbrev pub zeros : List ℕ
 zeros = 0 ∷ 0 ∷ 0 ∷ 0 ∷ 0 ∷ 0 ∷ 0 ∷ 0 ∷ []
 
--- take, at most so often, until there is no reply
-abbrev pub take_until : ℕ → History → History
-take_until zero history = history
-take_until (suc n) history = if is_reply (answer history (Take 0)).0 then take_until n (Take 0 ∷ history) else Take 0 ∷ history
+-- take, at most so often, as long as there is a reply
+abbrev pub take_while : ℕ → History → History
+take_while zero history = history
+take_while (suc n) history = if is_reply (answer history (Take 0)).0 then take_while n (Take 0 ∷ history) else history
 
--- a frame is a request on connection 0, and then takes until there is no reply: one more than there are replies
+-- a frame is a request on connection 0, and then takes until there is no reply
 unfoldable pub after_frame : History → List ℕ → History
-after_frame history frame = let asked : History = Request 0 frame zeros ∷ history in take_until (suc (length (untaken asked 0))) asked
+after_frame history frame = let asked : History = Request 0 frame zeros ∷ history in take_while (length (untaken (deeds asked) 0)) asked
 
 -- the frames in order
 abbrev pub after_frames : History → List (List ℕ) → History

@@ -1,7 +1,7 @@
 -- Of the code alone: where a pipe stands between two reads, and what its parts tell each other.
 use Rattle.std.specs.Prelude.{◌≡◌, ◌≤◌, ℕ, ◌+◌, List, [], length, Option, Some, None, ◌⊎◌}
 use Rattle.std.specs.Io.KnownBytes.{Consumes}
-use Rattle.wire_base.specs.Streams.{Gains}
+use Rattle.wire_streams.specs.Streams.{Gains}
 use Rattle.nine_frames.specs.Streams.{front, IsBad, IsShort, end_of, HasBadSize}
 use Rattle.nine_frames.specs.Framed.{Framing}
 use Rattle.nine_frames.specs.Framing.{HasHandedOut}

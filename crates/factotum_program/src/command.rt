@@ -1,6 +1,6 @@
 // The command words, and what each command does.
 ghost use Rattle.std.specs.Prelude.{◌≡◌, ◌≤◌, ◌↔◌, ◌⊎◌, List, ℕ, length, Some};
-ghost use Rattle.wire_base.specs.Causes.{Rose};
+ghost use Rattle.wire_streams.specs.Causes.{Rose};
 ghost use Rattle.nine_frames.specs.Streams.{IsFrames};
 ghost use Rattle.factotum_program.specs.Pipe.{most_frame};
 ghost use Rattle.factotum_program.specs.Commands.{is_pipe, IsPipe, Answers, MeetsBadFrame, EndsInside, Floods, RepliesSoFar, RepliesInPart, most_input};
@@ -8,7 +8,8 @@ ghost use Rattle.factotum_program.specs.Commands.{is_pipe, IsPipe, Answers, Meet
 use crate::pipe::answer_input;
 use crate::status::Status;
 use std::alloc::Global;
-use wire_base::{Sink, Source, Text};
+use wire_base::Text;
+use wire_streams::{Sink, Source};
 
 // Whether the words are the one word `pipe`.
 fn is_pipe(words: &[Text]) -> bool

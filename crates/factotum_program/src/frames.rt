@@ -1,22 +1,23 @@
 // The frames of one connection, each answered before the next: a request, and then takes until there is no reply, each
 // reply written at once.
 ghost use Rattle.std.specs.Prelude.{◌≡◌, ◌∷◌, ◌+◌, ◌<◌, ◌≤◌, List, ℕ, Option, true, length, IfOk, IfErr, OnOk};
-ghost use Rattle.wire_base.specs.Causes.{Rose};
-ghost use Rattle.wire_base.specs.Streams.{Gains};
+ghost use Rattle.wire_streams.specs.Causes.{Rose};
+ghost use Rattle.wire_streams.specs.Streams.{Gains};
 ghost use Rattle.nine_messages.specs.Decoding.{IsFrame};
 ghost use Rattle.nine_frames.specs.Framing.{Answers};
 ghost use Rattle.agent_history.specs.declared.event.Event.TheVariants.{Request, Take};
-ghost use Rattle.agent_history.specs.Histories.{History, untaken, answer};
-ghost use Rattle.agent_history.specs.Laws.{is_reply};
-ghost use Rattle.agent_core.specs.Agents.{StandsFor, kept_replies};
+ghost use Rattle.agent_history.specs.Replies.{untaken};
+ghost use Rattle.agent_history.specs.Histories.{History, deeds};
+ghost use Rattle.agent_core.specs.Agents.{StandsFor, TakesOne, gives_in};
 ghost use Rattle.factotum_program.specs.Commands.{GainsPart};
-ghost use Rattle.factotum_program.specs.Pipe.{zeros, take_until, after_frame, text_of};
+ghost use Rattle.factotum_program.specs.Pipe.{zeros, take_while, after_frame, text_of};
 ghost use Rattle.factotum_program.specs.Sessions.{next_of, HasNoNext, Handed, AllHanded, StopsAt, IsCut};
 
 use crate::status::Status;
-use agent_core::{Agent, Event, StepAnswer};
+use agent_core::{Agent, Event};
 use nine_frames::{Framer, Next};
-use wire_base::{Bytes, Sink, write_all};
+use wire_base::Bytes;
+use wire_streams::{Sink, write_all};
 
 /// The number of the one connection.
 pub(crate) const CONNECTION: u64 = 0;
@@ -24,7 +25,8 @@ pub(crate) const CONNECTION: u64 = 0;
 // Writes the bytes of a step.
 fn write<W: Sink>(bytes: &Bytes, output: &mut W) -> Result<(), Status>
     ensures ok { OnOk result (Gains (W.holds output.old) (W.holds output.new) bytes.now) }
-    ensures part { IfErr result (λ status. (status ≡ Status.WriteFault) × GainsPart status (W.holds output.old) (W.holds output.new) bytes.now) }
+    ensures part { IfErr result (λ status. (status ≡ Status.WriteFault)
+        × GainsPart status (W.holds output.old) (W.holds output.new) bytes.now) }
     ensures cause { IfErr result (λ status. Rose (W.faults output.old) (W.faults output.new)) }
     ensures counted { W.faults output.old ≤ W.faults output.new }
 {
@@ -34,41 +36,56 @@ fn write<W: Sink>(bytes: &Bytes, output: &mut W) -> Result<(), Status>
     }
 }
 
-// One take, whose reply is written; whether it found one.
-fn take_one<W: Sink>(agent: &mut Agent, replies: &mut Bytes, output: &mut W) -> Result<bool, Status>
-    ensures stands { OnOk result ((H : History) → StandsFor H agent.old → StandsFor (Take 0 ∷ H) agent.new) }
-    ensures reply { IfOk result (λ found. (H : History) → StandsFor H agent.old → found ≡ is_reply (answer H (Take 0)).0) }
-    ensures written { OnOk result ((origin : Option (List ℕ)) (H : History) → StandsFor H agent.old → Gains origin (W.holds output.old) (text_of H) → Gains origin (W.holds output.new) (text_of (Take 0 ∷ H))) }
-    ensures fewer { IfOk result (λ found. found ≡ true → kept_replies agent.new 0 + 1 ≡ kept_replies agent.old 0) }
-    ensures part { IfErr result (λ status. (origin : Option (List ℕ)) (H : History) → StandsFor H agent.old → Gains origin (W.holds output.old) (text_of H) → GainsPart status origin (W.holds output.new) (text_of (Take 0 ∷ H))) }
+// One take, whose reply is written.
+fn take_one<W: Sink>(agent: &mut Agent, replies: &mut Bytes, output: &mut W) -> Result<(), Status>
+    ensures stands { OnOk result ((H : History) → StandsFor H agent.old
+        → StandsFor (Take 0 ∷ H) agent.new) }
+    ensures written { OnOk result ((origin : Option (List ℕ)) (H : History) → StandsFor H agent.old
+        → Gains origin (W.holds output.old) (text_of H)
+        → Gains origin (W.holds output.new) (text_of (Take 0 ∷ H))) }
+    ensures fewer { OnOk result (gives_in (Take 0) agent.old.state ≡ true
+        → TakesOne (Take 0) agent.old agent.new) }
+    ensures part { IfErr result (λ status. (origin : Option (List ℕ)) (H : History)
+        → StandsFor H agent.old → Gains origin (W.holds output.old) (text_of H)
+        → GainsPart status origin (W.holds output.new) (text_of (Take 0 ∷ H))) }
     ensures cut { IfErr result IsCut }
-    ensures cause { IfErr result (λ status. status ≡ Status.WriteFault → Rose (W.faults output.old) (W.faults output.new)) }
+    ensures cause { IfErr result (λ status. status ≡ Status.WriteFault
+        → Rose (W.faults output.old) (W.faults output.new)) }
     ensures counted { W.faults output.old ≤ W.faults output.new }
 {
     replies.clear();
-    let answer = agent.step(&Event::Take { conn: CONNECTION }, replies)?;
+    agent.step(&Event::Take { conn: CONNECTION }, replies)?;
     write(replies, output)?;
-    Ok(answer == StepAnswer::Reply)
+    Ok(())
 }
 
 // Takes until there is no reply.
 fn take_all<W: Sink>(agent: &mut Agent, replies: &mut Bytes, output: &mut W) -> Result<(), Status>
-    ensures ok { OnOk result ((origin : Option (List ℕ)) (H : History) (n : ℕ) → StandsFor H agent.old → length (untaken H 0) < n → Gains origin (W.holds output.old) (text_of H)
-        → StandsFor (take_until n H) agent.new × Gains origin (W.holds output.new) (text_of (take_until n H))) }
-    ensures part { IfErr result (λ status. (origin : Option (List ℕ)) (H : History) (n : ℕ) → StandsFor H agent.old → length (untaken H 0) < n → Gains origin (W.holds output.old) (text_of H)
-        → GainsPart status origin (W.holds output.new) (text_of (take_until n H))) }
+    ensures ok { OnOk result ((origin : Option (List ℕ)) (H : History) (n : ℕ)
+        → StandsFor H agent.old → length (untaken (deeds H) 0) ≤ n
+        → Gains origin (W.holds output.old) (text_of H)
+        → StandsFor (take_while n H) agent.new
+        × Gains origin (W.holds output.new) (text_of (take_while n H))) }
+    ensures part { IfErr result (λ status. (origin : Option (List ℕ)) (H : History) (n : ℕ)
+        → StandsFor H agent.old → length (untaken (deeds H) 0) ≤ n
+        → Gains origin (W.holds output.old) (text_of H)
+        → GainsPart status origin (W.holds output.new) (text_of (take_while n H))) }
     ensures cut { IfErr result IsCut }
-    ensures cause { IfErr result (λ status. status ≡ Status.WriteFault → Rose (W.faults output.old) (W.faults output.new)) }
+    ensures cause { IfErr result (λ status. status ≡ Status.WriteFault
+        → Rose (W.faults output.old) (W.faults output.new)) }
     ensures counted { W.faults output.old ≤ W.faults output.new }
 {
-    while take_one(agent, replies, output)? {}
+    while agent.has_reply(CONNECTION) {
+        take_one(agent, replies, output)?;
+    }
     Ok(())
 }
 
 // Hands one frame to the agent.
 fn ask(agent: &mut Agent, frame: Bytes, replies: &mut Bytes) -> Result<(), Status>
     requires whole { IsFrame frame }
-    ensures stands { OnOk result ((H : History) → StandsFor H agent.old → StandsFor (Request 0 frame zeros ∷ H) agent.new) }
+    ensures stands { OnOk result ((H : History) → StandsFor H agent.old
+        → StandsFor (Request 0 frame zeros ∷ H) agent.new) }
     ensures err { IfErr result (λ status. status ≡ Status.NoMemory) }
 {
     let request = Event::Request {
@@ -89,12 +106,16 @@ fn answer_frame<W: Sink>(
     output: &mut W,
 ) -> Result<(), Status>
     requires whole { IsFrame frame }
-    ensures ok { OnOk result ((origin : Option (List ℕ)) (H : History) → StandsFor H agent.old → Gains origin (W.holds output.old) (text_of H)
-        → StandsFor (after_frame H frame) agent.new × Gains origin (W.holds output.new) (text_of (after_frame H frame))) }
-    ensures part { IfErr result (λ status. (origin : Option (List ℕ)) (H : History) → StandsFor H agent.old → Gains origin (W.holds output.old) (text_of H)
+    ensures ok { OnOk result ((origin : Option (List ℕ)) (H : History) → StandsFor H agent.old
+        → Gains origin (W.holds output.old) (text_of H)
+        → StandsFor (after_frame H frame) agent.new
+        × Gains origin (W.holds output.new) (text_of (after_frame H frame))) }
+    ensures part { IfErr result (λ status. (origin : Option (List ℕ)) (H : History)
+        → StandsFor H agent.old → Gains origin (W.holds output.old) (text_of H)
         → GainsPart status origin (W.holds output.new) (text_of (after_frame H frame))) }
     ensures cut { IfErr result IsCut }
-    ensures cause { IfErr result (λ status. status ≡ Status.WriteFault → Rose (W.faults output.old) (W.faults output.new)) }
+    ensures cause { IfErr result (λ status. status ≡ Status.WriteFault
+        → Rose (W.faults output.old) (W.faults output.new)) }
     ensures counted { W.faults output.old ≤ W.faults output.new }
 {
     ask(agent, frame, replies)?;
@@ -120,11 +141,18 @@ pub(crate) fn answer_frames<W: Sink>(
     replies: &mut Bytes,
     output: &mut W,
 ) -> Result<(), Status>
-    ensures ok { OnOk result ((origin : Option (List ℕ)) (stream : List ℕ) (handed : List (List ℕ)) → Handed origin (W.holds output.old) stream handed framer.old agent.old → AllHanded origin (W.holds output.new) stream framer.new agent.new) }
-    ensures err { IfErr result (λ status. (origin : Option (List ℕ)) (stream : List ℕ) (handed : List (List ℕ)) → Handed origin (W.holds output.old) stream handed framer.old agent.old → StopsAt origin (W.holds output.new) stream status) }
-    ensures fed { OnOk result (framer.new.before + length framer.new.held ≡ framer.old.before + length framer.old.held) }
+    ensures ok { OnOk result ((origin : Option (List ℕ)) (stream : List ℕ) (handed : List (List ℕ))
+        → Handed origin (W.holds output.old) stream handed framer.old agent.old
+        → AllHanded origin (W.holds output.new) stream framer.new agent.new) }
+    ensures err { IfErr result (λ status. (origin : Option (List ℕ)) (stream : List ℕ)
+        (handed : List (List ℕ))
+        → Handed origin (W.holds output.old) stream handed framer.old agent.old
+        → StopsAt origin (W.holds output.new) stream status) }
+    ensures fed { OnOk result (framer.new.before + length framer.new.held
+        ≡ framer.old.before + length framer.old.held) }
     ensures which { IfErr result (λ status. status ≡ Status.ReadFault → ⊥) }
-    ensures cause { IfErr result (λ status. status ≡ Status.WriteFault → Rose (W.faults output.old) (W.faults output.new)) }
+    ensures cause { IfErr result (λ status. status ≡ Status.WriteFault
+        → Rose (W.faults output.old) (W.faults output.new)) }
     ensures counted { W.faults output.old ≤ W.faults output.new }
 {
     while let Some(frame) = next_frame(framer)? {

@@ -2,7 +2,7 @@
 // answered, and then the next piece is read.
 ghost use Rattle.std.specs.Prelude.{◌≡◌, ◌++◌, ◌+◌, ◌<◌, ◌≤◌, List, ℕ, Option, true, false, length, IfOk, IfErr, OnOk};
 ghost use Rattle.std.specs.Io.KnownBytes.{IsAtEnd};
-ghost use Rattle.wire_base.specs.Causes.{Rose};
+ghost use Rattle.wire_streams.specs.Causes.{Rose};
 ghost use Rattle.factotum_program.specs.Commands.{most_input, Answers, EndsSo};
 ghost use Rattle.factotum_program.specs.Sessions.{AllHanded, Piped, StopsAt, taken_by};
 
@@ -11,7 +11,8 @@ use crate::status::Status;
 use agent_core::{Agent, Event};
 use nine_frames::Framer;
 use std::alloc::Global;
-use wire_base::{Bytes, Got, NoMemory, Sink, Source};
+use wire_base::{Bytes, NoMemory};
+use wire_streams::{Got, Sink, Source};
 
 /// The greatest size of a frame.
 const MOST_FRAME: u32 = 8216;

@@ -4,7 +4,8 @@ use std::alloc::Global;
 use std::io::{self, Read};
 use std::process::Abort;
 use std::test::Fail;
-use wire_base::{Bytes, Got, MemSink, MemSource, ReadSource, Source, SteadySource, Text, TextList};
+use wire_base::{Bytes, Text, TextList};
+use wire_streams::{Got, MemSink, MemSource, ReadSource, Source, SteadySource};
 
 const VERSION: &str = "13000000 64 ffff 18200000 0600 395032303030";
 

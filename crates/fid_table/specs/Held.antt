@@ -7,7 +7,8 @@ use Rattle.std.specs.BTreeMap.{is_at}
 use Rattle.file_tree.specs.declared.tree.Node.{Node}
 use Rattle.file_tree.specs.declared.tree.FidState.{FidState}
 use Rattle.file_tree.specs.Tree.{is_directory}
-use Rattle.file_tree.specs.Calls.{at_rest, is_open, most_fids, node_of}
+use Rattle.file_tree.specs.Calls.{at_rest, attach_fault, is_open, most_fids, node_of, walk_fault}
+use Rattle.file_tree.specs.declared.fault.FidFault.{FidFault}
 use Rattle.fid_table.specs.declared.fids.Fid.{Fid}
 
 -- the fids that are held, each once, in the order of their numbers
@@ -21,6 +22,10 @@ fid_at table fid = lookup (is_at (nat_cmp fid)) table
 -- what a fid names and whether it is open; no state where it isn't held
 abbrev pub state_at : Table → ℕ → Option FidState
 state_at table fid = option_map (λ held. held.state) (fid_at table fid)
+
+-- the file that it names; the root where it isn't held
+abbrev pub node_at : Table → ℕ → Node
+node_at table fid = node_of (state_at table fid)
 
 -- where its next read of a directory may begin beside 0
 abbrev pub next_of : Option Fid → ℕ
@@ -67,6 +72,13 @@ is_open_directory fid = is_open fid && is_directory (node_of fid)
 -- a fid may be put in: it is held, or fewer than 256 are
 abbrev pub HasRoom : Table → ℕ → Type 0
 HasRoom table fid = held_in table + 1 ≤ most_fids + count_of (fid_at table fid)
+
+-- what refuses an attach of a fid, and a walk from one fid to another, of those that are held
+abbrev pub attach_refusal : Table → ℕ → Option FidFault
+attach_refusal table fid = attach_fault (state_at table fid) (held_in table)
+
+abbrev pub walk_refusal : Table → ℕ → ℕ → List (List ℕ) → Option FidFault
+walk_refusal table fid newfid names = walk_fault (state_at table fid) (state_at table newfid) (fid == newfid) (held_in table) names
 
 -- changes of fids, the newest first: which fid, and what it became
 abbrev pub Changes : Type 0

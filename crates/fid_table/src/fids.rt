@@ -1,13 +1,13 @@
 // The fids of one connection.
-ghost use Rattle.std.specs.Prelude.{◌≡◌, ◌≤◌, [], ◌++◌, Some, None, ◌==◌, OnOk, OnErr, true, option_map, ok_or};
+ghost use Rattle.std.specs.Prelude.{◌≡◌, ◌≤◌, [], ◌++◌, Err, IfSome, Some, None, OnOk, OnErr, true, option_map, ok_or};
 ghost use Rattle.file_tree.specs.declared.fault.FidFault.TheVariants.{UnknownFid};
 ghost use Rattle.file_tree.specs.declared.tree.Node.TheVariants.{Root};
 ghost use Rattle.file_tree.specs.Tree.{lead_to, visited};
 ghost use Rattle.file_tree.specs.Stats.{record_of};
 ghost use Rattle.file_tree.specs.Faults.{Answers, answered};
-ghost use Rattle.file_tree.specs.Calls.{at_rest, attach_fault, dir_fault, fid_fault, node_of, open_fault, opened, walk_fault};
+ghost use Rattle.file_tree.specs.Calls.{at_rest, dir_fault, fid_fault, node_of, open_fault, opened};
 ghost use Rattle.file_tree.specs.Directories.{dir_bytes, dir_end};
-ghost use Rattle.fid_table.specs.Held.{fid_at, fresh, held_in, is_open_directory, moved, next_at, read_to, state_at, Becomes, HasRoom};
+ghost use Rattle.fid_table.specs.Held.{attach_refusal, fid_at, fresh, held_in, is_open_directory, moved, next_at, node_at, read_to, state_at, walk_refusal, Becomes, HasRoom};
 
 use file_tree::{
     FidFault, FidState, Node, Nodes, attach_fault, dir_fault, open_fault, put_directory,
@@ -66,7 +66,8 @@ impl Fids {
 
     /// Attach: the fid names the root from now on.
     pub fn attach(&mut self, fid: u32) -> Result<(), FidFault>
-        ensures answer { Answers (attach_fault (state_at self.old fid) (held_in self.old)) tt result }
+        ensures answer { Answers (attach_refusal self.old fid) tt result }
+        ensures refused { IfSome (attach_refusal self.old fid) (λ fault. result ≡ Err fault) }
         ensures ok { OnOk result (Becomes self.old self.new fid (Some (fresh (at_rest Root)))) }
         ensures err { OnErr result (self.new ≡ self.old) }
     {
@@ -79,7 +80,7 @@ impl Fids {
     /// half is that of a walk to the root.
     #[tactic(auto, unfolding(file_tree::specs::Calls::attach_fault))]
     pub fn may_attach(&self, fid: u32) -> Result<(), FidFault>
-        ensures answer { result ≡ answered (attach_fault (state_at self.now fid) (held_in self.now)) tt }
+        ensures answer { result ≡ answered (attach_refusal self.now fid) tt }
         ensures room { OnOk result (HasRoom self.now fid) }
     {
         match attach_fault(self.state(fid), self.held.len()) {
@@ -97,8 +98,12 @@ impl Fids {
         newfid: u32,
         names: &[Text],
     ) -> Result<Nodes, FidFault>
-        ensures answer { Answers (walk_fault (state_at self.old fid) (state_at self.old newfid) (fid == newfid) (held_in self.old) names.now) (visited (node_of (state_at self.old fid)) names.now) result }
-        ensures ok { OnOk result (Becomes self.old self.new newfid (moved (fid_at self.old newfid) (lead_to (node_of (state_at self.old fid)) names.now))) }
+        ensures answer { Answers (walk_refusal self.old fid newfid names.now)
+            (visited (node_at self.old fid) names.now) result }
+        ensures refused { IfSome (walk_refusal self.old fid newfid names.now) (λ fault.
+            result ≡ Err fault) }
+        ensures ok { OnOk result (Becomes self.old self.new newfid
+            (moved (fid_at self.old newfid) (lead_to (node_at self.old fid) names.now))) }
         ensures err { OnErr result (self.new ≡ self.old) }
     {
         let (nodes, end) = self.may_walk(alloc, fid, newfid, names)?;
@@ -118,7 +123,11 @@ impl Fids {
         newfid: u32,
         names: &[Text],
     ) -> Result<(Nodes, Option<Node>), FidFault>
-        ensures answer { Answers (walk_fault (state_at self.now fid) (state_at self.now newfid) (fid == newfid) (held_in self.now) names.now) (visited (node_of (state_at self.now fid)) names.now, lead_to (node_of (state_at self.now fid)) names.now) result }
+        ensures answer { Answers (walk_refusal self.now fid newfid names.now)
+            (visited (node_at self.now fid) names.now, lead_to (node_at self.now fid) names.now)
+            result }
+        ensures refused { IfSome (walk_refusal self.now fid newfid names.now) (λ fault.
+            result ≡ Err fault) }
         ensures room { OnOk result (HasRoom self.now newfid) }
     {
         let Some(from) = self.state(fid) else {
@@ -146,7 +155,8 @@ impl Fids {
     /// Open: whether the fid may be opened in this mode, and the file. It changes nothing and takes no memory.
     #[tactic(auto, unfolding(file_tree::specs::Calls::open_fault))]
     pub fn may_open(&self, fid: u32, mode: u8) -> Result<Node, FidFault>
-        ensures { result ≡ answered (open_fault (state_at self.now fid) mode) (node_of (state_at self.now fid)) }
+        ensures { result ≡ answered (open_fault (state_at self.now fid) mode)
+            (node_of (state_at self.now fid)) }
     {
         let Some(state) = self.state(fid) else {
             return Err(FidFault::UnknownFid);
@@ -160,7 +170,8 @@ impl Fids {
     /// Open: the fid is open in this mode from now on. It takes no memory.
     pub fn mark_open(&mut self, fid: u32, mode: u8)
         requires { open_fault (state_at self.old fid) mode ≡ None }
-        ensures { Becomes self.old self.new fid (option_map fresh (opened mode (state_at self.old fid))) }
+        ensures { Becomes self.old self.new fid
+            (option_map fresh (opened mode (state_at self.old fid))) }
     {
         if let Some(held) = self.held.get_mut(&fid) {
             held.state.mode = Some(mode);
@@ -179,8 +190,11 @@ impl Fids {
     ) -> Result<(), FidFault>
         requires { is_open_directory (state_at self.old fid) ≡ true }
         ensures answer { Answers (dir_fault (next_at self.old fid) offset) tt result }
-        ensures given { OnOk result (out.new ≡ out.old ++ dir_bytes (node_of (state_at self.old fid)) offset count) }
-        ensures ok { OnOk result (Becomes self.old self.new fid (read_to (dir_end (node_of (state_at self.old fid)) offset count) (fid_at self.old fid))) }
+        ensures given { OnOk result (out.new
+            ≡ out.old ++ dir_bytes (node_of (state_at self.old fid)) offset count) }
+        ensures ok { OnOk result (Becomes self.old self.new fid
+            (read_to (dir_end (node_of (state_at self.old fid)) offset count)
+            (fid_at self.old fid))) }
         ensures err { OnErr result (self.new ≡ self.old) }
         ensures err_out { OnErr result (out.new ≡ out.old) }
     {
@@ -199,8 +213,10 @@ impl Fids {
         out: &mut Bytes,
     ) -> Result<u64, FidFault>
         requires { is_open_directory (state_at self.now fid) ≡ true }
-        ensures answer { Answers (dir_fault (next_at self.now fid) offset) (dir_end (node_of (state_at self.now fid)) offset count) result }
-        ensures given { OnOk result (out.new ≡ out.old ++ dir_bytes (node_of (state_at self.now fid)) offset count) }
+        ensures answer { Answers (dir_fault (next_at self.now fid) offset)
+            (dir_end (node_of (state_at self.now fid)) offset count) result }
+        ensures given { OnOk result (out.new
+            ≡ out.old ++ dir_bytes (node_of (state_at self.now fid)) offset count) }
         ensures err { OnErr result (out.new ≡ out.old) }
     {
         let Some(held) = self.held.get(&fid) else {
@@ -226,7 +242,8 @@ impl Fids {
     #[tactic(auto, unfolding(file_tree::specs::Calls::fid_fault))]
     pub fn stat(&self, fid: u32, out: &mut Bytes) -> Result<(), FidFault>
         ensures answer { Answers (fid_fault (state_at self.now fid)) tt result }
-        ensures ok { OnOk result (out.new ≡ out.old ++ record_of (node_of (state_at self.now fid))) }
+        ensures ok { OnOk result (out.new
+            ≡ out.old ++ record_of (node_of (state_at self.now fid))) }
         ensures err { OnErr result (out.new ≡ out.old) }
     {
         let Some(state) = self.state(fid) else {

@@ -52,8 +52,5 @@ pub fn put_record(node: Node, out: &mut Bytes) -> Result<(), NoMemory>
 {
     let before = out.len();
     let done = spell_record(node, out);
-    if done.is_err() {
-        out.truncate(before);
-    }
-    done
+    out.undo_on_err(before, done)
 }

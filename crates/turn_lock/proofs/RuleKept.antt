@@ -309,40 +309,40 @@ module _ {S E : Type 0} (stands : List E → S → Type 0) where
       away book homes views k true e s = s.0
       away book homes views k false e s = absurd (true≢false (sym e))
 
-  -- the lists and the owners after a seat came
-  pub enters : (slots : ℕ) → Enters Rule slots 0 (λ n w. entered {S = S} (step slots 0 0 0 none) (newcomer 0, []) n (w, []))
-  enters slots s r len small = let book : Book E = r.0 in let k = r.2 in let n : ℕ = book.count in let w : View E = newcomer n in let owner : ℕ → ℕ = hand_over book.owner (n ∷ []) n in
+  -- the lists and the owners after a seat came with the count of views as its number
+  pub comes : (s : State (Option S) (View E)) → Rule s → Rule (record { words = s.words; homes = s.homes; views = s.views ++ newcomer (length s.views) ∷ [] })
+  comes s r = let book : Book E = r.0 in let k = r.2 in let n : ℕ = book.count in let w : View E = newcomer n in let owner : ℕ → ℕ = hand_over book.owner (n ∷ []) n in
       let book' : Book E = record book { owner = owner; count = n + 1 } in
       let on : (j : ℕ) (seen : Sight E) → Sees book.log book.owner n j seen → Sees book.log owner (n + 1) j seen = λ j seen sees. sees_on book.log book.owner owner n (n + 1) j seen sees (λ m e.
-      (not_handed book.owner (n ∷ []) n m (false_from_ne_true (among (n ∷ []) m) (λ is. let same = among_one n m is in let below = (sees.owned m e).1 in omega (arith, same, below))), omega arith)) in (
-        w,
-        (
-          book',
-          r.1,
-          record {
-            behind = k.behind;
-            small = k.small;
-            counted = length-append s.views (w ∷ []) ∙ (let c = k.counted in ap (λ (x : ℕ). x + 1) c);
-            each_view = add_each (Fits book') s.views w
-                (subst (λ (j : ℕ). Fits book' j w) (sym k.counted) record {
-                  seen = record { grows = grows_from_nothing (n ∷ []) book.log (own_of_new n book.log k.each_entry); owned = λ m e. (handed book.owner (n ∷ []) n m e, (let same = among_one n m e in omega (arith, same))) };
-                  told = sees_nothing book.log owner (n + 1) n;
-                  apart = none_apart (n ∷ []);
-                  stage = tt;
-                })
-                (λ j d e. let g = k.each_view j d e in record { seen = on j d.seen g.seen; told = on j d.told g.told; apart = g.apart; stage = g.stage });
-            each_ticket = λ t from to. at_more s.views w (λ stage. ticket_of stage ≡ Some t) (book.line.holder t) (k.each_ticket t from to);
-            each_entry = All-weaker (λ (entry : Entry E). entry.seat < n) (λ (entry : Entry E). entry.seat < n + 1) (λ entry below. omega (arith, below)) book.log k.each_entry;
-            longest = seen_more s.views w book.log k.longest;
-            slot = slot_more book.line book.log s.homes s.views w book.line.out k.slot;
-          },
-        ),
-        (n, refl),
+      (not_handed book.owner (n ∷ []) n m (false_from_ne_true (among (n ∷ []) m) (λ is. let same = among_one n m is in let below = (sees.owned m e).1 in omega (arith, same, below))), omega arith)) in
+      subst (λ (number : ℕ). Rule (record { words = s.words; homes = s.homes; views = s.views ++ newcomer number ∷ [] })) (sym k.counted) (
+        book',
+        r.1,
+        record {
+          behind = k.behind;
+          small = k.small;
+          counted = length-append s.views (w ∷ []) ∙ (let c = k.counted in ap (λ (x : ℕ). x + 1) c);
+          each_view = add_each (Fits book') s.views w
+              (subst (λ (j : ℕ). Fits book' j w) (sym k.counted) record {
+                seen = record { grows = grows_from_nothing (n ∷ []) book.log (own_of_new n book.log k.each_entry); owned = λ m e. (handed book.owner (n ∷ []) n m e, (let same = among_one n m e in omega (arith, same))) };
+                told = sees_nothing book.log owner (n + 1) n;
+                apart = none_apart (n ∷ []);
+                stage = tt;
+              })
+              (λ j d e. let g = k.each_view j d e in record { seen = on j d.seen g.seen; told = on j d.told g.told; apart = g.apart; stage = g.stage });
+          each_ticket = λ t from to. at_more s.views w (λ stage. ticket_of stage ≡ Some t) (book.line.holder t) (k.each_ticket t from to);
+          each_entry = All-weaker (λ (entry : Entry E). entry.seat < n) (λ (entry : Entry E). entry.seat < n + 1) (λ entry below. omega (arith, below)) book.log k.each_entry;
+          longest = seen_more s.views w book.log k.longest;
+          slot = slot_more book.line book.log s.homes s.views w book.line.out k.slot;
+        },
       )
     where
       slot_more : (line : Line) (log : Front E) (homes : Homes) (views : List (View E)) (w : View E) (out : Bool) → IsSlot stands log line homes views out → IsSlot stands log line homes (views ++ w ∷ []) out
       slot_more line log homes views w false h = h
       slot_more line log homes views w true h = (h.0, at_more views w (λ stage. stage ≡ HasTurn line.given) (line.holder line.given) h.1)
+
+  pub enters : (slots : ℕ) → Enters Rule slots 0 (λ n w. entered {S = S} (step slots 0 0 0 none) (newcomer 0, []) n (w, []))
+  enters slots s r len small = (newcomer (length s.views), comes s r, (length s.views, refl))
 
   -- the seat `other` is taken in by the seat `id`, which is told its front and its numbers
   pub tells : (id : ℕ) (v : View E) (other : ℕ) (w : View E) → v.stage ≡ Outside → w.stage ≡ Outside → v.told ≡ nothing → w.told ≡ nothing → Joins Rule id v other w (told_of v w) spent

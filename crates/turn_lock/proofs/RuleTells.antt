@@ -5,15 +5,17 @@ use mathlib.Core.Option.{some, none, some-injective, some-ne-none}
 use mathlib.Core.Option as maybe
 use native.Mathlib.Decide.{dec_le}
 use Rattle.atomic_table.specs.Table.{State}
+use Rattle.std.proofs.lemmas.Bool.{false_from_ne_true}
 use Rattle.std.proofs.lemmas.List.Elements.{All-tail}
 use Rattle.turn_lock.specs.declared.views.Entry.{Entry}
+use Rattle.turn_lock.specs.declared.views.Sight.{Sight}
 use Rattle.turn_lock.specs.declared.views.Stage.{Stage}
 use Rattle.turn_lock.specs.declared.views.Stage.TheVariants.{Outside, Waits, HasTurn}
 use Rattle.turn_lock.specs.declared.views.View.{View}
 use Rattle.turn_lock.specs.Fronts.{among, Front, events, own, Grows}
-use Rattle.turn_lock.specs.Rule.{Line, InStage, ticket_of, IsSlot, Ruled}
-use Rattle.turn_lock.specs.Sentences.{Begins, IsView, HoldsTicket, IsLongest}
-use Rattle.turn_lock.proofs.FrontLaws.{backs, whole, own_append, own_of_grown, among_append, among_left, among_right}
+use Rattle.turn_lock.specs.Rule.{Line, Sees, InStage, ticket_of, IsSlot, Ruled}
+use Rattle.turn_lock.specs.Sentences.{Begins, IsView, IsSight, HoldsTicket, IsLongest}
+use Rattle.turn_lock.proofs.FrontLaws.{backs, whole, own_append, own_of_grown, own_of_new, among_append, among_left, among_right}
 use Rattle.turn_lock.proofs.RuleKept.{no_ticket, some_or}
 
 module _ {A : Type 0} where
@@ -144,3 +146,41 @@ module _ {S E : Type 0} (stands : List E → S → Type 0) (s : State (Option S)
 
   pub stands_for_longest : (state : S) (log : Front E) → s.homes ≡ some (Some state) ∷ [] → IsLongest s log → stands (events log) state
   stands_for_longest state log home l = subst (λ (z : Front E). stands (events z) state) (longest_is log l) (stands_if r.0.line.out state r.2.slot home)
+
+  -- what a seat has seen, and what it was told, alike
+  sees : (j : ℕ) (x : Sight E) → IsSight s j x → Sees r.0.log r.0.owner r.0.count j x
+  sees j x (v, at, is) = ⊎_elim (λ (e : v.seen ≡ x). subst (λ (z : Sight E). Sees r.0.log r.0.owner r.0.count j z) e (r.2.each_view j v at).seen) (λ (e : v.told ≡ x). subst (λ (z : Sight E). Sees r.0.log r.0.owner r.0.count j z) e (r.2.each_view j v at).told) is
+
+  pub sights_of_one_history : (j k : ℕ) (x y : Sight E) → IsSight s j x → IsSight s k y → Begins x.front y.front ⊎ Begins y.front x.front
+  sights_of_one_history j k x y at at' = begins_either x.numbers y.numbers x.front y.front r.0.log (sees j x at).grows (sees k y at').grows
+
+  pub sight_owner : (j k : ℕ) (x y : Sight E) (n : ℕ) → IsSight s j x → IsSight s k y → among x.numbers n ≡ true → among y.numbers n ≡ true → j ≡ k
+  sight_owner j k x y n at at' e e' = sym ((sees j x at).owned n e).0 ∙ ((sees k y at').owned n e').0
+
+  pub sight_made : (j : ℕ) (x : Sight E) (n : ℕ) → IsSight s j x → among x.numbers n ≡ true → n < length s.views
+  sight_made j x n at e = let below = ((sees j x at).owned n e).1 in let count = r.2.counted in omega (arith, below, count)
+
+  pub told_apart : (j : ℕ) (v : View E) (n : ℕ) → IsView s j v → among v.seen.numbers n ≡ true → among v.told.numbers n ≡ false
+  told_apart j v n at e = (r.2.each_view j v at).apart n e
+
+  pub sight_own : (j k : ℕ) (x y : Sight E) → IsSight s j x → IsSight s k y → Begins (own x.numbers y.front) (own x.numbers x.front)
+  sight_own j k x y at at' = own_begins x.numbers y.numbers x.front y.front r.0.log (sees j x at).grows (sees k y at').grows
+
+  pub sight_entries : (j : ℕ) (x : Sight E) → IsSight s j x → All (λ (entry : Entry E). entry.seat < length s.views) x.front
+  sight_entries j x at = let g = (sees j x at).grows in
+      all_back (λ (entry : Entry E). entry.seat < length s.views) g.more x.front
+      (subst (λ (z : Front E). All (λ (entry : Entry E). entry.seat < length s.views) z) g.goes_on (subst (λ (n : ℕ). All (λ (entry : Entry E). entry.seat < n) r.0.log) (sym r.2.counted) r.2.each_entry))
+
+  -- there is a longest front, for which the value at home stands
+  pub longest_exists : (log : Front E) × IsLongest s log
+  longest_exists = (r.0.log, log_longest)
+
+  pub home_and_longest : (state : S) → s.homes ≡ some (Some state) ∷ [] → (log : Front E) × IsLongest s log × stands (events log) state
+  home_and_longest state home = (r.0.log, log_longest, stands_if r.0.line.out state r.2.slot home)
+
+  -- the count of views is nobody's number yet
+  pub nobody_has : (j : ℕ) (x : Sight E) → IsSight s j x → among x.numbers (length s.views) ≡ false
+  nobody_has j x at = false_from_ne_true (among x.numbers (length s.views)) (λ e. let below = sight_made j x (length s.views) at e in absurd (omega (arith, below)))
+
+  pub no_entries_yet : (j : ℕ) (x : Sight E) → IsSight s j x → own (length s.views ∷ []) x.front ≡ []
+  no_entries_yet j x at = own_of_new (length s.views) x.front (sight_entries j x at)

@@ -9,63 +9,119 @@ ghost use Rattle.turn_lock.specs.declared.views.View.{View};
 ghost use Rattle.turn_lock.specs.Fronts.{Front, among, events, made, own};
 ghost use Rattle.turn_lock.specs.Rule.{Ruled};
 ghost use Rattle.turn_lock.specs.Seats.{SeatOf, front, numbers, Turned, Joined};
-ghost use Rattle.turn_lock.specs.Sentences.{Begins, IsView, HoldsTicket, IsLongest, IsLeast};
+ghost use Rattle.turn_lock.specs.Sentences.{Always, Begins, EntriesWereMade, HoldsTicket, IsLeast, IsLongest, IsView, NextHasNoEntries, NextIsNobodys, NumbersHaveOneSeat, NumbersHaveTheirEntries, NumbersWereMade, SeenAndToldAreApart, SightsAreOfOneHistory, StandsForLongest, with_newcomer};
 
 use crate::logged::{Logged, TurnCall};
 
 /// Of two fronts one is the beginning of the other.
 pub fn fronts_are_of_one_history<S: Logged>()
-    ensures { (s : State (Option S) (View S.Event)) (j k : ℕ) (v w : View S.Event) → Ruled S.stands s → IsView s j v → IsView s k w → Begins v.seen.front w.seen.front ⊎ Begins w.seen.front v.seen.front }
+    ensures { (s : State (Option S) (View S.Event)) (j k : ℕ) (v w : View S.Event)
+        → Ruled S.stands s → IsView s j v → IsView s k w
+        → Begins v.seen.front w.seen.front ⊎ Begins w.seen.front v.seen.front }
 {}
 
 /// No number is in two views. Each number was made: it is less than the number of views.
 pub fn a_number_is_in_one_view<S: Logged>()
-    ensures one_view { (s : State (Option S) (View S.Event)) (j k : ℕ) (v w : View S.Event) (n : ℕ) → Ruled S.stands s → IsView s j v → IsView s k w → among v.seen.numbers n ≡ true → among w.seen.numbers n ≡ true → j ≡ k }
-    ensures was_made { (s : State (Option S) (View S.Event)) (j : ℕ) (v : View S.Event) (n : ℕ) → Ruled S.stands s → IsView s j v → among v.seen.numbers n ≡ true → n < length s.views }
+    ensures one_view { (s : State (Option S) (View S.Event)) (j k : ℕ) (v w : View S.Event) (n : ℕ)
+        → Ruled S.stands s → IsView s j v → IsView s k w → among v.seen.numbers n ≡ true
+        → among w.seen.numbers n ≡ true → j ≡ k }
+    ensures was_made { (s : State (Option S) (View S.Event)) (j : ℕ) (v : View S.Event) (n : ℕ)
+        → Ruled S.stands s → IsView s j v → among v.seen.numbers n ≡ true → n < length s.views }
 {}
 
 /// No front holds an entry with a view's number that this view's own front lacks, nor one with a number that wasn't
 /// made yet.
 pub fn a_view_has_all_entries_of_its_numbers<S: Logged>()
-    ensures own_entries { (s : State (Option S) (View S.Event)) (j k : ℕ) (v w : View S.Event) → Ruled S.stands s → IsView s j v → IsView s k w → Begins (own v.seen.numbers w.seen.front) (own v.seen.numbers v.seen.front) }
-    ensures made_before { (s : State (Option S) (View S.Event)) (j : ℕ) (v : View S.Event) → Ruled S.stands s → IsView s j v → All (λ (entry : Entry S.Event). entry.seat < length s.views) v.seen.front }
+    ensures own_entries { (s : State (Option S) (View S.Event)) (j k : ℕ) (v w : View S.Event)
+        → Ruled S.stands s → IsView s j v → IsView s k w
+        → Begins (own v.seen.numbers w.seen.front) (own v.seen.numbers v.seen.front) }
+    ensures made_before { (s : State (Option S) (View S.Event)) (j : ℕ) (v : View S.Event)
+        → Ruled S.stands s → IsView s j v
+        → All (λ (entry : Entry S.Event). entry.seat < length s.views) v.seen.front }
 {}
 
 /// Word 1 is at most word 0. The tickets held are the numbers from word 1 up to word 0, each held by one view.
 pub fn each_ticket_is_held_once<S: Logged>()
-    ensures counted { (s : State (Option S) (View S.Event)) → Ruled S.stands s → slice_index s.words 1 ≤ slice_index s.words 0 }
-    ensures held { (s : State (Option S) (View S.Event)) (t : ℕ) → Ruled S.stands s → slice_index s.words 1 ≤ t → t < slice_index s.words 0 → (j : ℕ) × HoldsTicket s j t }
-    ensures waiting { (s : State (Option S) (View S.Event)) (j t : ℕ) → Ruled S.stands s → HoldsTicket s j t → (slice_index s.words 1 ≤ t) × (t < slice_index s.words 0) }
-    ensures once { (s : State (Option S) (View S.Event)) (j k t : ℕ) → Ruled S.stands s → HoldsTicket s j t → HoldsTicket s k t → j ≡ k }
+    ensures counted { (s : State (Option S) (View S.Event)) → Ruled S.stands s
+        → slice_index s.words 1 ≤ slice_index s.words 0 }
+    ensures held { (s : State (Option S) (View S.Event)) (t : ℕ) → Ruled S.stands s
+        → slice_index s.words 1 ≤ t → t < slice_index s.words 0 → (j : ℕ) × HoldsTicket s j t }
+    ensures waiting { (s : State (Option S) (View S.Event)) (j t : ℕ) → Ruled S.stands s
+        → HoldsTicket s j t → (slice_index s.words 1 ≤ t) × (t < slice_index s.words 0) }
+    ensures once { (s : State (Option S) (View S.Event)) (j k t : ℕ) → Ruled S.stands s
+        → HoldsTicket s j t → HoldsTicket s k t → j ≡ k }
 {}
 
 /// At most one view has the turn. Its ticket is word 1, it has the longest front, and the slot is out.
 pub fn one_view_has_the_turn<S: Logged>()
-    ensures one { (s : State (Option S) (View S.Event)) (j k t u : ℕ) (v w : View S.Event) → Ruled S.stands s → IsView s j v → IsView s k w → v.stage ≡ HasTurn t → w.stage ≡ HasTurn u → j ≡ k }
-    ensures served { (s : State (Option S) (View S.Event)) (j t : ℕ) (v : View S.Event) → Ruled S.stands s → IsView s j v → v.stage ≡ HasTurn t → t ≡ slice_index s.words 1 }
-    ensures longest { (s : State (Option S) (View S.Event)) (j t : ℕ) (v : View S.Event) → Ruled S.stands s → IsView s j v → v.stage ≡ HasTurn t → IsLongest s v.seen.front }
-    ensures slot_out { (s : State (Option S) (View S.Event)) (j t : ℕ) (v : View S.Event) → Ruled S.stands s → IsView s j v → v.stage ≡ HasTurn t → s.homes ≡ none ∷ [] }
+    ensures one { (s : State (Option S) (View S.Event)) (j k t u : ℕ) (v w : View S.Event)
+        → Ruled S.stands s → IsView s j v → IsView s k w → v.stage ≡ HasTurn t → w.stage ≡ HasTurn u
+        → j ≡ k }
+    ensures served { (s : State (Option S) (View S.Event)) (j t : ℕ) (v : View S.Event)
+        → Ruled S.stands s → IsView s j v → v.stage ≡ HasTurn t → t ≡ slice_index s.words 1 }
+    ensures longest { (s : State (Option S) (View S.Event)) (j t : ℕ) (v : View S.Event)
+        → Ruled S.stands s → IsView s j v → v.stage ≡ HasTurn t → IsLongest s v.seen.front }
+    ensures slot_out { (s : State (Option S) (View S.Event)) (j t : ℕ) (v : View S.Event)
+        → Ruled S.stands s → IsView s j v → v.stage ≡ HasTurn t → s.homes ≡ none ∷ [] }
 {}
 
 /// While no view has the turn the slot is at home, with a value that stands for the longest front.
 pub fn the_value_at_home_stands_for_the_longest_front<S: Logged>()
-    ensures at_home { (s : State (Option S) (View S.Event)) → Ruled S.stands s → ((j t : ℕ) (v : View S.Event) → IsView s j v → v.stage ≢ HasTurn t) → (state : S) × (s.homes ≡ some (Some state) ∷ []) }
-    ensures stands { (s : State (Option S) (View S.Event)) (state : S) (log : Front S.Event) → Ruled S.stands s → s.homes ≡ some (Some state) ∷ [] → IsLongest s log → S.stands (events log) state }
+    ensures at_home { (s : State (Option S) (View S.Event)) → Ruled S.stands s
+        → ((j t : ℕ) (v : View S.Event) → IsView s j v → v.stage ≢ HasTurn t)
+        → (state : S) × (s.homes ≡ some (Some state) ∷ []) }
+    ensures stands { (s : State (Option S) (View S.Event)) (state : S) (log : Front S.Event)
+        → Ruled S.stands s → s.homes ≡ some (Some state) ∷ [] → IsLongest s log
+        → S.stands (events log) state }
+{}
+
+/// There is a longest front at all times. While the slot is at home its value stands for it.
+pub fn a_longest_front_exists<S: Logged>()
+    ensures exists { Always S.stands (λ s. (log : Front S.Event) × IsLongest s log) }
+    ensures at_home { Always S.stands (λ s. StandsForLongest s S.stands) }
+{}
+
+/// A new seat's number is the count of views before it came: with that number the rule holds of one view more. Nobody had
+/// the number, and no entry was made with it.
+pub fn a_new_seat_is_numbered_by_the_count<S: Logged>()
+    ensures comes { Always S.stands (λ s. Ruled S.stands (with_newcomer s)) }
+    ensures nobody_has { Always S.stands (λ s. NextIsNobodys s) }
+    ensures no_entries { Always S.stands (λ s. NextHasNoEntries s) }
+{}
+
+/// What a seat was only told of another obeys the rule as what it has seen: fronts are of one history, a number is with one
+/// seat and was made, and no front holds an entry of a number that the front beside the number lacks.
+pub fn what_a_seat_was_told_obeys_the_rule<S: Logged>()
+    ensures one_history { Always S.stands (λ s. SightsAreOfOneHistory s) }
+    ensures one_seat { Always S.stands (λ s. NumbersHaveOneSeat s) }
+    ensures apart { Always S.stands (λ s. SeenAndToldAreApart s) }
+    ensures was_made { Always S.stands (λ s. NumbersWereMade s) }
+    ensures own_entries { Always S.stands (λ s. NumbersHaveTheirEntries s) }
+    ensures made_before { Always S.stands (λ s. EntriesWereMade s) }
 {}
 
 /// An entry is made with the least of its seat's numbers.
 pub fn an_entry_has_the_least_number<S: Logged>()
-    ensures { (ns : List ℕ) (n : ℕ) (event : S.Event) → among ns n ≡ true → IsLeast ns (made ns (Some event)) }
+    ensures { (ns : List ℕ) (n : ℕ) (event : S.Event) → among ns n ≡ true
+        → IsLeast ns (made ns (Some event)) }
 {}
 
 /// Of the seat's own entries a turn adds the one of its event, if there is one, and changes no other.
 pub fn a_turn_adds_its_own_entry_alone<S: Logged, C: TurnCall<S>>()
-    ensures { (call after : C) (reply : C.Reply) (came went : SeatOf S S.Event) (n : ℕ) → among (numbers came) n ≡ true → Turned (C.entry call reply) (λ history. C.gives call history reply after) came went → own (numbers came) (front went) ≡ made (numbers came) (C.entry call reply) ++ own (numbers came) (front came) }
+    ensures { (call after : C) (reply : C.Reply) (came went : SeatOf S S.Event) (n : ℕ)
+        → among (numbers came) n ≡ true
+        → Turned (C.entry call reply) (λ history. C.gives call history reply after) came went
+        → own (numbers came) (front went)
+        ≡ made (numbers came) (C.entry call reply) ++ own (numbers came) (front came) }
 {}
 
 /// A joined seat has the own entries of both seats, and they are the same that each had.
 pub fn a_joined_seat_owns_the_entries_of_both<S: Logged>()
-    ensures of_one { (one other both : SeatOf S S.Event) → Joined one other both → own (numbers one) (front both) ≡ own (numbers one) (front one) }
-    ensures of_other { (one other both : SeatOf S S.Event) → Joined one other both → own (numbers other) (front both) ≡ own (numbers other) (front other) }
-    ensures either { (one other both : SeatOf S S.Event) (entry : Entry S.Event) → Joined one other both → among (numbers both) entry.seat ≡ true ↔ ((among (numbers one) entry.seat ≡ true) ⊎ (among (numbers other) entry.seat ≡ true)) }
+    ensures of_one { (one other both : SeatOf S S.Event) → Joined one other both
+        → own (numbers one) (front both) ≡ own (numbers one) (front one) }
+    ensures of_other { (one other both : SeatOf S S.Event) → Joined one other both
+        → own (numbers other) (front both) ≡ own (numbers other) (front other) }
+    ensures either { (one other both : SeatOf S S.Event) (entry : Entry S.Event)
+        → Joined one other both → among (numbers both) entry.seat ≡ true
+        ↔ ((among (numbers one) entry.seat ≡ true) ⊎ (among (numbers other) entry.seat ≡ true)) }
 {}

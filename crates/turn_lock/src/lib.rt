@@ -14,10 +14,11 @@ mod turn;
 mod views;
 
 pub use laws::{
-    a_joined_seat_owns_the_entries_of_both, a_number_is_in_one_view,
-    a_turn_adds_its_own_entry_alone, a_view_has_all_entries_of_its_numbers,
-    an_entry_has_the_least_number, each_ticket_is_held_once, fronts_are_of_one_history,
-    one_view_has_the_turn, the_value_at_home_stands_for_the_longest_front,
+    a_joined_seat_owns_the_entries_of_both, a_longest_front_exists,
+    a_new_seat_is_numbered_by_the_count, a_number_is_in_one_view, a_turn_adds_its_own_entry_alone,
+    a_view_has_all_entries_of_its_numbers, an_entry_has_the_least_number, each_ticket_is_held_once,
+    fronts_are_of_one_history, one_view_has_the_turn,
+    the_value_at_home_stands_for_the_longest_front, what_a_seat_was_told_obeys_the_rule,
 };
 pub use lock::{Seat, TurnLock};
 pub use logged::{Logged, TurnCall};

@@ -24,6 +24,8 @@ pub trait TurnCall<S: Logged> {
 
     /// Does it. Afterwards the value stands for the event made and those before.
     fn run(&mut self, state: &mut S) -> Self::Reply
-        ensures stands { (history : List S.Event) → S.stands history state.old → S.stands (option_to_list (entry self.old result) ++ history) state.new }
-        ensures gives { (history : List S.Event) → S.stands history state.old → gives self.old history result self.new };
+        ensures stands { (history : List S.Event) → S.stands history state.old
+            → S.stands (option_to_list (entry self.old result) ++ history) state.new }
+        ensures gives { (history : List S.Event) → S.stands history state.old
+            → gives self.old history result self.new };
 }

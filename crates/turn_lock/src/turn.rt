@@ -37,7 +37,8 @@ impl<S: Logged> TurnLock<S> {
 
     // Waits until the ticket is served, and then has the turn.
     fn await_turn<R: Wait>(&self, rt: &R, seat: &mut Seat<S>, ticket: u64)
-        requires { (seat.old.table_id ≡ self.now.table.shared.table_id) × (seat.old.me.0.stage ≡ Waits ticket) }
+        requires { (seat.old.table_id ≡ self.now.table.shared.table_id)
+            × (seat.old.me.0.stage ≡ Waits ticket) }
         ensures same { IsSame seat.old seat.new }
         ensures took { Took S.stands ticket seat.old.me seat.new.me }
     {
@@ -59,7 +60,8 @@ impl<S: Logged> TurnLock<S> {
         requires value { HoldsValue S.stands seat.old (events (front seat.old)) }
         ensures same { IsSame seat.old seat.new }
         ensures view { seat.new.me.0 ≡ seat.old.me.0 }
-        ensures value { HoldsValue S.stands seat.new (option_to_list (C.entry call.old result) ++ events (front seat.old)) }
+        ensures value { HoldsValue S.stands seat.new (option_to_list (C.entry call.old result)
+            ++ events (front seat.old)) }
         ensures gives { C.gives call.old (events (front seat.old)) result call.new }
     {
         let mut state = self.table.shared.exchange(seat, VALUE, None).unwrap();
@@ -79,10 +81,12 @@ impl<S: Logged> TurnLock<S> {
     )
         requires table { seat.old.table_id ≡ self.now.table.shared.table_id }
         requires event { N.event ≡ C.entry _before.now.value _reply.now }
-        requires value { HoldsValue S.stands seat.old (option_to_list (C.entry _before.now.value _reply.now) ++ events (front seat.old)) }
+        requires value { HoldsValue S.stands seat.old
+            (option_to_list (C.entry _before.now.value _reply.now) ++ events (front seat.old)) }
         requires numbered { (number : ℕ) × (among (numbers seat.old) number ≡ true) }
         ensures same { IsSame seat.old seat.new }
-        ensures gave { seat.new.me ≡ (after_turn seat.old.me.0 (C.entry _before.now.value _reply.now), []) }
+        ensures gave { seat.new.me
+            ≡ (after_turn seat.old.me.0 (C.entry _before.now.value _reply.now), []) }
     {
         self.table.shared.fetch_add::<Give<N>>(seat, GIVEN, 1);
         self.table.shared.wake_all(GIVEN);
@@ -100,7 +104,8 @@ impl<S: Logged> TurnLock<S> {
     ) -> (Seat<S>, C::Reply)
         requires { IsSeatOf self.now seat }
         ensures seat { IsSeatOf self.now result.0 }
-        ensures turned { Turned (C.entry call.old result.1) (λ history. C.gives call.old history result.1 call.new) seat result.0 }
+        ensures turned { Turned (C.entry call.old result.1)
+            (λ history. C.gives call.old history result.1 call.new) seat result.0 }
     {
         let ticket = self.draw(rt, &mut seat);
         self.await_turn(rt, &mut seat, ticket);

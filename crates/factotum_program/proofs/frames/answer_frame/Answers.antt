@@ -1,8 +1,9 @@
-use Rattle.std.proofs.Common.{suc, length, ◌∷◌, arith, sym, subst, append-nil}
+use Rattle.std.proofs.Common.{length, ◌∷◌, arith, sym, subst, append-nil}
 use Rattle.std.proofs.lemmas.Result.{err_from_is_err_and, on_ok_weaker, IfErr-weaker}
-use Rattle.wire_base.specs.Streams.{Gains}
+use Rattle.wire_streams.specs.Streams.{Gains}
 use Rattle.agent_history.specs.declared.event.Event.TheVariants.{Request}
-use Rattle.agent_history.specs.Histories.{History, untaken}
+use Rattle.agent_history.specs.Replies.{untaken}
+use Rattle.agent_history.specs.Histories.{History, deeds}
 use Rattle.factotum_program.specs.Pipe.{after_frame, zeros, text_of}
 use Rattle.factotum_program.proofs.TakeLemmas.{frame_grows}
 use Rattle.factotum_program.proofs.PartLemmas.{part_none}
@@ -19,10 +20,10 @@ pub returns-clause-ok : goal.returns-clause-ok
 unfolding after_frame
 returns-clause-ok g c = on_ok_weaker c.take_all.result (λ h origin H stands told.
     let asked : History = Request 0 c.args.frame zeros ∷ H in
-    h origin asked (suc (length (untaken asked 0))) (c.in_ok-ask.ensures.stands H stands) (omega arith) (subst (Gains origin (g.W.Sink.holds c.args.output.now)) (sym (append-nil (text_of H))) told)) c.take_all.ensures.ok
+    h origin asked (length (untaken (deeds asked) 0)) (c.in_ok-ask.ensures.stands H stands) (omega arith) (subst (Gains origin (g.W.Sink.holds c.args.output.now)) (sym (append-nil (text_of H))) told)) c.take_all.ensures.ok
 
 pub returns-clause-part : goal.returns-clause-part
 unfolding after_frame
 returns-clause-part g c = IfErr-weaker c.take_all.result _ _ (λ status h origin H stands told.
     let asked : History = Request 0 c.args.frame zeros ∷ H in
-    h origin asked (suc (length (untaken asked 0))) (c.in_ok-ask.ensures.stands H stands) (omega arith) (subst (Gains origin (g.W.Sink.holds c.args.output.now)) (sym (append-nil (text_of H))) told)) c.take_all.ensures.part
+    h origin asked (length (untaken (deeds asked) 0)) (c.in_ok-ask.ensures.stands H stands) (omega arith) (subst (Gains origin (g.W.Sink.holds c.args.output.now)) (sym (append-nil (text_of H))) told)) c.take_all.ensures.part

@@ -1,4 +1,4 @@
-use Rattle.std.proofs.Common.{◌+◌, ◌-◌, ◌++◌, take, drop, refl, arith}
+use Rattle.std.proofs.Common.{◌++◌, take, drop, refl, arith}
 use Rattle.std.proofs.lemmas.Result.{err_from_is_err_and}
 use Rattle.factotum_program.proofs.PipeLemmas.{reads_part, behind_some, flooded, stop_ends, taken_there}
 use Rattle.factotum_program.proofs.pipe.answer_piece.Goals as goal

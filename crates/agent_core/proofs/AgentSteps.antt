@@ -1,0 +1,52 @@
+-- What is told of a history after one more event that doesn't stop the agent.
+use Rattle.std.proofs.Common.{◌≡◌, ◌≢◌, ℕ, ◌+◌, ◌<◌, List, [], ◌∷◌, map, Bool, true, false, not, ◌&&◌, length, Option, Some, None, refl, ap, ◌∙◌, inl, inr, arith}
+use Rattle.std.proofs.lemmas.Bool.{cases_Bool, lt-ltb}
+use Rattle.agent_history.specs.declared.event.Event.{Event}
+use Rattle.nine_messages.specs.declared.message.RMsg.{RMsg}
+use Rattle.nine_messages.specs.Messages.{r_frame}
+use Rattle.agent_history.specs.Deeds.{is_halted, was_hung}
+use Rattle.agent_history.specs.Replies.{untaken}
+use Rattle.mailboxes.specs.Deliveries.{replies_at}
+use Rattle.agent_core.specs.declared.connection.Connection.{Connection}
+use Rattle.agent_core.specs.Connections.{is_hung}
+use Rattle.agent_history.specs.Histories.{History, has_stopped, most_events, deeds, does, answer, first_reply, is_reply}
+use Rattle.agent_history.specs.declared.event.Event.TheVariants.{Take}
+use Rattle.agent_core.specs.declared.agent.State.{State}
+use Rattle.agent_core.specs.declared.agent.State.TheVariants.{Runs, Stopped}
+use Rattle.agent_core.specs.Events.{is_stop, phase_at, gives_reply, is_some_left}
+use Rattle.agent_core.specs.Agents.{StandsBy, TakesOneIn, connection_at, replies_in, gives_in}
+use Rattle.agent_core.proofs.EventSteps.{runs_on}
+
+pub goes_on : (H : History) (event : Event) (count : ℕ) → has_stopped H ≡ false → count ≡ length H → count < most_events → count + 1 ≢ most_events → deeds (event ∷ H) ≡ does (deeds H) event
+goes_on H event count running counted few more =
+    let below : length H + 1 < most_events = omega (arith, counted, few, more) in
+    rw (running, lt-ltb (length H + 1) most_events below) refl
+
+-- a take that gave a reply leaves fewer
+pub takes_fewer : (conn : ℕ) (old new : State) → TakesOneIn (Take conn) old new → length (replies_in new conn) < length (replies_in old conn)
+takes_fewer conn (Runs old) (Runs new) one = omega (arith, one)
+takes_fewer conn (Runs old) Stopped had = had
+takes_fewer conn Stopped new none = absurd none
+
+pub runs_still : (H : History) (event : Event) → has_stopped H ≡ false → is_stop event ≡ false → deeds (event ∷ H) ≡ does (deeds H) event → has_stopped (event ∷ H) ≡ false
+runs_still H event running no_stop next = ap is_halted next ∙ runs_on (deeds H) event running no_stop
+
+-- ---- whether a take is answered by a reply
+
+gives_by : (o : Option Connection) (replies : List (List ℕ)) (hung : Bool) → is_hung (phase_at o) ≡ hung → gives_reply o replies ≡ (not hung && is_some_left replies)
+gives_by None replies hung e = rw (← e) refl
+gives_by (Some c) replies hung e = rw e refl
+
+left_is : (ms : List RMsg) (replies : List (List ℕ)) → replies ≡ map r_frame ms → is_some_left replies ≡ is_reply (first_reply ms).0
+left_is [] replies e = ap is_some_left e
+left_is (m ∷ ms) replies e = ap is_some_left e
+
+pub gives_told : (H : History) (conn : ℕ) (state : State) → StandsBy H state → gives_in (Take conn) state ≡ is_reply (answer H (Take conn)).0
+gives_told H conn Stopped h = rw h refl
+gives_told H conn (Runs r) h =
+    let s = h.lives.connections conn in
+    elim (cases_Bool (was_hung (deeds H) conn)) [
+      | inl hung ↦ rw (h.running, hung) (gives_by (connection_at r conn) (replies_at r.shared.mailboxes conn) true (s.hung ∙ hung))
+      | inr live ↦ rw (h.running, live) (gives_by (connection_at r conn) (replies_at r.shared.mailboxes conn) false (s.hung ∙ live)
+          ∙ left_is (untaken (deeds H) conn) (replies_at r.shared.mailboxes conn) (h.lives.shares.mail.mails conn live).replies)
+    ]

@@ -1,0 +1,4 @@
+use Rattle.agent_core.proofs.connection.Connection.renew.Goals as goal
+
+pub returns-clause-shares : goal.returns-clause-shares
+returns-clause-shares c = λ done msize h. record { ring = h.ring; holders = c.leave.ensures.version done msize h.holders; mail = c.drop_waits.ensures.delivers done msize h.mail }

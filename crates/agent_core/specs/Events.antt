@@ -1,0 +1,157 @@
+-- What an event does to what is kept of the connections, and to what they share.
+use Rattle.std.specs.Prelude.{◌≡◌, ℕ, ◌≤◌, ◌<◌, ◌+◌, List, [], ◌∷◌, ◌++◌, length, Bool, true, false, not, ◌&&◌, ◌⊎◌, nat_eq, Option, Some, None}
+use Rattle.std.specs.List.{list_any}
+use Rattle.std.specs.Ordering.{nat_cmp}
+use Rattle.std.specs.BTreeMap.{BTreeMap, get}
+use Rattle.nine_messages.specs.Decoding.{IsFrame}
+use Rattle.agent_history.specs.declared.event.Event.{Event}
+use Rattle.agent_history.specs.declared.event.Event.TheVariants.{Request, Hang, Answer, Take, TakeAsk, Stop}
+use Rattle.agent_history.specs.declared.event.StepAnswer.{StepAnswer}
+use Rattle.agent_history.specs.Deeds.{Deed, was_opened, was_hung, msize_of, fid_of, held_by, text_of, is_halted}
+use Rattle.agent_history.specs.Histories.{History, deeds, does, answer_after}
+use Rattle.mailboxes.specs.Deliveries.{KeepsNone, replies_at}
+use Rattle.agent_core.specs.declared.connection.Phase.{Phase}
+use Rattle.agent_core.specs.declared.connection.Phase.TheVariants.{Fresh}
+use Rattle.agent_core.specs.declared.connection.Connection.{Connection}
+use Rattle.agent_core.specs.declared.shared.Shared.{Shared}
+use Rattle.agent_core.specs.Connections.{Keeps, SameKept, Shares, IsFresh, IsHungUp, is_opened, is_hung}
+
+-- ---- connections
+
+-- what is kept of a number; of one that isn't known, what would be kept of a fresh connection
+abbrev pub phase_at : Option Connection → Phase
+phase_at None = Fresh
+phase_at (Some c) = c.phase
+
+pub record KeepsNothing (done : List Deed) (conn : ℕ) : Type 0 where
+  pub live : was_hung done conn ≡ false
+  pub msize : msize_of done conn ≡ None
+  pub fids : (fid : ℕ) → fid_of done conn fid ≡ None
+  pub held : held_by done conn ≡ 0
+  pub texts : (fid : ℕ) → text_of done conn fid ≡ []
+
+abbrev pub KeepsAt : List Deed → ℕ → Option Connection → Type 0
+KeepsAt done conn None = KeepsNothing done conn
+KeepsAt done conn (Some c) = Keeps done conn c
+
+-- what is kept of a connection is what the deeds tell of it; of one that was hung up, that it was
+pub record Stands (done : List Deed) (conn : ℕ) (o : Option Connection) : Type 0 where
+  pub opened : is_opened (phase_at o) ≡ was_opened done conn
+  pub hung : is_hung (phase_at o) ≡ was_hung done conn
+  pub keeps : was_hung done conn ≡ false → KeepsAt done conn o
+
+-- the connection of a number
+abbrev pub known : BTreeMap ℕ Connection → ℕ → Option Connection
+known connections conn = get nat_cmp connections conn
+
+abbrev pub AllStand : List Deed → (ℕ → Option Connection) → Type 0
+AllStand done at = (conn : ℕ) → Stands done conn (at conn)
+
+-- ---- agents
+
+-- what is kept of one connection, and what all share
+pub record Serves (done : List Deed) (conn : ℕ) (c : Connection) (s : Shared) : Type 0 where
+  pub stands : Stands done conn (Some c)
+  pub shares : Shares done s
+
+-- what is kept of all connections, and what they share
+pub record Lives (done : List Deed) (at : ℕ → Option Connection) (s : Shared) : Type 0 where
+  pub shares : Shares done s
+  pub connections : AllStand done at
+
+-- what lived lives after the event
+abbrev pub LivesOn : Event → (ℕ → Option Connection) → Shared → (ℕ → Option Connection) → Shared → Type 0
+LivesOn event old s new u = (done : List Deed) → Lives done old s → Lives (does done event) new u
+
+-- ---- what stays
+
+-- the same is kept of a number; where nothing was, a connection of which nothing is known is the same
+abbrev pub SameAt : Option Connection → Option Connection → Type 0
+SameAt None None = Unit {0}
+SameAt None (Some c) = IsFresh c
+SameAt (Some c) None = ⊥
+SameAt (Some c) (Some d) = SameKept c d
+
+abbrev pub SameEach : (ℕ → Option Connection) → (ℕ → Option Connection) → Type 0
+SameEach old new = (conn : ℕ) → SameAt (old conn) (new conn)
+
+-- ---- events
+
+-- an event that may come: a frame is whole, an answer of the authentication server has at most 160 bytes
+abbrev pub IsEvent : Event → Type 0
+IsEvent (Request conn frame word) = IsFrame frame
+IsEvent (Answer call bytes) = length bytes ≤ 160
+IsEvent event = Unit {0}
+
+abbrev pub is_stop : Event → Bool
+is_stop Stop = true
+is_stop event = false
+
+-- what an event is answered after some deeds, and what is put behind what was put out before
+pub record AnswersAfter (done : List Deed) (event : Event) (a : StepAnswer) (old new : List ℕ) : Type 0 where
+  pub answer : a ≡ (answer_after done event).0
+  pub out : new ≡ old ++ (answer_after done event).1
+
+-- while nothing stopped, it is answered so
+abbrev pub AnswersFor : Event → (ℕ → Option Connection) → Shared → StepAnswer → List ℕ → List ℕ → Type 0
+AnswersFor event at s a old new = (done : List Deed) → is_halted done ≡ false → Lives done at s → AnswersAfter done event a old new
+
+abbrev pub Answers : History → Event → StepAnswer → List ℕ → List ℕ → Type 0
+Answers history event a old new = AnswersAfter (deeds history) event a old new
+
+-- something is kept of the connection, and there is no reply to take: it was hung up, or none is left
+abbrev pub FindsNone : Option Connection → List (List ℕ) → Type 0
+FindsNone None replies = ⊥
+FindsNone (Some c) replies = (is_hung c.phase ≡ true) ⊎ (replies ≡ [])
+
+-- the numbers of the questions for the authentication server that are out; none is raised yet
+abbrev pub questions : Shared → List ℕ
+questions s = []
+
+-- Events that take no memory: a take that finds no reply on a connection that is known, an answer to a question that isn't
+-- out, a take of a question where none is out, a hang, the want of an answer, and a stop.
+abbrev pub TakesNoneOf : Event → (ℕ → Option Connection) → Shared → Type 0
+TakesNoneOf (Request conn frame word) at s = ⊥
+TakesNoneOf (Take conn) at s = FindsNone (at conn) (replies_at s.mailboxes conn)
+TakesNoneOf (Answer call bytes) at s = list_any (nat_eq call) (questions s) ≡ false
+TakesNoneOf TakeAsk at s = questions s ≡ []
+TakesNoneOf event at s = Unit {0}
+
+-- a take of the connection finds a reply: it isn't hung up, and one is left
+abbrev pub is_some_left : List (List ℕ) → Bool
+is_some_left [] = false
+is_some_left (frame ∷ frames) = true
+
+abbrev pub gives_reply : Option Connection → List (List ℕ) → Bool
+gives_reply None replies = is_some_left replies
+gives_reply (Some c) replies = not (is_hung c.phase) && is_some_left replies
+
+-- an event is answered by a reply
+abbrev pub gives_to : Event → (ℕ → Option Connection) → Shared → Bool
+gives_to (Take conn) at s = gives_reply (at conn) (replies_at s.mailboxes conn)
+gives_to event at s = false
+
+-- there was a reply for a take
+abbrev pub HadOne : Event → Shared → Type 0
+HadOne (Take conn) s = 0 < length (replies_at s.mailboxes conn)
+HadOne event s = ⊥
+
+-- a take that gave a reply leaves one less
+abbrev pub LeavesOneLess : Event → Shared → Shared → Type 0
+LeavesOneLess (Take conn) old new = length (replies_at new.mailboxes conn) + 1 ≡ length (replies_at old.mailboxes conn)
+LeavesOneLess event old new = ⊥
+
+-- ---- memory that is given up
+
+abbrev pub IsHungAt : Option Connection → Type 0
+IsHungAt None = ⊥
+IsHungAt (Some c) = IsHungUp c
+
+-- a connection that was opened, and hung up now: of it nothing is kept but that, no reply, and no read that waits
+abbrev pub HangsUp : ℕ → (ℕ → Option Connection) → (ℕ → Option Connection) → Shared → Type 0
+HangsUp conn old new s = (is_opened (phase_at (old conn)) && not (is_hung (phase_at (old conn)))) ≡ true → IsHungAt (new conn) × KeepsNone s.mailboxes conn
+
+-- a hang gives up what is kept of its connection
+abbrev pub GivesUp : Event → (ℕ → Option Connection) → (ℕ → Option Connection) → Shared → Type 0
+GivesUp (Hang conn) old new s = HangsUp conn old new s
+GivesUp event old new s = Unit {0}

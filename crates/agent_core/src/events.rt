@@ -1,0 +1,253 @@
+// The events on the connections of an agent.
+ghost use Rattle.std.specs.Prelude.{◌≡◌, ◌++◌, [], ◌∷◌, ◌<◌, ◌≤◌, ◌+◌, ◌-◌, ◌^◌, List, ℕ, Option, true, false, None, Some, IsSome, IsOk, IfOk, OnOk, OnErr, length, drop};
+ghost use Rattle.nine_messages.specs.Decoding.{IsFrame};
+ghost use Rattle.agent_history.specs.declared.event.Event.TheVariants as events;
+ghost use Rattle.agent_history.specs.Deeds.{Deed, is_halted};
+ghost use Rattle.agent_history.specs.Requests.{tag_of};
+ghost use Rattle.agent_history.specs.Histories.{does, is_reply};
+ghost use Rattle.mailboxes.specs.Deliveries.{replies_at};
+ghost use Rattle.agent_core.specs.Connections.{SameKept, SameShared};
+ghost use Rattle.agent_core.specs.Events.{AllStand, AnswersAfter, FindsNone, AnswersFor, GivesUp, HangsUp, IsEvent, LeavesOneLess, LivesOn, SameEach, Serves, TakesNoneOf, gives_reply, gives_to, is_stop, known};
+
+use crate::call::Call;
+use crate::connection::Connection;
+use crate::shared::Shared;
+use agent_history::{Event, StepAnswer};
+use std::alloc::Global;
+use std::collections::BTreeMap;
+use wire_base::{Bytes, NoMemory, get_u16};
+
+pub(crate) type Connections = BTreeMap<u64, Connection>;
+
+/// What an event that is carried out is answered.
+pub(crate) type Stepped = Result<StepAnswer, NoMemory>;
+
+// The tag of a frame.
+fn tag_of(frame: &[u8]) -> u16
+    ensures { result ≡ tag_of frame.now }
+{
+    get_u16(frame, 5).unwrap_or(0)
+}
+
+/// Whether an event stops the agent.
+pub(crate) fn is_stop(event: &Event) -> bool
+    ensures { result ≡ is_stop event.now }
+{
+    matches!(event, Event::Stop)
+}
+
+// A frame on a connection: the connection is opened, and the frame is answered, unless it was hung up.
+fn request(
+    alloc: Global,
+    conn: u64,
+    connection: &mut Connection,
+    shared: &mut Shared,
+    frame: &[u8],
+    word: [u8; 8],
+) -> Result<(), NoMemory>
+    requires whole { IsFrame frame.now }
+    requires room { shared.old.ring.ever_added + 8216 < 2 ^ 64 - 1 }
+    ensures serves { OnOk result ((done : List Deed) → Serves done conn connection.old shared.old
+        → Serves (does done (events.Request conn frame.now word)) conn connection.new shared.new) }
+    ensures few { shared.new.ring.ever_added ≤ shared.old.ring.ever_added + 8216 }
+    ensures err { OnErr result (SameKept connection.old connection.new) }
+    ensures err_shared { OnErr result (SameShared shared.old shared.new) }
+{
+    if connection.is_hung() {
+        return Ok(());
+    }
+    let call = Call {
+        alloc,
+        conn,
+        tag: tag_of(frame),
+        word,
+    };
+    connection.serve(call, shared, frame)?;
+    connection.enter();
+    shared.mailboxes.sweep();
+    Ok(())
+}
+
+// A take on a connection: its oldest reply is put out, if there is one.
+fn take(conn: u64, connection: &mut Connection, shared: &mut Shared, out: &mut Bytes) -> Stepped
+    ensures serves { OnOk result ((done : List Deed) → Serves done conn connection.old shared.old
+        → Serves (does done (events.Take conn)) conn connection.new shared.new) }
+    ensures answer { IfOk result (λ a. (done : List Deed) → is_halted done ≡ false
+        → Serves done conn connection.old shared.old
+        → AnswersAfter done (events.Take conn) a out.old out.new) }
+    ensures err { OnErr result ((connection.new ≡ connection.old) × (shared.new ≡ shared.old)
+        × (out.new ≡ out.old)) }
+    ensures ring { shared.new.ring ≡ shared.old.ring }
+    ensures fewer { IfOk result (λ a. is_reply a ≡ true
+        → LeavesOneLess (events.Take conn) shared.old shared.new) }
+    ensures takes_none { FindsNone (Some connection.old) (replies_at shared.old.mailboxes conn)
+        → IsOk result }
+    ensures gives { IfOk result (λ a. is_reply a
+        ≡ gives_reply (Some connection.old) (replies_at shared.old.mailboxes conn)) }
+{
+    if connection.is_hung() {
+        return Ok(StepAnswer::Gone);
+    }
+    let Some(reply) = shared.mailboxes.front(conn) else {
+        connection.enter();
+        return Ok(StepAnswer::NoReply);
+    };
+    reply.put(out)?;
+    connection.enter();
+    shared.mailboxes.pop(conn);
+    Ok(StepAnswer::Reply)
+}
+
+// A hang: a connection that was opened is hung up, and the memory that was kept for it is given up.
+fn hang(alloc: Global, conn: u64, connection: &mut Connection, shared: &mut Shared)
+    ensures serves { (done : List Deed) → Serves done conn connection.old shared.old
+        → Serves (does done (events.Hang conn)) conn connection.new shared.new }
+    ensures ring { shared.new.ring ≡ shared.old.ring }
+    ensures gives_up { (old new : ℕ → Option Connection) → old conn ≡ Some connection.old
+        → new conn ≡ Some connection.new → HangsUp conn old new shared.new }
+{
+    if connection.is_open() {
+        *connection = Connection::hung_up(alloc);
+        shared.leave(conn);
+    }
+}
+
+// Something is kept of a connection from now on.
+fn add(alloc: Global, connections: &mut Connections, conn: u64) -> Result<(), NoMemory>
+    requires { known connections.old conn ≡ None }
+    ensures known { OnOk result (IsSome (known connections.new conn)) }
+    ensures stands { (done : List Deed) → AllStand done (known connections.old)
+        → AllStand done (known connections.new) }
+    ensures same { SameEach (known connections.old) (known connections.new) }
+{
+    connections.insert(conn, Connection::new(alloc))?;
+    Ok(())
+}
+
+// A frame on a connection of this number.
+fn request_at(
+    alloc: Global,
+    connections: &mut Connections,
+    shared: &mut Shared,
+    conn: u64,
+    frame: &[u8],
+    word: [u8; 8],
+) -> Result<(), NoMemory>
+    requires whole { IsFrame frame.now }
+    requires room { shared.old.ring.ever_added + 8216 < 2 ^ 64 - 1 }
+    ensures lives { OnOk result (LivesOn (events.Request conn frame.now word)
+        (known connections.old) shared.old (known connections.new) shared.new) }
+    ensures few { shared.new.ring.ever_added ≤ shared.old.ring.ever_added + 8216 }
+    ensures err { OnErr result (SameEach (known connections.old) (known connections.new)) }
+    ensures err_shared { OnErr result (SameShared shared.old shared.new) }
+{
+    if let Some(connection) = connections.get_mut(&conn) {
+        return request(alloc, conn, connection, shared, frame, word);
+    }
+    add(alloc, connections, conn)?;
+    let Some(connection) = connections.get_mut(&conn) else {
+        unreachable!()
+    };
+    request(alloc, conn, connection, shared, frame, word)
+}
+
+// A take on a connection of this number.
+fn take_at(
+    alloc: Global,
+    connections: &mut Connections,
+    shared: &mut Shared,
+    conn: u64,
+    out: &mut Bytes,
+) -> Stepped
+    ensures lives { OnOk result (LivesOn (events.Take conn)
+        (known connections.old) shared.old (known connections.new) shared.new) }
+    ensures answer { IfOk result (λ a. AnswersFor (events.Take conn)
+        (known connections.old) shared.old a out.old out.new) }
+    ensures ring { shared.new.ring ≡ shared.old.ring }
+    ensures err { OnErr result (SameEach (known connections.old) (known connections.new)) }
+    ensures err_shared { OnErr result (shared.new ≡ shared.old) }
+    ensures err_out { OnErr result (out.new ≡ out.old) }
+    ensures fewer { IfOk result (λ a. is_reply a ≡ true
+        → LeavesOneLess (events.Take conn) shared.old shared.new) }
+    ensures takes_none { FindsNone (known connections.old conn)
+        (replies_at shared.old.mailboxes conn) → IsOk result }
+    ensures gives { IfOk result (λ a. is_reply a
+        ≡ gives_reply (known connections.old conn) (replies_at shared.old.mailboxes conn)) }
+{
+    if let Some(connection) = connections.get_mut(&conn) {
+        return take(conn, connection, shared, out);
+    }
+    add(alloc, connections, conn)?;
+    let Some(connection) = connections.get_mut(&conn) else {
+        unreachable!()
+    };
+    take(conn, connection, shared, out)
+}
+
+// A hang of a connection of this number.
+fn hang_at(alloc: Global, connections: &mut Connections, shared: &mut Shared, conn: u64)
+    ensures lives { LivesOn (events.Hang conn)
+        (known connections.old) shared.old (known connections.new) shared.new }
+    ensures ring { shared.new.ring ≡ shared.old.ring }
+    ensures gives_up { HangsUp conn (known connections.old) (known connections.new) shared.new }
+{
+    if let Some(connection) = connections.get_mut(&conn) {
+        hang(alloc, conn, connection, shared);
+    }
+}
+
+/// Whether a take of the connection is answered by a reply.
+pub(crate) fn has_reply(connections: &Connections, shared: &Shared, conn: u64) -> bool
+    ensures { result ≡ gives_reply (known connections.now conn)
+        (replies_at shared.now.mailboxes conn) }
+{
+    if let Some(connection) = connections.get(&conn) {
+        if connection.is_hung() {
+            return false;
+        }
+    }
+    shared.mailboxes.front(conn).is_some()
+}
+
+/// Carries out one event, and puts behind `out` what it gives; a stop changes nothing here.
+pub(crate) fn act(
+    alloc: Global,
+    connections: &mut Connections,
+    shared: &mut Shared,
+    event: &Event,
+    out: &mut Bytes,
+) -> Stepped
+    requires event { IsEvent event.now }
+    requires room { shared.old.ring.ever_added + 8216 < 2 ^ 64 - 1 }
+    ensures lives { OnOk result (is_stop event.now ≡ false → LivesOn event.now
+        (known connections.old) shared.old (known connections.new) shared.new) }
+    ensures answer { IfOk result (λ a. AnswersFor event.now
+        (known connections.old) shared.old a out.old out.new) }
+    ensures few { shared.new.ring.ever_added ≤ shared.old.ring.ever_added + 8216 }
+    ensures err { OnErr result (SameEach (known connections.old) (known connections.new)) }
+    ensures err_shared { OnErr result (SameShared shared.old shared.new) }
+    ensures err_out { OnErr result (out.new ≡ out.old) }
+    ensures fewer { IfOk result (λ a. is_reply a ≡ true
+        → LeavesOneLess event.now shared.old shared.new) }
+    ensures takes_none { TakesNoneOf event.now (known connections.old) shared.old → IsOk result }
+    ensures gives { IfOk result (λ a. is_reply a
+        ≡ gives_to event.now (known connections.old) shared.old) }
+    ensures gives_up { OnOk result (GivesUp event.now (known connections.old)
+        (known connections.new) shared.new) }
+{
+    match event {
+        Event::Request { conn, frame, word } => {
+            request_at(alloc, connections, shared, *conn, frame.as_slice(), *word)?;
+            Ok(StepAnswer::Done)
+        }
+        Event::Take { conn } => take_at(alloc, connections, shared, *conn, out),
+        Event::Hang { conn } => {
+            hang_at(alloc, connections, shared, *conn);
+            Ok(StepAnswer::Done)
+        }
+        Event::TakeAsk => Ok(StepAnswer::NoAsk),
+        Event::Answer { .. } | Event::NoAnswer { .. } | Event::NoRoom { .. } | Event::Stop => {
+            Ok(StepAnswer::Done)
+        }
+    }
+}

@@ -1,5 +1,0 @@
-use Rattle.agent_history.proofs.RefusalLaws.{refused_changes_nothing, refused_is_told, error_changes_nothing}
-use Rattle.agent_history.proofs.laws.a_refused_request_changes_nothing.Goals as goal
-
-pub returns : goal.returns
-returns c = record { nothing = refused_changes_nothing; told = refused_is_told; any_error = error_changes_nothing }

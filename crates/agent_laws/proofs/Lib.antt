@@ -1,0 +1,16 @@
+mod GrowLaws
+mod DeedLaws
+mod FidLaws
+mod HeldLaws
+mod ExclusiveLaws
+mod TextLaws
+mod RefusalLaws
+mod HistoryLaws
+mod ReplyLaws
+mod ToldLaws
+mod FitLaws
+mod HiddenLaws
+mod SecretLaws
+mod AlikeLaws
+mod WriteLaws
+mod ConversationLaws

@@ -1,0 +1,206 @@
+-- Words in which the laws of the definitions are stated: the connection of a deed, the deeds that concern a fid, the
+-- fids that are held, files that are open, lists that stood at one moment, lines up to the first refused one, the
+-- replies that were given and how long they may be, and deeds that differ in secrets alone. After section 5 of the
+-- Plan 9 manual (fids, msize) and factotum(4) (ctl, whose keys are shown without their secrets).
+use Rattle.std.specs.Prelude.{◌≡◌, ℕ, List, [], ◌∷◌, ◌++◌, length, take, map, Bool, true, false, not, ◌&&◌, ◌||◌, ◌==◌, nat_eq, Option, Some, None, is_some, Ok, Err, if◌then◌else◌}
+use Rattle.std.specs.List.{list_any, list_all, IsDistinct}
+use Rattle.nine_messages.specs.declared.message.RMsg.{RMsg}
+use Rattle.nine_messages.specs.declared.message.TBody.{TBody}
+use Rattle.nine_messages.specs.declared.message.TBody.TheVariants as t
+use Rattle.nine_messages.specs.declared.message.RBody.{RBody}
+use Rattle.nine_messages.specs.declared.message.RBody.TheVariants as r
+use Rattle.attr_tuples.specs.declared.attr.Attr.{Attr}
+use Rattle.attr_tuples.specs.Printing.{hidden}
+use Rattle.file_tree.specs.declared.tree.Node.{Node}
+use Rattle.file_tree.specs.declared.tree.Node.TheVariants.{Rpc}
+use Rattle.file_tree.specs.Calls.{is_open, node_of}
+use Rattle.key_lists.specs.Lists.{KeyList, add_fault, tells_secret}
+use Rattle.key_lists.specs.Edits.{KeyEdit, Add, Delete}
+use Rattle.key_lists.specs.Listing.{list_text}
+use Rattle.agent_history.specs.declared.event.Event.{Event}
+use Rattle.agent_history.specs.declared.event.Event.TheVariants.{Request, Hang, Take}
+use Rattle.agent_history.specs.Deeds.{Deed, OfFids, OfKeys, OfReplies, OfConnection, Swept, Halted, Versioned, Attached, Walked, Opened, Listed, Clunked, Edited, Hung, fid_of, held_by, keys_of, names}
+use Rattle.key_lists.specs.CtlLines.{OnKeys, after_lines, line_over, lines_fault, read_line}
+use Rattle.agent_history.specs.Replies.{untaken}
+use Rattle.agent_history.specs.Requests.{Call, body_to, call_of, least_msize, tag_of}
+use Rattle.agent_history.specs.Histories.{History, deeds, answer, is_reply}
+
+-- ---- deeds
+
+-- whether a deed is of the connection: it is about its fids, its lines of ctl or itself; or it is about replies, or a stop
+abbrev pub is_of : ℕ → Deed → Bool
+is_of conn (OfFids at deed) = at == conn
+is_of conn (OfKeys at deed) = at == conn
+is_of conn (OfConnection at deed) = at == conn
+is_of conn deed = true
+
+-- whether it is about replies, or a stop
+abbrev pub is_of_replies : Deed → Bool
+is_of_replies (OfReplies at deed) = true
+is_of_replies Swept = true
+is_of_replies Halted = true
+is_of_replies deed = false
+
+-- some deeds of this kind came to those that were done before, and nothing else changed
+abbrev pub Adds : (Deed → Bool) → List Deed → List Deed → Type 0
+Adds kind before after = (more : List Deed) × (after ≡ more ++ before) × (list_all kind more ≡ true)
+
+-- whether an event is a request, a take or a hang
+abbrev pub has_connection : Event → Bool
+has_connection (Request at frame word) = true
+has_connection (Take at) = true
+has_connection (Hang at) = true
+has_connection event = false
+
+-- whether an event is a request, a take or a hang of this connection
+abbrev pub is_on : ℕ → Event → Bool
+is_on conn (Request at frame word) = at == conn
+is_on conn (Take at) = at == conn
+is_on conn (Hang at) = at == conn
+is_on conn event = false
+
+-- ---- fids
+
+-- whether a deed concerns what a fid of a connection names: a version was answered there, it was hung up, the agent
+-- stopped, or the fid itself was attached, walked to, opened or given up
+abbrev pub concerns : Deed → ℕ → ℕ → Bool
+concerns (OfFids at (Versioned msize)) conn fid = at == conn
+concerns (OfFids at (Attached f)) conn fid = at == conn && f == fid
+concerns (OfFids at (Walked f node)) conn fid = at == conn && f == fid
+concerns (OfFids at (Opened f mode)) conn fid = at == conn && f == fid
+concerns (OfFids at (Clunked f)) conn fid = at == conn && f == fid
+concerns (OfConnection at Hung) conn fid = at == conn
+concerns Halted conn fid = true
+concerns deed conn fid = false
+
+-- none of these deeds concerns it
+abbrev pub none_concerns : List Deed → ℕ → ℕ → Bool
+none_concerns done conn fid = list_all (λ deed. not (concerns deed conn fid)) done
+
+-- these numbers, no two of them equal, are the fids that a connection holds
+pub record AreHeld (done : List Deed) (conn : ℕ) (fids : List ℕ) : Type 0 where
+  pub distinct : IsDistinct nat_eq fids
+  pub count : length fids ≡ held_by done conn
+  pub held : (fid : ℕ) → is_some (fid_of done conn fid) ≡ list_any (nat_eq fid) fids
+
+-- the fid of a connection has the file open
+abbrev pub has_open : List Deed → Node → ℕ → ℕ → Bool
+has_open done node conn fid = names node (fid_of done conn fid) && is_open (fid_of done conn fid)
+
+-- ---- ctl
+
+-- the text is the list of keys as it stood at one moment of the history, between two events of it or at an end
+abbrev pub StoodOnce : History → List ℕ → Type 0
+StoodOnce history text = (later earlier : History) × (history ≡ later ++ earlier) × (text ≡ list_text (keys_of (deeds earlier)))
+
+-- whether a deed sets the text that a fid of a connection reads of ctl
+abbrev pub sets_text : Deed → ℕ → ℕ → Bool
+sets_text (OfFids at (Listed f)) conn fid = at == conn && f == fid
+sets_text (OfFids at (Opened f mode)) conn fid = false
+sets_text deed conn fid = concerns deed conn fid
+
+-- none of these deeds sets it
+abbrev pub none_sets_text : List Deed → ℕ → ℕ → Bool
+none_sets_text done conn fid = list_all (λ deed. not (sets_text deed conn fid)) done
+
+-- of the lines of a write, with some keys before it: those in front are carried out, and the one behind them is the first
+-- that is refused, by the text
+pub record IsFirstRefused (keys : KeyList) (lines front : List (List ℕ)) (line : List ℕ) (later : List (List ℕ)) (text : List ℕ) : Type 0 where
+  pub split : lines ≡ front ++ line ∷ later
+  pub carried_out : lines_fault keys front ≡ None
+  pub refused : line_over (after_lines keys front) line ≡ Err text
+
+-- some line is the first that is refused, by the text
+abbrev pub HasFirstRefused : KeyList → List (List ℕ) → List ℕ → Type 0
+HasFirstRefused keys lines text = (front : List (List ℕ)) × (line : List ℕ) × (later : List (List ℕ)) × IsFirstRefused keys lines front line later text
+
+-- the file is the one that conversations are held through
+abbrev pub is_rpc : Node → Bool
+is_rpc Rpc = true
+is_rpc node = false
+
+-- a request that may change something although its reply is an error: a remove gives the fid up, a write's lines before
+-- the first refused one stand, and a read of a conversation may have gone on with it when its answer is too long
+abbrev pub may_err_and_act : List Deed → Call → TBody → Bool
+may_err_and_act done call (t.Remove fid) = true
+may_err_and_act done call (t.Write fid offset content) = true
+may_err_and_act done call (t.Read fid offset count) = is_rpc (node_of (fid_of done call.conn fid))
+may_err_and_act done call body = false
+
+-- a fid opened the file of conversations
+abbrev pub has_conversed : List Deed → Bool
+has_conversed [] = false
+has_conversed (OfFids at (Opened f mode) ∷ before) = is_rpc (node_of (fid_of before at f)) || has_conversed before
+has_conversed (deed ∷ before) = has_conversed before
+
+-- ---- replies
+
+-- the reply to a frame that comes on a connection with a word
+unfoldable pub reply_to : List Deed → ℕ → List ℕ → List ℕ → RMsg
+reply_to done conn frame word = record { tag = tag_of frame; body = body_to done (call_of conn frame word) frame }
+
+-- whether a take of a connection is answered by a reply
+abbrev pub gives : History → ℕ → Bool
+gives history conn = is_reply (answer history (Take conn)).0
+
+-- the replies that the takes of a connection gave, the oldest first: each that was answered by a reply gave the first of
+-- those that were left then
+abbrev pub given : History → ℕ → List RMsg
+given [] conn = []
+given (Take at ∷ before) conn = if at == conn && gives before conn then given before conn ++ take 1 (untaken (deeds before) conn) else given before conn
+given (event ∷ before) conn = given before conn
+
+-- the bytes that these takes put out, a frame each
+abbrev pub put_out : History → ℕ → List (List ℕ)
+put_out [] conn = []
+put_out (Take at ∷ before) conn = if at == conn && gives before conn then put_out before conn ++ (answer before (Take conn)).1 ∷ [] else put_out before conn
+put_out (event ∷ before) conn = put_out before conn
+
+-- how long a reply may be: as the largest message agreed, and where none is agreed as the smallest that could be
+abbrev pub longest_reply : Option ℕ → ℕ
+longest_reply None = least_msize
+longest_reply (Some msize) = msize
+
+-- whether a reply gives what was read
+abbrev pub gives_content : RBody → Bool
+gives_content (r.Read content) = true
+gives_content body = false
+
+-- ---- secrets
+
+-- a line with the secrets of its key hidden
+abbrev pub hidden_edit : KeyEdit → KeyEdit
+hidden_edit (Add key) = Add (map hidden key)
+hidden_edit (Delete template) = Delete template
+
+-- a deed with the secrets of its key hidden
+abbrev pub hidden_deed : Deed → Deed
+hidden_deed (OfKeys conn (Edited edit)) = OfKeys conn (Edited (hidden_edit edit))
+hidden_deed deed = deed
+
+-- a line doesn't delete by the value of a secret
+abbrev pub is_open_edit : KeyEdit → Bool
+is_open_edit (Add key) = true
+is_open_edit (Delete template) = not (list_any tells_secret template)
+
+abbrev pub is_open_deed : Deed → Bool
+is_open_deed (OfKeys conn (Edited edit)) = is_open_edit edit
+is_open_deed deed = true
+
+-- none of these deeds deleted keys by the value of a secret
+abbrev pub all_open : List Deed → Bool
+all_open done = list_all is_open_deed done
+
+-- the same deeds in the same places, but for the values of the secrets of the keys added
+pub record SameButSecrets (a b : List Deed) : Type 0 where
+  pub alike : map hidden_deed a ≡ map hidden_deed b
+  pub open_deletes : all_open a ≡ true
+
+-- two lines of ctl add keys that are the same but for their secrets, and to some keys they are added or refused alike
+pub record AddAlike (keys : KeyList) (one other : List ℕ) : Type 0 where
+  pub key : List Attr
+  pub same : List Attr
+  pub one_adds : read_line one ≡ Ok (OnKeys (Add key))
+  pub other_adds : read_line other ≡ Ok (OnKeys (Add same))
+  pub alike : map hidden key ≡ map hidden same
+  pub alike_refused : add_fault key keys ≡ add_fault same keys

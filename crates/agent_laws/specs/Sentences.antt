@@ -1,0 +1,243 @@
+-- What the laws say, each sentence by its name.
+use Rattle.std.specs.Prelude.{◌≡◌, ◌≤◌, ◌<◌, ◌⊎◌, ℕ, List, [], ◌∷◌, ◌++◌, All, Ok, Err, Some, true, false, codes, drop, length, map, reverse, take}
+use Rattle.nine_messages.specs.Messages.{IsReply, r_frame}
+use Rattle.nine_messages.specs.Decoding.{r_reading}
+use Rattle.nine_messages.specs.declared.message.TBody.{TBody}
+use Rattle.nine_messages.specs.declared.message.TBody.TheVariants.{Read}
+use Rattle.nine_messages.specs.declared.message.RBody.TheVariants as r
+use Rattle.file_tree.specs.declared.tree.Node.{Node}
+use Rattle.file_tree.specs.declared.tree.Node.TheVariants.{Ctl}
+use Rattle.file_tree.specs.Tree.{is_exclusive}
+use Rattle.file_tree.specs.Calls.{node_of}
+use Rattle.key_lists.specs.Lists.{KeyList}
+use Rattle.key_lists.specs.Edits.{standing}
+use Rattle.key_lists.specs.Listing.{list_text}
+use Rattle.key_lists.specs.CtlLines.{after_lines, carried_out, lines_fault}
+use Rattle.agent_history.specs.declared.event.Event.{Event}
+use Rattle.agent_history.specs.declared.event.Event.TheVariants.{Take}
+use Rattle.agent_history.specs.Deeds.{Deed, OfFids, Listed, edits_of, fid_of, held_by, holder_of, keys_of, msize_of, next_of, text_of}
+use Rattle.agent_history.specs.Replies.{replies, taken, untaken, waits}
+use Rattle.agent_history.specs.Requests.{Call, after_frame, body_to, effective, granted, least_msize, lines_done, most_msize, piece, reply_of}
+use Rattle.agent_history.specs.Histories.{History, answer, deeds, does, has_stopped}
+use Rattle.agent_laws.specs.Laws.{AddAlike, Adds, AreHeld, HasFirstRefused, IsFirstRefused, SameButSecrets, StoodOnce, all_open, given, gives, gives_content, has_connection, has_conversed, has_open, hidden_deed, is_of, is_of_replies, is_on, longest_reply, may_err_and_act, none_concerns, none_sets_text, put_out, reply_to}
+
+-- ---- keys are the lines in order
+
+abbrev pub KeysAreTheLines : Type 0
+KeysAreTheLines = (done : List Deed) → (keys_of done).keys ≡ standing 0 (reverse (edits_of done))
+
+-- ---- an event changes its own connection
+
+abbrev pub ChangesItsOwn : Type 0
+ChangesItsOwn = (event : Event) (history : History) (conn : ℕ) → is_on conn event ≡ true
+    → Adds (is_of conn) (deeds history) (deeds (event ∷ history))
+
+abbrev pub OthersChangeNone : Type 0
+OthersChangeNone = (event : Event) (history : History) → has_connection event ≡ false
+    → Adds is_of_replies (deeds history) (deeds (event ∷ history))
+
+-- ---- a request acts on its connection
+
+abbrev pub ActsOnItsConnection : Type 0
+ActsOnItsConnection = (done : List Deed) (call : Call) (frame : List ℕ) → Adds (is_of call.conn) done (after_frame done call frame)
+
+-- ---- a fid stays until a deed that concerns it
+
+abbrev pub FidStays : Type 0
+FidStays = (more done : List Deed) (conn fid : ℕ) → none_concerns more conn fid ≡ true → fid_of (more ++ done) conn fid ≡ fid_of done conn fid
+
+abbrev pub EventLeavesFid : Type 0
+EventLeavesFid = (event : Event) (history : History) (more : List Deed) (conn fid : ℕ) → deeds (event ∷ history) ≡ more ++ deeds history
+    → none_concerns more conn fid ≡ true → fid_of (deeds (event ∷ history)) conn fid ≡ fid_of (deeds history) conn fid
+
+-- ---- other connections change no fid
+
+abbrev pub OthersLeaveFids : Type 0
+OthersLeaveFids = (event : Event) (history : History) (conn fid : ℕ) → is_on conn event ≡ false → has_stopped (event ∷ history) ≡ false
+    → fid_of (deeds (event ∷ history)) conn fid ≡ fid_of (deeds history) conn fid
+
+abbrev pub OthersLeaveTexts : Type 0
+OthersLeaveTexts = (event : Event) (history : History) (conn fid : ℕ) → is_on conn event ≡ false → has_stopped (event ∷ history) ≡ false
+    → text_of (deeds (event ∷ history)) conn fid ≡ text_of (deeds history) conn fid
+
+abbrev pub OthersLeaveNexts : Type 0
+OthersLeaveNexts = (event : Event) (history : History) (conn fid : ℕ) → is_on conn event ≡ false → has_stopped (event ∷ history) ≡ false
+    → next_of (deeds (event ∷ history)) conn fid ≡ next_of (deeds history) conn fid
+
+abbrev pub OthersLeaveCounts : Type 0
+OthersLeaveCounts = (event : Event) (history : History) (conn : ℕ) → is_on conn event ≡ false → has_stopped (event ∷ history) ≡ false
+    → held_by (deeds (event ∷ history)) conn ≡ held_by (deeds history) conn
+
+abbrev pub OthersLeaveSizes : Type 0
+OthersLeaveSizes = (event : Event) (history : History) (conn : ℕ) → is_on conn event ≡ false → has_stopped (event ∷ history) ≡ false
+    → msize_of (deeds (event ∷ history)) conn ≡ msize_of (deeds history) conn
+
+-- ---- a fid held counts
+
+abbrev pub FidsHeldAreCounted : Type 0
+FidsHeldAreCounted = (history : History) (conn : ℕ) → (fids : List ℕ) × AreHeld (deeds history) conn fids
+
+-- ---- an exclusive file is open once
+
+abbrev pub IsOpenOnce : Type 0
+IsOpenOnce = (history : History) (node : Node) (conn fid other another : ℕ) → is_exclusive node ≡ true
+    → has_open (deeds history) node conn fid ≡ true → has_open (deeds history) node other another ≡ true → (conn ≡ other) × (fid ≡ another)
+
+abbrev pub OpenerHolds : Type 0
+OpenerHolds = (history : History) (node : Node) (conn fid : ℕ) → is_exclusive node ≡ true
+    → has_open (deeds history) node conn fid ≡ true → holder_of (deeds history) node ≡ Some (conn, fid)
+
+abbrev pub HolderOpened : Type 0
+HolderOpened = (history : History) (node : Node) (conn fid : ℕ) → holder_of (deeds history) node ≡ Some (conn, fid)
+    → has_open (deeds history) node conn fid ≡ true
+
+-- ---- ctl reads a list that stood
+
+abbrev pub TextsStood : Type 0
+TextsStood = (history : History) (conn fid : ℕ) → StoodOnce history (text_of (deeds history) conn fid)
+
+abbrev pub ReadsStood : Type 0
+ReadsStood = (history : History) (call : Call) (fid offset count : ℕ) → node_of (fid_of (deeds history) call.conn fid) ≡ Ctl
+    → (text : List ℕ) × StoodOnce history text
+    × (reply_of (deeds history) call (Read fid offset count) ≡ r.Read (piece offset (effective count (msize_of (deeds history) call.conn)) text))
+
+abbrev pub ListedStays : Type 0
+ListedStays = (more done : List Deed) (conn fid : ℕ) → none_sets_text more conn fid ≡ true
+    → text_of (more ++ OfFids conn (Listed fid) ∷ done) conn fid ≡ list_text (keys_of done)
+
+-- ---- a refused request changes nothing
+
+abbrev pub RefusedChangesNothing : Type 0
+RefusedChangesNothing = (done : List Deed) (call : Call) (frame text : List ℕ) → granted done call frame ≡ Err text → after_frame done call frame ≡ done
+
+abbrev pub RefusedIsTold : Type 0
+RefusedIsTold = (done : List Deed) (call : Call) (frame text : List ℕ) → granted done call frame ≡ Err text → body_to done call frame ≡ r.Error text
+
+abbrev pub ErrorChangesNothing : Type 0
+ErrorChangesNothing = (done : List Deed) (call : Call) (frame text : List ℕ) → body_to done call frame ≡ r.Error text
+    → (after_frame done call frame ≡ done) ⊎ ((body : TBody) × (granted done call frame ≡ Ok body) × (may_err_and_act done call body ≡ true))
+
+-- ---- lines stand before the first refused
+
+abbrev pub FrontStands : Type 0
+FrontStands = (keys : KeyList) (lines front : List (List ℕ)) (line : List ℕ) (later : List (List ℕ)) (text : List ℕ)
+    → IsFirstRefused keys lines front line later text → carried_out keys lines ≡ carried_out keys front
+
+abbrev pub FirstIsTold : Type 0
+FirstIsTold = (keys : KeyList) (lines front : List (List ℕ)) (line : List ℕ) (later : List (List ℕ)) (text : List ℕ)
+    → IsFirstRefused keys lines front line later text → lines_fault keys lines ≡ Some text
+
+abbrev pub FirstIsFound : Type 0
+FirstIsFound = (keys : KeyList) (lines : List (List ℕ)) (text : List ℕ) → lines_fault keys lines ≡ Some text → HasFirstRefused keys lines text
+
+-- ---- a write does what its lines do
+
+abbrev pub WriteMakesKeys : Type 0
+WriteMakesKeys = (done : List Deed) (conn : ℕ) (lines : List (List ℕ))
+    → keys_of (lines_done conn (carried_out (keys_of done) lines) done) ≡ after_lines (keys_of done) lines
+
+-- ---- a reply is taken once
+
+abbrev pub GivenInOrder : Type 0
+GivenInOrder = (history : History) (conn : ℕ) → given history conn ≡ take (taken (deeds history) conn) (reverse (replies (deeds history) conn))
+
+abbrev pub GivenAndLeft : Type 0
+GivenAndLeft = (history : History) (conn : ℕ) → given history conn ++ untaken (deeds history) conn ≡ reverse (replies (deeds history) conn)
+
+abbrev pub LeftAfterTake : Type 0
+LeftAfterTake = (history : History) (conn : ℕ) → gives history conn ≡ true
+    → untaken (deeds (Take conn ∷ history)) conn ≡ drop 1 (untaken (deeds history) conn)
+
+abbrev pub FramesPutOut : Type 0
+FramesPutOut = (history : History) (conn : ℕ) → put_out history conn ≡ map r_frame (given history conn)
+
+-- ---- a reply fits what was agreed
+
+abbrev pub ReplyFits : Type 0
+ReplyFits = (history : History) (conn : ℕ) (frame word : List ℕ)
+    → length (r_frame (reply_to (deeds history) conn frame word)) ≤ longest_reply (msize_of (deeds history) conn)
+
+abbrev pub AgreedBetween : Type 0
+AgreedBetween = (history : History) (conn msize : ℕ) → msize_of (deeds history) conn ≡ Some msize → (least_msize ≤ msize) × (msize ≤ most_msize)
+
+abbrev pub FramesFit : Type 0
+FramesFit = (history : History) (conn : ℕ) → All (λ frame. length frame ≤ most_msize) (put_out history conn)
+
+abbrev pub OthersFit : Type 0
+OthersFit = (done : List Deed) (conn : ℕ) (frame word : List ℕ) → gives_content (reply_to done conn frame word).body ≡ false
+    → length (r_frame (reply_to done conn frame word)) ≤ least_msize
+
+abbrev pub ToldIsAgreed : Type 0
+ToldIsAgreed = (done : List Deed) (call : Call) (msize : ℕ) (frame : List ℕ) → body_to done call frame ≡ r.Version msize (codes "9P2000")
+    → msize_of (after_frame done call frame) call.conn ≡ Some msize
+
+abbrev pub ReplyIsValid : Type 0
+ReplyIsValid = (done : List Deed) (conn : ℕ) (frame word : List ℕ) → All (λ b. b < 256) frame
+    → IsReply (r_frame (reply_to done conn frame word)) (reply_to done conn frame word)
+
+abbrev pub ReplyIsRead : Type 0
+ReplyIsRead = (done : List Deed) (conn : ℕ) (frame word : List ℕ) → All (λ b. b < 256) frame
+    → r_reading (r_frame (reply_to done conn frame word)) ≡ Ok (reply_to done conn frame word)
+
+-- ---- no read waits yet
+
+abbrev pub NoReadWaits : Type 0
+NoReadWaits = (history : History) (conn : ℕ) → waits (deeds history) conn ≡ []
+
+-- ---- no conversation is opened yet
+
+abbrev pub NoConversation : Type 0
+NoConversation = (history : History) → has_conversed (deeds history) ≡ false
+
+-- ---- ctl shows no secret
+
+abbrev pub ListHides : Type 0
+ListHides = (a b : List Deed) → SameButSecrets a b → list_text (keys_of a) ≡ list_text (keys_of b)
+
+abbrev pub TextsHide : Type 0
+TextsHide = (a b : List Deed) → SameButSecrets a b → (conn fid : ℕ) → text_of a conn fid ≡ text_of b conn fid
+
+abbrev pub FidsHide : Type 0
+FidsHide = (a b : List Deed) → SameButSecrets a b → (conn fid : ℕ) → fid_of a conn fid ≡ fid_of b conn fid
+
+abbrev pub NextsHide : Type 0
+NextsHide = (a b : List Deed) → SameButSecrets a b → (conn fid : ℕ) → next_of a conn fid ≡ next_of b conn fid
+
+abbrev pub CountsHide : Type 0
+CountsHide = (a b : List Deed) → SameButSecrets a b → (conn : ℕ) → held_by a conn ≡ held_by b conn
+
+abbrev pub HoldersHide : Type 0
+HoldersHide = (a b : List Deed) → SameButSecrets a b → (node : Node) → holder_of a node ≡ holder_of b node
+
+abbrev pub SizesHide : Type 0
+SizesHide = (a b : List Deed) → SameButSecrets a b → (conn : ℕ) → msize_of a conn ≡ msize_of b conn
+
+abbrev pub RepliesHide : Type 0
+RepliesHide = (a b : List Deed) → SameButSecrets a b → has_conversed a ≡ false → (conn : ℕ) (frame word : List ℕ)
+    → reply_to a conn frame word ≡ reply_to b conn frame word
+
+abbrev pub DeedsHide : Type 0
+DeedsHide = (a b : List Deed) → SameButSecrets a b → has_conversed a ≡ false → (call : Call) (frame : List ℕ)
+    → SameButSecrets (after_frame a call frame) (after_frame b call frame)
+
+abbrev pub NoneDeletesBySecret : Type 0
+NoneDeletesBySecret = (history : History) → all_open (deeds history) ≡ true
+
+-- ---- no later answer tells a secret
+
+abbrev pub NoAnswerTells : Type 0
+NoAnswerTells = (history more : History) (event one other : Event)
+    → map hidden_deed (does (deeds history) one) ≡ map hidden_deed (does (deeds history) other)
+    → has_conversed (deeds (more ++ one ∷ history)) ≡ false
+    → answer (more ++ one ∷ history) event ≡ answer (more ++ other ∷ history) event
+
+-- ---- a write hides its secrets
+
+abbrev pub WritesAlike : Type 0
+WritesAlike = (conn : ℕ) (done : List Deed) (front : List (List ℕ)) (one other : List ℕ) (later : List (List ℕ)) → all_open done ≡ true
+    → AddAlike (after_lines (keys_of done) front) one other
+    → SameButSecrets (lines_done conn (carried_out (keys_of done) (front ++ one ∷ later)) done) (lines_done conn (carried_out (keys_of done) (front ++ other ∷ later)) done)
+
+abbrev pub WritesToldAlike : Type 0
+WritesToldAlike = (keys : KeyList) (front : List (List ℕ)) (one other : List ℕ) (later : List (List ℕ)) → AddAlike (after_lines keys front) one other
+    → lines_fault keys (front ++ one ∷ later) ≡ lines_fault keys (front ++ other ∷ later)

@@ -1,0 +1,144 @@
+// Laws of the definitions, each the contract of a function that does nothing.
+ghost use Rattle.agent_laws.specs.Sentences.{ActsOnItsConnection, AgreedBetween, ChangesItsOwn, CountsHide, DeedsHide, ErrorChangesNothing, EventLeavesFid, FidStays, FidsHeldAreCounted, FidsHide, FirstIsFound, FirstIsTold, FramesFit, FramesPutOut, FrontStands, GivenAndLeft, GivenInOrder, HolderOpened, HoldersHide, IsOpenOnce, KeysAreTheLines, LeftAfterTake, ListHides, ListedStays, NextsHide, NoAnswerTells, NoConversation, NoReadWaits, NoneDeletesBySecret, OpenerHolds, OthersChangeNone, OthersFit, OthersLeaveCounts, OthersLeaveFids, OthersLeaveNexts, OthersLeaveSizes, OthersLeaveTexts, ReadsStood, RefusedChangesNothing, RefusedIsTold, RepliesHide, ReplyFits, ReplyIsRead, ReplyIsValid, SizesHide, TextsHide, TextsStood, ToldIsAgreed, WriteMakesKeys, WritesAlike, WritesToldAlike};
+
+/// The keys are those of the accepted lines of ctl, in order: of lines that are the same in public the last one alone
+/// stands, at its own place, and none that a later line deleted.
+pub fn keys_are_the_lines_in_order()
+    ensures { KeysAreTheLines }
+{}
+
+/// What an event does to fids, to keys by lines of ctl, and to connections is of its own connection; an event that has none
+/// does nothing of the kind. Replies may go to any connection, and a stop is the end of all of them.
+pub fn an_event_changes_its_own_connection()
+    ensures own { ChangesItsOwn }
+    ensures others { OthersChangeNone }
+{}
+
+/// What a request does, its reply aside, is done by deeds of its connection, or by such as are about replies.
+pub fn a_request_acts_on_its_connection()
+    ensures { ActsOnItsConnection }
+{}
+
+/// What a fid of a connection names stays until a deed that concerns it.
+pub fn a_fid_stays_until_a_deed_that_concerns_it()
+    ensures by_deeds { FidStays }
+    ensures by_events { EventLeavesFid }
+{}
+
+/// What happens on other connections changes no fid of this one, nor what it reads of ctl, nor where its next read of a
+/// directory may begin, nor how many are held, nor the largest message agreed, unless it stops the agent.
+pub fn other_connections_change_no_fid()
+    ensures fids { OthersLeaveFids }
+    ensures texts { OthersLeaveTexts }
+    ensures nexts { OthersLeaveNexts }
+    ensures held { OthersLeaveCounts }
+    ensures msize { OthersLeaveSizes }
+{}
+
+/// The number of fids held is that of the fids that name something: they are some numbers, no two of them equal.
+pub fn a_fid_held_counts()
+    ensures { FidsHeldAreCounted }
+{}
+
+/// No two fids have a file open at once that is open by one fid at a time, on whatever connections they are: where two
+/// fids have it open, they are one fid of one connection. And the fid that has it open is the one that is kept as the
+/// file's holder, which decides whether the next open is refused.
+pub fn an_exclusive_file_is_open_once()
+    ensures once { IsOpenOnce }
+    ensures opener_holds { OpenerHolds }
+    ensures holder_opened { HolderOpened }
+{}
+
+/// What a fid reads of ctl is the list of keys as it stood at one moment, between two events: so is the text that it
+/// has, and what a read replies is a piece of such a list. The list that a read from 0 found is the fid's text until
+/// the fid reads from 0 again, comes to a file anew or is given up, whatever becomes of the keys.
+pub fn ctl_reads_a_list_that_stood()
+    ensures texts { TextsStood }
+    ensures reads { ReadsStood }
+    ensures until_the_next { ListedStays }
+{}
+
+/// A request that a test refuses changes nothing, and is replied to by the test's text. Whatever is replied to by an error
+/// changes nothing, but for a remove, which gives its fid up, a write, and a read of a conversation.
+pub fn a_refused_request_changes_nothing()
+    ensures nothing { RefusedChangesNothing }
+    ensures told { RefusedIsTold }
+    ensures any_error { ErrorChangesNothing }
+{}
+
+/// Of the lines of a write of ctl those before the first refused one are carried out, and those behind it aren't; the
+/// text told is that of the first refused one. A text is told only where some line was the first refused one.
+pub fn lines_stand_before_the_first_refused()
+    ensures front { FrontStands }
+    ensures told { FirstIsTold }
+    ensures found { FirstIsFound }
+{}
+
+/// The deeds of a write of ctl make the keys that its lines make of the keys before it.
+pub fn a_write_does_what_its_lines_do()
+    ensures { WriteMakesKeys }
+{}
+
+/// The replies that takes gave on a connection are the first ones of those that the history gave it, each once and in
+/// order, and with those that are left they are all. What a take puts out is the frame of its reply.
+pub fn a_reply_is_taken_once()
+    ensures in_order { GivenInOrder }
+    ensures with_the_rest { GivenAndLeft }
+    ensures next_after { LeftAfterTake }
+    ensures frames { FramesPutOut }
+{}
+
+/// A reply fits what was agreed on its connection before its request: it is no longer than the largest message agreed,
+/// which is of 256 to 8216 bytes, or than 256 bytes where none is agreed; so no take puts out more than 8216 bytes. None
+/// but what a read gives is longer than 256 bytes, so that the reply to a version fits what it agrees too. What such a
+/// reply tells of 9P2000 is what is agreed from then on. Whatever deeds were done, the reply to a frame of bytes has a
+/// spelling, and that is read as this reply.
+pub fn a_reply_fits_what_was_agreed()
+    ensures fits { ReplyFits }
+    ensures agreed { AgreedBetween }
+    ensures frames { FramesFit }
+    ensures others { OthersFit }
+    ensures told { ToldIsAgreed }
+    ensures valid { ReplyIsValid }
+    ensures read { ReplyIsRead }
+{}
+
+/// No file is served yet whose reads wait.
+pub fn no_read_waits_yet()
+    ensures { NoReadWaits }
+{}
+
+/// No open of the file of conversations is served yet.
+pub fn no_conversation_is_opened_yet()
+    ensures { NoConversation }
+{}
+
+/// What is read of ctl doesn't depend on the value of a secret: deeds that are the same but for the secrets of the keys
+/// added have the same text of ctl, the same fids, offsets, holders and largest messages. As long as no conversation was
+/// opened they have the same replies to every frame, and deeds after it that are again the same but for secrets. No keys
+/// were ever deleted by the value of a secret.
+pub fn ctl_shows_no_secret()
+    ensures list { ListHides }
+    ensures texts { TextsHide }
+    ensures fids { FidsHide }
+    ensures nexts { NextsHide }
+    ensures held { CountsHide }
+    ensures holders { HoldersHide }
+    ensures msize { SizesHide }
+    ensures any_reply { RepliesHide }
+    ensures any_deeds { DeedsHide }
+    ensures open_deletes { NoneDeletesBySecret }
+{}
+
+/// No later answer tells a secret, as long as no conversation was opened: of two events that do the same but for the
+/// secrets of keys, their replies among it, whatever happens then, no answer to any event tells which of them it was.
+pub fn no_later_answer_tells_a_secret()
+    ensures { NoAnswerTells }
+{}
+
+/// Writes of ctl that differ in the secrets of the key of one line alone do the same but for secrets, and are refused
+/// by the same text or not at all.
+pub fn a_write_hides_its_secrets()
+    ensures deeds { WritesAlike }
+    ensures told { WritesToldAlike }
+{}

@@ -1,0 +1,247 @@
+// Sessions with an agent, frame by frame, beside replies that were written down elsewhere; and its limits.
+ghost use Rattle.std.specs.Prelude.{IfOk};
+ghost use Rattle.nine_messages.specs.Decoding.{IsFrame};
+ghost use Rattle.agent_core.specs.Events.{IsEvent};
+
+mod ctl;
+mod fids;
+mod files;
+mod refusals;
+
+use agent_core::{Agent, Event, StepAnswer};
+use std::alloc::Global;
+use std::process::Abort;
+use std::test::Fail;
+use wire_base::{Bytes, NoMemory, get_u32};
+
+// These bytes as a frame.
+fn frame_of(rt: &impl Abort, alloc: Global, bytes: &[u8]) -> Result<Bytes, Fail>
+    ensures { IfOk result (λ frame. IsFrame frame) }
+{
+    let frame = Bytes::from_slice(alloc, bytes)?;
+    let size = get_u32(frame.as_slice(), 0).ok_or("no size")?;
+    assert!(rt; size >= 7 && size as usize == frame.len(), "no frame");
+    Ok(frame)
+}
+
+// Carries out one event, which puts these bytes out.
+fn expect(
+    rt: &impl Abort,
+    alloc: Global,
+    agent: &mut Agent,
+    name: &str,
+    event: &Event,
+    answer: StepAnswer,
+    bytes: &[u8],
+) -> Result<(), Fail>
+    requires { IsEvent event.now }
+{
+    let mut out = Bytes::new(alloc);
+    assert_eq!(rt; agent.step(event, &mut out)?, answer, "{name}");
+    assert_eq!(rt; out.as_slice(), bytes, "{name}");
+    Ok(())
+}
+
+// Hands a frame to the agent, which puts nothing out.
+fn ask(
+    rt: &impl Abort,
+    alloc: Global,
+    agent: &mut Agent,
+    conn: u64,
+    name: &str,
+    bytes: &[u8],
+) -> Result<(), Fail> {
+    let frame = frame_of(rt, alloc, bytes)?;
+    let request = Event::Request {
+        conn,
+        frame,
+        word: [0; 8],
+    };
+    expect(rt, alloc, agent, name, &request, StepAnswer::Done, b"")
+}
+
+// Asks, and takes the one reply.
+fn converse(
+    rt: &impl Abort,
+    alloc: Global,
+    agent: &mut Agent,
+    conn: u64,
+    name: &str,
+    request: &[u8],
+    reply: &[u8],
+) -> Result<(), Fail> {
+    ask(rt, alloc, agent, conn, name, request)?;
+    let take = Event::Take { conn };
+    expect(rt, alloc, agent, name, &take, StepAnswer::Reply, reply)?;
+    expect(rt, alloc, agent, name, &take, StepAnswer::NoReply, b"")
+}
+
+// The frame that stands at a place of the steps, and the place behind it.
+fn frame_at(alloc: Global, steps: &[u8], at: usize) -> Result<(Bytes, usize), Fail> {
+    let size = get_u32(steps, at).ok_or("no size")?;
+    let end = at.checked_add(size as usize).ok_or("no end")?;
+    let frame = steps.get(at..end).ok_or("no frame")?;
+    Ok((Bytes::from_slice(alloc, frame)?, end))
+}
+
+// Step by step; each session has an agent of its own.
+fn hold(rt: &impl Abort, alloc: Global, count: usize, steps: &[u8]) -> Result<(), Fail> {
+    let mut agent = Agent::new(alloc)?;
+    let mut at = 0_usize;
+    for _ in 0..count {
+        let begins = steps.get(at).copied().ok_or("no step")?;
+        let conn = steps.get(at.saturating_add(1)).copied().ok_or("no step")?;
+        let (request, behind) = frame_at(alloc, steps, at.saturating_add(2))?;
+        let (reply, end) = frame_at(alloc, steps, behind)?;
+        if begins == 1 {
+            agent = Agent::new(alloc)?;
+        }
+        converse(
+            rt,
+            alloc,
+            &mut agent,
+            u64::from(conn),
+            "a step of a session",
+            request.as_slice(),
+            reply.as_slice(),
+        )?;
+        at = end;
+    }
+    assert_eq!(rt; at, steps.len());
+    Ok(())
+}
+
+#[test]
+fn versions_fids_and_opens(rt: HostRuntime) -> Result<(), Fail> {
+    hold(&rt, rt.alloc(), fids::COUNT, fids::STEPS)
+}
+
+#[test]
+fn directories_and_files(rt: HostRuntime) -> Result<(), Fail> {
+    hold(&rt, rt.alloc(), files::COUNT, files::STEPS)
+}
+
+#[test]
+fn keys_of_ctl(rt: HostRuntime) -> Result<(), Fail> {
+    hold(&rt, rt.alloc(), ctl::COUNT, ctl::STEPS)
+}
+
+#[test]
+fn each_refusal_by_its_shortest_session(rt: HostRuntime) -> Result<(), Fail> {
+    hold(&rt, rt.alloc(), refusals::COUNT, refusals::STEPS)
+}
+
+const VERSION: &[u8; 19] = b"\x13\x00\x00\x00d\xff\xff\x18 \x00\x00\x06\x009P2000";
+
+const AGREED: &[u8; 19] = b"\x13\x00\x00\x00e\xff\xff\x18 \x00\x00\x06\x009P2000";
+
+const ATTACHED: &[u8; 20] =
+    b"\x14\x00\x00\x00i\x01\x00\x80\x00\x00\x00\x00\x00\x00\x00\x00\x00\x00\x00\x00";
+
+// An attach of this fid.
+fn attach(alloc: Global, fid: u32) -> Result<Bytes, NoMemory> {
+    let mut frame = Bytes::from_slice(alloc, b"\x13\x00\x00\x00h\x01\x00")?;
+    frame.append(&fid.to_le_bytes())?;
+    frame.append(b"\xff\xff\xff\xff\x00\x00\x00\x00")?;
+    Ok(frame)
+}
+
+// Takes a reply, or learns that there is none.
+fn take(
+    rt: &impl Abort,
+    alloc: Global,
+    agent: &mut Agent,
+    name: &str,
+    answer: StepAnswer,
+    reply: &[u8],
+) -> Result<(), Fail> {
+    let event = Event::Take { conn: 0 };
+    expect(rt, alloc, agent, name, &event, answer, reply)
+}
+
+#[test]
+fn replies_come_in_order_until_a_hang(rt: HostRuntime) -> Result<(), Fail> {
+    let alloc = rt.alloc();
+    let mut agent = Agent::new(alloc)?;
+    let frame = attach(alloc, 0)?;
+    let opening = [
+        (VERSION.as_slice(), AGREED.as_slice()),
+        (frame.as_slice(), ATTACHED.as_slice()),
+        (
+            b"\x0b\x00\x00\x00x\x01\x00\x09\x00\x00\x00",
+            b"\x14\x00\x00\x00k\x01\x00\x0b\x00unknown fid",
+        ),
+    ];
+    for (request, _) in &opening {
+        ask(&rt, alloc, &mut agent, 0, "request", request)?;
+    }
+    for (_, reply) in &opening[..2] {
+        take(&rt, alloc, &mut agent, "take", StepAnswer::Reply, reply)?;
+    }
+    let hang = Event::Hang { conn: 0 };
+    expect(&rt, alloc, &mut agent, "hang", &hang, StepAnswer::Done, b"")?;
+    take(&rt, alloc, &mut agent, "hung", StepAnswer::Gone, b"")?;
+    for (request, _) in &opening {
+        ask(&rt, alloc, &mut agent, 0, "request, hung", request)?;
+    }
+    take(&rt, alloc, &mut agent, "still", StepAnswer::Gone, b"")
+}
+
+// Carries out an event without bytes, which puts nothing out.
+fn carry_out(
+    rt: &impl Abort,
+    alloc: Global,
+    agent: &mut Agent,
+    name: &str,
+    event: &Event,
+    answer: StepAnswer,
+) -> Result<(), Fail> {
+    match event {
+        Event::Request { .. } | Event::Answer { .. } => panic!(rt; "{name} has bytes"),
+        Event::Take { .. }
+        | Event::Hang { .. }
+        | Event::TakeAsk
+        | Event::NoAnswer { .. }
+        | Event::NoRoom { .. }
+        | Event::Stop => expect(rt, alloc, agent, name, event, answer, b""),
+    }
+}
+
+#[test]
+fn events_beside_requests(rt: HostRuntime) -> Result<(), Fail> {
+    let alloc = rt.alloc();
+    let mut agent = Agent::new(alloc)?;
+    let bytes = Bytes::new(alloc);
+    for (name, event, answer) in [
+        (
+            "hang, not opened",
+            Event::Hang { conn: 4 },
+            StepAnswer::Done,
+        ),
+        (
+            "take, not opened",
+            Event::Take { conn: 4 },
+            StepAnswer::NoReply,
+        ),
+        ("hang", Event::Hang { conn: 4 }, StepAnswer::Done),
+        ("take, hung", Event::Take { conn: 4 }, StepAnswer::Gone),
+        ("a question", Event::TakeAsk, StepAnswer::NoAsk),
+        ("no answer", Event::NoAnswer { call: 0 }, StepAnswer::Done),
+        ("no room", Event::NoRoom { call: 0 }, StepAnswer::Done),
+        ("stop", Event::Stop, StepAnswer::Done),
+        ("take, stopped", Event::Take { conn: 5 }, StepAnswer::Gone),
+        ("a question, stopped", Event::TakeAsk, StepAnswer::Stopped),
+    ] {
+        carry_out(&rt, alloc, &mut agent, name, &event, answer)?;
+    }
+    let answer = Event::Answer { call: 0, bytes };
+    expect(
+        &rt,
+        alloc,
+        &mut agent,
+        "answer",
+        &answer,
+        StepAnswer::Done,
+        b"",
+    )
+}
