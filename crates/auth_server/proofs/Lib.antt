@@ -1,0 +1,9 @@
+pub mod StepLemmas
+pub mod FillLemmas
+pub mod ReadLemmas
+pub mod DrawLemmas
+pub mod AnswerLemmas
+pub mod ServeLemmas
+pub mod SessionLaws
+pub mod CompleteLaws
+pub mod GrantLaws

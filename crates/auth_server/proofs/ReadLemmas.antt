@@ -1,0 +1,67 @@
+-- What the reads of a request leave.
+use Rattle.std.proofs.Common.{◌≡◌, ℕ, zero, suc, ◌+◌, ◌-◌, ◌<◌, ◌≤◌, List, [], ◌∷◌, ◌++◌, false, length, Option, None, Some, refl, sym, ap, subst, ◌∙◌, append_assoc, inl, inr, arith}
+use Rattle.std.specs.Io.KnownBytes.{Consumes, IsAtEnd}
+use Rattle.std.proofs.KnownBytes.{Consumes-trans}
+use Rattle.auth_server.specs.Requests.{Asked, Challenge, kind_of, needed}
+use Rattle.auth_server.specs.Answers.{Knowledge, held}
+use Rattle.auth_server.specs.Standing.{Standing}
+use Rattle.auth_server.specs.Sessions.{IsPart, IsUnfinished, bytes_of}
+use Rattle.auth_server.specs.Serving.{Answers, Floods, MeetsUnknown, Moment, Reads, moment, most_input}
+use Rattle.auth_server.specs.Steps.{Incoming, Received}
+
+-- one piece, and a byte at its head
+only_byte : (piece : List ℕ) → 0 < length piece → length piece ≤ 1 → (byte : ℕ) × (piece ≡ byte ∷ [])
+only_byte [] some few = absurd (omega (arith, some))
+only_byte (byte ∷ []) some few = (byte, refl)
+only_byte (byte ∷ other ∷ piece) some few = absurd (omega (arith, few))
+
+first_byte : (bytes : List ℕ) → 0 < length bytes → (behind : List ℕ) × (bytes ≡ kind_of bytes ∷ behind)
+first_byte [] some = absurd (omega (arith, some))
+first_byte (byte ∷ behind) some = (behind, refl)
+
+-- more bytes behind those of the requests
+pub read_more : (known : Knowledge) (before : Moment) (left later : Option (List ℕ)) (words : Option (List (List ℕ))) (holds : Option (List ℕ)) (requests : List Asked) (rest piece : List ℕ)
+    → Answers known before (moment left words holds) requests rest [] → Consumes left later piece → Answers known before (moment later words holds) requests (rest ++ piece) []
+read_more known before left later words holds requests rest piece a got = record {
+  reads = record {
+    session = a.reads.session;
+    read = subst (Consumes before.left later) (append_assoc (bytes_of requests) rest piece) (Consumes-trans before.left left later (bytes_of requests ++ rest) piece a.reads.read got);
+    drew = a.reads.drew;
+  };
+  written = a.written;
+}
+
+module _ (known : Knowledge) (before : Moment) (left later : Option (List ℕ)) (words : Option (List (List ℕ))) (holds : Option (List ℕ)) (requests : List Asked) (session : Standing) (old new : Incoming) (h : Received known before (moment left words holds) requests session old) where
+  -- what was read before is unfinished to the definitions too
+  unfinished : IsUnfinished session.held old.bytes → IsUnfinished (held known requests) old.bytes
+  unfinished u = subst (λ (now : Option Challenge). IsUnfinished now old.bytes) h.stands.held u
+
+  -- a byte past the limit
+  pub flooded : (piece : List ℕ) → 0 < length piece → length piece ≤ 1 → Consumes left later piece → IsUnfinished session.held old.bytes → old.at + length old.bytes ≡ most_input
+      → Floods known before (moment later words holds)
+  flooded piece some few got u full =
+      let byte = only_byte piece some few in
+      record {
+        requests = requests;
+        rest = old.bytes;
+        more = byte.0;
+        answers = subst (λ (more : List ℕ). Answers known before (moment later words holds) requests (old.bytes ++ more) []) byte.1 (read_more known before left later words holds requests old.bytes piece h.answers got);
+        goes_on = h.goes_on;
+        unfinished = unfinished u;
+        full = ap (λ (n : ℕ). n + length old.bytes) (sym h.place) ∙ full;
+      }
+
+  -- a byte that begins no request
+  pub met_unknown : (piece : List ℕ) → new.bytes ≡ old.bytes ++ piece → 0 < length new.bytes → Consumes left later piece → new.at ≡ old.at → old.at + length old.bytes < most_input → needed session.held (kind_of new.bytes) ≡ None
+      → MeetsUnknown known new.at (kind_of new.bytes) before (moment later words holds)
+  met_unknown piece is some got same few unknown =
+      let first = first_byte new.bytes some in
+      record {
+        requests = requests;
+        behind = first.0;
+        answers = subst (λ (rest : List ℕ). Answers known before (moment later words holds) requests rest []) (sym is ∙ first.1) (read_more known before left later words holds requests old.bytes piece h.answers got);
+        goes_on = h.goes_on;
+        unknown = ap (λ (now : Option Challenge). needed now (kind_of new.bytes)) (sym h.stands.held) ∙ unknown;
+        place = same ∙ h.place;
+        few = omega (arith, few, same);
+      }

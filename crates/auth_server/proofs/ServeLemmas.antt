@@ -1,0 +1,51 @@
+-- A client, from its first request to the end of its input.
+use Rattle.std.proofs.Common.{◌≡◌, ℕ, ◌+◌, ◌<◌, ◌≤◌, List, [], ◌++◌, Bool, true, false, cond, ◌&&◌, eqb, length, Option, None, Some, refl, sym, ap, subst, ◌∙◌, append-nil, arith}
+use Rattle.std.specs.Io.KnownBytes.{Consumes, IsAtEnd}
+use Rattle.std.proofs.KnownBytes.{Consumes-nil}
+use Rattle.wire_streams.proofs.StreamLemmas.{Gains-nil}
+use Rattle.auth_server.specs.Requests.{Asked, Challenge, is_for, is_mail, is_served, kind_of, needed}
+use Rattle.auth_server.specs.Answers.{Knowledge}
+use Rattle.auth_server.specs.Standing.{Standing, StandsFor}
+use Rattle.auth_server.specs.Sessions.{bytes_of}
+use Rattle.auth_server.specs.Serving.{EndsWhole, Moment, most_input}
+use Rattle.auth_server.specs.Steps.{HasAnswered, Incoming, Received}
+use Rattle.auth_server.proofs.DrawLemmas.{none_drawn}
+
+-- before the first request
+pub none_answered : (known : Knowledge) (now : Moment) (session : Standing) (incoming : Incoming) → StandsFor known [] session → incoming.at ≡ 0 → HasAnswered known now now incoming.at session
+none_answered known now session incoming stands first = record {
+  requests = [];
+  received = record {
+    answers = record {
+      reads = record { session = tt; read = Consumes-nil now.left; drew = none_drawn now.to_come };
+      written = Gains-nil now.holds;
+    };
+    goes_on = refl;
+    stands = stands;
+    place = first;
+  };
+}
+
+-- what is known of an incoming request is known of its parts
+pub at_parts : (known : Knowledge) (before now : Moment) (requests : List Asked) (session : Standing) (incoming : Incoming) (at : ℕ) (bytes : List ℕ) → incoming.at ≡ at → incoming.bytes ≡ bytes → Received known before now requests session incoming → Received known before now requests session (record { at = at; bytes = bytes })
+at_parts known before now requests session incoming at bytes place is h = record {
+  answers = record { reads = record { session = h.answers.reads.session; read = subst (λ (rest : List ℕ). Consumes before.left now.left (bytes_of requests ++ rest)) is h.answers.reads.read; drew = h.answers.reads.drew }; written = h.answers.written };
+  goes_on = h.goes_on;
+  stands = h.stands;
+  place = sym place ∙ h.place;
+}
+
+-- the input ended before another request
+pub ends_whole : (known : Knowledge) (before now : Moment) (requests : List Asked) (session : Standing) (incoming : Incoming) → Received known before now requests session incoming → incoming.bytes ≡ [] → IsAtEnd now.left → incoming.at + length incoming.bytes ≤ most_input → EndsWhole known before now
+ends_whole known before now requests session incoming h none at_end few =
+    let parts = at_parts known before now requests session incoming incoming.at [] refl none h in
+    record { requests = requests; answers = parts.answers; goes_on = parts.goes_on; at_end = at_end; few = omega (arith, few, parts.place) }
+
+-- a request has some bytes
+some_needed : (served second : Bool) (n : ℕ) → cond served (Some (cond second 173 141)) None ≡ Some n → 0 < n
+some_needed true true n h = let is : n ≡ 173 = cc in omega (arith, is)
+some_needed true false n h = let is : n ≡ 141 = cc in omega (arith, is)
+some_needed false second n h = absurd cc
+
+pub needs_some : (held : Option Challenge) (kind n : ℕ) → needed held kind ≡ Some n → 0 < n
+needs_some held kind n h = some_needed (is_served kind) (is_mail kind && is_for kind held) n h

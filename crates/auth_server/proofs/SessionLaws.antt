@@ -1,0 +1,90 @@
+-- A stream and its words have one session: of two that begin them one goes on from the other.
+use Rattle.std.proofs.Common.{◌≡◌, ◌⊎◌, ℕ, zero, ◌+◌, ◌<◌, ◌≤◌, List, [], ◌∷◌, ◌++◌, Bool, true, false, length, take, Option, Some, None, refl, sym, ap, subst, ◌∙◌, append_assoc, append-nil, length-append, inl, inr, arith}
+use Rattle.std.proofs.lemmas.List.{append_cancel_left}
+use Rattle.auth_server.specs.Requests.{Asked, Challenge, asked_so, kind_of, needed}
+use Rattle.auth_server.specs.Answers.{Knowledge, held, is_over}
+use Rattle.auth_server.specs.Sessions.{Follows, GoesOnFrom, IsSession, bytes_of, words_of}
+use Rattle.auth_server.proofs.ServeLemmas.{needs_some}
+
+-- ---- lists
+
+pub same_front : {A : Type 0} (xs ys us vs : List A) → length xs ≡ length ys → xs ++ us ≡ ys ++ vs → xs ≡ ys
+same_front [] [] us vs n e = refl
+same_front [] (y ∷ ys) us vs n e = absurd (omega (arith, n))
+same_front (x ∷ xs) [] us vs n e = absurd (omega (arith, n))
+same_front {A} (x ∷ xs) (y ∷ ys) us vs n e =
+    let heads : x ≡ y = cc in
+    let tails : xs ++ us ≡ ys ++ vs = cc in
+    let shorter : length xs ≡ length ys = omega (arith, n) in
+    ap (λ (z : A). z ∷ xs) heads ∙ ap (λ (zs : List A). y ∷ zs) (same_front xs ys us vs shorter tails)
+
+-- the last of a list that isn't empty
+pub with_last : {A : Type 0} (x : A) (xs : List A) → (ys : List A) × (y : A) × (x ∷ xs ≡ ys ++ y ∷ [])
+with_last x [] = ([], x, refl)
+with_last {A} x (z ∷ xs) = let rest = with_last z xs in (x ∷ rest.0, rest.1, ap (λ (zs : List A). x ∷ zs) rest.2)
+
+pub kind_kept : (request more : List ℕ) → 0 < length request → kind_of (request ++ more) ≡ kind_of request
+kind_kept [] more some = absurd (omega (arith, some))
+kind_kept (b ∷ request) more some = refl
+
+-- ---- sessions that go on
+
+pub bytes_on : (later before : List Asked) → bytes_of (later ++ before) ≡ bytes_of before ++ bytes_of later
+bytes_on [] before = sym (append-nil (bytes_of before))
+bytes_on (asked ∷ later) before = ap (λ (bytes : List ℕ). bytes ++ asked.request) (bytes_on later before) ∙ append_assoc (bytes_of before) (bytes_of later) asked.request
+
+words_on : (later before : List Asked) → words_of (later ++ before) ≡ words_of before ++ words_of later
+words_on [] before = sym (append-nil (words_of before))
+words_on (asked ∷ later) before = ap (λ (words : List (List ℕ)). words ++ asked.words) (words_on later before) ∙ append_assoc (words_of before) (words_of later) asked.words
+
+module _ (known : Knowledge) where
+  -- what stands behind some requests follows them
+  pub follows_first : (later before : List Asked) (asked : Asked) → IsSession known (later ++ asked ∷ before) → Follows known before asked
+  follows_first [] before asked s = s.0
+  follows_first (newer ∷ later) before asked s = follows_first later before asked s.1
+
+  pub some_bytes : (before : List Asked) (asked : Asked) → Follows known before asked → 0 < length asked.request
+  some_bytes before asked f = needs_some (held known before) (kind_of asked.request) (length asked.request) f.whole
+
+  -- two requests that may follow the same ones, and begin the same bytes, are as long
+  as_long : (before : List Asked) (a c : Asked) (x z : List ℕ) → Follows known before a → Follows known before c → a.request ++ x ≡ c.request ++ z → length a.request ≡ length c.request
+  as_long before a c x z f g e =
+      let kinds : kind_of a.request ≡ kind_of c.request = sym (kind_kept a.request x (some_bytes before a f)) ∙ (ap kind_of e ∙ kind_kept c.request z (some_bytes before c g)) in
+      let needs : Some (length a.request) ≡ Some (length c.request) = sym f.whole ∙ (ap (needed (held known before)) kinds ∙ g.whole) in
+      cc
+
+  same_asked : (before : List Asked) (a c : Asked) (x z : List ℕ) (u w : List (List ℕ)) → Follows known before a → Follows known before c → a.request ++ x ≡ c.request ++ z → a.words ++ u ≡ c.words ++ w → a ≡ c
+  same_asked before a c x z u w f g e d =
+      let requests : a.request ≡ c.request = same_front a.request c.request x z (as_long before a c x z f g e) e in
+      let words : a.words ≡ c.words = same_front a.words c.words u w (f.three ∙ sym g.three) d in
+      ap (λ (request : List ℕ). asked_so request a.words) requests ∙ ap (asked_so c.request) words
+
+  -- of two sessions one goes on from the other
+  abbrev pub OneGoesOn : List Asked → List Asked → Type 0
+  OneGoesOn a b = GoesOnFrom a b ⊎ GoesOnFrom b a
+
+  -- the next request of the one, where the other goes on
+  next_on : (asked : Asked) (before later b : List Asked) (x y : List ℕ) (u v : List (List ℕ)) → Follows known before asked → IsSession known b → b ≡ later ++ before
+      → bytes_of before ++ (asked.request ++ x) ≡ bytes_of b ++ y → words_of before ++ (asked.words ++ u) ≡ words_of b ++ v → OneGoesOn (asked ∷ before) b
+  next_on asked before [] b x y u v f s is bytes words = inl (asked ∷ [], ap (λ (rest : List Asked). asked ∷ rest) (sym is))
+  next_on asked before (first ∷ more) b x y u v f s is bytes words =
+      let last = with_last first more in
+      let parts : b ≡ last.0 ++ last.1 ∷ before = is ∙ (ap (λ (l : List Asked). l ++ before) last.2 ∙ append_assoc last.0 (last.1 ∷ []) before) in
+      let g : Follows known before last.1 = follows_first last.0 before last.1 (subst (IsSession known) parts s) in
+      let rest : bytes_of b ++ y ≡ bytes_of before ++ (last.1.request ++ (bytes_of last.0 ++ y)) = ap (λ (l : List ℕ). l ++ y) (ap bytes_of parts ∙ bytes_on last.0 (last.1 ∷ before))
+      ∙ (append_assoc (bytes_of before ++ last.1.request) (bytes_of last.0) y ∙ append_assoc (bytes_of before) last.1.request (bytes_of last.0 ++ y)) in
+      let draws : words_of b ++ v ≡ words_of before ++ (last.1.words ++ (words_of last.0 ++ v)) = ap (λ (l : List (List ℕ)). l ++ v) (ap words_of parts ∙ words_on last.0 (last.1 ∷ before))
+      ∙ (append_assoc (words_of before ++ last.1.words) (words_of last.0) v ∙ append_assoc (words_of before) last.1.words (words_of last.0 ++ v)) in
+      let same : asked ≡ last.1 = same_asked before asked last.1 x (bytes_of last.0 ++ y) u (words_of last.0 ++ v) f g
+      (append_cancel_left (bytes_of before) _ _ (bytes ∙ rest)) (append_cancel_left (words_of before) _ _ (words ∙ draws)) in
+      inr (last.0, parts ∙ ap (λ (z : Asked). last.0 ++ z ∷ before) (sym same))
+
+  pub one_session : (a b : List Asked) (x y : List ℕ) (u v : List (List ℕ)) → IsSession known a → IsSession known b → bytes_of a ++ x ≡ bytes_of b ++ y → words_of a ++ u ≡ words_of b ++ v → OneGoesOn a b
+  one_session [] b x y u v s t bytes words = inr (b, sym (append-nil b))
+  one_session (asked ∷ before) b x y u v s t bytes words =
+      let bytes' : bytes_of before ++ (asked.request ++ x) ≡ bytes_of b ++ y = sym (append_assoc (bytes_of before) asked.request x) ∙ bytes in
+      let words' : words_of before ++ (asked.words ++ u) ≡ words_of b ++ v = sym (append_assoc (words_of before) asked.words u) ∙ words in
+      elim (one_session before b (asked.request ++ x) y (asked.words ++ u) v s.1 t bytes' words') [
+        | inl more ↦ inl (asked ∷ more.0, ap (λ (l : List Asked). asked ∷ l) more.1)
+        | inr more ↦ next_on asked before more.0 b x y u v s.0 t more.1 bytes' words'
+      ]

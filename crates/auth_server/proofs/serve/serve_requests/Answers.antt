@@ -1,0 +1,73 @@
+use Rattle.std.proofs.Common.{◌≡◌, ◌<◌, ◌+◌, arith, length, refl, sym, ap, subst, ◌∙◌}
+use Rattle.std.proofs.lemmas.Result.{err_from_is_err_and}
+use Rattle.auth_server.specs.Serving.{moment}
+use Rattle.auth_server.specs.Standing.{knowledge}
+use Rattle.auth_server.specs.Steps.{HasAnswered}
+use Rattle.auth_server.proofs.ServeLemmas.{none_answered, at_parts, ends_whole, needs_some}
+use Rattle.auth_server.proofs.serve.serve_requests.Goals as goal
+
+pub requests-init : goal.requests-init
+requests-init g c =
+    let first = ap (λ i. i.at) c.new-incoming.ensures in
+    record {
+      answered = none_answered (knowledge c.args.core.now) _ c.new-session.result c.new-incoming.result (c.new-session.ensures _) first;
+      new = ap (λ i. i.bytes) c.new-incoming.ensures;
+      few = omega (arith, first);
+      reads = omega arith;
+      writes = omega arith;
+      draws = omega arith;
+    }
+
+pub returns-in_err-answer_request-clause-err : goal.returns-in_err-answer_request-clause-err
+returns-in_err-answer_request-clause-err g c =
+    let known = knowledge c.args.core.now in
+    let before = moment (g.R.Source.left c.args.source.now) (g.G.Words.to_come c.args.words.now) (g.W.Sink.holds c.args.sink.now) in
+    let a = c.requests.invariant.answered in
+    let incoming = c.read_request.new.incoming in
+    let new = at_parts known before _ a.requests c.requests.session (record { at = c.requests.incoming.at; bytes = _ }) c.requests.incoming.at c.requests.incoming.bytes refl (sym c.requests.invariant.new) a.received in
+    let whole = c.in_ok-read_request.ensures.received before (g.G.Words.to_come c.requests.words) (g.W.Sink.holds c.requests.sink) a.requests new in
+    let it = at_parts known before _ a.requests c.requests.session incoming incoming.at c.as_slice.result.now refl (sym c.as_slice.ensures) whole in
+    let p = err_from_is_err_and c.from_residual-in_err-answer_request.result c.from_residual-in_err-answer_request.ensures.1 in
+    rw (p.1, p.2) (c.in_err-answer_request.ensures.err before (g.R.Source.left c.read_request.new.source) incoming.at a.requests it)
+
+pub requests-smaller : goal.requests-smaller
+requests-smaller g c =
+    let known = knowledge c.args.core.now in
+    let before = moment (g.R.Source.left c.args.source.now) (g.G.Words.to_come c.args.words.now) (g.W.Sink.holds c.args.sink.now) in
+    let a = c.requests.invariant.answered in
+    let incoming = c.read_request.new.incoming in
+    let new = at_parts known before _ a.requests c.requests.session (record { at = c.requests.incoming.at; bytes = _ }) c.requests.incoming.at c.requests.incoming.bytes refl (sym c.requests.invariant.new) a.received in
+    let whole = c.in_ok-read_request.ensures.received before (g.G.Words.to_come c.requests.words) (g.W.Sink.holds c.requests.sink) a.requests new in
+    let some : 0 < length incoming.bytes = needs_some _ _ _ (c.in_ok-read_request.ensures.whole c.if-branch.true) in
+    let next : c.next.new.self.at ≡ incoming.at + length incoming.bytes = ap (λ i. i.at) c.next.ensures in
+    omega (arith, some, next, whole.place, a.received.place, c.in_ok-read_request.ensures.few)
+
+pub requests-preserved : goal.requests-preserved
+requests-preserved g c =
+    let known = knowledge c.args.core.now in
+    let before = moment (g.R.Source.left c.args.source.now) (g.G.Words.to_come c.args.words.now) (g.W.Sink.holds c.args.sink.now) in
+    let a = c.requests.invariant.answered in
+    let incoming = c.read_request.new.incoming in
+    let new = at_parts known before _ a.requests c.requests.session (record { at = c.requests.incoming.at; bytes = _ }) c.requests.incoming.at c.requests.incoming.bytes refl (sym c.requests.invariant.new) a.received in
+    let whole = c.in_ok-read_request.ensures.received before (g.G.Words.to_come c.requests.words) (g.W.Sink.holds c.requests.sink) a.requests new in
+    let it = at_parts known before _ a.requests c.requests.session incoming incoming.at c.as_slice.result.now refl (sym c.as_slice.ensures) whole in
+    let next : c.next.new.self.at ≡ incoming.at + length incoming.bytes = ap (λ i. i.at) c.next.ensures in
+    record {
+      answered = subst (λ at. HasAnswered known before (moment (g.R.Source.left c.read_request.new.source) (g.G.Words.to_come c.answer_request.new.words) (g.W.Sink.holds c.answer_request.new.sink)) at c.answer_request.new.session) (ap (λ bytes. incoming.at + length bytes) c.as_slice.ensures ∙ sym next)
+          (c.in_ok-answer_request.ensures.answered before (g.R.Source.left c.read_request.new.source) incoming.at a.requests it);
+      new = ap (λ i. i.bytes) c.next.ensures;
+      few = omega (arith, next, c.in_ok-read_request.ensures.few);
+      reads = omega (arith, c.requests.invariant.reads, c.in_ok-read_request.ensures.counted);
+      writes = omega (arith, c.requests.invariant.writes, c.in_ok-answer_request.ensures.counted_writes);
+      draws = omega (arith, c.requests.invariant.draws, c.in_ok-answer_request.ensures.counted_words);
+    }
+
+pub returns-clause-end : goal.returns-clause-end
+returns-clause-end g c =
+    let known = knowledge c.args.core.now in
+    let before = moment (g.R.Source.left c.args.source.now) (g.G.Words.to_come c.args.words.now) (g.W.Sink.holds c.args.sink.now) in
+    let a = c.requests.invariant.answered in
+    let new = at_parts known before _ a.requests c.requests.session (record { at = c.requests.incoming.at; bytes = _ }) c.requests.incoming.at c.requests.incoming.bytes refl (sym c.requests.invariant.new) a.received in
+    let whole = c.in_ok-read_request.ensures.received before (g.G.Words.to_come c.requests.words) (g.W.Sink.holds c.requests.sink) a.requests new in
+    let ended = c.in_ok-read_request.ensures.ended c.if-branch.false in
+    ends_whole known before _ a.requests c.requests.session c.read_request.new.incoming whole ended.0 ended.1 c.in_ok-read_request.ensures.few

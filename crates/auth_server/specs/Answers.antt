@@ -1,0 +1,187 @@
+-- What the authentication server answers, after authsrv(6) of the Plan 9 manual, APOP (RFC 1939) and CRAM (RFC 2195). The
+-- form of a challenge, what stands in for keys that aren't known, the end with the fifth wrong answer and the texts of
+-- errors are this project's. An answer depends on the requests before it in the session, and on nothing else that was
+-- kept: a session is the list of its requests, the newest first.
+use Rattle.std.specs.Prelude.{◌≡◌, ℕ, ◌+◌, ◌-◌, ◌<◌, List, [], ◌∷◌, ◌++◌, Bool, true, false, ◌==◌, nat_le, length, take, drop, replicate, codes, Option, Some, None, Result, Ok, Err, if◌then◌else◌}
+use Rattle.std.specs.List.{slice_index_or}
+use Rattle.std.specs.Str.{bytes_eq}
+use Rattle.std.specs.Fmt.{decimal}
+use Rattle.hex.specs.Hex.{encode_lower}
+use Rattle.seal_mode.specs.Sealing.{sealed}
+use Rattle.md5_answers.specs.Answer.{apop_digits, cram_digits}
+use Rattle.ticket_codec.specs.declared.fault.FieldFault.{FieldFault}
+use Rattle.ticket_codec.specs.declared.request.TicketReq.{TicketReq}
+use Rattle.ticket_codec.specs.Request.{request_of}
+use Rattle.ticket_codec.specs.Ticket.{ticket_text}
+use Rattle.ticket_codec.specs.Authenticator.{authenticator_text}
+use Rattle.auth_tables.specs.Keys.{UserKey}
+use Rattle.auth_server.specs.Requests.{Asked, Challenge, auth_treq, auth_apop, is_for}
+
+-- What the server knows: its domain, the key of each user that has one, and which host may speak for which user.
+pub record Knowledge : Type 0 where
+  pub dom : List ℕ
+  pub key : List ℕ → Option UserKey
+  pub speaks : List ℕ → List ℕ → Bool
+
+-- ---- keys
+
+-- the words that were drawn for a request, from 0 on
+abbrev pub word : ℕ → List (List ℕ) → List ℕ
+word n words = slice_index_or words n []
+
+-- the key that a word stands for: its first seven bytes
+abbrev pub word_key : List ℕ → List ℕ
+word_key word = take 7 word
+
+-- a user's key, and where there is none one that is made up from a word
+abbrev pub key_or : Option UserKey → List ℕ → List ℕ
+key_or (Some key) word = key.des
+key_or None word = word_key word
+
+-- the key of the server for which a vouch is made, for which the second word stands in
+abbrev pub server_key : Knowledge → List (List ℕ) → List ℕ → List ℕ
+server_key known words authid = key_or (known.key authid) (word 1 words)
+
+-- the key of a name for a grant, for which a word stands in, also where the host may not speak for the user
+abbrev pub granted_key : Bool → Option UserKey → List ℕ → List ℕ
+granted_key may key word = if may then key_or key word else word_key word
+
+-- the key that both are given: the first word's
+abbrev pub shared_key : List (List ℕ) → List ℕ
+shared_key words = word_key (word 0 words)
+
+-- ---- records
+
+-- a ticket, sealed under a key: 64 is the server's, 65 the client's
+abbrev pub ticket : ℕ → List ℕ → List ℕ → List ℕ → List ℕ → List ℕ → List ℕ
+ticket num chal cuid suid shared key = sealed key (ticket_text (record { num = num; chal = chal; cuid = cuid; suid = suid; key = record { 0 = shared } }))
+
+-- the two tickets of a grant, under their byte
+unfoldable pub tickets : TicketReq → List ℕ → List ℕ → List ℕ → List ℕ
+tickets r shared hosts servers = 4 ∷ [] ++ ticket 65 r.chal r.hostid r.uid shared hosts ++ ticket 64 r.chal r.hostid r.uid shared servers
+
+-- an error and its text, with NULs to 64 bytes
+unfoldable pub refusal : List ℕ → List ℕ
+refusal text = 5 ∷ [] ++ text ++ replicate (64 - length text) 0
+
+-- ---- a ticket request
+
+-- the grant: tickets for the host and for the server named, each under its own key; where the host may not speak for
+-- the user, both keys are made up
+abbrev pub grant : Knowledge → List (List ℕ) → TicketReq → List ℕ
+grant known words r =
+    let may = known.speaks r.hostid r.uid in
+    let hosts = granted_key may (known.key r.hostid) (word 2 words) in
+    let servers = granted_key may (known.key r.authid) (word 1 words) in
+    tickets r (shared_key words) hosts servers
+
+-- ---- challenges
+
+-- the text of a challenge: the first word in digits, at the server's domain
+unfoldable pub challenge_text : Knowledge → List (List ℕ) → List ℕ
+challenge_text known words = codes "<" ++ encode_lower (word 0 words) ++ codes "@" ++ known.dom ++ codes ">"
+
+-- a challenge under its byte, behind its length in decimal with blanks to five bytes
+unfoldable pub challenge_answer : List ℕ → List ℕ
+challenge_answer text = 9 ∷ [] ++ decimal (length text) ++ replicate (5 - length (decimal (length text))) 32 ++ text
+
+-- the digits that answer a challenge of a kind under a password
+abbrev pub digits_for : ℕ → List ℕ → List ℕ → List ℕ
+digits_for kind challenge password = if kind == auth_apop then apop_digits challenge password else cram_digits challenge password
+
+-- whether digits answer a challenge under a password, if there is one
+abbrev pub are_digits : ℕ → List ℕ → List ℕ → Option (List ℕ) → Bool
+are_digits kind challenge digits None = false
+are_digits kind challenge digits (Some password) = bytes_eq digits (digits_for kind challenge password)
+
+-- the password of a user's key, if there is one
+abbrev pub password_of : Option UserKey → Option (List ℕ)
+password_of None = None
+password_of (Some key) = key.password
+
+-- whether a request to check an answer is right: its last 32 bytes are the digits of the user that it names
+abbrev pub is_right : Knowledge → List ℕ → TicketReq → List ℕ → Bool
+is_right known request r challenge = are_digits r.kind challenge (drop 141 request) (password_of (known.key r.uid))
+
+-- the vouch for a right answer: a ticket for the server named, and an authenticator under the key in it
+unfoldable pub vouch : Knowledge → List (List ℕ) → TicketReq → List ℕ
+vouch known words r =
+    4 ∷ [] ++ ticket 64 r.chal r.uid r.uid (shared_key words) (server_key known words r.authid)
+    ++ sealed (shared_key words) (authenticator_text (record { num = 67; chal = r.chal; id = 0 }))
+
+-- ---- what a session holds, by its requests
+
+-- the challenge that is held after a mail request, by the one that was held before: a first request has one given out,
+-- in place of one of the other kind; a right answer uses it up, and a wrong one leaves it
+abbrev pub held_mail : Knowledge → Asked → TicketReq → Option Challenge → Option Challenge
+held_mail known asked r None = Some (record { kind = r.kind; text = challenge_text known asked.words })
+held_mail known asked r (Some challenge) = if challenge.kind == r.kind then (if is_right known asked.request r challenge.text then None else Some challenge) else Some (record { kind = r.kind; text = challenge_text known asked.words })
+
+-- the same after any request: one with a bad field, and a ticket request, change nothing
+abbrev pub held_after : Knowledge → Asked → Option Challenge → Result TicketReq FieldFault → Option Challenge
+held_after known asked held (Err fault) = held
+held_after known asked held (Ok r) = if r.kind == auth_treq then held else held_mail known asked r held
+
+-- the challenge that a session holds
+abbrev pub held : Knowledge → List Asked → Option Challenge
+held known [] = None
+held known (asked ∷ before) = held_after known asked (held known before) (request_of asked.request)
+
+-- whether an answer to a challenge is wrong
+abbrev pub wrong_mail : Knowledge → Asked → TicketReq → Option Challenge → Bool
+wrong_mail known asked r None = false
+wrong_mail known asked r (Some challenge) = if challenge.kind == r.kind then (if is_right known asked.request r challenge.text then false else true) else false
+
+abbrev pub is_wrong : Knowledge → Asked → Option Challenge → Result TicketReq FieldFault → Bool
+is_wrong known asked held (Err fault) = false
+is_wrong known asked held (Ok r) = if r.kind == auth_treq then false else wrong_mail known asked r held
+
+-- how many wrong answers a session has
+abbrev pub wrong : Knowledge → List Asked → ℕ
+wrong known [] = 0
+wrong known (asked ∷ before) = wrong known before + (if is_wrong known asked (held known before) (request_of asked.request) then 1 else 0)
+
+-- how many wrong answers end a session
+abbrev pub most_wrong : ℕ
+most_wrong = 5
+
+-- whether a session has come to its end by them
+abbrev pub is_over : Knowledge → List Asked → Bool
+is_over known session = nat_le most_wrong (wrong known session)
+
+-- ---- the answer
+
+-- the answer to a mail request, by the challenge held
+abbrev pub mail_answer : Knowledge → Asked → TicketReq → Option Challenge → List ℕ
+mail_answer known asked r None = challenge_answer (challenge_text known asked.words)
+mail_answer known asked r (Some challenge) =
+    if challenge.kind == r.kind then (if is_right known asked.request r challenge.text then vouch known asked.words r else refusal (codes "bad response"))
+    else challenge_answer (challenge_text known asked.words)
+
+abbrev pub answer_to : Knowledge → Asked → Option Challenge → Result TicketReq FieldFault → List ℕ
+answer_to known asked held (Err fault) = refusal (codes "bad request")
+answer_to known asked held (Ok r) = if r.kind == auth_treq then grant known asked.words r else mail_answer known asked r held
+
+-- the answer to a request, by those before it
+unfoldable pub answer : Knowledge → List Asked → Asked → List ℕ
+answer known before asked = answer_to known asked (held known before) (request_of asked.request)
+
+-- ---- what a grant shows
+
+-- every key that is known has seven bytes
+abbrev pub HasKeys : Knowledge → Type 0
+HasKeys known = (user : List ℕ) (key : UserKey) → known.key user ≡ Some key → length key.des ≡ 7
+
+-- three words of eight bytes
+pub record HasWords (words : List (List ℕ)) : Type 0 where
+  pub three : length words ≡ 3
+  pub eight : (n : ℕ) → n < 3 → length (word n words) ≡ 8
+
+-- a text is two tickets of a request under two keys of seven bytes, and so has 145 bytes
+pub record IsGrant (r : TicketReq) (words : List (List ℕ)) (text : List ℕ) : Type 0 where
+  pub hosts : List ℕ
+  pub servers : List ℕ
+  pub host_seven : length hosts ≡ 7
+  pub server_seven : length servers ≡ 7
+  pub is : text ≡ tickets r (shared_key words) hosts servers
+  pub whole : length text ≡ 145

@@ -1,0 +1,6 @@
+pub mod Requests
+pub mod Answers
+pub mod Standing
+pub mod Sessions
+pub mod Serving
+pub mod Steps

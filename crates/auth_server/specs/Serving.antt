@@ -1,0 +1,140 @@
+-- What a server that serves one client has read, drawn and written when it ends. Content is optional: the words on it
+-- hold where it is told.
+use Rattle.std.specs.Prelude.{◌≡◌, ℕ, ◌+◌, ◌<◌, ◌≤◌, List, [], ◌∷◌, ◌++◌, true, false, length, Option, Some, None}
+use Rattle.std.specs.Io.KnownBytes.{Consumes, IsAtEnd}
+use Rattle.wire_streams.specs.Streams.{Gains}
+use Rattle.wire_streams.specs.Whole.{GainsFront}
+use Rattle.auth_server.specs.Requests.{Asked, asked_so, kind_of, needed}
+use Rattle.auth_server.specs.Answers.{Knowledge, held, is_over}
+use Rattle.auth_server.specs.Sessions.{Follows, IsSession, IsPart, IsUnfinished, DrawsAll, answers_of, bytes_of, words_of}
+use Rattle.auth_server.specs.declared.serve.AuthEnd.{AuthEnd}
+use Rattle.auth_server.specs.declared.serve.AuthEnd.TheVariants.{End, UnknownType, Torn, TooManyWrong, ReadFault, WriteFault, WordFault, Flood, NoMemory}
+
+-- how many bytes of a client are taken: 2^40
+abbrev pub most_input : ℕ
+most_input = 1099511627776
+
+-- What the outside tells at a moment: the bytes that the client's source has left, the words that are to come, and the
+-- bytes that the client's sink holds.
+pub record Moment : Type 0 where
+  pub left : Option (List ℕ)
+  pub to_come : Option (List (List ℕ))
+  pub holds : Option (List ℕ)
+
+-- a moment by its parts
+abbrev pub moment : Option (List ℕ) → Option (List (List ℕ)) → Option (List ℕ) → Moment
+moment left to_come holds = record { left = left; to_come = to_come; holds = holds }
+
+-- between two moments the bytes of a session were read, and these behind them; its words were drawn, and these behind
+-- them
+pub record Reads (known : Knowledge) (before now : Moment) (requests : List Asked) (rest : List ℕ) (drawn : List (List ℕ)) : Type 0 where
+  pub session : IsSession known requests
+  pub read : Consumes before.left now.left (bytes_of requests ++ rest)
+  pub drew : DrawsAll before.to_come now.to_come (words_of requests ++ drawn)
+
+-- and every one of its requests was answered
+pub record Answers (known : Knowledge) (before now : Moment) (requests : List Asked) (rest : List ℕ) (drawn : List (List ℕ)) : Type 0 where
+  pub reads : Reads known before now requests rest drawn
+  pub written : Gains before.holds now.holds (answers_of known requests)
+
+-- ---- the ends
+
+-- the input ended behind a request
+pub record EndsWhole (known : Knowledge) (before now : Moment) : Type 0 where
+  pub requests : List Asked
+  pub answers : Answers known before now requests [] []
+  pub goes_on : is_over known requests ≡ false
+  pub at_end : IsAtEnd now.left
+  pub few : length (bytes_of requests) ≤ most_input
+
+-- behind the requests stands a byte that begins none
+pub record MeetsUnknown (known : Knowledge) (at kind : ℕ) (before now : Moment) : Type 0 where
+  pub requests : List Asked
+  pub behind : List ℕ
+  pub answers : Answers known before now requests (kind ∷ behind) []
+  pub goes_on : is_over known requests ≡ false
+  pub unknown : needed (held known requests) kind ≡ None
+  pub place : at ≡ length (bytes_of requests)
+  pub few : at < most_input
+
+-- the input ended inside the request behind those that were answered
+pub record EndsInside (known : Knowledge) (at : ℕ) (before now : Moment) : Type 0 where
+  pub requests : List Asked
+  pub rest : List ℕ
+  pub answers : Answers known before now requests rest []
+  pub goes_on : is_over known requests ≡ false
+  pub inside : IsPart (held known requests) rest
+  pub at_end : IsAtEnd now.left
+  pub place : at ≡ length (bytes_of requests)
+
+-- the last request is one wrong answer too many
+pub record EndsWrong (known : Knowledge) (before now : Moment) : Type 0 where
+  pub requests : List Asked
+  pub answers : Answers known before now requests [] []
+  pub over : is_over known requests ≡ true
+
+-- what was read is the requests that were answered, and no whole one behind them
+pub record AnswersSoFar (known : Knowledge) (before now : Moment) : Type 0 where
+  pub requests : List Asked
+  pub rest : List ℕ
+  pub answers : Answers known before now requests rest []
+  pub goes_on : is_over known requests ≡ false
+  pub unfinished : IsUnfinished (held known requests) rest
+
+-- for a whole request behind those that were answered fewer than three words were drawn
+pub record LacksWords (known : Knowledge) (before now : Moment) : Type 0 where
+  pub requests : List Asked
+  pub request : List ℕ
+  pub drawn : List (List ℕ)
+  pub answers : Answers known before now requests request drawn
+  pub goes_on : is_over known requests ≡ false
+  pub whole : needed (held known requests) (kind_of request) ≡ Some (length request)
+  pub few : length drawn < 3
+
+-- so many bytes were read as are taken at most, with no whole request behind those that were answered, and one more
+pub record Floods (known : Knowledge) (before now : Moment) : Type 0 where
+  pub requests : List Asked
+  pub rest : List ℕ
+  pub more : ℕ
+  pub answers : Answers known before now requests (rest ++ more ∷ []) []
+  pub goes_on : is_over known requests ≡ false
+  pub unfinished : IsUnfinished (held known requests) rest
+  pub full : length (bytes_of requests) + length rest ≡ most_input
+
+-- a front of the answers was written, and some of them is missing
+pub record AnswersFront (known : Knowledge) (before now : Moment) : Type 0 where
+  pub requests : List Asked
+  pub reads : Reads known before now requests [] []
+  pub written : GainsFront before.holds now.holds (answers_of known requests)
+
+-- all requests were answered but the last, for which memory ran out
+pub record LacksMemory (known : Knowledge) (before now : Moment) : Type 0 where
+  pub requests : List Asked
+  pub asked : Asked
+  pub reads : Reads known before now (asked ∷ requests) [] []
+  pub written : Gains before.holds now.holds (answers_of known requests)
+
+-- what a server that ended so has read, drawn and written
+abbrev pub EndsSo : Knowledge → AuthEnd → Moment → Moment → Type 0
+EndsSo known End before now = EndsWhole known before now
+EndsSo known (UnknownType at kind) before now = MeetsUnknown known at kind before now
+EndsSo known (Torn at) before now = EndsInside known at before now
+EndsSo known TooManyWrong before now = EndsWrong known before now
+EndsSo known ReadFault before now = AnswersSoFar known before now
+EndsSo known WriteFault before now = AnswersFront known before now
+EndsSo known WordFault before now = LacksWords known before now
+EndsSo known Flood before now = Floods known before now
+EndsSo known NoMemory before now = LacksMemory known before now
+
+-- ---- what is served to its end
+
+-- the client's bytes are told, they are whole requests of kinds that are served, with too few wrong answers to end the
+-- session, and not too many; and their words are told to come
+pub record IsServable (known : Knowledge) (before : Moment) : Type 0 where
+  pub requests : List Asked
+  pub later : List (List ℕ)
+  pub session : IsSession known requests
+  pub goes_on : is_over known requests ≡ false
+  pub few : length (bytes_of requests) ≤ most_input
+  pub left : before.left ≡ Some (bytes_of requests)
+  pub to_come : before.to_come ≡ Some (words_of requests ++ later)

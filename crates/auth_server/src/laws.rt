@@ -1,0 +1,26 @@
+// Laws of the definitions, each the contract of a function that does nothing.
+ghost use Rattle.std.specs.Prelude.{◌≡◌, ◌⊎◌, ◌++◌, ℕ, List, Ok};
+ghost use Rattle.ticket_codec.specs.declared.request.TicketReq.{TicketReq};
+ghost use Rattle.ticket_codec.specs.Request.{request_of};
+ghost use Rattle.auth_server.specs.Requests.{Asked, auth_treq};
+ghost use Rattle.auth_server.specs.Answers.{HasKeys, HasWords, IsGrant, Knowledge, answer};
+ghost use Rattle.auth_server.specs.Sessions.{GoesOnFrom, IsSession, bytes_of, words_of};
+
+/// A client's bytes and the words that are drawn make one session: of two that stand at the front of the same bytes and
+/// the same words, one is the other or goes on from it.
+pub fn a_stream_has_one_session()
+    ensures { (known : Knowledge) (a b : List Asked) (x y : List ℕ) (u v : List (List ℕ))
+        → IsSession known a → IsSession known b
+        → bytes_of a ++ x ≡ bytes_of b ++ y → words_of a ++ u ≡ words_of b ++ v
+        → GoesOnFrom a b ⊎ GoesOnFrom b a }
+{}
+
+/// Every ticket request whose fields are well is answered by two tickets of 72 bytes under their byte, each sealed under
+/// some key of seven bytes, whether or not the tables know its names and let the host speak for the user: which keys
+/// these are is all that the tables decide.
+pub fn every_ticket_request_gets_two_tickets()
+    ensures { (known : Knowledge) (before : List Asked) (asked : Asked) (r : TicketReq)
+        → HasKeys known → HasWords asked.words
+        → request_of asked.request ≡ Ok r → r.kind ≡ auth_treq
+        → IsGrant r asked.words (answer known before asked) }
+{}

@@ -1,0 +1,29 @@
+-- Words for the steps of reading a table. No public contract cites them.
+use Rattle.std.specs.Prelude.{◌≡◌, ℕ, ◌+◌, ◌≤◌, List, [], ◌∷◌, ◌++◌, true, not, Bool, Option, Some, None, Result, Ok, Err, length, if◌then◌else◌}
+use Rattle.std.specs.Borrow.{Bor}
+use Rattle.attr_words.specs.Cutting.{lines_left, turns_left}
+use Rattle.auth_tables.specs.Lines.{counted, first_bad_behind}
+use Rattle.auth_tables.specs.Keys.{KeyLine, key_of, keys_in}
+use Rattle.auth_tables.specs.Speaks.{SpeakLine, names_in, names_of, speaks_in}
+
+-- a table of keys tells of each user what lines give him
+abbrev pub TellsKeys : List (List ℕ) → List KeyLine → Type 0
+TellsKeys lines table = (user : List ℕ) → key_of user table ≡ key_of user (keys_in lines)
+
+-- a table of speakers tells of each host what lines give it
+abbrev pub TellsSpeaks : List (List ℕ) → List SpeakLine → Type 0
+TellsSpeaks lines table = (host : List ℕ) → names_of host table ≡ names_in (speaks_in lines) host
+
+-- ---- a table read line by line
+
+-- these lines were read, and so many of them count
+pub record IsBehind (before : List (List ℕ)) (number count : ℕ) : Type 0 where
+  pub number_is : number ≡ length before
+  pub count_is : count ≡ length (counted before)
+
+-- the lines of a file are those that were read and those that are left; none of the first is bad, so that the first bad
+-- line is to be found in what is left
+pub record HasRead (fits : List (List ℕ) → List ℕ → Bool) (lines : List (List ℕ)) (left : Option (Bor (List ℕ))) (number count : ℕ) (before : List (List ℕ)) : Type 0 where
+  pub whole : lines ≡ before ++ lines_left left
+  pub behind : IsBehind before number count
+  pub bad : first_bad_behind fits before (lines_left left) ≡ first_bad_behind fits [] lines
