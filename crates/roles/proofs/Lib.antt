@@ -1,0 +1,4 @@
+pub mod StartLemmas
+pub mod TemplateLemmas
+pub mod ValueLemmas
+mod Rows

@@ -1,0 +1,54 @@
+-- What a conversation met, and what a call of it comes to. A talk is the list of its calls, the newest first. Each call
+-- is a move that passes, or changes nothing, or breaks the conversation.
+use Rattle.std.specs.Prelude.{ℕ, List, nat_lt, length, Option, Some, None, if◌then◌else◌}
+use Rattle.wire_base.specs.Rules.{Rule, first_told}
+use Rattle.roles.specs.declared.stage.Stage.{Stage}
+use Rattle.roles.specs.declared.key.SkKey.{SkKey}
+use Rattle.roles.specs.declared.answer.Cause.{Cause}
+use Rattle.roles.specs.declared.answer.Gave.{Gave}
+use Rattle.roles.specs.declared.answer.Gave.TheVariants.{TooSmall, TooLong}
+
+pub data Call : Type 0 where
+  -- a message is given to it
+  give : (bytes : List ℕ) → Call
+  -- a message is got from it
+  get : Call
+  -- the key that it needs was found, and has this password, if it has one
+  found : (key : SkKey) (password : Option (List ℕ)) → Call
+  -- the authentication server answered
+  heard : (bytes : List ℕ) → Call
+  -- the authentication server wasn't reached
+  unheard : Call
+  -- there was no memory for the authentication server's answer
+  roomless : Call
+  -- the call that wanted a key is taken back
+  undone : Call
+
+-- how far a conversation has come, and why it is broken, if it is; the moves that passed stay what they were
+pub record Progress : Type 0 where
+  pub stage : Stage
+  pub broken : Option Cause
+
+-- what a call comes to
+pub data Verdict : Type 0 where
+  -- the move passed: the next stage, the answer, and the bytes that are got
+  goes : (next : Stage) (answer : Gave) (bytes : List ℕ) → Verdict
+  -- nothing changes
+  stays : (answer : Gave) → Verdict
+  -- the conversation is broken
+  breaks : (cause : Cause) → Verdict
+
+-- a message of fixed length: fewer bytes are too few, and more are too many
+abbrev pub sized : ℕ → List ℕ → Verdict → Verdict
+sized size bytes whole =
+    if nat_lt (length bytes) size then stays (TooSmall size)
+    else if nat_lt size (length bytes) then stays TooLong
+    else whole
+
+-- what follows where no test is failed; else the cause of the first that is
+abbrev pub unless_told : Option Cause → Verdict → Verdict
+unless_told None passed = passed
+unless_told (Some cause) passed = breaks cause
+
+abbrev pub tested : List (Rule Cause) → Verdict → Verdict
+tested tests passed = unless_told (first_told tests) passed

@@ -1,0 +1,22 @@
+//! by which a key is asked for, and what each call of a p9sk1 client or server comes to (authsrv(6) and factotum(4) of
+//! the Plan 9 manual). The machines that do so stand above, and so do the histories that speak of them.
+#![tactic(auto)]
+
+mod answer;
+mod key;
+mod machine;
+mod need;
+mod stage;
+mod start;
+mod template;
+
+pub use answer::{Cause, Gave, PhaseWord, StartFault};
+pub use key::SkKey;
+pub use machine::Machine;
+pub use need::{Need, Outcome};
+pub use stage::{Role, Stage};
+pub use start::{MOST_OTHERS, fits_start, read_start};
+pub use template::build_asked;
+
+#[cfg(test)]
+mod tests;
