@@ -107,7 +107,8 @@ pub fn public_equal(a: &Tuple, b: &Tuple) -> bool
 
 // Whether each public attribute of the sought ones stands in both lists the same number of times.
 fn check_counts(a: &[Attr], b: &[Attr], sought: &[Attr]) -> bool
-    ensures { result ≡ list_all (as_often (public_part a.now) (public_part b.now)) (public_part sought.now) }
+    ensures { result ≡ list_all (as_often (public_part a.now) (public_part b.now))
+        (public_part sought.now) }
 {
     sought
         .iter()

@@ -21,14 +21,18 @@ pub fn public_text_hides_secrets()
 
 /// Tuples that are alike with their secrets hidden compare alike with any third, on either side.
 pub fn public_equal_hides_secrets()
-    ensures left { (a b c : List Attr) → map hidden a ≡ map hidden b → public_equal a c ≡ public_equal b c }
-    ensures right { (a b c : List Attr) → map hidden a ≡ map hidden b → public_equal c a ≡ public_equal c b }
+    ensures left { (a b c : List Attr) → map hidden a ≡ map hidden b
+        → public_equal a c ≡ public_equal b c }
+    ensures right { (a b c : List Attr) → map hidden a ≡ map hidden b
+        → public_equal c a ≡ public_equal c b }
 {}
 
 /// Tuples are the same in public exactly where they hold each public attribute, of all there are, equally often.
 /// So each is the same as itself, and if one is as another, that one is as the first.
 pub fn public_equal_compares()
-    ensures counts { (a b : List Attr) → (public_equal a b ≡ true) ↔ ((x : Attr) → count_by (same_attr x) (public_part a) ≡ count_by (same_attr x) (public_part b)) }
+    ensures counts { (a b : List Attr)
+        → (public_equal a b ≡ true) ↔ ((x : Attr)
+        → count_by (same_attr x) (public_part a) ≡ count_by (same_attr x) (public_part b)) }
     ensures itself { (a : List Attr) → public_equal a a ≡ true }
     ensures either_way { (a b : List Attr) → public_equal a b ≡ public_equal b a }
 {}
@@ -36,13 +40,16 @@ pub fn public_equal_compares()
 /// A text is read as a tuple exactly where it is made of words that say it, and refused with a fault exactly where it
 /// has that fault behind what is well. So each text has one tuple or one fault.
 pub fn tuples_are_what_they_say()
-    ensures says { (text : List ℕ) (attrs : List Attr) → (tuple_of text ≡ Ok attrs) ↔ Reads text attrs }
-    ensures refuses { (text : List ℕ) (fault : TupleFault) → (tuple_of text ≡ Err fault) ↔ Refuses text fault }
+    ensures says { (text : List ℕ) (attrs : List Attr)
+        → (tuple_of text ≡ Ok attrs) ↔ Reads text attrs }
+    ensures refuses { (text : List ℕ) (fault : TupleFault)
+        → (tuple_of text ≡ Err fault) ↔ Refuses text fault }
 {}
 
 /// A tuple that is printed is read back as it was.
 pub fn printed_tuples_are_read()
-    ensures { (attrs : List Attr) → is_tuple attrs ≡ true → tuple_of (printed_text attrs) ≡ Ok attrs }
+    ensures { (attrs : List Attr) → is_tuple attrs ≡ true
+        → tuple_of (printed_text attrs) ≡ Ok attrs }
 {}
 
 /// A text that is a user is a name of a field of 28 bytes, one that is a domain of 48, and both are values.

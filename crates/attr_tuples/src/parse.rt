@@ -104,7 +104,8 @@ fn find_equals(word: &[u8]) -> Option<usize>
 fn build_attr(alloc: Global, name: &[u8], ending: Ending) -> Result<Attr, NoMemory>
     requires name { is_text name.now ≡ true }
     requires value { is_value (ending_value ending) ≡ true }
-    ensures { IfOk result (λ attr. attr ≡ record { name = name.now; value = ending_value ending.entry }) }
+    ensures { IfOk result
+        (λ attr. attr ≡ record { name = name.now; value = ending_value ending.entry }) }
 {
     let value = match ending {
         Ending::Is(text) => Value::Is(build_text(alloc, text)?),

@@ -108,7 +108,8 @@ impl Tuple {
     /// dropped then, and nothing changes.
     pub fn push(&mut self, attr: Attr) -> Result<bool, NoMemory>
         ensures answer { IfOk result (λ put. put ≡ (nat_lt (length self.old) 36 && is_attr attr)) }
-        ensures put { IfOk result (λ put. self.new ≡ (if put then self.old ++ attr ∷ [] else self.old)) }
+        ensures put { IfOk result
+            (λ put. self.new ≡ (if put then self.old ++ attr ∷ [] else self.old)) }
         ensures err { OnErr result (self.new ≡ self.old) }
     {
         if self.list.len() >= MOST_ATTRIBUTES || !check_attr(&attr) {

@@ -14,8 +14,10 @@ fn carry_out(keys: &mut Vec<Key>, ever_added: &mut u64, edit: Edit) -> Option<Ed
     requires count { ever_added.old + 1 < 2 ^ 64 }
     requires room { vec_len keys.old + additions (edit_of edit ∷ []) ≤ vec_capacity keys.old }
     ensures fault { result ≡ edit_fault (edit_of edit) (list_of keys.old.items ever_added.old) }
-    ensures edited { IfNone result (list_of keys.new.items ever_added.new ≡ edited (edit_of edit) (list_of keys.old.items ever_added.old)) }
-    ensures unchanged { IfSome result (λ _. list_of keys.new.items ever_added.new ≡ list_of keys.old.items ever_added.old) }
+    ensures edited { IfNone result (list_of keys.new.items ever_added.new
+        ≡ edited (edit_of edit) (list_of keys.old.items ever_added.old)) }
+    ensures unchanged { IfSome result
+        (λ _. list_of keys.new.items ever_added.new ≡ list_of keys.old.items ever_added.old) }
     ensures ring { IsRing (list_of keys.new.items ever_added.new) }
     ensures few { ever_added.new ≤ ever_added.old + 1 }
     ensures longer { vec_len keys.new ≤ vec_len keys.old + additions (edit_of edit ∷ []) }
@@ -41,10 +43,12 @@ pub fn carry_all(keys: &mut Vec<Key>, ever_added: &mut u64, edits: Vec<Edit>) ->
     requires ring { IsRing (list_of keys.old.items ever_added.old) }
     requires count { ever_added.old + length edits.items < 2 ^ 64 }
     requires room { vec_len keys.old + additions (map edit_of edits.items) ≤ vec_capacity keys.old }
-    ensures fault { result ≡ edits_fault (map edit_of edits.items) (list_of keys.old.items ever_added.old) }
+    ensures fault { result
+        ≡ edits_fault (map edit_of edits.items) (list_of keys.old.items ever_added.old) }
     ensures ring { IsRing (list_of keys.new.items ever_added.new) }
     ensures few { ever_added.new ≤ ever_added.old + length edits.items }
-    ensures edited { list_of keys.new.items ever_added.new ≡ after_edits (map edit_of edits.items) (list_of keys.old.items ever_added.old) }
+    ensures edited { list_of keys.new.items ever_added.new
+        ≡ after_edits (map edit_of edits.items) (list_of keys.old.items ever_added.old) }
 {
     let mut left = edits.into_iter();
     while let Some(edit) = left.next() {

@@ -112,7 +112,8 @@ fn check_bad_name(attrs: &[Attr]) -> bool
 }
 
 fn check_bad_dom(attrs: &[Attr]) -> bool
-    ensures { result ≡ (has_name attrs.now (codes "dom") && not (gives_once (codes "dom") is_dom attrs.now)) }
+    ensures { result ≡ (has_name attrs.now (codes "dom")
+        && not (gives_once (codes "dom") is_dom attrs.now)) }
 {
     has_name(attrs, b"dom".as_slice()) && !gives_dom(attrs)
 }

@@ -88,7 +88,8 @@ impl Key {
 
     /// The first password that is given, if one is. A key of apop or cram has one.
     pub fn password(&self) -> Option<&Text>
-        ensures value { option_map (λ password. password.now) result ≡ value_of (codes "!password") self.now.tuple }
+        ensures value { option_map (λ password. password.now) result
+            ≡ value_of (codes "!password") self.now.tuple }
         ensures given { is_p9sk1 self.now.tuple ≡ false → IsSome result }
     {
         value_of(&self.tuple, b"!password".as_slice())

@@ -22,8 +22,14 @@ pub fn append_offers(
     role: &[u8],
     out: &mut Bytes,
 ) -> Result<usize, NoMemory>
-    ensures ok { OnOk result (out.new ≡ out.old ++ offers_text (fitting most_offered (map offer_of (each_once (doms_of template.now role.now keys.now))))) }
-    ensures count { IfOk result (λ count. count ≡ length (fitting most_offered (map offer_of (each_once (doms_of template.now role.now keys.now))))) }
+    ensures ok { OnOk result (out.new
+        ≡ out.old ++ offers_text
+        (fitting most_offered
+        (map offer_of (each_once (doms_of template.now role.now keys.now))))) }
+    ensures count { IfOk result
+        (λ count. count ≡ length
+        (fitting most_offered
+        (map offer_of (each_once (doms_of template.now role.now keys.now))))) }
     ensures err { OnErr result (take (length out.old) out.new ≡ out.old) }
 {
     let mut room = MOST_OFFERED;
@@ -49,7 +55,9 @@ fn find_new_dom<'a>(
     template: &Tuple,
     role: &[u8],
 ) -> Option<&'a Text>
-    ensures { option_map (λ dom. dom.now) result ≡ unless_seen (doms_of template.now role.now earlier.now) (dom_of template.now role.now key.now) }
+    ensures { option_map (λ dom. dom.now) result
+        ≡ unless_seen (doms_of template.now role.now earlier.now)
+        (dom_of template.now role.now key.now) }
 {
     let dom = find_dom(key, template, role)?;
     if check_seen(earlier, dom, template, role) {
@@ -71,7 +79,8 @@ fn find_dom<'a>(key: &'a Key, template: &Tuple, role: &[u8]) -> Option<&'a Text>
 
 // Whether a key that serves names the domain.
 fn check_seen(keys: &[Key], dom: &Text, template: &Tuple, role: &[u8]) -> bool
-    ensures { result ≡ list_any (λ key. is_this dom.now (dom_of template.now role.now key)) keys.now }
+    ensures { result ≡ list_any
+        (λ key. is_this dom.now (dom_of template.now role.now key)) keys.now }
 {
     keys.iter().any(|key| check_dom(key, dom, template, role))
 }

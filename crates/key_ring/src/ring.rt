@@ -74,7 +74,8 @@ impl KeyRing {
     pub fn add(&mut self, tuple: Tuple) -> Result<u64, AddFault>
         requires { self.old.ever_added + 1 < 2 ^ 64 }
         ensures refused { IfSome (add_fault tuple self.old) (λ fault. result ≡ Err fault) }
-        ensures taken { add_fault tuple self.old ≡ None → IfErr result (λ fault. fault ≡ AddFault.NoMemory) }
+        ensures taken { add_fault tuple self.old ≡ None
+            → IfErr result (λ fault. fault ≡ AddFault.NoMemory) }
         ensures added { OnOk result (self.new ≡ added tuple self.old) }
         ensures serial { IfOk result (λ serial. serial ≡ self.old.ever_added + 1) }
         ensures unchanged { OnErr result (self.new ≡ self.old) }
@@ -87,7 +88,8 @@ impl KeyRing {
     /// Deletes all keys that match a template, and answers how many. It is refused where a secret attribute of the
     /// template carries a value, and then where no key matches; the ring is as before then. It takes no memory.
     pub fn delete(&mut self, template: &Tuple) -> Result<usize, DeleteFault>
-        ensures answer { MatchOption (delete_fault template.now self.old) (result ≡ Ok (matching template.now self.old)) (λ fault. result ≡ Err fault) }
+        ensures answer { MatchOption (delete_fault template.now self.old) (result
+            ≡ Ok (matching template.now self.old)) (λ fault. result ≡ Err fault) }
         ensures deleted { OnOk result (self.new ≡ deleted template.now self.old) }
         ensures unchanged { OnErr result (self.new ≡ self.old) }
     {
@@ -147,8 +149,10 @@ impl KeyRing {
     /// longer than 1023 bytes. After want of memory `out` is as before.
     #[tactic(auto, unfolding(key_lists::specs::Listing::offers))]
     pub fn offers(&self, template: &Tuple, role: &[u8], out: &mut Bytes) -> Result<usize, NoMemory>
-        ensures ok { OnOk result (out.new ≡ out.old ++ offers_text (offers template.now role.now self.now)) }
-        ensures count { IfOk result (λ count. count ≡ length (offers template.now role.now self.now)) }
+        ensures ok { OnOk result (out.new
+            ≡ out.old ++ offers_text (offers template.now role.now self.now)) }
+        ensures count { IfOk result
+            (λ count. count ≡ length (offers template.now role.now self.now)) }
         ensures err { OnErr result (out.new ≡ out.old) }
     {
         let before = out.len();
@@ -162,10 +166,14 @@ impl KeyRing {
 pub fn add_key(keys: &mut Vec<Key>, ever_added: u64, tuple: Tuple) -> Result<u64, AddFault>
     requires ring { IsRing (list_of keys.old.items ever_added) }
     requires count { ever_added + 1 < 2 ^ 64 }
-    ensures refused { IfSome (add_fault tuple (list_of keys.old.items ever_added)) (λ fault. result ≡ Err fault) }
-    ensures taken { add_fault tuple (list_of keys.old.items ever_added) ≡ None → IfErr result (λ fault. fault ≡ AddFault.NoMemory) }
-    ensures ample { add_fault tuple (list_of keys.old.items ever_added) ≡ None → vec_len keys.old < vec_capacity keys.old → IsOk result }
-    ensures added { OnOk result (list_of keys.new.items (ever_added + 1) ≡ added tuple (list_of keys.old.items ever_added)) }
+    ensures refused { IfSome (add_fault tuple (list_of keys.old.items ever_added))
+        (λ fault. result ≡ Err fault) }
+    ensures taken { add_fault tuple (list_of keys.old.items ever_added) ≡ None
+        → IfErr result (λ fault. fault ≡ AddFault.NoMemory) }
+    ensures ample { add_fault tuple (list_of keys.old.items ever_added) ≡ None
+        → vec_len keys.old < vec_capacity keys.old → IsOk result }
+    ensures added { OnOk result (list_of keys.new.items (ever_added + 1)
+        ≡ added tuple (list_of keys.old.items ever_added)) }
     ensures serial { IfOk result (λ serial. serial ≡ ever_added + 1) }
     ensures unchanged { OnErr result (keys.new.items ≡ keys.old.items) }
     ensures ring { OnOk result (IsRing (list_of keys.new.items (ever_added + 1))) }
@@ -185,13 +193,17 @@ pub fn add_key(keys: &mut Vec<Key>, ever_added: u64, tuple: Tuple) -> Result<u64
 
 // Drops the key that is the same in public, or else makes room for one more.
 fn make_room(keys: &mut Vec<Key>, tuple: &Tuple) -> Result<(), AddFault>
-    requires { AllPairs (λ (first second : KeyEntry). public_equal first.tuple second.tuple ≡ false) keys.old.items }
+    requires { AllPairs (λ (first second : KeyEntry). public_equal first.tuple second.tuple
+        ≡ false) keys.old.items }
     ensures full { is_full tuple.now keys.old.items ≡ true → result ≡ Err AddFault.Full }
-    ensures taken { is_full tuple.now keys.old.items ≡ false → IfErr result (λ fault. fault ≡ AddFault.NoMemory) }
-    ensures dropped { OnOk result (keys.new.items ≡ filter (λ old. not (public_equal tuple.now old.tuple)) keys.old.items) }
+    ensures taken { is_full tuple.now keys.old.items ≡ false
+        → IfErr result (λ fault. fault ≡ AddFault.NoMemory) }
+    ensures dropped { OnOk result (keys.new.items
+        ≡ filter (λ old. not (public_equal tuple.now old.tuple)) keys.old.items) }
     ensures room { OnOk result (vec_len keys.new + 1 ≤ vec_capacity keys.new) }
     ensures unchanged { OnErr result (keys.new.items ≡ keys.old.items) }
-    ensures ample { vec_len keys.old < vec_capacity keys.old → IfErr result (λ fault. fault ≡ AddFault.Full) }
+    ensures ample { vec_len keys.old < vec_capacity keys.old
+        → IfErr result (λ fault. fault ≡ AddFault.Full) }
     ensures shorter { vec_len keys.new ≤ vec_len keys.old }
     ensures capacity { vec_capacity keys.old ≤ vec_capacity keys.new }
 {
@@ -219,8 +231,11 @@ pub fn delete_keys(
 ) -> Result<usize, DeleteFault>
     requires { IsRing (list_of keys.old.items ever_added) }
     ensures ring { IsRing (list_of keys.new.items ever_added) }
-    ensures answer { MatchOption (delete_fault template.now (list_of keys.old.items ever_added)) (result ≡ Ok (matching template.now (list_of keys.old.items ever_added))) (λ fault. result ≡ Err fault) }
-    ensures deleted { OnOk result (list_of keys.new.items ever_added ≡ deleted template.now (list_of keys.old.items ever_added)) }
+    ensures answer { MatchOption (delete_fault template.now (list_of keys.old.items ever_added))
+        (result ≡ Ok (matching template.now (list_of keys.old.items ever_added)))
+        (λ fault. result ≡ Err fault) }
+    ensures deleted { OnOk result (list_of keys.new.items ever_added
+        ≡ deleted template.now (list_of keys.old.items ever_added)) }
     ensures unchanged { OnErr result (keys.new.items ≡ keys.old.items) }
     ensures shorter { vec_len keys.new ≤ vec_len keys.old }
     ensures capacity { vec_capacity keys.new ≡ vec_capacity keys.old }
@@ -237,8 +252,10 @@ pub fn delete_keys(
 
 // Drops all keys that match, and tells how many.
 fn drop_matching(keys: &mut Vec<Key>, template: &Tuple) -> usize
-    ensures dropped { keys.new.items ≡ filter (λ key. not (matches template.now key.tuple)) keys.old.items }
-    ensures count { result ≡ length (filter (λ key. matches template.now key.tuple) keys.old.items) }
+    ensures dropped { keys.new.items
+        ≡ filter (λ key. not (matches template.now key.tuple)) keys.old.items }
+    ensures count { result
+        ≡ length (filter (λ key. matches template.now key.tuple) keys.old.items) }
     ensures shorter { vec_len keys.new ≤ vec_len keys.old }
     ensures capacity { vec_capacity keys.new ≡ vec_capacity keys.old }
 {
@@ -255,7 +272,8 @@ pub fn check_serves(template: &Tuple, role: &[u8], key: &Key) -> bool
 }
 
 fn check_role(tuple: &Tuple, role: &[u8]) -> bool
-    ensures { result ≡ (not (has_name tuple.now (codes "role")) || gives (codes "role") (λ text. bytes_eq text role.now) tuple.now) }
+    ensures { result ≡ (not (has_name tuple.now (codes "role"))
+        || gives (codes "role") (λ text. bytes_eq text role.now) tuple.now) }
 {
     let attrs = tuple.attrs();
     let name = b"role".as_slice();

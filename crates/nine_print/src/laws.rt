@@ -9,8 +9,10 @@ ghost use Rattle.nine_print.specs.Lines.{t_line, r_line};
 /// What stands behind the `=` of a name with a `!` before it is not shown: the line is the same for any other bytes of
 /// the same number there, whatever they are and whatever stands before the `!`.
 pub fn no_secret_is_shown()
-    ensures writes { (tag fid offset : ℕ) (front name value other : List ℕ) → list_all is_in_line name ≡ true → length value ≡ length other
+    ensures writes { (tag fid offset : ℕ) (front name value other : List ℕ)
+        → list_all is_in_line name ≡ true → length value ≡ length other
         → t_line (record { tag = tag; body = Write fid offset (front ++ 33 ∷ name ++ 61 ∷ value) }) ≡ t_line (record { tag = tag; body = Write fid offset (front ++ 33 ∷ name ++ 61 ∷ other) }) }
-    ensures reads { (tag : ℕ) (front name value other : List ℕ) → list_all is_in_line name ≡ true → length value ≡ length other
+    ensures reads { (tag : ℕ) (front name value other : List ℕ) → list_all is_in_line name ≡ true
+        → length value ≡ length other
         → r_line (record { tag = tag; body = Read (front ++ 33 ∷ name ++ 61 ∷ value) }) ≡ r_line (record { tag = tag; body = Read (front ++ 33 ∷ name ++ 61 ∷ other) }) }
 {}

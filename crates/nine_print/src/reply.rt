@@ -31,7 +31,8 @@ fn put_qids(alloc: Global, qids: &[Qid], out: &mut Bytes) -> Result<(), NoMemory
 }
 
 fn put_opened(alloc: Global, qid: &Qid, iounit: u32, out: &mut Bytes) -> Result<(), NoMemory>
-    ensures ok { OnOk result (out.new ≡ out.old ++ (qid_shown (codes " qid ") qid.now ++ number_text (codes " iounit ") iounit)) }
+    ensures ok { OnOk result (out.new
+        ≡ out.old ++ (qid_shown (codes " qid ") qid.now ++ number_text (codes " iounit ") iounit)) }
     ensures err { OnErr result (Extends out.old out.new) }
 {
     put_qid(alloc, b" qid ", qid, out)?;

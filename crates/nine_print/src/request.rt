@@ -35,7 +35,9 @@ pub(crate) fn put_version(
     version: &[u8],
     out: &mut Bytes,
 ) -> Result<(), NoMemory>
-    ensures ok { OnOk result (out.new ≡ out.old ++ (number_text (codes " msize ") msize ++ string_text (codes " version ") version.now)) }
+    ensures ok { OnOk result (out.new
+        ≡ out.old ++ (number_text (codes " msize ") msize
+        ++ string_text (codes " version ") version.now)) }
     ensures err { OnErr result (Extends out.old out.new) }
 {
     put_number(alloc, b" msize ", msize as u64, out)?;
@@ -49,7 +51,9 @@ fn put_auth(
     aname: &[u8],
     out: &mut Bytes,
 ) -> Result<(), NoMemory>
-    ensures ok { OnOk result (out.new ≡ out.old ++ (fid_text (codes " afid ") afid ++ string_text (codes " uname ") uname.now ++ string_text (codes " aname ") aname.now)) }
+    ensures ok { OnOk result (out.new
+        ≡ out.old ++ (fid_text (codes " afid ") afid ++ string_text (codes " uname ") uname.now
+        ++ string_text (codes " aname ") aname.now)) }
     ensures err { OnErr result (Extends out.old out.new) }
 {
     put_fid(alloc, b" afid ", afid, out)?;
@@ -65,7 +69,9 @@ fn put_attach(
     aname: &[u8],
     out: &mut Bytes,
 ) -> Result<(), NoMemory>
-    ensures ok { OnOk result (out.new ≡ out.old ++ (fid_text (codes " fid ") fid ++ fid_text (codes " afid ") afid ++ string_text (codes " uname ") uname.now ++ string_text (codes " aname ") aname.now)) }
+    ensures ok { OnOk result (out.new
+        ≡ out.old ++ (fid_text (codes " fid ") fid ++ fid_text (codes " afid ") afid
+        ++ string_text (codes " uname ") uname.now ++ string_text (codes " aname ") aname.now)) }
     ensures err { OnErr result (Extends out.old out.new) }
 {
     put_fid(alloc, b" fid ", fid, out)?;
@@ -81,7 +87,9 @@ fn put_walk(
     names: &[Text],
     out: &mut Bytes,
 ) -> Result<(), NoMemory>
-    ensures ok { OnOk result (out.new ≡ out.old ++ (fid_text (codes " fid ") fid ++ fid_text (codes " newfid ") newfid ++ names_text names.now)) }
+    ensures ok { OnOk result (out.new
+        ≡ out.old ++ (fid_text (codes " fid ") fid ++ fid_text (codes " newfid ") newfid
+        ++ names_text names.now)) }
     ensures err { OnErr result (Extends out.old out.new) }
 {
     put_fid(alloc, b" fid ", fid, out)?;
@@ -90,7 +98,8 @@ fn put_walk(
 }
 
 fn put_open(alloc: Global, fid: u32, mode: u8, out: &mut Bytes) -> Result<(), NoMemory>
-    ensures ok { OnOk result (out.new ≡ out.old ++ (fid_text (codes " fid ") fid ++ number_text (codes " mode ") mode)) }
+    ensures ok { OnOk result (out.new
+        ≡ out.old ++ (fid_text (codes " fid ") fid ++ number_text (codes " mode ") mode)) }
     ensures err { OnErr result (Extends out.old out.new) }
 {
     put_fid(alloc, b" fid ", fid, out)?;
@@ -105,7 +114,9 @@ fn put_create(
     mode: u8,
     out: &mut Bytes,
 ) -> Result<(), NoMemory>
-    ensures ok { OnOk result (out.new ≡ out.old ++ (fid_text (codes " fid ") fid ++ string_text (codes " name ") name.now ++ perm_text (codes " perm ") perm ++ number_text (codes " mode ") mode)) }
+    ensures ok { OnOk result (out.new
+        ≡ out.old ++ (fid_text (codes " fid ") fid ++ string_text (codes " name ") name.now
+        ++ perm_text (codes " perm ") perm ++ number_text (codes " mode ") mode)) }
     ensures err { OnErr result (Extends out.old out.new) }
 {
     put_fid(alloc, b" fid ", fid, out)?;
@@ -121,7 +132,9 @@ fn put_read(
     count: u32,
     out: &mut Bytes,
 ) -> Result<(), NoMemory>
-    ensures ok { OnOk result (out.new ≡ out.old ++ (fid_text (codes " fid ") fid ++ number_text (codes " offset ") offset ++ number_text (codes " count ") count)) }
+    ensures ok { OnOk result (out.new
+        ≡ out.old ++ (fid_text (codes " fid ") fid ++ number_text (codes " offset ") offset
+        ++ number_text (codes " count ") count)) }
     ensures err { OnErr result (Extends out.old out.new) }
 {
     put_fid(alloc, b" fid ", fid, out)?;
@@ -136,7 +149,9 @@ fn put_write(
     content: &[u8],
     out: &mut Bytes,
 ) -> Result<(), NoMemory>
-    ensures ok { OnOk result (out.new ≡ out.old ++ (fid_text (codes " fid ") fid ++ number_text (codes " offset ") offset ++ content_text (codes " count ") content.now)) }
+    ensures ok { OnOk result (out.new
+        ≡ out.old ++ (fid_text (codes " fid ") fid ++ number_text (codes " offset ") offset
+        ++ content_text (codes " count ") content.now)) }
     ensures err { OnErr result (Extends out.old out.new) }
 {
     put_fid(alloc, b" fid ", fid, out)?;
@@ -145,7 +160,8 @@ fn put_write(
 }
 
 fn put_wstat(alloc: Global, fid: u32, stat: &[u8], out: &mut Bytes) -> Result<(), NoMemory>
-    ensures ok { OnOk result (out.new ≡ out.old ++ (fid_text (codes " fid ") fid ++ content_text (codes " stat ") stat.now)) }
+    ensures ok { OnOk result (out.new
+        ≡ out.old ++ (fid_text (codes " fid ") fid ++ content_text (codes " stat ") stat.now)) }
     ensures err { OnErr result (Extends out.old out.new) }
 {
     put_fid(alloc, b" fid ", fid, out)?;

@@ -120,12 +120,21 @@ fn taken_by(showing: &Showing) -> usize
 
 // Appends the line of the next frame, where it is whole. Whether it is.
 fn show_frame(showing: &mut Showing) -> Result<bool, ShowEnd>
-    ensures more { OnOk result ((so_far stream : List ℕ) (handed : List (List ℕ)) → Handed so_far stream handed showing.old.framer showing.old.lines → (all : List (List ℕ)) × Handed so_far stream all showing.new.framer showing.new.lines) }
-    ensures all { IfOk result (λ more. more ≡ false → (so_far stream : List ℕ) (handed : List (List ℕ)) → Handed so_far stream handed showing.old.framer showing.old.lines → AllHanded so_far stream showing.new.framer showing.new.lines) }
-    ensures err { IfErr result (λ end. (so_far stream : List ℕ) (handed : List (List ℕ)) → Handed so_far stream handed showing.old.framer showing.old.lines → StopsAt end stream (so_far ++ showing.new.lines)) }
-    ensures which { IfErr result (λ end. (end ≡ ShowEnd.ReadFault → ⊥) × (end ≡ ShowEnd.WriteFault → ⊥)) }
+    ensures more { OnOk result ((so_far stream : List ℕ) (handed : List (List ℕ))
+        → Handed so_far stream handed showing.old.framer showing.old.lines
+        → (all : List (List ℕ)) × Handed so_far stream all showing.new.framer showing.new.lines) }
+    ensures all { IfOk result (λ more. more ≡ false
+        → (so_far stream : List ℕ) (handed : List (List ℕ))
+        → Handed so_far stream handed showing.old.framer showing.old.lines
+        → AllHanded so_far stream showing.new.framer showing.new.lines) }
+    ensures err { IfErr result (λ end. (so_far stream : List ℕ) (handed : List (List ℕ))
+        → Handed so_far stream handed showing.old.framer showing.old.lines
+        → StopsAt end stream (so_far ++ showing.new.lines)) }
+    ensures which { IfErr result
+        (λ end. (end ≡ ShowEnd.ReadFault → ⊥) × (end ≡ ShowEnd.WriteFault → ⊥)) }
     ensures fed { OnOk result (taken_by showing.new ≡ taken_by showing.old) }
-    ensures fewer { IfOk result (λ more. more ≡ true → length showing.new.framer.held < length showing.old.framer.held) }
+    ensures fewer { IfOk result (λ more. more ≡ true
+        → length showing.new.framer.held < length showing.old.framer.held) }
 {
     let at = showing.framer.place();
     match showing.framer.next()? {
@@ -143,9 +152,14 @@ fn show_frame(showing: &mut Showing) -> Result<bool, ShowEnd>
 
 // Appends the lines of all frames that are whole.
 fn show_frames(showing: &mut Showing) -> Result<(), ShowEnd>
-    ensures ok { OnOk result ((so_far stream : List ℕ) (handed : List (List ℕ)) → Handed so_far stream handed showing.old.framer showing.old.lines → AllHanded so_far stream showing.new.framer showing.new.lines) }
-    ensures err { IfErr result (λ end. (so_far stream : List ℕ) (handed : List (List ℕ)) → Handed so_far stream handed showing.old.framer showing.old.lines → StopsAt end stream (so_far ++ showing.new.lines)) }
-    ensures which { IfErr result (λ end. (end ≡ ShowEnd.ReadFault → ⊥) × (end ≡ ShowEnd.WriteFault → ⊥)) }
+    ensures ok { OnOk result ((so_far stream : List ℕ) (handed : List (List ℕ))
+        → Handed so_far stream handed showing.old.framer showing.old.lines
+        → AllHanded so_far stream showing.new.framer showing.new.lines) }
+    ensures err { IfErr result (λ end. (so_far stream : List ℕ) (handed : List (List ℕ))
+        → Handed so_far stream handed showing.old.framer showing.old.lines
+        → StopsAt end stream (so_far ++ showing.new.lines)) }
+    ensures which { IfErr result
+        (λ end. (end ≡ ShowEnd.ReadFault → ⊥) × (end ≡ ShowEnd.WriteFault → ⊥)) }
     ensures fed { OnOk result (taken_by showing.new ≡ taken_by showing.old) }
 {
     while show_frame(showing)? {}
@@ -155,9 +169,14 @@ fn show_frames(showing: &mut Showing) -> Result<(), ShowEnd>
 // Appends the lines of the frames that are whole with the next piece of the input.
 fn show_piece(showing: &mut Showing, piece: &[u8]) -> Result<(), ShowEnd>
     requires room { taken_by showing.old + length piece.now ≤ most_input }
-    ensures ok { OnOk result ((so_far stream : List ℕ) → AllHanded so_far stream showing.old.framer showing.old.lines → AllHanded so_far (stream ++ piece.now) showing.new.framer showing.new.lines) }
-    ensures err { IfErr result (λ end. (so_far stream : List ℕ) → AllHanded so_far stream showing.old.framer showing.old.lines → StopsAt end (stream ++ piece.now) (so_far ++ showing.new.lines)) }
-    ensures which { IfErr result (λ end. (end ≡ ShowEnd.ReadFault → ⊥) × (end ≡ ShowEnd.WriteFault → ⊥)) }
+    ensures ok { OnOk result ((so_far stream : List ℕ)
+        → AllHanded so_far stream showing.old.framer showing.old.lines
+        → AllHanded so_far (stream ++ piece.now) showing.new.framer showing.new.lines) }
+    ensures err { IfErr result (λ end. (so_far stream : List ℕ)
+        → AllHanded so_far stream showing.old.framer showing.old.lines
+        → StopsAt end (stream ++ piece.now) (so_far ++ showing.new.lines)) }
+    ensures which { IfErr result
+        (λ end. (end ≡ ShowEnd.ReadFault → ⊥) × (end ≡ ShowEnd.WriteFault → ⊥)) }
     ensures fed { OnOk result (taken_by showing.new ≡ taken_by showing.old + length piece.now) }
 {
     showing.framer.feed(piece)?;
@@ -167,7 +186,9 @@ fn show_piece(showing: &mut Showing, piece: &[u8]) -> Result<(), ShowEnd>
 // Writes the lines, and keeps their memory for the next.
 fn write_lines<W: Sink>(lines: &mut Bytes, output: &mut W) -> Result<(), ShowEnd>
     ensures ok { OnOk result (Gains (W.holds output.old) (W.holds output.new) lines.old) }
-    ensures err { IfErr result (λ end. (end ≡ ShowEnd.WriteFault) × GainsFront (W.holds output.old) (W.holds output.new) lines.old) }
+    ensures err { IfErr result
+        (λ end. (end ≡ ShowEnd.WriteFault)
+        × GainsFront (W.holds output.old) (W.holds output.new) lines.old) }
     ensures none { lines.new ≡ [] }
     ensures cause { IfErr result (λ end. Rose (W.faults output.old) (W.faults output.new)) }
     ensures counted { W.faults output.old ≤ W.faults output.new }
@@ -184,10 +205,16 @@ fn write_lines<W: Sink>(lines: &mut Bytes, output: &mut W) -> Result<(), ShowEnd
 // the stream.
 fn write_piece<W: Sink>(showing: &mut Showing, piece: &[u8], output: &mut W) -> Result<(), ShowEnd>
     requires room { taken_by showing.old + length piece.now ≤ most_input }
-    ensures ok { OnOk result ((origin : Option (List ℕ)) (stream : List ℕ) → Told origin (W.holds output.old) stream showing.old.framer showing.old.lines → Told origin (W.holds output.new) (stream ++ piece.now) showing.new.framer showing.new.lines) }
-    ensures err { IfErr result (λ end. (left origin : Option (List ℕ)) (stream : List ℕ) → Told origin (W.holds output.old) stream showing.old.framer showing.old.lines → CutsAt end left origin (W.holds output.new) (stream ++ piece.now)) }
+    ensures ok { OnOk result ((origin : Option (List ℕ)) (stream : List ℕ)
+        → Told origin (W.holds output.old) stream showing.old.framer showing.old.lines
+        → Told origin (W.holds output.new)
+        (stream ++ piece.now) showing.new.framer showing.new.lines) }
+    ensures err { IfErr result (λ end. (left origin : Option (List ℕ)) (stream : List ℕ)
+        → Told origin (W.holds output.old) stream showing.old.framer showing.old.lines
+        → CutsAt end left origin (W.holds output.new) (stream ++ piece.now)) }
     ensures fed { OnOk result (taken_by showing.new ≡ taken_by showing.old + length piece.now) }
-    ensures cause { IfErr result (λ end. end ≡ ShowEnd.WriteFault → Rose (W.faults output.old) (W.faults output.new)) }
+    ensures cause { IfErr result (λ end. end ≡ ShowEnd.WriteFault
+        → Rose (W.faults output.old) (W.faults output.new)) }
     ensures which { IfErr result (λ end. end ≡ ShowEnd.ReadFault → ⊥) }
     ensures counted { W.faults output.old ≤ W.faults output.new }
 {
@@ -205,13 +232,19 @@ fn show_next<R: Source, W: Sink>(
 ) -> Result<bool, ShowEnd>
     requires room { 0 < length piece.old }
     requires few { taken_by showing.old ≤ most_input }
-    ensures ok { OnOk result ((first origin : Option (List ℕ)) → Shown first (R.left input.old) origin (W.holds output.old) showing.old → Shown first (R.left input.new) origin (W.holds output.new) showing.new) }
+    ensures ok { OnOk result ((first origin : Option (List ℕ))
+        → Shown first (R.left input.old) origin (W.holds output.old) showing.old
+        → Shown first (R.left input.new) origin (W.holds output.new) showing.new) }
     ensures at_end { IfOk result (λ more. more ≡ false → IsAtEnd (R.left input.new)) }
-    ensures err { IfErr result (λ end. (first origin : Option (List ℕ)) → Shown first (R.left input.old) origin (W.holds output.old) showing.old → Shows end first (R.left input.new) origin (W.holds output.new)) }
+    ensures err { IfErr result (λ end. (first origin : Option (List ℕ))
+        → Shown first (R.left input.old) origin (W.holds output.old) showing.old
+        → Shows end first (R.left input.new) origin (W.holds output.new)) }
     ensures few { OnOk result (taken_by showing.new ≤ most_input) }
     ensures more { IfOk result (λ more. more ≡ true → taken_by showing.old < taken_by showing.new) }
-    ensures read_fault { IfErr result (λ end. end ≡ ShowEnd.ReadFault → Rose (R.faults input.old) (R.faults input.new)) }
-    ensures write_fault { IfErr result (λ end. end ≡ ShowEnd.WriteFault → Rose (W.faults output.old) (W.faults output.new)) }
+    ensures read_fault { IfErr result (λ end. end ≡ ShowEnd.ReadFault
+        → Rose (R.faults input.old) (R.faults input.new)) }
+    ensures write_fault { IfErr result (λ end. end ≡ ShowEnd.WriteFault
+        → Rose (W.faults output.old) (W.faults output.new)) }
     ensures counted_reads { R.faults input.old ≤ R.faults input.new }
     ensures counted_writes { W.faults output.old ≤ W.faults output.new }
 {
@@ -229,9 +262,14 @@ fn show_next<R: Source, W: Sink>(
 
 // The end of the input: where it is inside a frame, the line that tells so is written.
 fn end<W: Sink>(showing: &mut Showing, output: &mut W) -> Result<(), ShowEnd>
-    ensures ok { OnOk result ((first now origin : Option (List ℕ)) → Shown first now origin (W.holds output.old) showing.old → IsAtEnd now → Shows ShowEnd.Fine first now origin (W.holds output.new)) }
-    ensures err { IfErr result (λ end. (first now origin : Option (List ℕ)) → Shown first now origin (W.holds output.old) showing.old → IsAtEnd now → Shows end first now origin (W.holds output.new)) }
-    ensures cause { IfErr result (λ end. end ≡ ShowEnd.WriteFault → Rose (W.faults output.old) (W.faults output.new)) }
+    ensures ok { OnOk result ((first now origin : Option (List ℕ))
+        → Shown first now origin (W.holds output.old) showing.old → IsAtEnd now
+        → Shows ShowEnd.Fine first now origin (W.holds output.new)) }
+    ensures err { IfErr result (λ end. (first now origin : Option (List ℕ))
+        → Shown first now origin (W.holds output.old) showing.old → IsAtEnd now
+        → Shows end first now origin (W.holds output.new)) }
+    ensures cause { IfErr result (λ end. end ≡ ShowEnd.WriteFault
+        → Rose (W.faults output.old) (W.faults output.new)) }
     ensures which { IfErr result (λ end. end ≡ ShowEnd.ReadFault → ⊥) }
     ensures counted { W.faults output.old ≤ W.faults output.new }
 {
@@ -267,10 +305,16 @@ fn show_input<R: Source, W: Sink>(
     input: &mut R,
     output: &mut W,
 ) -> Result<(), ShowEnd>
-    ensures ok { OnOk result (Shows ShowEnd.Fine (R.left input.old) (R.left input.new) (W.holds output.old) (W.holds output.new)) }
-    ensures err { IfErr result (λ end. Shows end (R.left input.old) (R.left input.new) (W.holds output.old) (W.holds output.new)) }
-    ensures read_fault { IfErr result (λ end. end ≡ ShowEnd.ReadFault → Rose (R.faults input.old) (R.faults input.new)) }
-    ensures write_fault { IfErr result (λ end. end ≡ ShowEnd.WriteFault → Rose (W.faults output.old) (W.faults output.new)) }
+    ensures ok { OnOk result
+        (Shows ShowEnd.Fine (R.left input.old) (R.left input.new) (W.holds output.old)
+        (W.holds output.new)) }
+    ensures err { IfErr result
+        (λ end. Shows end (R.left input.old) (R.left input.new) (W.holds output.old)
+        (W.holds output.new)) }
+    ensures read_fault { IfErr result (λ end. end ≡ ShowEnd.ReadFault
+        → Rose (R.faults input.old) (R.faults input.new)) }
+    ensures write_fault { IfErr result (λ end. end ≡ ShowEnd.WriteFault
+        → Rose (W.faults output.old) (W.faults output.new)) }
     ensures counted_reads { R.faults input.old ≤ R.faults input.new }
     ensures counted_writes { W.faults output.old ≤ W.faults output.new }
 {
@@ -285,16 +329,20 @@ fn show_input<R: Source, W: Sink>(
 /// Lines are written as soon as the piece that was read is shown.
 pub fn show<R: Source, W: Sink>(alloc: Global, input: &mut R, output: &mut W) -> ShowEnd
     // The input that was read, and the lines of it that were written.
-    ensures ends { Shows result (R.left input.old) (R.left input.new) (W.holds output.old) (W.holds output.new) }
+    ensures ends { Shows result (R.left input.old) (R.left input.new) (W.holds output.old)
+        (W.holds output.new) }
 
     // A fault is told only where one was counted.
-    ensures read_fault { result ≡ ShowEnd.ReadFault → Rose (R.faults input.old) (R.faults input.new) }
-    ensures write_fault { result ≡ ShowEnd.WriteFault → Rose (W.faults output.old) (W.faults output.new) }
+    ensures read_fault { result ≡ ShowEnd.ReadFault
+        → Rose (R.faults input.old) (R.faults input.new) }
+    ensures write_fault { result ≡ ShowEnd.WriteFault
+        → Rose (W.faults output.old) (W.faults output.new) }
     ensures counted_reads { R.faults input.old ≤ R.faults input.new }
     ensures counted_writes { W.faults output.old ≤ W.faults output.new }
 
     // What is told, valid and without faults is shown to its end, unless memory runs out.
-    ensures complete { (content : List ℕ) → R.left input.old ≡ Some content → IsFrames most_frame content → length content ≤ most_input
+    ensures complete { (content : List ℕ) → R.left input.old ≡ Some content
+        → IsFrames most_frame content → length content ≤ most_input
         → (Rose (R.faults input.old) (R.faults input.new) → ⊥) → (Rose (W.faults output.old) (W.faults output.new) → ⊥) → (result ≡ ShowEnd.Fine) ⊎ (result ≡ ShowEnd.NoMemory) }
 {
     match show_input(alloc, input, output) {

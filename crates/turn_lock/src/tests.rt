@@ -62,7 +62,8 @@ impl<'a> TurnCall<Counter> for Read<'a> {
     ghost entry = { λ _ _. None };
 
     // The place stays the same one.
-    ghost gives = { λ read history _ after. (after.into.ghost_name ≡ read.into.ghost_name) × (after.into.now ≡ length history % 2 ^ 64) };
+    ghost gives = { λ read history _ after. (after.into.ghost_name ≡ read.into.ghost_name)
+        × (after.into.now ≡ length history % 2 ^ 64) };
 
     fn run(&mut self, state: &mut Counter) {
         *self.into = state.count;
@@ -78,7 +79,8 @@ fn count_one<R: Wait>(
 ) -> (Seat<Counter>, u64)
     requires { IsSeatOf lock.now seat }
     ensures seat { IsSeatOf lock.now result.0 }
-    ensures turned { Turned (Some call) (λ history. result.1 ≡ length history % 2 ^ 64) seat result.0 }
+    ensures turned { Turned (Some call)
+        (λ history. result.1 ≡ length history % 2 ^ 64) seat result.0 }
 {
     lock.with_turn(rt, seat, &mut Count { call })
 }
@@ -106,7 +108,8 @@ fn take_turns<R: Wait>(
     requires { IsSeatOf lock.now seat }
     ensures seat { IsSeatOf lock.now result.0 }
     ensures numbers { numbers result.0 ≡ numbers seat }
-    ensures own { events (own (numbers seat) (front result.0)) ≡ countdown turns ++ events (own (numbers seat) (front seat)) }
+    ensures own { events (own (numbers seat) (front result.0))
+        ≡ countdown turns ++ events (own (numbers seat) (front seat)) }
 {
     let mut sum = 0u64;
     for call in 0..turns {

@@ -94,7 +94,10 @@ fn put_start(
     random: &[u8; 8],
     out: &mut Bytes,
 ) -> Result<(), NoMemory>
-    ensures ok { OnOk result (out.new ≡ out.old ++ (codes "start" ++ (word conv.now ++ (word (protocol_name protocol) ++ (word (role_name role) ++ word (encode_lower random.now)))))) }
+    ensures ok { OnOk result (out.new
+        ≡ out.old ++ (codes "start"
+        ++ (word conv.now ++ (word (protocol_name protocol)
+        ++ (word (role_name role) ++ word (encode_lower random.now)))))) }
     ensures err { OnErr result (take (length out.old) out.new ≡ out.old) }
 {
     put_named(b"start", conv, out)?;
@@ -111,7 +114,9 @@ fn put_message(
     bytes: &[u8],
     out: &mut Bytes,
 ) -> Result<(), NoMemory>
-    ensures ok { OnOk result (out.new ≡ out.old ++ (title.now ++ (word (decimal number) ++ (word name.now ++ word (encode_lower bytes.now))))) }
+    ensures ok { OnOk result (out.new
+        ≡ out.old ++ (title.now
+        ++ (word (decimal number) ++ (word name.now ++ word (encode_lower bytes.now))))) }
     ensures err { OnErr result (take (length out.old) out.new ≡ out.old) }
 {
     out.append(title)?;
@@ -122,7 +127,8 @@ fn put_message(
 
 #[tactic(auto, using(wire_base::proofs::FrontLemmas::kept_then))]
 fn put_bytes(title: &[u8], name: &[u8], bytes: &[u8], out: &mut Bytes) -> Result<(), NoMemory>
-    ensures ok { OnOk result (out.new ≡ out.old ++ (title.now ++ (word name.now ++ word (encode_lower bytes.now)))) }
+    ensures ok { OnOk result (out.new
+        ≡ out.old ++ (title.now ++ (word name.now ++ word (encode_lower bytes.now)))) }
     ensures err { OnErr result (take (length out.old) out.new ≡ out.old) }
 {
     put_named(title, name, out)?;
@@ -131,7 +137,8 @@ fn put_bytes(title: &[u8], name: &[u8], bytes: &[u8], out: &mut Bytes) -> Result
 
 #[tactic(auto, using(wire_base::proofs::FrontLemmas::kept_then))]
 fn put_text(title: &[u8], name: &[u8], text: &[u8], out: &mut Bytes) -> Result<(), NoMemory>
-    ensures ok { OnOk result (out.new ≡ out.old ++ (title.now ++ (word name.now ++ word text.now))) }
+    ensures ok { OnOk result (out.new
+        ≡ out.old ++ (title.now ++ (word name.now ++ word text.now))) }
     ensures err { OnErr result (take (length out.old) out.new ≡ out.old) }
 {
     put_named(title, name, out)?;
@@ -149,7 +156,9 @@ fn put_named(title: &[u8], name: &[u8], out: &mut Bytes) -> Result<(), NoMemory>
 
 #[tactic(auto, using(wire_base::proofs::FrontLemmas::kept_then))]
 fn put_accept(conv: &[u8], cuid: &[u8], suid: &[u8], out: &mut Bytes) -> Result<(), NoMemory>
-    ensures ok { OnOk result (out.new ≡ out.old ++ (codes "accept" ++ (word conv.now ++ (word (value_text cuid.now) ++ word (value_text suid.now))))) }
+    ensures ok { OnOk result (out.new
+        ≡ out.old ++ (codes "accept"
+        ++ (word conv.now ++ (word (value_text cuid.now) ++ word (value_text suid.now))))) }
     ensures err { OnErr result (take (length out.old) out.new ≡ out.old) }
 {
     put_named(b"accept", conv, out)?;
@@ -164,7 +173,10 @@ fn put_asked(
     words: &[[u8; 8]; 3],
     out: &mut Bytes,
 ) -> Result<(), NoMemory>
-    ensures ok { OnOk result (out.new ≡ out.old ++ (codes "asgot" ++ (word session.now ++ (word (encode_lower bytes.now) ++ flat_map (λ w. word (encode_lower w)) words.now)))) }
+    ensures ok { OnOk result (out.new
+        ≡ out.old ++ (codes "asgot"
+        ++ (word session.now
+        ++ (word (encode_lower bytes.now) ++ flat_map (λ w. word (encode_lower w)) words.now)))) }
     ensures err { OnErr result (take (length out.old) out.new ≡ out.old) }
 {
     put_bytes(b"asgot", session, bytes, out)?;
@@ -173,7 +185,8 @@ fn put_asked(
 
 #[tactic(auto, using(wire_base::proofs::FrontLemmas::kept_then))]
 fn put_all_words(words: &[[u8; 8]], out: &mut Bytes) -> Result<(), NoMemory>
-    ensures ok { OnOk result (out.new ≡ out.old ++ flat_map (λ w. word (encode_lower w)) words.now) }
+    ensures ok { OnOk result (out.new
+        ≡ out.old ++ flat_map (λ w. word (encode_lower w)) words.now) }
     ensures err { OnErr result (take (length out.old) out.new ≡ out.old) }
 {
     for random in words {

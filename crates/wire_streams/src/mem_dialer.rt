@@ -94,7 +94,8 @@ impl MemDialer {
     /// Counts an exchange, and takes the answer to it: none where it is to fail, or where none is left.
     fn next_answer(&mut self) -> Option<Bytes>
         ensures planned { is_none result ≡ ends_or_fails self.old }
-        ensures counted { CountsCall (dialer_plan self.old) (dialer_plan self.new) (is_none result) }
+        ensures counted { CountsCall (dialer_plan self.old) (dialer_plan self.new)
+            (is_none result) }
         ensures later { faults_of (dialer_plan self.old) ≤ faults_of (dialer_plan self.new) }
         ensures some { IfSome result (λ answer.
             answers_left self.old ≡ answer ∷ answers_left self.new) }
@@ -153,7 +154,8 @@ impl Dialer for MemDialer {
         // An exchange fails exactly where its number is listed or no answer is left; it takes no memory but for its record.
         ensures planned { has_failed result ≡ ends_or_fails self.old }
         ensures memory { result ≢ Dial.NoMemory }
-        ensures call { CountsCall (dialer_plan self.old) (dialer_plan self.new) (has_failed result) }
+        ensures call { CountsCall (dialer_plan self.old) (dialer_plan self.new)
+            (has_failed result) }
     {
         match self.next_answer() {
             Some(answer) => {
