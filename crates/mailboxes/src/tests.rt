@@ -53,7 +53,6 @@ fn replies_to_reads_stand_in_the_order_in_which_the_reads_came(
     mailboxes.wait(alloc, 2, WAITED_FOR)?;
     assert!(rt; mailboxes.has_tag(1, 5));
     assert!(rt; !mailboxes.has_tag(1, 8));
-    mailboxes.reserve(alloc, 1)?;
     let late = flush_reply(alloc, 6)?;
     let early = flush_reply(alloc, 5)?;
     mailboxes.settle(1, 6, late);
@@ -62,6 +61,7 @@ fn replies_to_reads_stand_in_the_order_in_which_the_reads_came(
         tag: 8,
         text: ErrorText::new(b"permission denied".as_slice()),
     };
+    mailboxes.reserve(alloc, 1)?;
     mailboxes.push(1, own);
     mailboxes.sweep();
     assert_eq!(rt; take_tag(&rt, alloc, &mut mailboxes, 1)?, Some(8));
