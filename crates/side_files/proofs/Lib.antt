@@ -1,0 +1,3 @@
+mod DecimalLemmas
+mod AttrLemmas
+mod AskerLemmas
