@@ -1,5 +1,5 @@
 -- Who waits for the reply of a tag, found from the front.
-use Rattle.std.proofs.Common.{◌≡◌, ℕ, suc, ◌+◌, ◌<◌, ◌≤◌, List, [], ◌∷◌, Bool, true, false, eqb, cond, length, drop, get_or, Option, Some, None, refl, sym, ap, ◌∙◌, add-one}
+use Rattle.std.proofs.Common.{◌≡◌, ℕ, suc, ◌+◌, ◌<◌, ◌≤◌, List, ◌∷◌, true, false, eqb, cond, length, drop, get_or, Some, None, refl, sym, ap, ◌∙◌, add-one}
 use Rattle.std.proofs.Math.Seq.{drop-cons}
 use Rattle.std.proofs.lemmas.List.{drop_all}
 use Rattle.side_files.specs.declared.prompt.Asker.{Asker}

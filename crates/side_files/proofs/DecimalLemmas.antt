@@ -1,5 +1,5 @@
 -- Digits read from the left.
-use Rattle.std.proofs.Common.{◌≡◌, ℕ, suc, ◌+◌, ◌-◌, ◌*◌, ◌^◌, ◌<◌, ◌≤◌, List, [], ◌∷◌, Bool, true, false, ◌&&◌, ltb, cond, length, drop, get_or, Option, Some, None, refl, sym, ap, ◌∙◌, arith, add-one}
+use Rattle.std.proofs.Common.{◌≡◌, ℕ, ◌+◌, ◌-◌, ◌*◌, ◌^◌, ◌<◌, ◌≤◌, List, [], ◌∷◌, Bool, true, false, ◌&&◌, ltb, length, drop, get_or, Option, Some, None, refl, sym, ap, ◌∙◌, arith, add-one}
 use Rattle.std.specs.List.{list_all}
 use Rattle.std.specs.Option.{IfNone, SomeIff}
 use Rattle.std.proofs.lemmas.Bool.{le-ltb, lt-ltb}

@@ -1,3 +1,6 @@
 mod DecimalLemmas
 mod AttrLemmas
 mod AskerLemmas
+mod CallLaws
+mod LogLaws
+mod ReadBack

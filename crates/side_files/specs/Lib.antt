@@ -1,7 +1,8 @@
 pub mod Lines
 pub mod Askers
 pub mod Questions
-pub mod Kept
 pub mod Logs
+pub mod Calls
+pub mod Kept
 pub mod Decimals
 pub mod Reading

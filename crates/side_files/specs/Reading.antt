@@ -1,5 +1,5 @@
 -- What the line of a question says, after factotum(4) of the Plan 9 manual. Its exact form is this project's.
-use Rattle.std.specs.Prelude.{ℕ, ◌-◌, List, [], ◌∷◌, Bool, true, false, ◌==◌, length, take, drop, codes, Option, Some, None, Result, Ok, Err, option_map, if◌then◌else◌}
+use Rattle.std.specs.Prelude.{ℕ, ◌-◌, List, [], ◌∷◌, Bool, true, false, ◌==◌, length, take, drop, codes, Option, None, Result, Ok, Err, option_map, if◌then◌else◌}
 use Rattle.std.specs.List.{slice_index}
 use Rattle.std.specs.Str.{bytes_eq}
 use Rattle.attr_tuples.specs.declared.attr.Attr.{Attr}
@@ -8,6 +8,8 @@ use Rattle.attr_tuples.specs.declared.attr.Value.TheVariants.{Is, Ask, Bare}
 use Rattle.attr_tuples.specs.declared.fault.TupleFault.{TupleFault}
 use Rattle.attr_tuples.specs.Attributes.{is_named}
 use Rattle.attr_tuples.specs.Grammar.{tuple_of}
+use Rattle.side_files.specs.declared.line.PromptKind.{PromptKind}
+use Rattle.side_files.specs.declared.line.PromptKind.TheVariants.{Confirm, Needkey}
 use Rattle.side_files.specs.declared.question.Question.{Question}
 use Rattle.side_files.specs.Decimals.{number_of}
 
@@ -27,6 +29,11 @@ tag_in a = if is_named (codes "tag") a then number_in a.value else None
 
 abbrev pub question : Bool → List Attr → ℕ → Question
 question confirm attrs tag = record { confirm = confirm; tag = tag; tuple = attrs }
+
+-- whether a question of a kind is one that wants consent
+abbrev pub is_confirm : PromptKind → Bool
+is_confirm Confirm = true
+is_confirm Needkey = false
 
 -- the question of attributes: the first gives its tag, the others are what it is about
 abbrev pub question_in : Bool → List Attr → Option Question

@@ -4,6 +4,7 @@
 
 mod decimal;
 mod fault;
+mod laws;
 mod line;
 mod prompt;
 mod prompts;
@@ -12,6 +13,11 @@ mod ring;
 
 pub use decimal::parse_decimal;
 pub use fault::{PromptFault, TooSmall, UnknownTag};
+pub use laws::{
+    a_question_is_replied_to_once, a_reply_reaches_who_asked,
+    a_withdrawn_conversation_has_no_question, questions_are_read_back, tags_rise,
+    the_newest_lines_are_held,
+};
 pub use line::PromptKind;
 pub use prompts::Prompts;
 pub use question::{Question, parse_question};
