@@ -1,8 +1,8 @@
 -- What holds after any calls of the questions of a file.
-use Rattle.std.proofs.Common.{◌≡◌, ℕ, suc, ◌+◌, ◌<◌, ◌≤◌, List, [], ◌∷◌, ◌++◌, Bool, true, false, not, ◌&&◌, eqb, cond, map, filter, drop, Option, Some, None, refl, sym, ap, subst, ◌∙◌, inl, inr, arith}
+use Rattle.std.proofs.Common.{◌≡◌, ℕ, ◌+◌, ◌<◌, List, [], ◌∷◌, ◌++◌, Bool, true, false, not, eqb, cond, map, filter, drop, Some, None, refl, sym, ap, subst, ◌∙◌, inl, inr, arith}
 use Rattle.std.specs.List.{list_all}
 use Rattle.std.proofs.lemmas.Bool.{cases_Bool, and_from, eqb-true, eq-eqb, ne_eqb}
-use Rattle.std.proofs.lemmas.List.Folds.{list_all-append, list_all-map}
+use Rattle.std.proofs.lemmas.List.Folds.{list_all-append}
 use Rattle.side_files.specs.declared.line.PromptKind.{PromptKind}
 use Rattle.side_files.specs.declared.prompt.Prompt.{Prompt}
 use Rattle.side_files.specs.declared.prompt.Asker.{Asker}
@@ -114,7 +114,7 @@ stands kind (Asked conv about ∷ before) =
     let calls = Asked conv about ∷ before in
     record {
       unread = subst (AllAsked calls) (sym (unread_asked kind conv about before))
-        (asked_both calls (map asker q.unread) _ (asked_still before conv about (map asker q.unread) s.unread) (just_asked conv about before (q.asked + 1) (tag_is kind before)));
+          (asked_both calls (map asker q.unread) _ (asked_still before conv about (map asker q.unread) s.unread) (just_asked conv about before (q.asked + 1) (tag_is kind before)));
       opened = asked_still before conv about q.opened s.opened;
     }
 stands kind (Read ∷ before) =

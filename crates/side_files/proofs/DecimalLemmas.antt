@@ -1,14 +1,10 @@
 -- Digits read from the left.
-use Rattle.std.proofs.Common.{◌≡◌, ℕ, ◌+◌, ◌-◌, ◌*◌, ◌^◌, ◌<◌, ◌≤◌, List, [], ◌∷◌, Bool, true, false, ◌&&◌, ltb, length, drop, get_or, Option, Some, None, refl, sym, ap, ◌∙◌, arith, add-one}
+use Rattle.std.proofs.Common.{◌≡◌, ℕ, ◌+◌, ◌-◌, ◌*◌, ◌^◌, ◌<◌, ◌≤◌, List, [], ◌∷◌, Bool, true, false, ◌&&◌, ltb, length, drop, Option, Some, None, refl, ap, ◌∙◌, arith}
 use Rattle.std.specs.List.{list_all}
 use Rattle.std.specs.Option.{IfNone, SomeIff}
 use Rattle.std.proofs.lemmas.Bool.{le-ltb, lt-ltb}
-use Rattle.std.proofs.Math.Seq.{drop-cons}
 use Rattle.std.proofs.lemmas.List.{drop_all}
 use Rattle.side_files.specs.Decimals.{is_digit, behind, number_behind}
-
-drop_here : (text : List ℕ) (i b : ℕ) → i < length text → b ≡ get_or text i 0 → drop i text ≡ b ∷ drop (i + 1) text
-drop_here text i b h e = rw (add-one, e) (drop-cons text i 0 h)
 
 grows : (n : ℕ) (digits : List ℕ) → n ≤ behind n digits
 grows n [] = omega arith
@@ -23,23 +19,11 @@ over n digits h =
     let test : ltb (behind n digits) (2 ^ 64) ≡ false = le-ltb (behind n digits) (2 ^ 64) (omega (arith, grows n digits)) in
     rw (test, and_false (list_all is_digit digits)) refl
 
-no_digit : (n b : ℕ) (digits : List ℕ) → is_digit b ≡ false → number_behind n (b ∷ digits) ≡ None
-no_digit n b digits h = rw h refl
-
 one_digit : (n b : ℕ) (digits : List ℕ) → is_digit b ≡ true → number_behind n (b ∷ digits) ≡ number_behind (10 * n + (b - 48)) digits
 one_digit n b digits h = rw h refl
 
-pub add_missing : (n b : ℕ) (digits : List ℕ) → is_digit b ≡ false → number_behind n (b ∷ digits) ≡ None
-add_missing n b digits h = no_digit n b digits h
-
-pub add_one : (n b m : ℕ) (digits : List ℕ) → is_digit b ≡ true → m ≡ 10 * n + (b - 48) → number_behind m digits ≡ number_behind n (b ∷ digits)
-add_one n b m digits h is = ap (λ (k : ℕ). number_behind k digits) is ∙ sym (one_digit n b digits h)
-
-pub add_over : (n b : ℕ) (digits : List ℕ) → is_digit b ≡ true → 2 ^ 64 ≤ 10 * n + (b - 48) → number_behind n (b ∷ digits) ≡ None
+add_over : (n b : ℕ) (digits : List ℕ) → is_digit b ≡ true → 2 ^ 64 ≤ 10 * n + (b - 48) → number_behind n (b ∷ digits) ≡ None
 add_over n b digits h many = one_digit n b digits h ∙ over (10 * n + (b - 48)) digits many
-
-pub at_byte : (n i b : ℕ) (text : List ℕ) → i < length text → b ≡ get_or text i 0 → number_behind n (drop i text) ≡ number_behind n (b ∷ drop (i + 1) text)
-at_byte n i b text h e = ap (number_behind n) (drop_here text i b h e)
 
 pub at_end : (n i : ℕ) (text : List ℕ) → length text ≤ i → n < 2 ^ 64 → number_behind n (drop i text) ≡ Some n
 at_end n i text e h = ap (number_behind n) (drop_all i text e) ∙ (let test : ltb n (2 ^ 64) ≡ true = lt-ltb n (2 ^ 64) h in rw test refl)

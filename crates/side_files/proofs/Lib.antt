@@ -1,6 +1,4 @@
 mod DecimalLemmas
-mod AttrLemmas
-mod AskerLemmas
 mod CallLaws
 mod LogLaws
 mod ReadBack

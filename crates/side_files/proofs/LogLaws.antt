@@ -1,7 +1,7 @@
 -- What holds of a log after any calls.
-use Rattle.std.proofs.Common.{◌≡◌, ℕ, suc, ◌+◌, ◌-◌, ◌<◌, ◌≤◌, List, [], ◌∷◌, ◌++◌, length, drop, refl, sym, ap, ◌∙◌, arith, append_assoc, length-append}
+use Rattle.std.proofs.Common.{◌≡◌, ℕ, ◌+◌, ◌-◌, ◌≤◌, List, [], ◌∷◌, ◌++◌, length, drop, refl, sym, ap, ◌∙◌, arith, append_assoc, length-append}
 use Rattle.std.proofs.lemmas.List.{append-nil, length-drop, drop-append-le, drop-drop}
-use Rattle.side_files.specs.Logs.{newest, pushed}
+use Rattle.side_files.specs.Logs.{newest}
 use Rattle.side_files.specs.Calls.{LogCall, held, added, adding}
 use Rattle.side_files.specs.Calls.LogCall.{Pushed, Taken}
 

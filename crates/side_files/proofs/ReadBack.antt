@@ -1,9 +1,9 @@
 -- A question's line about a tuple that is printed is read back.
-use Rattle.std.proofs.Common.{◌≡◌, ℕ, suc, ◌+◌, ◌-◌, ◌<◌, ◌≤◌, ◌^◌, ◌*◌, List, [], ◌∷◌, ◌++◌, Bool, true, false, not, ◌&&◌, eqb, leb, ltb, cond, length, map, take, drop, get_or, Option, Some, None, Ok, codes, option_map, refl, sym, ap, subst, ◌∙◌, arith, rules, append_assoc, length-append}
+use Rattle.std.proofs.Common.{◌≡◌, ℕ, ◌-◌, ◌<◌, ◌≤◌, ◌^◌, List, [], ◌∷◌, ◌++◌, Bool, true, false, eqb, leb, ltb, cond, length, map, take, get_or, Some, Ok, codes, option_map, refl, sym, ap, ◌∙◌, arith, rules, append_assoc, length-append}
 use Rattle.std.specs.Fmt.{decimal}
-use Rattle.std.specs.List.{list_all, list_any, join_with_byte, slice_index}
-use Rattle.std.specs.Str.{IsAscii, is_utf8}
-use Rattle.std.proofs.lemmas.Bool.{and_parts, and_from, lt-ltb, ltb-true, leb-true, le-leb, ne_eqb, eqb-true, or_left}
+use Rattle.std.specs.List.{list_all, list_any, join_with_byte}
+use Rattle.std.specs.Str.{is_utf8}
+use Rattle.std.proofs.lemmas.Bool.{and_parts, and_from, lt-ltb, leb-true, le-leb, ne_eqb, or_left}
 use Rattle.std.proofs.lemmas.Str.{is_utf8-from_IsUtf8, IsUtf8-from_ascii}
 use Rattle.std.proofs.lemmas.Str.Parse.{IsNumeralModel, numerals_by_fold}
 use Rattle.std.proofs.lemmas.Fmt.{digits_decimal, digits_value-decimal, decimal_nonempty, IsAscii-decimal}
@@ -22,7 +22,7 @@ use Rattle.attr_tuples.specs.Grammar.{tuple_of}
 use Rattle.attr_tuples.proofs.PrintedLemmas.{printed_read}
 use Rattle.side_files.specs.declared.line.PromptKind.{PromptKind}
 use Rattle.side_files.specs.declared.line.PromptKind.TheVariants.{Confirm, Needkey}
-use Rattle.side_files.specs.Decimals.{is_digit, behind, number_behind, number_of}
+use Rattle.side_files.specs.Decimals.{is_digit, behind, number_of}
 use Rattle.side_files.specs.Lines.{verb, question_line}
 use Rattle.side_files.specs.Reading.{asks, is_confirm, question, question_at, question_of, tag_in, without_newline}
 

@@ -6,3 +6,4 @@ pub mod Calls
 pub mod Kept
 pub mod Decimals
 pub mod Reading
+pub mod Replies

@@ -27,8 +27,9 @@ prompt tag conv line = record { tag = tag; conv = conv; line = line }
 abbrev pub asker : Prompt → Asker
 asker question = record { tag = question.tag; conv = question.conv }
 
-abbrev pub lines : Questions → List (List ℕ)
-lines q = map (λ question. question.line) q.unread
+-- the lines that nobody has read
+abbrev pub unread_lines : Questions → List (List ℕ)
+unread_lines q = map (λ question. question.line) q.unread
 
 -- the line of the next question, where it is about this
 abbrev pub next_line : Questions → List ℕ → List ℕ

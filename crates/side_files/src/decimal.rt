@@ -43,7 +43,5 @@ fn add_digit(number: u64, byte: u8) -> Option<u64>
     if !check_digit(byte) {
         return None;
     }
-    number
-        .checked_mul(10)?
-        .checked_add(u64::from(byte - b'0'))
+    number.checked_mul(10)?.checked_add(u64::from(byte - b'0'))
 }

@@ -1,5 +1,5 @@
 //! The files by which an agent speaks with people (confirm, needkey and log of factotum(4) of the Plan 9 manual): questions
-//! that are asked, read and replied to, the lines of a log, and what a question's line says.
+//! that are asked, read and replied to, the lines of a log, and what the line of a question and a reply say.
 #![tactic(auto)]
 
 mod decimal;
@@ -9,7 +9,10 @@ mod line;
 mod prompt;
 mod prompts;
 mod question;
+mod reply;
 mod ring;
+#[cfg(test)]
+mod tests;
 
 pub use decimal::parse_decimal;
 pub use fault::{PromptFault, TooSmall, UnknownTag};
@@ -21,4 +24,5 @@ pub use laws::{
 pub use line::PromptKind;
 pub use prompts::Prompts;
 pub use question::{Question, parse_question};
+pub use reply::{Reply, parse_reply};
 pub use ring::{LOG_LINES, LogRing};

@@ -1,5 +1,5 @@
 // The line of a question.
-ghost use Rattle.std.specs.Prelude.{◌≡◌, ◌++◌, IfOk};
+ghost use Rattle.std.specs.Prelude.{◌≡◌, ◌++◌, nat_lt, length, IfOk};
 ghost use Rattle.side_files.specs.Lines.{verb, question_line};
 
 use std::alloc::Global;
@@ -42,4 +42,11 @@ pub(crate) fn build_line(
     line.append(about)?;
     line.push(b'\n')?;
     Ok(line)
+}
+
+// Whether a line has more bytes than may be read.
+pub(crate) fn is_over(line: &Bytes, count: u32) -> bool
+    ensures { result ≡ nat_lt count (length line.now) }
+{
+    line.len() > count as usize
 }

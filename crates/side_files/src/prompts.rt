@@ -5,7 +5,7 @@ ghost use Rattle.std.specs.VecDeque.{deque_len, deque_capacity};
 ghost use Rattle.side_files.specs.Askers.{asker_in, without_asked, without_conv, without_tag};
 
 use crate::fault::{PromptFault, TooSmall, UnknownTag};
-use crate::line::{PromptKind, build_line};
+use crate::line::{PromptKind, build_line, is_over};
 use crate::prompt::{Asker, Prompt};
 use std::alloc::Global;
 use std::collections::VecDeque;
@@ -40,7 +40,7 @@ impl Model for Prompts {
 impl Prompts {
     ghost use Rattle.std.specs.Prelude.{◌≡◌, ◌+◌, ◌-◌, ◌^◌, ◌<◌, ◌++◌, ℕ, List, true, None, Some, slice_get, is_some, IfErr, IfOk, OnOk, OnErr};
     ghost use Rattle.side_files.specs.Lines.{Hands, Tells, bytes_of, found, if_handed, if_read};
-    ghost use Rattle.side_files.specs.Questions.{no_questions, lines, with_line, next_line, asked_by, read, asker_of, first_conv, replied, standing, withdrawn};
+    ghost use Rattle.side_files.specs.Questions.{no_questions, unread_lines, with_line, next_line, asked_by, read, asker_of, first_conv, replied, standing, withdrawn};
 
     /// No questions. It takes no memory.
     pub fn new(alloc: Global, kind: PromptKind) -> Prompts
@@ -61,12 +61,7 @@ impl Prompts {
         ensures ok { OnOk result (self.new ≡ with_line about.now self.old) }
         ensures err { OnErr result (self.new ≡ self.old) }
     {
-        let line = build_line(
-            *self.unread.allocator(),
-            self.kind,
-            self.asked + 1,
-            about,
-        )?;
+        let line = build_line(*self.unread.allocator(), self.kind, self.asked + 1, about)?;
         self.unread.reserve(1)?;
         self.opened.reserve(self.unread.len() + 1)?;
         self.reserved = Some(line);
@@ -104,15 +99,15 @@ impl Prompts {
     /// Hands out the line of the first question that nobody has read, where it has at most so many bytes: it is appended,
     /// and the question waits for its reply. False: there is none.
     pub fn read_one(&mut self, count: u32, out: &mut Bytes) -> Result<bool, PromptFault>
-        ensures answer { Tells (found count (lines self.old)) result }
+        ensures answer { Tells (found count (unread_lines self.old)) result }
         ensures out { out.new
-            ≡ if_read result (out.old ++ bytes_of (found count (lines self.old))) out.old }
+            ≡ if_read result (out.old ++ bytes_of (found count (unread_lines self.old))) out.old }
         ensures questions { self.new ≡ if_read result (read self.old) self.old }
     {
         let Some(prompt) = self.unread.front() else {
             return Ok(false);
         };
-        if prompt.line.len() > count as usize {
+        if is_over(&prompt.line, count) {
             return Err(PromptFault::TooSmall);
         }
         out.append(prompt.line.as_slice())?;
@@ -122,13 +117,13 @@ impl Prompts {
 
     /// Hands out that line itself. None: there is none. It takes no memory.
     pub fn hand_out(&mut self, count: u32) -> Result<Option<Bytes>, TooSmall>
-        ensures answer { Hands (found count (lines self.old)) result }
+        ensures answer { Hands (found count (unread_lines self.old)) result }
         ensures questions { self.new ≡ if_handed result (read self.old) self.old }
     {
         let Some(prompt) = self.unread.front() else {
             return Ok(None);
         };
-        if prompt.line.len() > count as usize {
+        if is_over(&prompt.line, count) {
             return Err(TooSmall);
         }
         Ok(self.open_first())
@@ -136,7 +131,7 @@ impl Prompts {
 
     // The first question that nobody has read is read. Its line, if there is one.
     fn open_first(&mut self) -> Option<Bytes>
-        ensures line { result ≡ slice_get (lines self.old) 0 }
+        ensures line { result ≡ slice_get (unread_lines self.old) 0 }
         ensures questions { self.new ≡ read self.old }
     {
         let prompt = self.unread.pop_front()?;

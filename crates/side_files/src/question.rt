@@ -2,7 +2,7 @@
 ghost use Rattle.std.specs.Prelude.{◌≡◌, true, IfOk};
 ghost use Rattle.attr_tuples.specs.Attributes.{is_tuple};
 ghost use Rattle.attr_tuples.specs.Grammar.{tuple_of};
-ghost use Rattle.side_files.specs.Reading.{asks, question_of, tag_in, without_newline, question_in};
+ghost use Rattle.side_files.specs.Reading.{asks, number_in, question_of, tag_in, without_newline, question_in};
 
 use crate::decimal::parse_decimal;
 use attr_tuples::{Attr, Tuple, TupleFault, Value, is_named, parse_tuple};
@@ -36,7 +36,7 @@ pub fn parse_question(alloc: Global, line: &[u8]) -> Result<Option<Question>, No
     Ok(None)
 }
 
-fn without_newline(line: &[u8]) -> &[u8]
+pub(crate) fn without_newline(line: &[u8]) -> &[u8]
     ensures { result.now ≡ without_newline line.now }
 {
     match line {
@@ -46,11 +46,7 @@ fn without_newline(line: &[u8]) -> &[u8]
 }
 
 // The question that stands behind the verb.
-fn read_question(
-    alloc: Global,
-    confirm: bool,
-    text: &[u8],
-) -> Result<Option<Question>, NoMemory>
+fn read_question(alloc: Global, confirm: bool, text: &[u8]) -> Result<Option<Question>, NoMemory>
     ensures { IfOk result (λ question. question ≡ asks confirm (tuple_of text.now)) }
 {
     match parse_tuple(alloc, text) {
@@ -83,9 +79,19 @@ fn split_tuple(alloc: Global, confirm: bool, tuple: &Tuple) -> Result<Option<Que
 fn tag_in(attr: &Attr) -> Option<u64>
     ensures { result ≡ tag_in attr.now }
 {
-    match &attr.value {
-        Value::Is(text) if is_named(attr, b"tag".as_slice()) => parse_decimal(text.as_slice()),
-        Value::Is(_) | Value::Ask | Value::Bare => None,
+    if is_named(attr, b"tag".as_slice()) {
+        number_in(&attr.value)
+    } else {
+        None
+    }
+}
+
+pub(crate) fn number_in(value: &Value) -> Option<u64>
+    ensures { result ≡ number_in value.now }
+{
+    match value {
+        Value::Is(text) => parse_decimal(text.as_slice()),
+        Value::Ask | Value::Bare => None,
     }
 }
 

@@ -1,5 +1,6 @@
 // The lines of a log.
 use crate::fault::{PromptFault, TooSmall};
+use crate::line::is_over;
 use circular_buffer::HeapCircularBuffer;
 use std::alloc::Global;
 use std::marker::Model;
@@ -55,7 +56,7 @@ impl LogRing {
         let Some(line) = self.lines.front() else {
             return Ok(false);
         };
-        if line.len() > count as usize {
+        if is_over(line, count) {
             return Err(PromptFault::TooSmall);
         }
         out.append(line.as_slice())?;
@@ -71,7 +72,7 @@ impl LogRing {
         let Some(line) = self.lines.front() else {
             return Ok(None);
         };
-        if line.len() > count as usize {
+        if is_over(line, count) {
             return Err(TooSmall);
         }
         Ok(self.lines.pop_front())
