@@ -138,3 +138,16 @@ read_back kind n (a ∷ attrs) h t some few =
     ∙ (asked_at kind text
     ∙ (ap (asks (is_confirm kind)) says
     ∙ ap (option_map (question (is_confirm kind) (a ∷ attrs))) (tag_again n h))))
+
+printed_more : (attrs : List Attr) (more : Attr) → 0 < length attrs → join_with_byte 32 (map attr_text (attrs ++ more ∷ [])) ≡ join_with_byte 32 (map attr_text attrs) ++ 32 ∷ attr_text more
+printed_more [] more some = absurd (omega arith)
+printed_more (a ∷ []) more some = refl
+printed_more (a ∷ b ∷ attrs) more some =
+    ap (λ (x : List ℕ). attr_text a ++ 32 ∷ x) (printed_more (b ∷ attrs) more (omega arith))
+    ∙ sym (append_assoc (attr_text a) (32 ∷ join_with_byte 32 (map attr_text (b ∷ attrs))) (32 ∷ attr_text more))
+
+pub longer_back : (kind : PromptKind) (n : ℕ) (attrs : List Attr) (more : Attr) → n < 2 ^ 64 → is_tuple (attrs ++ more ∷ []) ≡ true → 0 < length attrs → length attrs < 35 → question_of (question_line kind n (printed_text attrs ++ 32 ∷ attr_text more)) ≡ Some (question (is_confirm kind) (attrs ++ more ∷ []) n)
+unfolding printed_text
+longer_back kind n attrs more h t some few =
+    ap (λ (about : List ℕ). question_of (question_line kind n about)) (sym (printed_more attrs more some))
+    ∙ read_back kind n (attrs ++ more ∷ []) h t (omega (arith, length-append attrs (more ∷ []))) (omega (arith, few, length-append attrs (more ∷ [])))

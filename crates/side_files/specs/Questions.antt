@@ -35,6 +35,11 @@ unread_lines q = map (λ question. question.line) q.unread
 abbrev pub next_line : Questions → List ℕ → List ℕ
 next_line q about = question_line q.kind (q.asked + 1) about
 
+-- the line that was made, if one was
+abbrev pub reserved_line : Option (List ℕ) → List ℕ
+reserved_line None = []
+reserved_line (Some line) = line
+
 -- ---- changes
 
 -- the line of the next question is made

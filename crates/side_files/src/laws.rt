@@ -1,9 +1,9 @@
 // Laws of the definitions, each the contract of a function that does nothing.
-ghost use Rattle.std.specs.Prelude.{◌≡◌, ◌+◌, ◌-◌, ◌^◌, ◌<◌, ◌≤◌, ◌++◌, ◌==◌, ◌∷◌, ℕ, List, Bool, Some, None, not, drop, length, true};
+ghost use Rattle.std.specs.Prelude.{◌≡◌, ◌+◌, ◌-◌, ◌^◌, ◌<◌, ◌≤◌, ◌++◌, ◌==◌, ◌∷◌, [], ℕ, List, Bool, Some, None, not, drop, length, true};
 ghost use Rattle.std.specs.List.{list_all};
 ghost use Rattle.attr_tuples.specs.declared.attr.Attr.{Attr};
 ghost use Rattle.attr_tuples.specs.Attributes.{is_tuple};
-ghost use Rattle.attr_tuples.specs.Printing.{printed_text};
+ghost use Rattle.attr_tuples.specs.Printing.{attr_text, printed_text};
 ghost use Rattle.side_files.specs.declared.line.PromptKind.{PromptKind};
 ghost use Rattle.side_files.specs.declared.prompt.Asker.{Asker};
 ghost use Rattle.side_files.specs.declared.ring.TheConstants.{LOG_LINES};
@@ -48,10 +48,16 @@ pub fn the_newest_lines_are_held()
         → held (adding lines before) ≡ newest (held before ++ lines) }
 {}
 
-/// What is asked about a tuple that is printed is read back as it was.
+/// What is asked about a tuple that is printed is read back as it was, also with one more attribute behind it, as a template
+/// that is shown has a question for a password.
 pub fn questions_are_read_back()
-    ensures { (kind : PromptKind) (tag : ℕ) (attrs : List Attr) → tag < 2 ^ 64
+    ensures printed { (kind : PromptKind) (tag : ℕ) (attrs : List Attr) → tag < 2 ^ 64
         → is_tuple attrs ≡ true → 0 < length attrs → length attrs < 36
         → question_of (question_line kind tag (printed_text attrs))
         ≡ Some (question (is_confirm kind) attrs tag) }
+    ensures longer { (kind : PromptKind) (tag : ℕ) (attrs : List Attr) (more : Attr)
+        → tag < 2 ^ 64 → is_tuple (attrs ++ more ∷ []) ≡ true
+        → 0 < length attrs → length attrs < 35
+        → question_of (question_line kind tag (printed_text attrs ++ 32 ∷ attr_text more))
+        ≡ Some (question (is_confirm kind) (attrs ++ more ∷ []) tag) }
 {}

@@ -32,15 +32,23 @@ impl Model for Prompts {
 
     ghost Value = { Questions };
 
-    ghost view = { λ p. record { kind = p.kind; asked = p.asked; unread = p.unread.items; opened = p.opened.items; reserved = p.reserved } };
+    ghost view = { λ p. record {
+      kind = p.kind;
+      asked = p.asked;
+      unread = p.unread.items;
+      opened = p.opened.items;
+      reserved = p.reserved;
+    } };
 
-    ghost invariant = { λ p. (vec_len p.opened + deque_len p.unread + places p.reserved ≤ vec_capacity p.opened) × (deque_len p.unread + places p.reserved ≤ deque_capacity p.unread) };
+    ghost invariant = { λ p. (vec_len p.opened + deque_len p.unread + places p.reserved
+        ≤ vec_capacity p.opened) × (deque_len p.unread + places p.reserved
+        ≤ deque_capacity p.unread) };
 }
 
 impl Prompts {
-    ghost use Rattle.std.specs.Prelude.{◌≡◌, ◌+◌, ◌-◌, ◌^◌, ◌<◌, ◌++◌, ℕ, List, true, None, Some, slice_get, is_some, IfErr, IfOk, OnOk, OnErr};
+    ghost use Rattle.std.specs.Prelude.{◌≡◌, ◌+◌, ◌-◌, ◌^◌, ◌<◌, ◌++◌, true, None, Some, slice_get, is_some, IfErr, IfOk, OnOk, OnErr};
     ghost use Rattle.side_files.specs.Lines.{Hands, Tells, bytes_of, found, if_handed, if_read};
-    ghost use Rattle.side_files.specs.Questions.{no_questions, unread_lines, with_line, next_line, asked_by, read, asker_of, first_conv, replied, standing, withdrawn};
+    ghost use Rattle.side_files.specs.Questions.{no_questions, unread_lines, with_line, next_line, asked_by, read, asker_of, first_conv, replied, reserved_line, standing, withdrawn};
 
     /// No questions. It takes no memory.
     pub fn new(alloc: Global, kind: PromptKind) -> Prompts
@@ -73,8 +81,7 @@ impl Prompts {
         requires few { self.old.asked < 2 ^ 64 - 1 }
         requires room { is_some self.old.reserved ≡ true }
         ensures tag { result ≡ self.old.asked + 1 }
-        ensures asked { (line : List ℕ) → self.old.reserved ≡ Some line
-            → self.new ≡ asked_by conv line self.old }
+        ensures asked { self.new ≡ asked_by conv (reserved_line self.old.reserved) self.old }
     {
         let Some(line) = self.reserved.take() else {
             unreachable!()
@@ -89,7 +96,8 @@ impl Prompts {
     pub fn ask(&mut self, conv: u64, about: &[u8]) -> Result<u64, NoMemory>
         requires { self.old.asked < 2 ^ 64 - 1 }
         ensures tag { IfOk result (λ tag. tag ≡ self.old.asked + 1) }
-        ensures ok { OnOk result (self.new ≡ asked_by conv (next_line self.old about.now) self.old) }
+        ensures ok { OnOk result (self.new
+            ≡ asked_by conv (next_line self.old about.now) self.old) }
         ensures err { OnErr result (self.new ≡ self.old) }
     {
         self.reserve(about)?;

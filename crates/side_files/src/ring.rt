@@ -50,7 +50,8 @@ impl LogRing {
     /// none.
     pub fn take(&mut self, count: u32, out: &mut Bytes) -> Result<bool, PromptFault>
         ensures answer { Tells (found count self.old) result }
-        ensures out { out.new ≡ if_read result (out.old ++ bytes_of (found count self.old)) out.old }
+        ensures out { out.new
+            ≡ if_read result (out.old ++ bytes_of (found count self.old)) out.old }
         ensures lines { self.new ≡ if_read result (drop 1 self.old) self.old }
     {
         let Some(line) = self.lines.front() else {

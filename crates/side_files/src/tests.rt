@@ -30,6 +30,10 @@ fn a_question_is_asked_read_and_replied_to(rt: HostRuntime) -> Result<(), Fail> 
     Ok(())
 }
 
+fn is_handed(handed: Result<Option<Bytes>, TooSmall>, line: &[u8]) -> bool {
+    matches!(handed, Ok(Some(bytes)) if bytes.as_slice() == line)
+}
+
 #[test]
 fn questions_are_read_in_order(rt: HostRuntime) -> Result<(), Fail> {
     let mut prompts = Prompts::new(rt.alloc(), PromptKind::Needkey);
@@ -38,12 +42,8 @@ fn questions_are_read_in_order(rt: HostRuntime) -> Result<(), Fail> {
     assert_eq!(rt; prompts.ask(4, b"b?")?, 2);
     assert_eq!(rt; prompts.first_asker(), Some(3));
     assert!(rt; matches!(prompts.hand_out(16), Err(TooSmall)));
-    assert!(rt;
-        matches!(prompts.hand_out(17), Ok(Some(line)) if line.as_slice() == b"needkey tag=1 a?\n".as_slice())
-    );
-    assert!(rt;
-        matches!(prompts.hand_out(17), Ok(Some(line)) if line.as_slice() == b"needkey tag=2 b?\n".as_slice())
-    );
+    assert!(rt; is_handed(prompts.hand_out(17), b"needkey tag=1 a?\n"));
+    assert!(rt; is_handed(prompts.hand_out(17), b"needkey tag=2 b?\n"));
     assert!(rt; matches!(prompts.hand_out(17), Ok(None)));
     assert_eq!(rt; prompts.reply(2), Ok(4));
     Ok(())
@@ -82,9 +82,7 @@ fn a_full_log_loses_its_oldest_line(rt: HostRuntime) -> Result<(), Fail> {
     assert_eq!(rt; log.take(1, &mut out), Err(PromptFault::TooSmall));
     assert_eq!(rt; log.take(2, &mut out), Ok(true));
     assert_eq!(rt; out.as_slice(), b"\x02\n".as_slice());
-    assert!(rt;
-        matches!(log.hand_out(8192), Ok(Some(line)) if line.as_slice() == b"\x03\n".as_slice())
-    );
+    assert!(rt; is_handed(log.hand_out(8192), b"\x03\n"));
     assert!(rt; matches!(log.hand_out(0), Err(TooSmall)));
     Ok(())
 }
