@@ -8,6 +8,7 @@ use Rattle.side_files.specs.declared.fault.TooSmall.{TooSmall}
 use Rattle.side_files.specs.declared.fault.PromptFault.{PromptFault}
 use Rattle.side_files.specs.declared.fault.PromptFault.TheVariants as f
 
+-- how the line of a question begins
 abbrev pub verb : PromptKind → List ℕ
 verb Confirm = codes "confirm"
 verb Needkey = codes "needkey"
@@ -57,6 +58,7 @@ Hands what (Ok (Some line)) = what ≡ First line
 Hands what (Ok None) = what ≡ Nothing
 Hands what (Err small) = what ≡ TooLong
 
+-- and has changed something only where it hands out a line
 abbrev pub if_handed : {A : Type 0} → Result (Option (List ℕ)) TooSmall → A → A → A
 if_handed (Ok (Some line)) new old = new
 if_handed (Ok None) new old = old

@@ -16,6 +16,7 @@ pub record Questions : Type 0 where
   pub opened : List Asker
   pub reserved : Option (List ℕ)
 
+-- nothing was asked
 abbrev pub no_questions : PromptKind → Questions
 no_questions kind = record { kind = kind; asked = 0; unread = []; opened = []; reserved = None }
 
@@ -50,11 +51,12 @@ with_line about q = record q { reserved = Some (next_line q about) }
 abbrev pub asked_by : ℕ → List ℕ → Questions → Questions
 asked_by conv line q = record q { asked = q.asked + 1; unread = q.unread ++ prompt (q.asked + 1) conv line ∷ []; reserved = None }
 
--- the first question is read
+-- what waits for a reply once the first question is read, if there is one
 abbrev pub opens : List Prompt → List Asker
 opens [] = []
 opens (question ∷ more) = asker question ∷ []
 
+-- the first question is read
 abbrev pub read : Questions → Questions
 read q = record q { unread = drop 1 q.unread; opened = q.opened ++ opens q.unread }
 

@@ -27,6 +27,7 @@ number_in Bare = None
 abbrev pub tag_in : Attr → Option ℕ
 tag_in a = if is_named (codes "tag") a then number_in a.value else None
 
+-- a question: whether it wants consent, what it is about, its tag
 abbrev pub question : Bool → List Attr → ℕ → Question
 question confirm attrs tag = record { confirm = confirm; tag = tag; tuple = attrs }
 

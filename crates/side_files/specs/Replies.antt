@@ -24,6 +24,7 @@ is_yes None = false
 abbrev pub agrees : List Attr → Bool
 agrees attrs = is_yes (value_of (codes "answer") attrs)
 
+-- a reply: whether it agrees, its tag
 abbrev pub reply : Bool → ℕ → Reply
 reply agreed tag = record { tag = tag; agrees = agreed }
 

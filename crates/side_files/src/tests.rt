@@ -5,6 +5,7 @@ use super::{
 };
 use attr_tuples::print_tuple;
 use std::alloc::Global;
+use std::marker::Send;
 use std::process::Abort;
 use std::test::Fail;
 use wire_base::Bytes;
@@ -18,7 +19,7 @@ fn a_question_is_asked_read_and_replied_to(rt: HostRuntime) -> Result<(), Fail> 
     assert_eq!(rt; prompts.read_one(8192, &mut out), Ok(false));
     assert_eq!(rt; prompts.ask(7, KEY)?, 1);
     assert_eq!(rt; prompts.reply(1), Err(UnknownTag));
-    assert_eq!(rt; prompts.read_one(60, &mut out), Err(PromptFault::TooSmall));
+    assert_eq!(rt; prompts.read_one(59, &mut out), Err(PromptFault::TooSmall));
     assert_eq!(rt; prompts.read_one(60, &mut out), Ok(true));
     assert_eq!(rt;
         out.as_slice(),
@@ -87,10 +88,19 @@ fn a_full_log_loses_its_oldest_line(rt: HostRuntime) -> Result<(), Fail> {
     Ok(())
 }
 
+fn needs_send<T: Send>(_: &T) {}
+
+#[test]
+fn questions_and_lines_may_change_threads(rt: HostRuntime) -> Result<(), Fail> {
+    needs_send(&Prompts::new(rt.alloc(), PromptKind::Confirm));
+    needs_send(&LogRing::new(rt.alloc())?);
+    Ok(())
+}
+
 // A line, and its question: whether it wants consent, its tag, and the tuple as it is printed.
 type Line = (&'static [u8], Option<(bool, u64, &'static [u8])>);
 
-static LINES: [Line; 16] = [
+static LINES: [Line; 17] = [
     (
         b"confirm tag=1 proto=p9sk1 dom=x user=ann confirm !password?",
         Some((true, 1, b"proto=p9sk1 dom=x user=ann confirm !password?")),
@@ -102,6 +112,7 @@ static LINES: [Line; 16] = [
         b"confirm tag=18446744073709551615 tag=2",
         Some((true, 18446744073709551615, b"tag=2")),
     ),
+    (b"needkey tag=4 \n", Some((false, 4, b""))),
     (b"confirm tag=18446744073709551616 a", None),
     (b"confirm a tag=1", None),
     (b"confirm tag", None),
