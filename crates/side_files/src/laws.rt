@@ -1,5 +1,5 @@
 // Laws of the definitions, each the contract of a function that does nothing.
-ghost use Rattle.std.specs.Prelude.{◌≡◌, ◌+◌, ◌-◌, ◌^◌, ◌<◌, ◌≤◌, ◌++◌, ◌==◌, ◌∷◌, [], ℕ, List, Bool, Some, None, not, drop, length, true};
+ghost use Rattle.std.specs.Prelude.{◌≡◌, ◌+◌, ◌-◌, ◌^◌, ◌<◌, ◌≤◌, ◌++◌, ◌==◌, ◌∷◌, [], ℕ, List, Some, None, not, drop, length, true};
 ghost use Rattle.std.specs.List.{list_all};
 ghost use Rattle.attr_tuples.specs.declared.attr.Attr.{Attr};
 ghost use Rattle.attr_tuples.specs.Attributes.{is_tuple};

@@ -1,5 +1,5 @@
 // The line of a question.
-ghost use Rattle.std.specs.Prelude.{◌≡◌, ◌++◌, nat_lt, length, IfOk};
+ghost use Rattle.std.specs.Prelude.{◌≡◌, nat_lt, length, IfOk};
 ghost use Rattle.side_files.specs.Lines.{verb, question_line};
 
 use std::alloc::Global;
