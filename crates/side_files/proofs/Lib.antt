@@ -1,0 +1,4 @@
+mod DecimalLemmas
+mod CallLaws
+mod LogLaws
+mod ReadBack
