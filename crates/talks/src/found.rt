@@ -2,6 +2,7 @@
 use key_ring::Key;
 
 /// What a search among the keys of a moment comes to.
+#[derive(Clone, Copy)]
 pub enum Found<'a> {
     /// This key is to be used.
     Chosen(&'a Key),
