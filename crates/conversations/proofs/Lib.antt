@@ -1,0 +1,4 @@
+pub mod NameLemmas
+pub mod TemplateLemmas
+pub mod MoveLemmas
+pub mod FindLemmas

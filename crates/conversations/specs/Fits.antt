@@ -1,0 +1,108 @@
+-- When a conversation holds for a talk: what was begun is what the definitions say was begun, and so are the phase, the
+-- start and what the user said.
+use Rattle.std.specs.Prelude.{◌≡◌, ℕ, List, [], ◌∷◌, Bool, Option, Some, None}
+use Rattle.attr_tuples.specs.declared.attr.Attr.{Attr}
+use Rattle.roles.specs.declared.answer.Gave.{Gave}
+use Rattle.roles.specs.declared.answer.StartFault.{StartFault}
+use Rattle.roles.specs.Starts.{Start}
+use Rattle.roles.specs.Talks.{get}
+use Rattle.roles.specs.Talks.{Call as Move}
+use Rattle.conv_p9sk1.specs.declared.conv.SkConv.{SkConv}
+use Rattle.conv_p9sk1.specs.Standing.{Stands}
+use Rattle.rpc_file.specs.declared.answer.RpcAnswer.{RpcAnswer}
+use Rattle.rpc_file.specs.declared.answer.RpcAnswer.TheVariants as a
+use Rattle.talks.specs.Answers.{move_answer, start_answer}
+use Rattle.talks.specs.Calls.{Call}
+use Rattle.talks.specs.Roles.{answers, needs, puts, refuses}
+use Rattle.talks.specs.Standings.{Begun, Standing, begin, key_of, phase_after, standing, template_of, with_move}
+use Rattle.conversations.specs.declared.begun.Begun.{Begun as Held}
+use Rattle.conversations.specs.declared.conversation.Conversation.{Conversation}
+use Rattle.conversations.specs.declared.opening.Opening.{Opening}
+use Rattle.conversations.specs.declared.opening.Opening.TheVariants as o
+use Rattle.conversations.specs.declared.phase.Phase.{Phase}
+use Rattle.conversations.specs.declared.phase.Phase.TheVariants as held
+use Rattle.conversations.specs.Meanings.{phase_of}
+
+-- ---- what was begun
+
+-- what is kept of a conversation that was started so, and whose role met these moves
+pub record IsBegun (held : Held) (b : Begun) : Type 0 where
+  pub machine : Stands held.machine b.start b.moves
+  pub template : held.template ≡ b.start.template
+  pub key : held.key ≡ b.key
+
+abbrev pub BothBegun : Option Held → Option Begun → Type 0
+BothBegun None None = Unit {0}
+BothBegun None (Some b) = ⊥
+BothBegun (Some held) None = ⊥
+BothBegun (Some held) (Some b) = IsBegun held b
+
+-- ---- a conversation
+
+-- the template for which a user is asked, while he is asked
+abbrev pub IsAsked : Phase → List Attr → Type 0
+IsAsked (held.OnNeedkey asked) template = asked ≡ template
+IsAsked held.Resting template = Unit {0}
+IsAsked (held.Waiting request) template = Unit {0}
+IsAsked held.Seeking template = Unit {0}
+IsAsked (held.OnConfirm serial) template = Unit {0}
+IsAsked held.OnServer template = Unit {0}
+IsAsked (held.Kept answer) template = Unit {0}
+
+-- all but its phase
+pub record Carries (c : Conversation) (s : Standing) : Type 0 where
+  pub begun : BothBegun c.begun s.begun
+  pub starting : c.starting ≡ s.starting
+  pub said : c.said ≡ s.said
+
+pub record Fits (c : Conversation) (s : Standing) : Type 0 where
+  pub carries : Carries c s
+  pub phase : phase_of (key_of s) c.phase ≡ s.phase
+  pub asked : IsAsked c.phase (template_of s.begun)
+
+-- it holds for a talk
+abbrev pub Holds : Conversation → List Call → Type 0
+Holds c talk = Fits c (standing talk)
+
+-- whatever its talk was, it holds for the talk with one more call
+abbrev pub Keeps : Conversation → Conversation → Call → Type 0
+Keeps old new call = (talk : List Call) → Holds old talk → Holds new (call ∷ talk)
+
+-- what is shown of it is what its talk makes
+abbrev pub Shows : {A : Type 0} → Conversation → (Standing → A) → A → Type 0
+Shows c made shown = (talk : List Call) → Holds c talk → shown ≡ made (standing talk)
+
+-- ---- for the proofs of its methods alone
+
+-- however it stood, its phase aside, it stands so now
+abbrev pub Meets : Conversation → Conversation → (Standing → Standing) → Type 0
+Meets old new then = (s : Standing) → Carries old s → Fits new (then s)
+
+-- however it stood, it stands so now
+abbrev pub Turns : Conversation → Conversation → (Standing → Standing) → Type 0
+Turns old new then = (s : Standing) → Fits old s → Fits new (then s)
+
+-- a move of the machine was made, and answered so
+abbrev pub Made : SkConv → SkConv → Move → Gave → Type 0
+Made old new move gave = (start : Start) (moves : List Move) → Stands old start moves → (gave ≡ answers start moves move) × Stands new start (move ∷ moves)
+
+-- these bytes are got of it
+abbrev pub Got : SkConv → List ℕ → Type 0
+Got old bytes = (start : Start) (moves : List Move) → Stands old start moves → bytes ≡ puts start moves get
+
+-- the phase that follows where this was begun, and this is the answer where nothing is needed
+abbrev pub MoveTo : Phase → Begun → RpcAnswer → Type 0
+MoveTo phase b answer = phase_of b.key phase ≡ phase_after (needs b.start b.moves) answer
+
+pub record Becomes (new : Held) (phase : Phase) (b : Begun) (answer : RpcAnswer) : Type 0 where
+  pub begun : IsBegun new b
+  pub leads : MoveTo phase b answer
+
+-- a move that is answered `ok` where it is done
+abbrev pub Moves : Held → Held → Phase → Move → Type 0
+Moves old new phase move = (b : Begun) → IsBegun old b → Becomes new phase (with_move b move) (move_answer a.Ok b.key (answers b.start b.moves move))
+
+-- a start that was tried
+abbrev pub Opens : Opening → List Attr → List ℕ → Type 0
+Opens (o.Refused answer) template word = (fault : StartFault) × ((refuses template ≡ Some fault) × (answer ≡ start_answer fault))
+Opens (o.Started held) template word = (refuses template ≡ None) × IsBegun held (begin template word)

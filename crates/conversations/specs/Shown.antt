@@ -1,0 +1,80 @@
+-- What is shown of a conversation.
+use Rattle.std.specs.Prelude.{ℕ, List, [], Bool, true, false, Option, Some, None}
+use Rattle.wire_base.specs.declared.shape.Shape.{Shape}
+use Rattle.attr_tuples.specs.declared.attr.Attr.{Attr}
+use Rattle.roles.specs.declared.need.Need.{Need}
+use Rattle.roles.specs.declared.need.Need.TheVariants as n
+use Rattle.rpc_file.specs.Answers.{answer_text}
+use Rattle.talks.specs.Standings.{Phase, Resting, Waiting, Seeking, OnConfirm, OnNeedkey, OnServer, Kept}
+
+-- it has no request and no answer
+abbrev pub is_resting : Phase → Bool
+is_resting Resting = true
+is_resting (Waiting request) = false
+is_resting Seeking = false
+is_resting (OnConfirm serial) = false
+is_resting OnNeedkey = false
+is_resting OnServer = false
+is_resting (Kept answer) = false
+
+-- it has a request that isn't carried out yet
+abbrev pub has_request : Phase → Bool
+has_request Resting = false
+has_request (Waiting request) = true
+has_request Seeking = false
+has_request (OnConfirm serial) = false
+has_request OnNeedkey = false
+has_request OnServer = false
+has_request (Kept answer) = false
+
+-- a key is to be searched for
+abbrev pub is_seeking : Phase → Bool
+is_seeking Resting = false
+is_seeking (Waiting request) = false
+is_seeking Seeking = true
+is_seeking (OnConfirm serial) = false
+is_seeking OnNeedkey = false
+is_seeking OnServer = false
+is_seeking (Kept answer) = false
+
+-- the authentication server is asked
+abbrev pub waits_for_server : Phase → Bool
+waits_for_server Resting = false
+waits_for_server (Waiting request) = false
+waits_for_server Seeking = false
+waits_for_server (OnConfirm serial) = false
+waits_for_server OnNeedkey = false
+waits_for_server OnServer = true
+waits_for_server (Kept answer) = false
+
+-- it has an answer that wasn't read yet
+abbrev pub has_answer : Phase → Bool
+has_answer Resting = false
+has_answer (Waiting request) = false
+has_answer Seeking = false
+has_answer (OnConfirm serial) = false
+has_answer OnNeedkey = false
+has_answer OnServer = false
+has_answer (Kept answer) = true
+
+-- the text of that answer
+abbrev pub answer_text_of : Phase → List ℕ
+answer_text_of (Kept answer) = answer_text answer
+answer_text_of Resting = []
+answer_text_of (Waiting request) = []
+answer_text_of Seeking = []
+answer_text_of (OnConfirm serial) = []
+answer_text_of OnNeedkey = []
+answer_text_of OnServer = []
+
+-- the template that is asked of a key, if a key is needed
+abbrev pub asked_in : Need → Option (List Attr)
+asked_in (n.Key template) = Some template
+asked_in (n.Exchange request shape) = None
+asked_in n.Nothing = None
+
+-- the question for the authentication server, if there is one
+abbrev pub exchange_in : Need → Option (List ℕ × Shape)
+exchange_in (n.Exchange request shape) = Some (request, shape)
+exchange_in (n.Key template) = None
+exchange_in n.Nothing = None

@@ -1,0 +1,551 @@
+// A conversation.
+ghost use Rattle.std.specs.Prelude.{◌≡◌, ◌++◌, [], true, IfOk, List, OnErr, OnOk, Option, Some, option_copied, option_map};
+ghost use Rattle.key_lists.specs.CtlLines.{few_of};
+ghost use Rattle.roles.specs.Starts.{fits_start};
+ghost use Rattle.rpc_file.specs.Requests.{asks_attributes, asks_info, meant as request_meant, reads, writes};
+ghost use Rattle.talks.specs.Calls as c;
+ghost use Rattle.talks.specs.Calls.{Call};
+ghost use Rattle.talks.specs.Meanings.{meant};
+ghost use Rattle.talks.specs.Roles.{refuses};
+ghost use Rattle.talks.specs.Searches.{found_by};
+ghost use Rattle.talks.specs.Standings.{Begun as Beginning, answered, begin_once, carried_out, finds, key_of, moved, nothing_said, outcome_of, question_of, refused, role_name, sought, standing, start_by, started, taken_back, template_of, told_of, with_key};
+ghost use Rattle.conversations.specs.Fits.{BothBegun, Holds, IsBegun, Keeps, Meets, Shows, Turns};
+ghost use Rattle.conversations.specs.Meanings.{request_of};
+ghost use Rattle.conversations.specs.Shown.{answer_text_of, asked_in, exchange_in, has_answer, has_request, is_resting, is_seeking, waits_for_server};
+
+use crate::answer::{Answer, put_answer};
+use crate::begun::Begun;
+use crate::opening::{Opening, open, read_template};
+use crate::phase::{self, Phase, Stored as Request, store_request};
+use attr_tuples::Tuple;
+use key_ring::{Key, KeyRing};
+use roles::{Machine, Need, Outcome};
+use rpc_file::{Request as Written, RpcAnswer};
+use std::alloc::Global;
+use std::mem;
+use talks::{Asking, Found, Said, search_keys};
+use wire_base::{Bytes, List, NoMemory, Shape};
+
+/// A conversation of rpc. It has no Debug, which would print secrets.
+#[derive(Drop)]
+pub struct Conversation {
+    begun: Option<Begun>,
+    phase: Phase,
+    starting: bool,
+    said: Said,
+}
+
+// ---- what stands
+
+impl Conversation {
+    /// A conversation that met nothing. It takes no memory.
+    pub fn new(alloc: Global) -> Conversation
+        ensures { Holds result [] }
+    {
+        Conversation {
+            begun: None,
+            phase: Phase::Resting,
+            starting: false,
+            said: say_nothing(alloc),
+        }
+    }
+
+    /// Whether it has neither a request nor an answer. It takes no memory.
+    pub fn is_resting(&self) -> bool
+        ensures { Shows self.now (λ s. is_resting s.phase) result }
+    {
+        phase::is_resting(&self.phase)
+    }
+
+    /// Whether it has a request that isn't carried out yet. It takes no memory.
+    pub fn has_request(&self) -> bool
+        ensures { Shows self.now (λ s. has_request s.phase) result }
+    {
+        phase::has_request(&self.phase)
+    }
+
+    /// Whether a key is to be searched for. It takes no memory.
+    pub fn seeks(&self) -> bool
+        ensures { Shows self.now (λ s. is_seeking s.phase) result }
+    {
+        phase::is_seeking(&self.phase)
+    }
+
+    /// Whether the authentication server is asked. It takes no memory.
+    pub fn waits_for_server(&self) -> bool
+        ensures { Shows self.now (λ s. waits_for_server s.phase) result }
+    {
+        phase::waits_for_server(&self.phase)
+    }
+
+    /// Whether it has an answer that wasn't read yet. It takes no memory.
+    pub fn has_answer(&self) -> bool
+        ensures { Shows self.now (λ s. has_answer s.phase) result }
+    {
+        phase::has_answer(&self.phase)
+    }
+
+    /// The template that is asked of a key, where one is needed. It takes no memory.
+    pub fn template(&self) -> Option<&Tuple>
+        ensures { Shows self.now (λ s. asked_in (question_of s)) (option_map (λ t. t.now) result) }
+    {
+        match &self.begun {
+            Some(begun) => begun.asked(),
+            None => None,
+        }
+    }
+
+    /// What is found among the keys of a ring, where these files are open. It takes no memory.
+    pub fn find_key<'a>(&self, alloc: Global, ring: &'a KeyRing, asking: Asking) -> Found<'a>
+        ensures { Shows self.now (λ s. finds s asking ring.now) (meant result) }
+    {
+        let none = Tuple::new(alloc);
+        match &self.begun {
+            Some(begun) => find_for(ring, &none, begun, &self.said, asking),
+            None => find_none(ring, &none, &self.said, asking),
+        }
+    }
+
+    /// The question for the authentication server, and where its answer ends, if there is one. It takes no memory.
+    pub fn question(&self) -> Option<(&[u8], Shape)>
+        ensures { Shows self.now (λ s. exchange_in (question_of s))
+            (option_map (λ asked. (asked.0.now, asked.1)) result) }
+    {
+        match &self.begun {
+            Some(begun) => begun.question(),
+            None => None,
+        }
+    }
+
+    /// How it stands as to its end; None where it hasn't started. It takes no memory.
+    pub fn outcome(&self) -> Option<Outcome>
+        ensures { Shows self.now outcome_of result }
+    {
+        if self.starting && phase::waits_for_user(&self.phase) {
+            return None;
+        }
+        match &self.begun {
+            Some(begun) => Some(begun.outcome()),
+            None => None,
+        }
+    }
+
+    /// The key that was chosen, if one was. It takes no memory.
+    pub fn chosen(&self) -> Option<&Key>
+        ensures { Shows self.now key_of (option_copied result) }
+    {
+        match &self.begun {
+            Some(begun) => begun.key.as_ref(),
+            None => None,
+        }
+    }
+
+    /// Appends the text of the answer that is there; where none is, nothing. After want of memory `out` is as before.
+    pub fn put_answer(&self, out: &mut Bytes) -> Result<(), NoMemory>
+        ensures ok { OnOk result ((talk : List Call) → Holds self.now talk
+            → out.new ≡ out.old ++ answer_text_of (standing talk).phase) }
+        ensures err { OnErr result (out.new ≡ out.old) }
+    {
+        match &self.phase {
+            Phase::Kept(answer) => put_answer(answer, self.chosen(), out),
+            Phase::Resting | Phase::Waiting(_) | Phase::Seeking | Phase::OnConfirm(_) => Ok(()),
+            Phase::OnNeedkey(_) | Phase::OnServer => Ok(()),
+        }
+    }
+}
+
+// ---- what it meets
+
+impl Conversation {
+    /// A request is written, which a copy is kept of.
+    pub fn store(&mut self, alloc: Global, request: Written<'_>) -> Result<(), NoMemory>
+        ensures kept { OnOk result (Keeps self.old self.new (c.Stored (request_meant request.entry))) }
+        ensures unchanged { OnErr result (self.new ≡ self.old) }
+    {
+        if !phase::is_resting(&self.phase) {
+            return Ok(());
+        }
+        let request = store_request(alloc, request)?;
+        self.phase = Phase::Waiting(request);
+        self.starting = false;
+        self.said = say_nothing(alloc);
+        Ok(())
+    }
+
+    /// The request is carried out, by a read for which this word was drawn.
+    pub fn carry_out(&mut self, alloc: Global, word: [u8; 8]) -> Result<(), NoMemory>
+        ensures kept { OnOk result (Keeps self.old self.new (c.CarriedOut word)) }
+        ensures unchanged { OnErr result (self.new ≡ self.old) }
+    {
+        match mem::replace(&mut self.phase, Phase::Resting) {
+            Phase::Waiting(request) => {
+                let done = self.answer_request(alloc, &request, word);
+                if done.is_err() {
+                    self.phase = Phase::Waiting(request);
+                }
+                done
+            }
+            other => {
+                self.phase = other;
+                Ok(())
+            }
+        }
+    }
+
+    /// The key that is needed was searched for.
+    pub fn sought(&mut self, alloc: Global, found: Found<'_>) -> Result<(), NoMemory>
+        ensures kept { OnOk result (Keeps self.old self.new (c.Sought (meant found.entry))) }
+        ensures unchanged { OnErr result (self.new ≡ self.old) }
+    {
+        if !phase::is_seeking(&self.phase) {
+            return Ok(());
+        }
+        match found {
+            Found::Chosen(key) => self.use_key(alloc, key),
+            Found::AsksConsent(key) => self.ask_consent(key.serial()),
+            Found::AsksKey => self.ask_key(alloc),
+            Found::Denied => self.deny(),
+            Found::NoneServes => self.want_key(alloc),
+        }
+    }
+
+    /// The user was asked whether a key may be used, and answered.
+    pub fn consented(&mut self, agrees: bool) -> Result<(), NoMemory>
+        ensures kept { OnOk result (Keeps self.old self.new (c.Consented agrees)) }
+        ensures unchanged { OnErr result (self.new ≡ self.old) }
+    {
+        match &self.phase {
+            Phase::OnConfirm(serial) => {
+                let serial = *serial;
+                self.note_answer(serial, agrees)
+            }
+            Phase::Resting | Phase::Waiting(_) | Phase::Seeking => Ok(()),
+            Phase::OnNeedkey(_) | Phase::OnServer | Phase::Kept(_) => Ok(()),
+        }
+    }
+
+    /// The user was asked for a key, and answered. It takes no memory.
+    pub fn key_told(&mut self)
+        ensures { Keeps self.old self.new c.KeyTold }
+    {
+        match &self.phase {
+            Phase::OnNeedkey(_) => self.phase = Phase::Seeking,
+            Phase::Resting | Phase::Waiting(_) | Phase::Seeking => {}
+            Phase::OnConfirm(_) | Phase::OnServer | Phase::Kept(_) => {}
+        }
+    }
+
+    /// The file by which the user was asked was closed. It takes no memory.
+    pub fn shut(&mut self)
+        ensures { Keeps self.old self.new c.Shut }
+    {
+        match mem::replace(&mut self.phase, Phase::Resting) {
+            Phase::OnConfirm(_) => self.refuse(RpcAnswer::Denied),
+            Phase::OnNeedkey(template) => self.refuse(RpcAnswer::NeedKey(template)),
+            other => self.phase = other,
+        }
+    }
+
+    /// The authentication server answered.
+    pub fn heard(&mut self, alloc: Global, bytes: &[u8]) -> Result<(), NoMemory>
+        ensures kept { OnOk result (Keeps self.old self.new (c.Heard bytes.now)) }
+        ensures unchanged { OnErr result (self.new ≡ self.old) }
+    {
+        if !phase::waits_for_server(&self.phase) {
+            return Ok(());
+        }
+        if let Some(begun) = &mut self.begun {
+            self.phase = begun.hear(alloc, bytes)?;
+        }
+        Ok(())
+    }
+
+    /// The authentication server wasn't reached. It takes no memory.
+    pub fn unheard(&mut self)
+        ensures { Keeps self.old self.new c.Unheard }
+    {
+        if phase::waits_for_server(&self.phase) {
+            if let Some(begun) = &mut self.begun {
+                self.phase = begun.hear_nothing();
+            }
+        }
+    }
+
+    /// There was no memory for the authentication server's answer. It takes no memory itself.
+    pub fn roomless(&mut self)
+        ensures { Keeps self.old self.new c.Roomless }
+    {
+        if phase::waits_for_server(&self.phase) {
+            if let Some(begun) = &mut self.begun {
+                self.phase = begun.lack_room();
+            }
+        }
+    }
+
+    /// The answer to the request was read. It takes no memory.
+    pub fn took(&mut self)
+        ensures { Keeps self.old self.new c.Took }
+    {
+        if phase::has_answer(&self.phase) {
+            self.phase = Phase::Resting;
+        }
+    }
+}
+
+// ---- a request is carried out
+
+impl Conversation {
+    fn answer_request(
+        &mut self,
+        alloc: Global,
+        request: &Request,
+        word: [u8; 8],
+    ) -> Result<(), NoMemory>
+        ensures met { OnOk result (Meets self.old self.new
+            (λ s. carried_out s word (request_of request.now))) }
+        ensures unchanged { OnErr result (self.new ≡ self.old) }
+    {
+        match request {
+            Request::Start(text) => self.start(alloc, text.as_slice(), word),
+            Request::Read => self.read(alloc),
+            Request::Write(message) => self.write(alloc, message.as_slice()),
+            Request::AuthInfo => self.tell_info(),
+            Request::Attr => self.tell_attributes(),
+        }
+    }
+
+    fn keep(&mut self, answer: RpcAnswer)
+        ensures met { Meets self.old self.new (λ s. answered s answer) }
+        ensures same { self.new.begun ≡ self.old.begun }
+    {
+        self.phase = Phase::Kept(Answer::Told(answer));
+    }
+
+    fn start(&mut self, alloc: Global, text: &[u8], word: [u8; 8]) -> Result<(), NoMemory>
+        ensures met { OnOk result (Meets self.old self.new
+            (λ s. begin_once s word text.now s.begun)) }
+        ensures unchanged { OnErr result (self.new ≡ self.old) }
+    {
+        match &self.begun {
+            Some(_) => {
+                self.keep(RpcAnswer::AlreadyStarted);
+                Ok(())
+            }
+            None => self.start_new(alloc, text, word),
+        }
+    }
+
+    fn start_new(&mut self, alloc: Global, text: &[u8], word: [u8; 8]) -> Result<(), NoMemory>
+        ensures met { OnOk result (Meets self.old self.new
+            (λ s. start_by s word (few_of text.now))) }
+        ensures unchanged { OnErr result (self.new ≡ self.old) }
+    {
+        match read_template(alloc, text)? {
+            Some(template) => self.start_with(alloc, template, word),
+            None => {
+                self.keep(RpcAnswer::BadTemplate);
+                Ok(())
+            }
+        }
+    }
+
+    fn start_with(&mut self, alloc: Global, template: Tuple, word: [u8; 8]) -> Result<(), NoMemory>
+        requires { fits_start template ≡ true }
+        ensures met { OnOk result (Meets self.old self.new
+            (λ s. started s word template (refuses template))) }
+        ensures unchanged { OnErr result (self.new ≡ self.old) }
+    {
+        match open(alloc, template, word)? {
+            Opening::Refused(answer) => self.keep(answer),
+            Opening::Started(begun) => self.begin(begun),
+        }
+        Ok(())
+    }
+
+    fn begin(&mut self, begun: Begun)
+        ensures { (b : Beginning) → IsBegun begun b → Meets self.old self.new
+            (λ s. moved (record s { starting = true }) b RpcAnswer.Ok) }
+    {
+        self.phase = begun.begin();
+        self.begun = Some(begun);
+        self.starting = true;
+    }
+
+    fn read(&mut self, alloc: Global) -> Result<(), NoMemory>
+        ensures met { OnOk result (Meets self.old self.new (λ s. carried_out s [] reads)) }
+        ensures unchanged { OnErr result (self.new ≡ self.old) }
+    {
+        match &mut self.begun {
+            Some(begun) => self.phase = begun.read(alloc)?,
+            None => self.phase = Phase::Kept(Answer::Told(RpcAnswer::NotStarted)),
+        }
+        Ok(())
+    }
+
+    fn write(&mut self, alloc: Global, message: &[u8]) -> Result<(), NoMemory>
+        ensures met { OnOk result (Meets self.old self.new
+            (λ s. carried_out s [] (writes message.now))) }
+        ensures unchanged { OnErr result (self.new ≡ self.old) }
+    {
+        match &mut self.begun {
+            Some(begun) => self.phase = begun.write(alloc, message)?,
+            None => self.phase = Phase::Kept(Answer::Told(RpcAnswer::NotStarted)),
+        }
+        Ok(())
+    }
+
+    fn tell_info(&mut self) -> Result<(), NoMemory>
+        ensures met { OnOk result (Meets self.old self.new (λ s. carried_out s [] asks_info)) }
+        ensures unchanged { OnErr result (self.new ≡ self.old) }
+    {
+        let answer = match &self.begun {
+            Some(begun) => begun.info(),
+            None => RpcAnswer::NoInfo,
+        };
+        self.phase = Phase::Kept(Answer::Told(answer));
+        Ok(())
+    }
+
+    fn tell_attributes(&mut self) -> Result<(), NoMemory>
+        ensures met { OnOk result (Meets self.old self.new
+            (λ s. carried_out s [] asks_attributes)) }
+        ensures unchanged { OnErr result (self.new ≡ self.old) }
+    {
+        let answer = match &self.begun {
+            Some(begun) => RpcAnswer::Attributes(begun.attributes()?),
+            None => RpcAnswer::NotStarted,
+        };
+        self.phase = Phase::Kept(Answer::Told(answer));
+        Ok(())
+    }
+}
+
+// ---- a key was searched for
+
+impl Conversation {
+    fn use_key(&mut self, alloc: Global, key: &Key) -> Result<(), NoMemory>
+        ensures met { OnOk result (Turns self.old self.new (λ s. with_key s key.now s.begun)) }
+        ensures unchanged { OnErr result (self.new ≡ self.old) }
+    {
+        if let Some(begun) = &mut self.begun {
+            self.phase = begun.use_key(alloc, key)?;
+        }
+        Ok(())
+    }
+
+    fn ask_consent(&mut self, serial: u64) -> Result<(), NoMemory>
+        ensures met { OnOk result (Meets self.old self.new (λ s. sought s (c.AsksConsent serial))) }
+        ensures unchanged { OnErr result (self.new ≡ self.old) }
+    {
+        self.phase = Phase::OnConfirm(serial);
+        Ok(())
+    }
+
+    fn ask_key(&mut self, alloc: Global) -> Result<(), NoMemory>
+        ensures met { OnOk result (Meets self.old self.new (λ s. sought s c.AsksKey)) }
+        ensures unchanged { OnErr result (self.new ≡ self.old) }
+    {
+        let template = self.copy_template(alloc)?;
+        self.phase = Phase::OnNeedkey(template);
+        self.said.asked = true;
+        Ok(())
+    }
+
+    fn deny(&mut self) -> Result<(), NoMemory>
+        ensures met { OnOk result (Meets self.old self.new (λ s. sought s c.Denied)) }
+        ensures unchanged { OnErr result (self.new ≡ self.old) }
+    {
+        self.refuse(RpcAnswer::Denied);
+        Ok(())
+    }
+
+    fn want_key(&mut self, alloc: Global) -> Result<(), NoMemory>
+        ensures met { OnOk result (Meets self.old self.new (λ s. sought s c.NoneServes)) }
+        ensures unchanged { OnErr result (self.new ≡ self.old) }
+    {
+        let template = self.copy_template(alloc)?;
+        self.refuse(RpcAnswer::NeedKey(template));
+        Ok(())
+    }
+
+    // A copy of the template that is asked of a key.
+    fn copy_template(&self, alloc: Global) -> Result<Tuple, NoMemory>
+        ensures { IfOk result (λ t. (b : Option Beginning) → BothBegun self.now.begun b
+            → t ≡ template_of b) }
+    {
+        match &self.begun {
+            Some(begun) => begun.copy_asked(alloc),
+            None => Ok(Tuple::new(alloc)),
+        }
+    }
+
+    // The request that needed a key is taken back with this answer.
+    fn refuse(&mut self, answer: RpcAnswer)
+        ensures { Meets self.old self.new (λ s. refused s answer) }
+    {
+        take_back(self.starting, &mut self.begun);
+        self.phase = Phase::Kept(Answer::Told(answer));
+    }
+
+    // The user agrees to the use of a key, or denies it.
+    fn note_answer(&mut self, serial: u64, agrees: bool) -> Result<(), NoMemory>
+        ensures met { OnOk result (Meets self.old self.new (λ s. told_of serial agrees s)) }
+        ensures unchanged { OnErr result (self.new ≡ self.old) }
+    {
+        if agrees {
+            self.said.agreed.push(serial)?;
+        } else {
+            self.said.denied.push(serial)?;
+        }
+        self.phase = Phase::Seeking;
+        Ok(())
+    }
+}
+
+// A start that is taken back is none, and another move wasn't made.
+fn take_back(starting: bool, begun: &mut Option<Begun>)
+    ensures { (b : Option Beginning) → BothBegun begun.old b
+        → BothBegun begun.new (taken_back starting b) }
+{
+    if starting {
+        *begun = None;
+    } else if let Some(begun) = begun {
+        begun.undo();
+    }
+}
+
+fn say_nothing(alloc: Global) -> Said
+    ensures { result ≡ nothing_said }
+{
+    Said {
+        agreed: List::new(alloc),
+        denied: List::new(alloc),
+        asked: false,
+    }
+}
+
+// What is found for what was begun; `none` is the empty template.
+fn find_for<'a>(
+    ring: &'a KeyRing,
+    none: &Tuple,
+    begun: &Begun,
+    said: &Said,
+    asking: Asking,
+) -> Found<'a>
+    requires { none.now ≡ [] }
+    ensures { (b : Beginning) → IsBegun begun.now b → meant result
+        ≡ found_by (template_of (Some b)) (role_name (Some b)) said.now asking ring.now }
+{
+    match begun.asked() {
+        Some(template) => search_keys(ring, template, begun.role_name(), said, asking),
+        None => search_keys(ring, none, begun.role_name(), said, asking),
+    }
+}
+
+// What is found for nothing.
+fn find_none<'a>(ring: &'a KeyRing, none: &Tuple, said: &Said, asking: Asking) -> Found<'a>
+    requires { none.now ≡ [] }
+    ensures { meant result ≡ found_by [] [] said.now asking ring.now }
+{
+    search_keys(ring, none, b"".as_slice(), said, asking)
+}

@@ -1,0 +1,270 @@
+// Logins, and each refusal of a request by a short talk. The messages are those of a login of ann at srv in the domain x,
+// made by bench/vectors over OpenSSL's DES.
+use super::Conversation;
+use attr_tuples::{parse_tuple, print_tuple};
+use key_ring::KeyRing;
+use roles::Outcome;
+use rpc_file::Request;
+use std::alloc::Global;
+use std::process::Abort;
+use std::test::Fail;
+use talks::{Asking, Found};
+use wire_base::{Bytes, Shape};
+
+const WORD: [u8; 8] = *b"\x01#Eg\x89\xab\xcd\xef";
+
+const CHAL: [u8; 8] = *b"\x10\x11\x12\x13\x14\x15\x16\x17";
+
+const REQUEST: &[u8] = b"\x01srv\0\0\0\0\0\0\0\0\0\0\0\0\0\0\0\0\0\0\0\0\
+    \0\0\0\0\0x\0\0\0\0\0\0\0\0\0\0\0\0\0\0\0\0\0\0\
+    \0\0\0\0\0\0\0\0\0\0\0\0\0\0\0\0\0\0\0\0\0\0\0\0\
+    \0\0\0\0\0\x10\x11\x12\x13\x14\x15\x16\x17\0\0\0\0\0\0\0\0\0\0\0\
+    \0\0\0\0\0\0\0\0\0\0\0\0\0\0\0\0\0\0\0\0\0\0\0\0\
+    \0\0\0\0\0\0\0\0\0\0\0\0\0\0\0\0\0\0\0\0\0";
+
+const QUESTION: &[u8] = b"\x01srv\0\0\0\0\0\0\0\0\0\0\0\0\0\0\0\0\0\0\0\0\
+    \0\0\0\0\0x\0\0\0\0\0\0\0\0\0\0\0\0\0\0\0\0\0\0\
+    \0\0\0\0\0\0\0\0\0\0\0\0\0\0\0\0\0\0\0\0\0\0\0\0\
+    \0\0\0\0\0\x10\x11\x12\x13\x14\x15\x16\x17ann\0\0\0\0\0\0\0\0\
+    \0\0\0\0\0\0\0\0\0\0\0\0\0\0\0\0\0ann\0\0\0\0\
+    \0\0\0\0\0\0\0\0\0\0\0\0\0\0\0\0\0\0\0\0\0";
+
+const ANSWER: &[u8] = b"\x04q\x82\xe8[4L\x132\xe4/\xcd\xdbU\xe78\xe1|F\xe1\xec#4\xfa\
+    \xc9X\xc7\xc1@\x0f\xdc\x01\xd1=\xf6\xf9\xb9Hc\x9ec\x0c\x1dZ\x85\x97m=\
+    \x0b\xc5#'\x0eOdw4bu\xa1\x07\xbf\xc2\x8ai\xd8\xf3S\x90s(\xf9\
+    2\xe24\x17\xa9\xbbi\xf5\xf6F\xba\x03OO\x9b\xd2oJ\xd9(\xf4\x98\xe4\x95\
+    Y\x9c:<n-\x04\xbeD\x86fHw\xae\x0c\x14T\xf9s\x8e~\xc4\xbe\xe7\
+    \xd5\xd5\xb3V\xbbL\x10=\xb7Zu\x1f\xcb\xe0u\xb1\xc2\xf6.8J\xac\xbe\x1c\
+    \xc7";
+
+const SHOWN: &[u8] = b"\xe24\x17\xa9\xbbi\xf5\xf6F\xba\x03OO\x9b\xd2oJ\xd9(\xf4\x98\xe4\x95Y\
+    \x9c:<n-\x04\xbeD\x86fHw\xae\x0c\x14T\xf9s\x8e~\xc4\xbe\xe7\xd5\
+    \xd5\xb3V\xbbL\x10=\xb7Zu\x1f\xcb\xe0u\xb1\xc2\xf6.8J\xac\xbe\x1c\xc7\
+    \xbcX\xa9\x88\xed'b\xed\x14H-\x0f\x94";
+
+const PROOF: &[u8] = b"\x7fM\x16\xf8\xc9\x11\x1d\xf5\x19\xe7\x81\xa6\x7f";
+
+const ANN: &[u8] = b"proto=p9sk1 dom=x user=ann !hex=31323334353637";
+
+const SRV: &[u8] = b"proto=p9sk1 dom=x user=srv !hex=41424344454647";
+
+const ANN_ASKED: &[u8] = b"proto=p9sk1 dom=x user=ann confirm !hex=31323334353637";
+
+const CLOSED: Asking = Asking {
+    confirm: false,
+    needkey: false,
+};
+
+const OPEN: Asking = Asking {
+    confirm: true,
+    needkey: true,
+};
+
+// A request, how its answer begins, and what stands behind that.
+type Row = (Request<'static>, &'static [u8], &'static [u8]);
+
+const INFO: &[u8] = b"\x03\x00ann\x03\x00ann\x00\x00\x08\x00Q\xa8\x94kE\xabX\xae";
+
+static CLIENT: [Row; 9] = [
+    (Request::Start(b"proto=p9sk1 role=client"), b"ok", b""),
+    (Request::Read, b"ok ", &WORD),
+    (Request::AuthInfo, b"error no authinfo available", b""),
+    (Request::Write(REQUEST), b"ok", b""),
+    (Request::Read, b"ok ", SHOWN),
+    (Request::Write(PROOF), b"ok", b""),
+    (Request::Read, b"done haveai", b""),
+    (Request::AuthInfo, b"ok ", INFO),
+    (
+        Request::Attr,
+        b"ok ",
+        b"proto=p9sk1 role=client dom=x user=ann !hex?",
+    ),
+];
+
+static SERVER: [Row; 6] = [
+    (Request::Start(b"proto=p9sk1 role=server"), b"ok", b""),
+    (Request::Write(&WORD), b"ok", b""),
+    (Request::Read, b"ok ", REQUEST),
+    (Request::Write(SHOWN), b"ok", b""),
+    (Request::Read, b"ok ", PROOF),
+    (Request::AuthInfo, b"ok ", INFO),
+];
+
+static REFUSED: [Row; 16] = [
+    (Request::Read, b"protocol not started", b""),
+    (Request::Write(b""), b"protocol not started", b""),
+    (Request::Attr, b"protocol not started", b""),
+    (Request::AuthInfo, b"error no authinfo available", b""),
+    (Request::Start(b"proto='"), b"error bad template", b""),
+    (
+        Request::Start(b"proto=p9sk1 role=client !password=a"),
+        b"error secret in template",
+        b"",
+    ),
+    (
+        Request::Start(b"proto=p9any role=client"),
+        b"error unknown proto",
+        b"",
+    ),
+    (
+        Request::Start(b"proto=p9sk1 role=guest"),
+        b"error unknown role",
+        b"",
+    ),
+    (
+        Request::Start(b"proto=p9sk1 role=speakfor"),
+        b"error bad user",
+        b"",
+    ),
+    (
+        Request::Start(b"proto=p9sk1 role=server"),
+        b"needkey proto=p9sk1 user? dom? !password?",
+        b"",
+    ),
+    (Request::Read, b"protocol not started", b""),
+    (Request::Start(b"proto=p9sk1 role=client"), b"ok", b""),
+    (Request::Start(b"proto='"), b"phase already started", b""),
+    (Request::Write(b""), b"phase awaits read", b""),
+    (Request::Read, b"ok ", &WORD),
+    (
+        Request::Write(REQUEST),
+        b"needkey proto=p9sk1 dom=x user? !password?",
+        b"",
+    ),
+];
+
+fn ring_of(alloc: Global, key: &[u8]) -> Result<KeyRing, Fail> {
+    let mut ring = KeyRing::new(alloc);
+    match ring.add(parse_tuple(alloc, key)?) {
+        Ok(_) => Ok(ring),
+        Err(_) => Err("no key".into()),
+    }
+}
+
+// Writes a request and carries it out, as far as keys and the authentication server's answer bring it.
+fn carry(
+    alloc: Global,
+    conversation: &mut Conversation,
+    ring: &KeyRing,
+    word: [u8; 8],
+    request: Request<'_>,
+) -> Result<(), Fail> {
+    conversation.store(alloc, request)?;
+    conversation.carry_out(alloc, word)?;
+    if conversation.seeks() {
+        let found = conversation.find_key(alloc, ring, CLOSED);
+        conversation.sought(alloc, found)?;
+    }
+    if conversation.waits_for_server() {
+        conversation.heard(alloc, ANSWER)?;
+    }
+    Ok(())
+}
+
+fn check_rows(
+    rt: &impl Abort,
+    alloc: Global,
+    ring: &KeyRing,
+    word: [u8; 8],
+    rows: &[Row],
+) -> Result<Conversation, Fail> {
+    let mut conversation = Conversation::new(alloc);
+    for (request, title, rest) in rows {
+        carry(alloc, &mut conversation, ring, word, *request)?;
+        check_answer(rt, alloc, &mut conversation, title, rest)?;
+    }
+    Ok(conversation)
+}
+
+// The answer is there, and then it was read.
+fn check_answer(
+    rt: &impl Abort,
+    alloc: Global,
+    conversation: &mut Conversation,
+    title: &[u8],
+    rest: &[u8],
+) -> Result<(), Fail> {
+    let mut out = Bytes::new(alloc);
+    assert!(rt; conversation.has_answer());
+    conversation.put_answer(&mut out)?;
+    match out.as_slice().strip_prefix(title) {
+        Some(behind) => assert_eq!(rt; behind, rest),
+        None => panic!(rt; "another answer"),
+    }
+    conversation.took();
+    assert!(rt; conversation.is_resting());
+    Ok(())
+}
+
+#[test]
+fn a_client_and_a_server_log_in(rt: HostRuntime) -> Result<(), Fail> {
+    let alloc = rt.alloc();
+    let client = check_rows(&rt, alloc, &ring_of(alloc, ANN)?, WORD, &CLIENT)?;
+    assert!(rt; matches!(client.outcome(), Some(Outcome::Accepted(_))));
+    assert!(rt; matches!(client.chosen(), Some(key) if key.serial() == 1));
+    let server = check_rows(&rt, alloc, &ring_of(alloc, SRV)?, CHAL, &SERVER)?;
+    assert!(rt; matches!(server.outcome(), Some(Outcome::Accepted(_))));
+    Ok(())
+}
+
+#[test]
+fn requests_are_refused(rt: HostRuntime) -> Result<(), Fail> {
+    let alloc = rt.alloc();
+    let left = check_rows(&rt, alloc, &KeyRing::new(alloc), WORD, &REFUSED)?;
+    assert!(rt; left.chosen().is_none());
+    Ok(())
+}
+
+#[test]
+fn a_user_is_asked(rt: HostRuntime) -> Result<(), Fail> {
+    let alloc = rt.alloc();
+    let ring = ring_of(alloc, ANN_ASKED)?;
+    let mut client = check_rows(&rt, alloc, &ring, WORD, &CLIENT[..2])?;
+    client.store(alloc, Request::Write(REQUEST))?;
+    assert!(rt; client.has_request());
+    client.carry_out(alloc, WORD)?;
+    let mut out = Bytes::new(alloc);
+    if let Some(template) = client.template() {
+        print_tuple(template, &mut out)?;
+    }
+    assert_eq!(rt; out.as_slice(), b"proto=p9sk1 dom=x user?".as_slice());
+    let found = client.find_key(alloc, &ring, OPEN);
+    assert!(rt; matches!(found, Found::AsksConsent(_)));
+    client.sought(alloc, found)?;
+    client.consented(true)?;
+    let found = client.find_key(alloc, &ring, OPEN);
+    client.sought(alloc, found)?;
+    assert!(rt; matches!(client.question(), Some((asked, Shape::Tickets)) if asked == QUESTION));
+    client.unheard();
+    check_answer(&rt, alloc, &mut client, b"error no server", b"")
+}
+
+#[test]
+fn a_user_is_asked_in_vain(rt: HostRuntime) -> Result<(), Fail> {
+    let alloc = rt.alloc();
+    let ring = KeyRing::new(alloc);
+    let mut client = check_rows(&rt, alloc, &ring, WORD, &CLIENT[..2])?;
+    client.store(alloc, Request::Write(REQUEST))?;
+    client.carry_out(alloc, WORD)?;
+    let found = client.find_key(alloc, &ring, OPEN);
+    assert!(rt; matches!(found, Found::AsksKey));
+    client.sought(alloc, found)?;
+    client.shut();
+    let wanted = b"needkey proto=p9sk1 dom=x user? !password?";
+    check_answer(&rt, alloc, &mut client, wanted, b"")
+}
+
+#[test]
+fn a_login_ends_without_room(rt: HostRuntime) -> Result<(), Fail> {
+    let alloc = rt.alloc();
+    let mut client = check_rows(&rt, alloc, &KeyRing::new(alloc), WORD, &CLIENT[..2])?;
+    client.store(alloc, Request::Write(REQUEST))?;
+    client.carry_out(alloc, WORD)?;
+    client.sought(alloc, Found::AsksKey)?;
+    client.key_told();
+    let ring = ring_of(alloc, ANN)?;
+    let found = client.find_key(alloc, &ring, OPEN);
+    client.sought(alloc, found)?;
+    client.roomless();
+    check_answer(&rt, alloc, &mut client, b"error out of memory", b"")
+}

@@ -1,0 +1,2 @@
+pub mod SeekLemmas
+mod Rows

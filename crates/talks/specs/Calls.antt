@@ -1,0 +1,38 @@
+-- What a conversation of rpc met, as a list of calls, the newest first. What stands behind a call is all that the
+-- conversation met before it. After factotum(4) of the Plan 9 manual (rpc, confirm, needkey).
+use Rattle.std.specs.Prelude.{ℕ, List, Bool}
+use Rattle.key_lists.specs.Lists.{KeyEntry}
+use Rattle.rpc_file.specs.Requests.{RpcRequest}
+
+-- what a search among the keys of a moment comes to
+pub data Found : Type 0 where
+  -- this key is to be used
+  Chosen : (key : KeyEntry) → Found
+  -- the user is to be asked whether the key of this number may be used
+  AsksConsent : (serial : ℕ) → Found
+  -- the user is to be asked for a key
+  AsksKey : Found
+  -- there is a key, and it may not be used
+  Denied : Found
+  -- there is no key
+  NoneServes : Found
+
+pub data Call : Type 0 where
+  -- a request was written; it isn't carried out yet
+  Stored : (request : RpcRequest) → Call
+  -- the request is carried out, by a read for which this word was drawn
+  CarriedOut : (word : List ℕ) → Call
+  -- the key that it needs was searched for
+  Sought : (found : Found) → Call
+  -- the user was asked whether a key may be used, and answered
+  Consented : (agrees : Bool) → Call
+  -- the user was asked for a key, and answered
+  KeyTold : Call
+  -- the file by which the user was asked was closed
+  Shut : Call
+  -- the authentication server answered; it wasn't reached; there was no memory for its answer
+  Heard : (bytes : List ℕ) → Call
+  Unheard : Call
+  Roomless : Call
+  -- the answer to the request was read
+  Took : Call

@@ -1,0 +1,10 @@
+//! What a conversation of rpc meets and how it stands after it, and the search for a key.
+#![tactic(auto)]
+
+mod found;
+mod said;
+mod seek;
+
+pub use found::Found;
+pub use said::{Asking, Said};
+pub use seek::search_keys;
