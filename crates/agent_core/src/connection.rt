@@ -5,11 +5,11 @@ ghost use Rattle.std.specs.BTreeMap.{get};
 ghost use Rattle.agent_history.specs.Deeds.{Deed};
 ghost use Rattle.agent_core.specs.Connections.{IsFresh, IsHungUp, Keeps, is_hung, is_opened, msize_in};
 
+use crate::listed::SharedText;
 use crate::msize::Msize;
 use fid_table::Fids;
 use std::alloc::Global;
 use std::collections::BTreeMap;
-use wire_base::Bytes;
 
 /// How far a connection has come.
 #[derive(Clone, Copy, Debug, PartialEq, Eq)]
@@ -30,8 +30,8 @@ pub struct Connection {
     pub phase: Phase,
     /// The fids that are held.
     pub fids: Fids,
-    /// Of a fid that is open on ctl and was read from 0, the text that it reads.
-    pub texts: BTreeMap<u32, Bytes>,
+    /// Of a fid that is open on ctl and was read from 0, the text that it reads, with all others that read the same.
+    pub texts: BTreeMap<u32, SharedText>,
 }
 
 impl Connection {

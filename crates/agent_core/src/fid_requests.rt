@@ -112,6 +112,7 @@ impl Connection {
         self.phase = phase;
         self.fids = Fids::new(call.alloc);
         self.texts = BTreeMap::new(call.alloc);
+        shared.ring.forget();
         shared.holders.leave(call.conn);
         shared.mailboxes.drop_waits(call.conn);
     }
@@ -207,6 +208,7 @@ impl Connection {
         ensures room { SameRoom shared.old.mailboxes shared.new.mailboxes }
     {
         self.texts.remove(&fid);
+        shared.ring.forget();
         if self.fids.clunk(fid).is_err() {
             unreachable!()
         }

@@ -20,7 +20,6 @@ use crate::fid_requests::{USUAL_REPLY, opens_later};
 use crate::msize::Msize;
 use crate::refused::{Refusal, Refused, Tried};
 use crate::shared::Shared;
-use ctl_lines::write_ctl;
 use file_tree::{Node, reads, writes};
 use mailboxes::Reply;
 use nine_codec::{put_read, put_write};
@@ -119,25 +118,25 @@ impl Connection {
     fn read_ctl(
         &mut self,
         call: Call,
-        shared: &Shared,
+        shared: &mut Shared,
         fid: u32,
         offset: u64,
         count: u32,
     ) -> Result<Reply, NoMemory>
         requires { count ≤ 8216 }
         ensures reply { IfOk result (λ reply. (done : List Deed) (conn : ℕ)
-            → Keeps done conn self.old → shared.now.ring ≡ keys_of done
+            → Keeps done conn self.old → shared.old.ring ≡ keys_of done
             → reply_bytes reply ≡ r_frame (under call.tag (r.Read (piece offset count
             (ctl_text done conn fid offset))))) }
         ensures keeps { OnOk result ((done : List Deed) (conn : ℕ) → Keeps done conn self.old
-            → shared.now.ring ≡ keys_of done
+            → shared.old.ring ≡ keys_of done
             → Keeps (if offset == 0 then OfFids conn (Listed fid) ∷ done else done) conn self.new) }
         ensures phase { self.new.phase ≡ self.old.phase }
+        ensures shared { shared.new ≡ shared.old }
         ensures err { OnErr result (SameKept self.old self.new) }
     {
         if offset == 0 {
-            let mut text = Bytes::new(call.alloc);
-            shared.ring.list_text(&mut text)?;
+            let text = shared.ring.text(call.alloc)?;
             let reply = read_reply(call, piece(text.as_slice(), 0, count))?;
             self.texts.insert(fid, text)?;
             return Ok(reply);
@@ -150,8 +149,15 @@ impl Connection {
 
     /// Read: of a directory, of ctl, or of the list of protocols.
     #[tactic(auto, unfolding(agent_history::specs::Requests::refusal, agent_history::specs::Requests::after, agent_history::specs::Requests::reply_of, file_tree::specs::Calls::fid_fault))]
-    pub fn read(&mut self, call: Call, shared: &Shared, fid: u32, offset: u64, count: u32) -> Tried
-        ensures { Tried call (t.Read fid offset count) self.old self.new shared.now shared.now
+    pub fn read(
+        &mut self,
+        call: Call,
+        shared: &mut Shared,
+        fid: u32,
+        offset: u64,
+        count: u32,
+    ) -> Tried
+        ensures { Tried call (t.Read fid offset count) self.old self.new shared.old shared.new
             result }
     {
         let state = self.fids.file_of(fid)?;
@@ -211,7 +217,7 @@ fn write_lines(call: Call, shared: &mut Shared, content: &[u8]) -> Result<Reply,
 {
     let mut reply = Bytes::with_capacity(call.alloc, USUAL_REPLY)?;
     put_write(call.tag, content.len() as u32, &mut reply)?;
-    match write_ctl(call.alloc, &mut shared.ring, content)? {
+    match shared.ring.write(call.alloc, content)? {
         None => Ok(Reply::Spelled(reply)),
         Some(fault) => Ok(Refusal::OfLine(fault).reply(call.tag)),
     }

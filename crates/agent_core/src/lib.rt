@@ -7,6 +7,7 @@ mod connection;
 mod events;
 mod fid_requests;
 mod file_requests;
+mod listed;
 mod msize;
 mod refused;
 mod serve;

@@ -6,8 +6,8 @@ ghost use Rattle.agent_history.specs.Deeds.{Deed, OfFids, OfConnection, Opened, 
 ghost use Rattle.mailboxes.specs.Deliveries.{KeepsNone};
 ghost use Rattle.agent_core.specs.Connections.{Holds, Shares};
 
+use crate::listed::ListedRing;
 use file_tree::Node;
-use key_ring::KeyRing;
 use mailboxes::Mailboxes;
 use std::alloc::Global;
 
@@ -91,7 +91,7 @@ impl Holders {
 /// wait of all of them.
 #[derive(Drop)]
 pub struct Shared {
-    pub ring: KeyRing,
+    pub ring: ListedRing,
     pub holders: Holders,
     pub mailboxes: Mailboxes,
 }
@@ -102,7 +102,7 @@ impl Shared {
         ensures { Shares [] result }
     {
         Shared {
-            ring: KeyRing::new(alloc),
+            ring: ListedRing::new(alloc),
             holders: Holders::new(),
             mailboxes: Mailboxes::new(alloc),
         }
@@ -115,6 +115,7 @@ impl Shared {
         ensures ring { self.new.ring ≡ self.old.ring }
         ensures none { KeepsNone self.new.mailboxes conn }
     {
+        self.ring.forget();
         self.holders.leave(conn);
         self.mailboxes.leave(conn);
     }

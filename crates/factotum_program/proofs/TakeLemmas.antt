@@ -1,5 +1,5 @@
 -- Taking until there is no reply.
-use Rattle.std.proofs.Common.{◌≡◌, ℕ, zero, suc, ◌+◌, ◌-◌, ◌<◌, ◌≤◌, List, [], ◌∷◌, ◌++◌, length, drop, Option, append_assoc, append-nil, Bool, true, false, cond, ltb, refl, sym, ap, ◌∙◌, inl, inr, arith}
+use Rattle.std.proofs.Common.{◌≡◌, ℕ, zero, suc, ◌+◌, ◌-◌, ◌<◌, ◌≤◌, List, [], ◌∷◌, ◌++◌, length, drop, Option, Some, None, append_assoc, append-nil, Bool, true, false, cond, ltb, refl, sym, ap, ◌∙◌, inl, inr, arith}
 use Rattle.std.proofs.lemmas.Bool.{cases_Bool}
 use Rattle.nine_messages.specs.declared.message.RMsg.{RMsg}
 use Rattle.agent_history.specs.declared.event.Event.TheVariants.{Request, Take}
@@ -10,18 +10,22 @@ use Rattle.agent_history.specs.Replies.{untaken}
 use Rattle.agent_history.specs.Histories.{History, most_events, deeds, entered, taking, answer, first_reply, is_reply}
 use Rattle.mailboxes.proofs.DeliveryLemmas.{untaken_taken}
 use Rattle.agent_core.specs.declared.agent.Agent.{Agent}
-use Rattle.agent_core.specs.Agents.{StandsFor}
-use Rattle.wire_streams.specs.Streams.{Gains}
+use Rattle.agent_core.specs.declared.agent.State.{State}
+use Rattle.agent_core.specs.declared.agent.State.TheVariants.{Runs, Stopped}
+use Rattle.agent_core.specs.declared.connection.Connection.{Connection}
+use Rattle.agent_core.specs.Events.{SameAt, gives_reply, is_some_left}
+use Rattle.agent_core.specs.Agents.{StandsFor, SameState, SameAgent, connection_at, replies_in, gives_in, kept_replies}
 use Rattle.factotum_program.specs.Pipe.{zeros, take_while, after_frame, after_frames, text_of}
+use Rattle.factotum_program.specs.Sessions.{Gathers}
 
--- where a loop of takes stands: some takes after the history, as many left to make as were said, and what was written
-pub record Going (H : History) (n : ℕ) (agent : Agent) (origin held : Option (List ℕ)) : Type 0 where
+-- where a loop of takes stands: some takes after the history, as many left to make as were said, and what was told
+pub record Going (H : History) (n : ℕ) (agent : Agent) (origin held : Option (List ℕ)) (gathered : List ℕ) : Type 0 where
   pub history : History
   pub left : ℕ
   pub stands : StandsFor history agent
   pub enough : length (untaken (deeds history) 0) ≤ left
   pub same : take_while left history ≡ take_while n H
-  pub told : Gains origin held (text_of history)
+  pub told : Gathers origin held gathered (text_of history)
 
 first_left : (ms : List RMsg) → (first_reply ms).0 ≡ Reply → length (drop 1 ms) + 1 ≡ length ms
 first_left [] e = absurd (cc)
@@ -68,9 +72,9 @@ is_reply-true (DropCall conv) e = absurd (cc)
 is_reply-true NoAsk e = absurd (cc)
 is_reply-true Stopped e = absurd (cc)
 
-pub going_more : (H : History) (n : ℕ) (old new : Agent) (origin before after : Option (List ℕ)) → (g : Going H n old origin before) → is_reply (answer g.history (Take 0)).0 ≡ true → Gains origin after (text_of (Take 0 ∷ g.history)) → StandsFor (Take 0 ∷ g.history) new
-    → Going H n new origin after
-going_more H n old new origin before after g is told stands =
+pub going_more : (H : History) (n : ℕ) (old new : Agent) (origin before after : Option (List ℕ)) (some more : List ℕ) → (g : Going H n old origin before some) → is_reply (answer g.history (Take 0)).0 ≡ true → Gathers origin after more (text_of (Take 0 ∷ g.history)) → StandsFor (Take 0 ∷ g.history) new
+    → Going H n new origin after more
+going_more H n old new origin before after some more g is told stands =
     let less = reply_left g.history (is_reply-true (answer g.history (Take 0)).0 is) in
     record {
       history = Take 0 ∷ g.history;
@@ -81,8 +85,8 @@ going_more H n old new origin before after g is told stands =
       told = told;
     }
 
-pub going_ends : (H : History) (n : ℕ) (agent : Agent) (origin held : Option (List ℕ)) → (g : Going H n agent origin held) → is_reply (answer g.history (Take 0)).0 ≡ false → StandsFor (take_while n H) agent × Gains origin held (text_of (take_while n H))
-going_ends H n agent origin held g none =
+pub going_ends : (H : History) (n : ℕ) (agent : Agent) (origin held : Option (List ℕ)) (gathered : List ℕ) → (g : Going H n agent origin held gathered) → is_reply (answer g.history (Take 0)).0 ≡ false → StandsFor (take_while n H) agent × Gathers origin held gathered (text_of (take_while n H))
+going_ends H n agent origin held gathered g none =
     let end : take_while n H ≡ g.history = sym g.same ∙ until_ends g.left g.history none in
     rw end (g.stands, g.told)
 
@@ -108,8 +112,35 @@ frames_grow H (frame ∷ frames) =
     (here.0 ++ rest.0, rest.1 ∙ ap (λ (t : List ℕ). t ++ rest.0) here.1 ∙ append_assoc (text_of H) here.0 rest.0)
 
 -- what the first of the takes that are left puts out stands in front of what all of them do
-pub going_grows : (H : History) (n : ℕ) (agent : Agent) (origin held : Option (List ℕ)) → (g : Going H n agent origin held) → is_reply (answer g.history (Take 0)).0 ≡ true → (more : List ℕ) × (text_of (take_while n H) ≡ text_of (Take 0 ∷ g.history) ++ more)
-going_grows H n agent origin held g is =
+pub going_grows : (H : History) (n : ℕ) (agent : Agent) (origin held : Option (List ℕ)) (gathered : List ℕ) → (g : Going H n agent origin held gathered) → is_reply (answer g.history (Take 0)).0 ≡ true → (more : List ℕ) × (text_of (take_while n H) ≡ text_of (Take 0 ∷ g.history) ++ more)
+going_grows H n agent origin held gathered g is =
     let less = reply_left g.history (is_reply-true (answer g.history (Take 0)).0 is) in
     let rest = until_grows (g.left - 1) (Take 0 ∷ g.history) in
     (rest.0, ap text_of (sym g.same ∙ until_more g.left g.history (omega (arith, less, g.enough)) is) ∙ rest.1)
+
+-- ---- an agent that is the same gives the same
+
+same_reply : (old new : Option Connection) (some more : List (List ℕ)) → SameAt old new → more ≡ some → gives_reply new more ≡ gives_reply old some
+same_reply None None some more same e = ap is_some_left e
+same_reply None (Some c) some more same e = rw (same.phase, e) refl
+same_reply (Some c) None some more same e = absurd same
+same_reply (Some c) (Some d) some more same e = rw (same.phase, e) refl
+
+same_replies : (old new : State) (conn : ℕ) → SameState old new → replies_in new conn ≡ replies_in old conn
+same_replies Stopped Stopped conn same = refl
+same_replies Stopped (Runs new) conn same = absurd same
+same_replies (Runs old) Stopped conn same = absurd same
+same_replies (Runs old) (Runs new) conn same = same.shared.mail.replies conn
+
+same_gives : (old new : State) (conn : ℕ) → SameState old new → gives_in (Take conn) new ≡ gives_in (Take conn) old
+same_gives Stopped Stopped conn same = refl
+same_gives Stopped (Runs new) conn same = absurd same
+same_gives (Runs old) Stopped conn same = absurd same
+same_gives (Runs old) (Runs new) conn same = same_reply (connection_at old conn) (connection_at new conn) (replies_in (Runs old) conn) (replies_in (Runs new) conn) (same.connections conn) (same.shared.mail.replies conn)
+
+pub still_gives : (old new : Agent) → SameAgent old new → gives_in (Take 0) old.state ≡ true → gives_in (Take 0) new.state ≡ true
+still_gives old new same gives = same_gives old.state new.state 0 same.state ∙ gives
+
+-- a take of such an agent leaves fewer replies than there were before
+pub still_fewer : (old new : Agent) (count : ℕ) → SameAgent old new → count < kept_replies new 0 → count < kept_replies old 0
+still_fewer old new count same fewer = omega (arith, fewer, ap length (same_replies old.state new.state 0 same.state))

@@ -48,7 +48,7 @@ fn run<R: Source, W: Sink>(alloc: Global, words: &[Text], input: &mut R, output:
 /// Carries out the command that the words name, the words behind the program's name.
 ///
 /// `pipe` is one connection of 9P: each frame of the input, at most 2^40 bytes, is answered before more is read, and its
-/// replies are written at once. What was read and written by then is told for every status.
+/// replies are written. What was read and written by then is told for every status.
 pub fn run_command<R: Source, W: Sink>(
     alloc: Global,
     words: &[Text],

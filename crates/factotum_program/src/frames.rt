@@ -1,6 +1,6 @@
-// The frames of one connection, each answered before the next: a request, and then takes until there is no reply, each
-// reply written at once.
-ghost use Rattle.std.specs.Prelude.{◌≡◌, ◌∷◌, ◌+◌, ◌<◌, ◌≤◌, List, ℕ, Option, true, length, IfOk, IfErr, OnOk};
+// The frames of one connection, each answered before the next: a request, and then takes until there is no reply. The
+// replies are gathered, and written when there is no whole frame more, so that none waits for input that isn't there.
+ghost use Rattle.std.specs.Prelude.{◌≡◌, ◌∷◌, ◌+◌, ◌<◌, ◌≤◌, [], List, ℕ, Option, true, length, IfOk, IfErr, OnOk, OnErr};
 ghost use Rattle.wire_streams.specs.Causes.{Rose};
 ghost use Rattle.wire_streams.specs.Streams.{Gains};
 ghost use Rattle.nine_messages.specs.Decoding.{IsFrame};
@@ -8,75 +8,144 @@ ghost use Rattle.nine_frames.specs.Framing.{Answers};
 ghost use Rattle.agent_history.specs.declared.event.Event.TheVariants.{Request, Take};
 ghost use Rattle.agent_history.specs.Replies.{untaken};
 ghost use Rattle.agent_history.specs.Histories.{History, deeds};
-ghost use Rattle.agent_core.specs.Agents.{StandsFor, TakesOne, gives_in};
+ghost use Rattle.agent_core.specs.Agents.{SameAgent, StandsFor, TakesOne, gives_in, kept_replies};
 ghost use Rattle.factotum_program.specs.Commands.{GainsPart};
 ghost use Rattle.factotum_program.specs.Pipe.{zeros, take_while, after_frame, text_of};
-ghost use Rattle.factotum_program.specs.Sessions.{next_of, HasNoNext, Handed, AllHanded, StopsAt, IsCut};
+ghost use Rattle.factotum_program.specs.declared.frames.TheConstants.{MOST_GATHERED};
+ghost use Rattle.factotum_program.specs.Sessions.{next_of, HasNoNext, Gathers, GathersPart, Handed, AllHanded, StopsAt, IsCut};
 
 use crate::status::Status;
 use agent_core::{Agent, Event};
 use nine_frames::{Framer, Next};
-use wire_base::Bytes;
+use wire_base::{Bytes, NoMemory};
 use wire_streams::{Sink, write_all};
 
 /// The number of the one connection.
 pub(crate) const CONNECTION: u64 = 0;
 
-// Writes the bytes of a step.
-fn write<W: Sink>(bytes: &Bytes, output: &mut W) -> Result<(), Status>
-    ensures ok { OnOk result (Gains (W.holds output.old) (W.holds output.new) bytes.now) }
-    ensures part { IfErr result (λ status. (status ≡ Status.WriteFault)
-        × GainsPart status (W.holds output.old) (W.holds output.new) bytes.now) }
+/// Where so many bytes of replies are gathered, they are written before more are taken.
+const MOST_GATHERED: usize = 65536;
+
+// Writes what is gathered; after a write fault a front of it was written. Nothing is gathered then.
+fn write_gathered<W: Sink>(replies: &mut Bytes, output: &mut W) -> Result<(), Status>
+    ensures none { replies.new ≡ [] }
+    ensures ok { OnOk result (Gains (W.holds output.old) (W.holds output.new) replies.old) }
+    ensures part { IfErr result (λ status.
+        GainsPart status (W.holds output.old) (W.holds output.new) replies.old) }
+    ensures which { IfErr result (λ status. status ≡ Status.WriteFault) }
     ensures cause { IfErr result (λ status. Rose (W.faults output.old) (W.faults output.new)) }
     ensures counted { W.faults output.old ≤ W.faults output.new }
 {
-    match write_all(bytes.as_slice(), output) {
+    let written = write_all(replies.as_slice(), output);
+    replies.clear();
+    match written {
         Ok(()) => Ok(()),
         Err(_) => Err(Status::WriteFault),
     }
 }
 
-// One take, whose reply is written.
-fn take_one<W: Sink>(agent: &mut Agent, replies: &mut Bytes, output: &mut W) -> Result<(), Status>
+// Writes what is gathered where it is much.
+fn make_room<W: Sink>(replies: &mut Bytes, output: &mut W) -> Result<(), Status>
+    ensures ok { OnOk result ((origin : Option (List ℕ)) (text : List ℕ)
+        → Gathers origin (W.holds output.old) replies.old text
+        → Gathers origin (W.holds output.new) replies.new text) }
+    ensures part { IfErr result (λ status. (origin : Option (List ℕ)) (text : List ℕ)
+        → Gathers origin (W.holds output.old) replies.old text
+        → GathersPart status origin (W.holds output.new) replies.new text) }
+    ensures room { OnOk result (length replies.new < MOST_GATHERED) }
+    ensures which { IfErr result (λ status. status ≡ Status.WriteFault) }
+    ensures cause { IfErr result (λ status. Rose (W.faults output.old) (W.faults output.new)) }
+    ensures counted { W.faults output.old ≤ W.faults output.new }
+{
+    if replies.len() < MOST_GATHERED {
+        return Ok(());
+    }
+    write_gathered(replies, output)
+}
+
+// One take, whose reply is gathered.
+fn take_one(agent: &mut Agent, replies: &mut Bytes) -> Result<(), NoMemory>
     ensures stands { OnOk result ((H : History) → StandsFor H agent.old
         → StandsFor (Take 0 ∷ H) agent.new) }
-    ensures written { OnOk result ((origin : Option (List ℕ)) (H : History) → StandsFor H agent.old
-        → Gains origin (W.holds output.old) (text_of H)
-        → Gains origin (W.holds output.new) (text_of (Take 0 ∷ H))) }
+    ensures told { OnOk result ((origin held : Option (List ℕ)) (H : History)
+        → StandsFor H agent.old → Gathers origin held replies.old (text_of H)
+        → Gathers origin held replies.new (text_of (Take 0 ∷ H))) }
     ensures fewer { OnOk result (gives_in (Take 0) agent.old.state ≡ true
-        → TakesOne (Take 0) agent.old agent.new) }
+        → kept_replies agent.new 0 < kept_replies agent.old 0) }
+    ensures err { OnErr result (SameAgent agent.old agent.new) }
+    ensures err_stands { OnErr result ((H : History) → StandsFor H agent.old
+        → StandsFor H agent.new) }
+    ensures err_replies { OnErr result (replies.new ≡ replies.old) }
+{
+    agent.step(&Event::Take { conn: CONNECTION }, replies)?;
+    Ok(())
+}
+
+// One take more, once what is gathered is written.
+fn take_again<W: Sink>(agent: &mut Agent, replies: &mut Bytes, output: &mut W) -> Result<(), Status>
+    ensures stands { OnOk result ((H : History) → StandsFor H agent.old
+        → StandsFor (Take 0 ∷ H) agent.new) }
+    ensures told { OnOk result ((origin : Option (List ℕ)) (H : History) → StandsFor H agent.old
+        → Gathers origin (W.holds output.old) replies.old (text_of H)
+        → Gathers origin (W.holds output.new) replies.new (text_of (Take 0 ∷ H))) }
+    ensures fewer { OnOk result (gives_in (Take 0) agent.old.state ≡ true
+        → kept_replies agent.new 0 < kept_replies agent.old 0) }
     ensures part { IfErr result (λ status. (origin : Option (List ℕ)) (H : History)
-        → StandsFor H agent.old → Gains origin (W.holds output.old) (text_of H)
-        → GainsPart status origin (W.holds output.new) (text_of (Take 0 ∷ H))) }
+        → StandsFor H agent.old → Gathers origin (W.holds output.old) replies.old (text_of H)
+        → GathersPart status origin (W.holds output.new) replies.new (text_of (Take 0 ∷ H))) }
     ensures cut { IfErr result IsCut }
     ensures cause { IfErr result (λ status. status ≡ Status.WriteFault
         → Rose (W.faults output.old) (W.faults output.new)) }
     ensures counted { W.faults output.old ≤ W.faults output.new }
 {
-    replies.clear();
-    agent.step(&Event::Take { conn: CONNECTION }, replies)?;
-    write(replies, output)?;
+    write_gathered(replies, output)?;
+    take_one(agent, replies)?;
     Ok(())
+}
+
+// One take, whose reply is gathered. Where there is no memory for it beside what is gathered, that is written first.
+fn take_next<W: Sink>(agent: &mut Agent, replies: &mut Bytes, output: &mut W) -> Result<(), Status>
+    ensures stands { OnOk result ((H : History) → StandsFor H agent.old
+        → StandsFor (Take 0 ∷ H) agent.new) }
+    ensures told { OnOk result ((origin : Option (List ℕ)) (H : History) → StandsFor H agent.old
+        → Gathers origin (W.holds output.old) replies.old (text_of H)
+        → Gathers origin (W.holds output.new) replies.new (text_of (Take 0 ∷ H))) }
+    ensures fewer { OnOk result (gives_in (Take 0) agent.old.state ≡ true
+        → kept_replies agent.new 0 < kept_replies agent.old 0) }
+    ensures part { IfErr result (λ status. (origin : Option (List ℕ)) (H : History)
+        → StandsFor H agent.old → Gathers origin (W.holds output.old) replies.old (text_of H)
+        → GathersPart status origin (W.holds output.new) replies.new (text_of (Take 0 ∷ H))) }
+    ensures cut { IfErr result IsCut }
+    ensures cause { IfErr result (λ status. status ≡ Status.WriteFault
+        → Rose (W.faults output.old) (W.faults output.new)) }
+    ensures counted { W.faults output.old ≤ W.faults output.new }
+{
+    make_room(replies, output)?;
+    match take_one(agent, replies) {
+        Ok(()) => Ok(()),
+        Err(NoMemory) => take_again(agent, replies, output),
+    }
 }
 
 // Takes until there is no reply.
 fn take_all<W: Sink>(agent: &mut Agent, replies: &mut Bytes, output: &mut W) -> Result<(), Status>
     ensures ok { OnOk result ((origin : Option (List ℕ)) (H : History) (n : ℕ)
         → StandsFor H agent.old → length (untaken (deeds H) 0) ≤ n
-        → Gains origin (W.holds output.old) (text_of H)
+        → Gathers origin (W.holds output.old) replies.old (text_of H)
         → StandsFor (take_while n H) agent.new
-        × Gains origin (W.holds output.new) (text_of (take_while n H))) }
+        × Gathers origin (W.holds output.new) replies.new (text_of (take_while n H))) }
     ensures part { IfErr result (λ status. (origin : Option (List ℕ)) (H : History) (n : ℕ)
         → StandsFor H agent.old → length (untaken (deeds H) 0) ≤ n
-        → Gains origin (W.holds output.old) (text_of H)
-        → GainsPart status origin (W.holds output.new) (text_of (take_while n H))) }
+        → Gathers origin (W.holds output.old) replies.old (text_of H)
+        → GathersPart status origin (W.holds output.new) replies.new
+        (text_of (take_while n H))) }
     ensures cut { IfErr result IsCut }
     ensures cause { IfErr result (λ status. status ≡ Status.WriteFault
         → Rose (W.faults output.old) (W.faults output.new)) }
     ensures counted { W.faults output.old ≤ W.faults output.new }
 {
     while agent.has_reply(CONNECTION) {
-        take_one(agent, replies, output)?;
+        take_next(agent, replies, output)?;
     }
     Ok(())
 }
@@ -86,7 +155,11 @@ fn ask(agent: &mut Agent, frame: Bytes, replies: &mut Bytes) -> Result<(), Statu
     requires whole { IsFrame frame }
     ensures stands { OnOk result ((H : History) → StandsFor H agent.old
         → StandsFor (Request 0 frame zeros ∷ H) agent.new) }
+    ensures told { OnOk result ((origin held : Option (List ℕ)) (H : History)
+        → StandsFor H agent.old → Gathers origin held replies.old (text_of H)
+        → Gathers origin held replies.new (text_of (Request 0 frame zeros ∷ H))) }
     ensures err { IfErr result (λ status. status ≡ Status.NoMemory) }
+    ensures err_replies { OnErr result (replies.new ≡ replies.old) }
 {
     let request = Event::Request {
         conn: CONNECTION,
@@ -97,7 +170,7 @@ fn ask(agent: &mut Agent, frame: Bytes, replies: &mut Bytes) -> Result<(), Statu
     Ok(())
 }
 
-// Hands one frame to the agent, and takes what it answers.
+// Hands one frame to the agent, and gathers what it answers.
 #[tactic(auto, unfolding(crate::specs::Pipe::after_frame))]
 fn answer_frame<W: Sink>(
     agent: &mut Agent,
@@ -107,12 +180,13 @@ fn answer_frame<W: Sink>(
 ) -> Result<(), Status>
     requires whole { IsFrame frame }
     ensures ok { OnOk result ((origin : Option (List ℕ)) (H : History) → StandsFor H agent.old
-        → Gains origin (W.holds output.old) (text_of H)
+        → Gathers origin (W.holds output.old) replies.old (text_of H)
         → StandsFor (after_frame H frame) agent.new
-        × Gains origin (W.holds output.new) (text_of (after_frame H frame))) }
+        × Gathers origin (W.holds output.new) replies.new (text_of (after_frame H frame))) }
     ensures part { IfErr result (λ status. (origin : Option (List ℕ)) (H : History)
-        → StandsFor H agent.old → Gains origin (W.holds output.old) (text_of H)
-        → GainsPart status origin (W.holds output.new) (text_of (after_frame H frame))) }
+        → StandsFor H agent.old → Gathers origin (W.holds output.old) replies.old (text_of H)
+        → GathersPart status origin (W.holds output.new) replies.new
+        (text_of (after_frame H frame))) }
     ensures cut { IfErr result IsCut }
     ensures cause { IfErr result (λ status. status ≡ Status.WriteFault
         → Rose (W.faults output.old) (W.faults output.new)) }
@@ -134,20 +208,20 @@ fn next_frame(framer: &mut Framer) -> Result<Option<Bytes>, Status>
     }
 }
 
-/// Answers the frames that are whole.
-pub(crate) fn answer_frames<W: Sink>(
+// Answers the frames that are whole. What is gathered of their replies is still to be written.
+fn gather_frames<W: Sink>(
     agent: &mut Agent,
     framer: &mut Framer,
     replies: &mut Bytes,
     output: &mut W,
 ) -> Result<(), Status>
     ensures ok { OnOk result ((origin : Option (List ℕ)) (stream : List ℕ) (handed : List (List ℕ))
-        → Handed origin (W.holds output.old) stream handed framer.old agent.old
-        → AllHanded origin (W.holds output.new) stream framer.new agent.new) }
+        → Handed origin (W.holds output.old) replies.old stream handed framer.old agent.old
+        → AllHanded origin (W.holds output.new) replies.new stream framer.new agent.new) }
     ensures err { IfErr result (λ status. (origin : Option (List ℕ)) (stream : List ℕ)
         (handed : List (List ℕ))
-        → Handed origin (W.holds output.old) stream handed framer.old agent.old
-        → StopsAt origin (W.holds output.new) stream status) }
+        → Handed origin (W.holds output.old) replies.old stream handed framer.old agent.old
+        → StopsAt origin (W.holds output.new) replies.new stream status) }
     ensures fed { OnOk result (framer.new.before + length framer.new.held
         ≡ framer.old.before + length framer.old.held) }
     ensures which { IfErr result (λ status. status ≡ Status.ReadFault → ⊥) }
@@ -159,4 +233,32 @@ pub(crate) fn answer_frames<W: Sink>(
         answer_frame(agent, frame, replies, output)?;
     }
     Ok(())
+}
+
+/// Answers the frames that are whole, and writes what was gathered of their replies, whatever stopped the answers. Where
+/// the write fails that is told, since the replies come before what stopped.
+pub(crate) fn answer_frames<W: Sink>(
+    agent: &mut Agent,
+    framer: &mut Framer,
+    replies: &mut Bytes,
+    output: &mut W,
+) -> Result<(), Status>
+    ensures ok { OnOk result ((origin : Option (List ℕ)) (stream : List ℕ) (handed : List (List ℕ))
+        → Handed origin (W.holds output.old) [] stream handed framer.old agent.old
+        → AllHanded origin (W.holds output.new) [] stream framer.new agent.new) }
+    ensures err { IfErr result (λ status. (origin : Option (List ℕ)) (stream : List ℕ)
+        (handed : List (List ℕ))
+        → Handed origin (W.holds output.old) [] stream handed framer.old agent.old
+        → StopsAt origin (W.holds output.new) [] stream status) }
+    ensures fed { OnOk result (framer.new.before + length framer.new.held
+        ≡ framer.old.before + length framer.old.held) }
+    ensures which { IfErr result (λ status. status ≡ Status.ReadFault → ⊥) }
+    ensures cause { IfErr result (λ status. status ≡ Status.WriteFault
+        → Rose (W.faults output.old) (W.faults output.new)) }
+    ensures counted { W.faults output.old ≤ W.faults output.new }
+{
+    replies.clear();
+    let answered = gather_frames(agent, framer, replies, output);
+    write_gathered(replies, output)?;
+    answered
 }

@@ -1,6 +1,6 @@
 // One connection of 9P on an input and an output: a piece of the input is read, the frames that are whole with it are
-// answered, and then the next piece is read.
-ghost use Rattle.std.specs.Prelude.{◌≡◌, ◌++◌, ◌+◌, ◌<◌, ◌≤◌, List, ℕ, Option, true, false, length, IfOk, IfErr, OnOk};
+// answered, their replies are written, and then the next piece is read.
+ghost use Rattle.std.specs.Prelude.{◌≡◌, [], ◌++◌, ◌+◌, ◌<◌, ◌≤◌, List, ℕ, Option, true, false, length, IfOk, IfErr, OnOk};
 ghost use Rattle.std.specs.Io.KnownBytes.{IsAtEnd};
 ghost use Rattle.wire_streams.specs.Causes.{Rose};
 ghost use Rattle.factotum_program.specs.Commands.{most_input, Answers, EndsSo};
@@ -23,7 +23,7 @@ const MOST_INPUT: usize = 1 << 40;
 /// How many bytes one read asks for.
 const CHUNK: usize = 65536;
 
-/// The agent, the bytes that aren't answered yet, and a place for one reply.
+/// The agent, the bytes that aren't answered yet, and a place for replies.
 #[derive(Drop)]
 pub(crate) struct Session {
     agent: Agent,
@@ -42,8 +42,8 @@ fn taken_by(session: &Session) -> usize
 // Answers the frames that are whole with the next piece of the input.
 fn answer_bytes<W: Sink>(session: &mut Session, piece: &[u8], output: &mut W) -> Result<(), Status>
     requires room { taken_by session.old + length piece.now ≤ most_input }
-    ensures ok { OnOk result ((origin : Option (List ℕ)) (stream : List ℕ) → AllHanded origin (W.holds output.old) stream session.old.framer session.old.agent → AllHanded origin (W.holds output.new) (stream ++ piece.now) session.new.framer session.new.agent) }
-    ensures err { IfErr result (λ status. (origin : Option (List ℕ)) (stream : List ℕ) → AllHanded origin (W.holds output.old) stream session.old.framer session.old.agent → StopsAt origin (W.holds output.new) (stream ++ piece.now) status) }
+    ensures ok { OnOk result ((origin : Option (List ℕ)) (stream : List ℕ) → AllHanded origin (W.holds output.old) [] stream session.old.framer session.old.agent → AllHanded origin (W.holds output.new) [] (stream ++ piece.now) session.new.framer session.new.agent) }
+    ensures err { IfErr result (λ status. (origin : Option (List ℕ)) (stream : List ℕ) → AllHanded origin (W.holds output.old) [] stream session.old.framer session.old.agent → StopsAt origin (W.holds output.new) [] (stream ++ piece.now) status) }
     ensures taken { OnOk result (taken_by session.new ≡ taken_by session.old + length piece.now) }
     ensures cause { IfErr result (λ status. status ≡ Status.WriteFault → Rose (W.faults output.old) (W.faults output.new)) }
     ensures which { IfErr result (λ status. status ≡ Status.ReadFault → ⊥) }

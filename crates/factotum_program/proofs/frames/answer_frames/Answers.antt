@@ -1,49 +1,25 @@
-use Rattle.std.proofs.Common.{[], length, ◌∷◌, ◌++◌, arith, ap, length-append}
-use Rattle.std.proofs.lemmas.Result.{err_from_is_err_and}
-use Rattle.factotum_program.specs.Pipe.{after_frames}
-use Rattle.factotum_program.proofs.PipeLemmas.{handed_more, handed_all, stops_in_frame, stops_between, cut_reads, next_reads}
+use Rattle.std.proofs.Common.{inr}
+use Rattle.std.proofs.lemmas.Result.{err_from_is_err_and, on_ok_weaker, IfErr-weaker}
+use Rattle.factotum_program.proofs.PipeLemmas.{handed_gone, handed_left, stop_gone, stops_writing, cut_reads}
 use Rattle.factotum_program.proofs.frames.answer_frames.Goals as goal
 
-pub returns-in_err-frame-clause-err : goal.returns-in_err-frame-clause-err
-returns-in_err-frame-clause-err g c =
+pub returns-in_err-write_gathered-clause-err : goal.returns-in_err-write_gathered-clause-err
+returns-in_err-write_gathered-clause-err g c =
     let p = err_from_is_err_and c.from_residual.result c.from_residual.ensures.1 in
-    rw (p.1, p.2) (λ origin stream some h.
-    let now = c.loop-frame.invariant.handed origin stream some h in
-    stops_between _ origin _ stream now.0 c.loop-frame.framer c.loop-frame.agent now.1 c.in_err-frame.ensures.err)
+    rw (p.1, p.2) (λ origin stream handed d.
+    let h = handed_left origin _ _ stream handed _ _ c.clear.ensures d in
+    stops_writing c.gather_frames-answered.result _ origin _ _ _ stream _ _ (on_ok_weaker c.gather_frames-answered.result (λ f. f origin stream handed h) c.gather_frames-answered.ensures.ok)
+    (IfErr-weaker c.gather_frames-answered.result _ _ (λ status f. f origin stream handed h) c.gather_frames-answered.ensures.err) c.in_err-write_gathered.ensures.which c.in_err-write_gathered.ensures.part)
 
-pub loop-frame-preserved : goal.loop-frame-preserved
-loop-frame-preserved g c =
-    let a = rw c.in-Some.is at c.in_ok-frame.ensures.ok in record {
-      handed = λ origin stream some h.
-          let now = c.loop-frame.invariant.handed origin stream some h in
-          let done = c.in_ok-answer_frame.ensures.ok origin (after_frames [] now.0) now.1.stands now.1.written in (
-            now.0 ++ c.in-Some.frame ∷ [],
-            handed_more origin _ _ stream now.0 c.loop-frame.framer c.next_frame.new.framer c.loop-frame.agent c.answer_frame.new.agent c.in-Some.frame now.1 a done.0 done.1,
-          );
-      fed = omega (arith, c.loop-frame.invariant.fed, a.2.place, ap length a.2.parts, length-append c.in-Some.frame c.next_frame.new.framer.held);
-      later = omega (arith, c.loop-frame.invariant.later, c.in_ok-answer_frame.ensures.counted);
-    }
-
-pub returns-in_err-answer_frame-clause-err : goal.returns-in_err-answer_frame-clause-err
-returns-in_err-answer_frame-clause-err g c =
-    let a = rw c.in-Some.is at c.in_ok-frame.ensures.ok in
-    let p = err_from_is_err_and c.from_residual-in_err-answer_frame.result c.from_residual-in_err-answer_frame.ensures.1 in
-    rw (p.1, p.2) (λ origin stream some h.
-    let now = c.loop-frame.invariant.handed origin stream some h in
-    stops_in_frame _ origin _ _ stream now.0 c.loop-frame.framer c.next_frame.new.framer c.loop-frame.agent c.in-Some.frame now.1 a c.in_err-answer_frame.ensures.cut
-    (c.in_err-answer_frame.ensures.part origin (after_frames [] now.0) now.1.stands now.1.written))
+pub returns-in_err-write_gathered-clause-which : goal.returns-in_err-write_gathered-clause-which
+returns-in_err-write_gathered-clause-which g c =
+    let p = err_from_is_err_and c.from_residual.result c.from_residual.ensures.1 in
+    rw (p.1, p.2) (cut_reads _ (inr c.in_err-write_gathered.ensures.which))
 
 pub returns-clause-ok : goal.returns-clause-ok
-returns-clause-ok g c = λ origin stream some h.
-    let now = c.loop-frame.invariant.handed origin stream some h in
-    handed_all origin _ stream now.0 c.loop-frame.framer c.next_frame.new.framer c.loop-frame.agent now.1 (rw c.in_default.is at c.in_ok-frame.ensures.ok)
+returns-clause-ok g c = on_ok_weaker c.gather_frames-answered.result (λ f origin stream handed d.
+    handed_gone origin _ _ _ stream _ _ c.in_ok-write_gathered.ensures.ok (f origin stream handed (handed_left origin _ _ stream handed _ _ c.clear.ensures d))) c.gather_frames-answered.ensures.ok
 
-pub returns-in_err-frame-clause-which : goal.returns-in_err-frame-clause-which
-returns-in_err-frame-clause-which g c =
-    let p = err_from_is_err_and c.from_residual.result c.from_residual.ensures.1 in
-    rw (p.1, p.2) (next_reads c.loop-frame.framer _ c.in_err-frame.ensures.err)
-
-pub returns-in_err-answer_frame-clause-which : goal.returns-in_err-answer_frame-clause-which
-returns-in_err-answer_frame-clause-which g c =
-    let p = err_from_is_err_and c.from_residual-in_err-answer_frame.result c.from_residual-in_err-answer_frame.ensures.1 in
-    rw (p.1, p.2) (cut_reads _ c.in_err-answer_frame.ensures.cut)
+pub returns-clause-err : goal.returns-clause-err
+returns-clause-err g c = IfErr-weaker c.gather_frames-answered.result _ _ (λ status f origin stream handed d.
+    stop_gone status origin _ _ _ stream c.in_ok-write_gathered.ensures.ok (f origin stream handed (handed_left origin _ _ stream handed _ _ c.clear.ensures d))) c.gather_frames-answered.ensures.err

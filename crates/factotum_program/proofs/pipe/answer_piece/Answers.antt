@@ -1,6 +1,6 @@
 use Rattle.std.proofs.Common.{◌++◌, take, drop, refl, arith}
 use Rattle.std.proofs.lemmas.Result.{err_from_is_err_and}
-use Rattle.factotum_program.proofs.PipeLemmas.{reads_part, behind_some, flooded, stop_ends, taken_there}
+use Rattle.factotum_program.proofs.PipeLemmas.{reads_part, behind_some, flooded, piped_more, stop_ends, taken_there}
 use Rattle.factotum_program.proofs.pipe.answer_piece.Goals as goal
 
 pub returns-in_err-answer_bytes-clause-err : goal.returns-in_err-answer_bytes-clause-err
@@ -28,3 +28,12 @@ returns-then-fits-count-clause-err g c =
           (behind_some c.read.new.out c.in-Bytes.count fits c.if-fits-count.true got.1)
           (c.in_ok-answer_bytes.ensures.ok origin q.stream q.handed),
     )
+
+pub returns-clause-ok : goal.returns-clause-ok
+returns-clause-ok g c =
+    let got = c.in-Bytes.ensures.bytes in
+    let fits = c.min-fits.result in
+    λ first origin q.
+    let there = taken_there first _ origin _ _ q in
+    piped_more first _ _ origin _ _ c.args.session.now c.answer_bytes.new.session c.read.new.out c.in-Bytes.count fits q got.2 (omega (arith, c.min-fits.ensures, c.if-fits-count.false)) got.1
+    (omega (arith, c.min-fits.ensures, c.taken_by.ensures, c.requires.few, there)) (c.in_ok-answer_bytes.ensures.ok origin q.stream q.handed)
