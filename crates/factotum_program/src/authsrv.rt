@@ -90,12 +90,15 @@ fn status_of_end(end: AuthEnd) -> Status
 
 // Reads both tables, the keys first, and then parses them.
 fn read_tables<F: Source>(alloc: Global, keys: &mut F, speaks: &mut F) -> Result<Tables, Status>
-    ensures ok { IfOk result (λ tables. HasRead (F.left keys.old) (F.left keys.new) (F.left speaks.old) (F.left speaks.new) tables) }
+    ensures ok { IfOk result (λ tables. HasRead (F.left keys.old) (F.left keys.new)
+        (F.left speaks.old) (F.left speaks.new) tables) }
     ensures err { IfErr result (λ status. (dom : List ℕ) (client : Moment)
-        → ServesSo dom status (record { keys = F.left keys.old; speaks = F.left speaks.old; client = client })
+        → ServesSo dom status
+        (record { keys = F.left keys.old; speaks = F.left speaks.old; client = client })
         (record { keys = F.left keys.new; speaks = F.left speaks.new; client = client })) }
     ensures fault { result ≡ Err Status.ReadFault
-        → Rose (F.faults keys.old) (F.faults keys.new) ⊎ Rose (F.faults speaks.old) (F.faults speaks.new) }
+        → Rose (F.faults keys.old) (F.faults keys.new)
+        ⊎ Rose (F.faults speaks.old) (F.faults speaks.new) }
     ensures others { IfErr result IsEarly }
     ensures counted_keys { F.faults keys.old ≤ F.faults keys.new }
     ensures counted_speaks { F.faults speaks.old ≤ F.faults speaks.new }
@@ -117,11 +120,15 @@ pub(crate) fn serve<R: Source, F: Source, W: Sink, G: Words>(
 ) -> Status
     requires { is_dom dom ≡ true }
     ensures ends { ServesSo dom result
-        (outside (F.left keys.old) (F.left speaks.old) (R.left input.old) (G.to_come rand.old) (W.holds output.old))
-        (outside (F.left keys.new) (F.left speaks.new) (R.left input.new) (G.to_come rand.new) (W.holds output.new)) }
+        (outside (F.left keys.old) (F.left speaks.old)
+        (R.left input.old) (G.to_come rand.old) (W.holds output.old))
+        (outside (F.left keys.new) (F.left speaks.new)
+        (R.left input.new) (G.to_come rand.new) (W.holds output.new)) }
     ensures read_fault { result ≡ Status.ReadFault → Rose (R.faults input.old) (R.faults input.new)
-        ⊎ (Rose (F.faults keys.old) (F.faults keys.new) ⊎ Rose (F.faults speaks.old) (F.faults speaks.new)) }
-    ensures write_fault { result ≡ Status.WriteFault → Rose (W.faults output.old) (W.faults output.new) }
+        ⊎ (Rose (F.faults keys.old) (F.faults keys.new)
+        ⊎ Rose (F.faults speaks.old) (F.faults speaks.new)) }
+    ensures write_fault { result ≡ Status.WriteFault
+        → Rose (W.faults output.old) (W.faults output.new) }
     ensures word_fault { result ≡ Status.WordFault → Rose (G.faults rand.old) (G.faults rand.new) }
     ensures counted_reads { R.faults input.old ≤ R.faults input.new }
     ensures counted_keys { F.faults keys.old ≤ F.faults keys.new }

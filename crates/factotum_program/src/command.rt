@@ -18,9 +18,12 @@ use wire_streams::{Sink, Source, Words};
 
 // One connection of 9P.
 fn run_pipe<R: Source, W: Sink>(alloc: Global, input: &mut R, output: &mut W) -> Status
-    ensures ends { EndsSo result (R.left input.old) (R.left input.new) (W.holds output.old) (W.holds output.new) }
-    ensures read_fault { result ≡ Status.ReadFault → Rose (R.faults input.old) (R.faults input.new) }
-    ensures write_fault { result ≡ Status.WriteFault → Rose (W.faults output.old) (W.faults output.new) }
+    ensures ends { EndsSo result
+        (R.left input.old) (R.left input.new) (W.holds output.old) (W.holds output.new) }
+    ensures read_fault { result ≡ Status.ReadFault
+        → Rose (R.faults input.old) (R.faults input.new) }
+    ensures write_fault { result ≡ Status.WriteFault
+        → Rose (W.faults output.old) (W.faults output.new) }
     ensures counted_reads { R.faults input.old ≤ R.faults input.new }
     ensures counted_writes { W.faults output.old ≤ W.faults output.new }
 {
@@ -42,19 +45,25 @@ fn run<R: Source, F: Source, W: Sink, G: Words>(
 ) -> Status
     ensures usage { result ≡ Status.Usage → is_command words.now ≡ false }
     ensures no_command { is_command words.now ≡ false → IsUnread words.now result }
-    ensures client { is_command words.now ≡ false → (input.new ≡ input.old) × (output.new ≡ output.old) }
+    ensures client { is_command words.now ≡ false
+        → (input.new ≡ input.old) × (output.new ≡ output.old) }
     ensures tables { is_authsrv words.now ≡ false
         → (keys.new ≡ keys.old) × (speaks.new ≡ speaks.old) × (rand.new ≡ rand.old) }
     ensures piped { is_pipe words.now ≡ true → EndsSo result
         (R.left input.old) (R.left input.new) (W.holds output.old) (W.holds output.new) }
-    ensures served { is_authsrv words.now ≡ true → ServesSo (authsrv_value (codes "--dom") words.now) result
-        (outside (F.left keys.old) (F.left speaks.old) (R.left input.old) (G.to_come rand.old) (W.holds output.old))
-        (outside (F.left keys.new) (F.left speaks.new) (R.left input.new) (G.to_come rand.new) (W.holds output.new)) }
+    ensures served { is_authsrv words.now ≡ true
+        → ServesSo (authsrv_value (codes "--dom") words.now) result
+        (outside (F.left keys.old) (F.left speaks.old)
+        (R.left input.old) (G.to_come rand.old) (W.holds output.old))
+        (outside (F.left keys.new) (F.left speaks.new)
+        (R.left input.new) (G.to_come rand.new) (W.holds output.new)) }
     ensures read_fault { result ≡ Status.ReadFault → Rose (R.faults input.old) (R.faults input.new)
-        ⊎ (Rose (F.faults keys.old) (F.faults keys.new) ⊎ Rose (F.faults speaks.old) (F.faults speaks.new)) }
+        ⊎ (Rose (F.faults keys.old) (F.faults keys.new)
+        ⊎ Rose (F.faults speaks.old) (F.faults speaks.new)) }
     ensures pipe_fault { is_pipe words.now ≡ true → result ≡ Status.ReadFault
         → Rose (R.faults input.old) (R.faults input.new) }
-    ensures write_fault { result ≡ Status.WriteFault → Rose (W.faults output.old) (W.faults output.new) }
+    ensures write_fault { result ≡ Status.WriteFault
+        → Rose (W.faults output.old) (W.faults output.new) }
     ensures word_fault { result ≡ Status.WordFault → Rose (G.faults rand.old) (G.faults rand.new) }
     ensures counted_reads { R.faults input.old ≤ R.faults input.new }
     ensures counted_keys { F.faults keys.old ≤ F.faults keys.new }
@@ -92,23 +101,29 @@ pub fn run_command<R: Source, F: Source, W: Sink, G: Words>(
     // The words. Words of no command leave all as it was, and `pipe` the tables and the words that are drawn.
     ensures usage { result ≡ Status.Usage → is_command words.now ≡ false }
     ensures no_command { is_command words.now ≡ false → IsUnread words.now result }
-    ensures client { is_command words.now ≡ false → (input.new ≡ input.old) × (output.new ≡ output.old) }
+    ensures client { is_command words.now ≡ false
+        → (input.new ≡ input.old) × (output.new ≡ output.old) }
     ensures tables { is_authsrv words.now ≡ false
         → (keys.new ≡ keys.old) × (speaks.new ≡ speaks.old) × (rand.new ≡ rand.old) }
 
     // Each status of a command has its cause in what was read, and what was drawn and written by then is told.
     ensures piped { is_pipe words.now ≡ true → EndsSo result
         (R.left input.old) (R.left input.new) (W.holds output.old) (W.holds output.new) }
-    ensures served { is_authsrv words.now ≡ true → ServesSo (authsrv_value (codes "--dom") words.now) result
-        (outside (F.left keys.old) (F.left speaks.old) (R.left input.old) (G.to_come rand.old) (W.holds output.old))
-        (outside (F.left keys.new) (F.left speaks.new) (R.left input.new) (G.to_come rand.new) (W.holds output.new)) }
+    ensures served { is_authsrv words.now ≡ true
+        → ServesSo (authsrv_value (codes "--dom") words.now) result
+        (outside (F.left keys.old) (F.left speaks.old)
+        (R.left input.old) (G.to_come rand.old) (W.holds output.old))
+        (outside (F.left keys.new) (F.left speaks.new)
+        (R.left input.new) (G.to_come rand.new) (W.holds output.new)) }
 
     // A fault comes only where the count of one of its objects rose, and no count falls.
     ensures read_fault { result ≡ Status.ReadFault → Rose (R.faults input.old) (R.faults input.new)
-        ⊎ (Rose (F.faults keys.old) (F.faults keys.new) ⊎ Rose (F.faults speaks.old) (F.faults speaks.new)) }
+        ⊎ (Rose (F.faults keys.old) (F.faults keys.new)
+        ⊎ Rose (F.faults speaks.old) (F.faults speaks.new)) }
     ensures pipe_fault { is_pipe words.now ≡ true → result ≡ Status.ReadFault
         → Rose (R.faults input.old) (R.faults input.new) }
-    ensures write_fault { result ≡ Status.WriteFault → Rose (W.faults output.old) (W.faults output.new) }
+    ensures write_fault { result ≡ Status.WriteFault
+        → Rose (W.faults output.old) (W.faults output.new) }
     ensures word_fault { result ≡ Status.WordFault → Rose (G.faults rand.old) (G.faults rand.new) }
     ensures counted_reads { R.faults input.old ≤ R.faults input.new }
     ensures counted_keys { F.faults keys.old ≤ F.faults keys.new }
@@ -120,15 +135,22 @@ pub fn run_command<R: Source, F: Source, W: Sink, G: Words>(
     ensures printable { is_printable result ≡ true }
 
     // What is told, valid and without faults is answered, unless memory runs out.
-    ensures pipe_complete { (content : List ℕ) → is_pipe words.now ≡ true → R.left input.old ≡ Some content
+    ensures pipe_complete { (content : List ℕ) → is_pipe words.now ≡ true
+        → R.left input.old ≡ Some content
         → IsFrames most_frame content → length content ≤ most_input
-        → (Rose (R.faults input.old) (R.faults input.new) → ⊥) → (Rose (W.faults output.old) (W.faults output.new) → ⊥)
+        → (Rose (R.faults input.old) (R.faults input.new) → ⊥)
+        → (Rose (W.faults output.old) (W.faults output.new) → ⊥)
         → (result ≡ Status.Fine) ⊎ (result ≡ Status.NoMemory) }
-    ensures authsrv_complete { is_authsrv words.now ≡ true → IsServableAll (authsrv_value (codes "--dom") words.now)
-        (outside (F.left keys.old) (F.left speaks.old) (R.left input.old) (G.to_come rand.old) (W.holds output.old))
-        → (Rose (R.faults input.old) (R.faults input.new) → ⊥) → (Rose (F.faults keys.old) (F.faults keys.new) → ⊥)
-        → (Rose (F.faults speaks.old) (F.faults speaks.new) → ⊥) → (Rose (W.faults output.old) (W.faults output.new) → ⊥)
-        → (Rose (G.faults rand.old) (G.faults rand.new) → ⊥) → (result ≡ Status.Fine) ⊎ (result ≡ Status.NoMemory) }
+    ensures authsrv_complete { is_authsrv words.now ≡ true
+        → IsServableAll (authsrv_value (codes "--dom") words.now)
+        (outside (F.left keys.old) (F.left speaks.old)
+        (R.left input.old) (G.to_come rand.old) (W.holds output.old))
+        → (Rose (R.faults input.old) (R.faults input.new) → ⊥)
+        → (Rose (F.faults keys.old) (F.faults keys.new) → ⊥)
+        → (Rose (F.faults speaks.old) (F.faults speaks.new) → ⊥)
+        → (Rose (W.faults output.old) (W.faults output.new) → ⊥)
+        → (Rose (G.faults rand.old) (G.faults rand.new) → ⊥)
+        → (result ≡ Status.Fine) ⊎ (result ≡ Status.NoMemory) }
 {
     run(alloc, words, input, keys, speaks, output, rand)
 }

@@ -62,7 +62,8 @@ fn is_given(first: &[u8], second: &[u8], third: &[u8], option: &[u8]) -> bool
 
 // Whether the three words are the options of `authsrv`.
 fn has_options(first: &[u8], second: &[u8], third: &[u8]) -> bool
-    ensures { result ≡ list_all (is_among (first.now ∷ second.now ∷ third.now ∷ [])) authsrv_options }
+    ensures { result
+        ≡ list_all (is_among (first.now ∷ second.now ∷ third.now ∷ [])) authsrv_options }
 {
     is_given(first, second, third, b"--dom")
         && is_given(first, second, third, b"--keys")
