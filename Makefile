@@ -6,7 +6,7 @@ help:
 	@echo 'make build   proves the programs and leaves them as bin/factotum and bin/nine_show'
 	@echo 'make demo    runs a conversation through it and shows each request and reply'
 	@echo 'make test    runs the gate: every proof, wrong body, test and program'
-	@echo 'make bench   measures it and its codec beside plain C programs, and the ciphers beside OpenSSL'
+	@echo 'make bench   measures it and its codec beside plain C programs, the server and the ciphers beside OpenSSL'
 	@echo 'make clean   removes what the others made'
 
 build:
@@ -27,6 +27,7 @@ test:
 
 bench: build
 	@bench/pipe
+	@bench/authsrv
 	@bench/codec
 	@bench/ciphers
 

@@ -2,10 +2,9 @@
  * The peer of the program cipher_bench: the same rounds over the same inputs, by OpenSSL's DES and
  * HMAC. It prints the final bytes as cipher_bench does, so that the two can be compared.
  */
-#define OPENSSL_SUPPRESS_DEPRECATED
+#include "seal_openssl.h"
 #include <errno.h>
 #include <inttypes.h>
-#include <openssl/des.h>
 #include <openssl/evp.h>
 #include <openssl/hmac.h>
 #include <stdint.h>
@@ -14,12 +13,9 @@
 #include <string.h>
 
 enum {
-	BLOCK_LEN = 8,
-	BLOCK_STEP = 7,
 	DIGEST_LEN = 16,
 	ANSWER_LEN = 32,
 	TEXT_LEN = 1024,
-	KEY_LEN = 7,
 	PASSWORD_LEN = 27,
 	TICKET_LEN = 72,
 };
@@ -58,41 +54,6 @@ static void run_encrypt(uint64_t rounds)
 	for (uint64_t i = 0; i < rounds; i++)
 		DES_ecb_encrypt(&block, &block, &schedule, DES_ENCRYPT);
 	print_hex(block, BLOCK_LEN);
-}
-
-/* Eight groups of seven bits from the high end, each followed by a bit that DES does not read. */
-static void expand_key(const unsigned char key[KEY_LEN], DES_cblock *out)
-{
-	uint64_t bits = 0;
-
-	for (int i = 0; i < KEY_LEN; i++)
-		bits = bits << 8 | key[i];
-	for (int i = 0; i < BLOCK_LEN; i++)
-		(*out)[i] = (unsigned char)((bits >> (49 - 7 * i) & 0x7f) << 1);
-	DES_set_odd_parity(out);
-}
-
-static void encrypt_at(unsigned char *text, DES_key_schedule *schedule)
-{
-	DES_cblock block;
-
-	memcpy(block, text, BLOCK_LEN);
-	DES_ecb_encrypt(&block, &block, schedule, DES_ENCRYPT);
-	memcpy(text, block, BLOCK_LEN);
-}
-
-/* The blocks at 0, 7, 14 and so on, and then the block that ends the text, if bytes are left. */
-static void seal(const unsigned char key[KEY_LEN], unsigned char *text, size_t len)
-{
-	DES_cblock expanded;
-	DES_key_schedule schedule;
-
-	expand_key(key, &expanded);
-	DES_set_key_unchecked(&expanded, &schedule);
-	for (size_t i = 0; i < (len - 1) / BLOCK_STEP; i++)
-		encrypt_at(text + BLOCK_STEP * i, &schedule);
-	if ((len - 1) % BLOCK_STEP != 0)
-		encrypt_at(text + len - BLOCK_LEN, &schedule);
 }
 
 /* The seal of the last text, key schedule included, one text a round. */

@@ -5,25 +5,11 @@ Written from the manual's words (Plan 9: the records of authsrv(6), the authinfo
 nothing with the proved code.
 """
 from sealing import expand, seal
-
-
-def field(name: bytes, size: int, behind: bytes = b"") -> bytes:
-    """A name's field: the name, a NUL, what stands behind it, and NULs to the end."""
-    return (name + b"\0" + behind).ljust(size, b"\0")[:size]
+from tickets_text import field, lines, literal
 
 
 def counted(text: bytes) -> bytes:
     return len(text).to_bytes(2, "little") + text
-
-
-def literal(text: bytes) -> str:
-    shown = {0: "\\0", 0x22: '\\"', 0x5c: "\\\\"}
-    return "".join(shown.get(byte) or (chr(byte) if 0x20 < byte < 0x7f else f"\\x{byte:02x}") for byte in text)
-
-
-def lines(fields: list[bytes]) -> str:
-    """A byte string with one line a field."""
-    return 'b"' + "\\\n        ".join(literal(field) for field in fields) + '"'
 
 
 def sealed(key: bytes, text: bytes) -> str:

@@ -5,6 +5,8 @@ mod incoming;
 mod laws;
 mod serve;
 mod server;
+#[cfg(test)]
+mod tests;
 
 pub use laws::{a_stream_has_one_session, every_ticket_request_gets_two_tickets};
 pub use serve::{AuthEnd, serve_auth};

@@ -5,9 +5,9 @@ use Rattle.nine_frames.specs.Streams.{IsFrames}
 use Rattle.nine_frames.proofs.StreamLaws.{no_bad_size}
 use Rattle.nine_frames.proofs.InputLaws.{front_of, all_read}
 use Rattle.factotum_program.specs.declared.status.Status.{Status}
-use Rattle.factotum_program.specs.declared.status.Status.TheVariants.{Fine, Usage, ReadFault, WriteFault, BadFrame, Torn, NoMemory, Flood}
+use Rattle.factotum_program.specs.declared.status.Status.TheVariants.{Fine, Usage, ReadFault, WriteFault, WordFault, BadFrame, Torn, BadTables, AsEnded, NoMemory, Flood}
 use Rattle.factotum_program.specs.Pipe.{most_frame}
-use Rattle.factotum_program.specs.Commands.{most_input, MeetsBadFrame, EndsInside, Floods}
+use Rattle.factotum_program.specs.Commands.{most_input, MeetsBadFrame, EndsInside, EndsSo, Floods}
 
 pub no_flood : (content : List ℕ) (old new held_old held_new : Option (List ℕ)) → old ≡ Some content → length content ≤ most_input → Floods old new held_old held_new → ⊥
 no_flood content old new held_old held_new told few f =
@@ -25,14 +25,17 @@ no_bad at size content old new held_old held_new told whole b =
     let r = front_of content (b.input ++ b.behind) new (rw told at b.read.taken) in
     no_bad_size most_frame size content b.input (b.behind ++ r.0) whole (r.1 ∙ append_assoc b.input b.behind r.0) b.bad
 
+-- an end that no other explains leaves two statuses
 pub two_left : (status : Status) (content : List ℕ) (old new held_old held_new : Option (List ℕ)) → old ≡ Some content → IsFrames most_frame content → length content ≤ most_input
-    → (status ≡ Usage → ⊥) → (status ≡ ReadFault → ⊥) → (status ≡ WriteFault → ⊥) → ((at size : ℕ) → status ≡ BadFrame at size → MeetsBadFrame at size old new held_old held_new)
-    → ((at : ℕ) → status ≡ Torn at → EndsInside at old new held_old held_new) → ((limit : ℕ) → status ≡ Flood limit → (limit ≡ most_input) × Floods old new held_old held_new) → (status ≡ Fine) ⊎ (status ≡ NoMemory)
-two_left Fine content old new ho hn told whole few usage read write bad torn flood = inl refl
-two_left Usage content old new ho hn told whole few usage read write bad torn flood = absurd (usage refl)
-two_left ReadFault content old new ho hn told whole few usage read write bad torn flood = absurd (read refl)
-two_left WriteFault content old new ho hn told whole few usage read write bad torn flood = absurd (write refl)
-two_left (BadFrame at size) content old new ho hn told whole few usage read write bad torn flood = absurd (no_bad at size content old new ho hn told whole (bad at size refl))
-two_left (Torn at) content old new ho hn told whole few usage read write bad torn flood = absurd (no_tear at content old new ho hn told whole (torn at refl))
-two_left NoMemory content old new ho hn told whole few usage read write bad torn flood = inr refl
-two_left (Flood limit) content old new ho hn told whole few usage read write bad torn flood = absurd (no_flood content old new ho hn told few (flood limit refl).1)
+    → (status ≡ ReadFault → ⊥) → (status ≡ WriteFault → ⊥) → EndsSo status old new held_old held_new → (status ≡ Fine) ⊎ (status ≡ NoMemory)
+two_left Fine content old new ho hn told whole few read write ends = inl refl
+two_left Usage content old new ho hn told whole few read write ends = absurd ends
+two_left ReadFault content old new ho hn told whole few read write ends = absurd (read refl)
+two_left WriteFault content old new ho hn told whole few read write ends = absurd (write refl)
+two_left WordFault content old new ho hn told whole few read write ends = absurd ends
+two_left (BadFrame at size) content old new ho hn told whole few read write ends = absurd (no_bad at size content old new ho hn told whole ends)
+two_left (Torn at) content old new ho hn told whole few read write ends = absurd (no_tear at content old new ho hn told whole ends)
+two_left (BadTables speaks line) content old new ho hn told whole few read write ends = absurd ends
+two_left (AsEnded end) content old new ho hn told whole few read write ends = absurd ends
+two_left NoMemory content old new ho hn told whole few read write ends = inr refl
+two_left (Flood limit) content old new ho hn told whole few read write ends = absurd (no_flood content old new ho hn told few ends.1)

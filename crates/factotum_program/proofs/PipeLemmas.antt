@@ -14,7 +14,7 @@ use Rattle.agent_history.specs.Histories.{History}
 use Rattle.agent_core.specs.declared.agent.Agent.{Agent}
 use Rattle.agent_core.specs.Agents.{StandsFor}
 use Rattle.factotum_program.specs.declared.status.Status.{Status}
-use Rattle.factotum_program.specs.declared.status.Status.TheVariants.{Fine, Usage, ReadFault, WriteFault, BadFrame, Torn, NoMemory, Flood}
+use Rattle.factotum_program.specs.declared.status.Status.TheVariants.{Fine, Usage, ReadFault, WriteFault, WordFault, BadFrame, Torn, BadTables, AsEnded, NoMemory, Flood}
 use Rattle.factotum_program.specs.declared.pipe.Session.{Session}
 use Rattle.factotum_program.specs.Pipe.{most_frame, after_frame, after_frames, text_of, replies_text, pipe_text}
 use Rattle.factotum_program.specs.Commands.{most_input, frames_in, Reads, Answers, EndsInside, Floods, GainsPart, EndsSo}
@@ -158,8 +158,11 @@ stop_ends Fine first next origin held input behind r s = absurd s
 stop_ends Usage first next origin held input behind r s = absurd s
 stop_ends ReadFault first next origin held input behind r s = absurd s
 stop_ends WriteFault first next origin held input behind r s = record { input = input; behind = behind; read = r; written = part_written WriteFault origin held (replies_text (frames_in input)) s }
+stop_ends WordFault first next origin held input behind r s = absurd s
 stop_ends (BadFrame at size) first next origin held input behind r s = record { input = input; behind = behind; read = r; place = s.place; bad = s.bad; written = all_written origin held (replies_text (frames_in input)) s.told }
 stop_ends (Torn at) first next origin held input behind r s = absurd s
+stop_ends (BadTables speaks line) first next origin held input behind r s = absurd s
+stop_ends (AsEnded end) first next origin held input behind r s = absurd s
 stop_ends NoMemory first next origin held input behind r s = record { input = input; behind = behind; read = r; written = part_written NoMemory origin held (replies_text (frames_in input)) s }
 stop_ends (Flood limit) first next origin held input behind r s = absurd s
 

@@ -1,21 +1,12 @@
 -- What a command does to its input and its output, by the bytes that it read. Content is optional: the words on it hold
 -- where it is told.
-use Rattle.std.specs.Prelude.{◌≡◌, ◌<◌, ◌≤◌, ℕ, List, [], ◌∷◌, ◌++◌, length, Option, Bool, true, false, codes}
-use Rattle.std.specs.Str.{bytes_eq}
+use Rattle.std.specs.Prelude.{◌≡◌, ◌<◌, ◌≤◌, ℕ, List, [], ◌∷◌, ◌++◌, length, Option}
 use Rattle.std.specs.Io.KnownBytes.{Consumes, IsAtEnd}
 use Rattle.wire_streams.specs.Streams.{Gains}
 use Rattle.nine_frames.specs.Streams.{frames, end_of, HasBadSize, HasNoBadSize, IsFrames}
 use Rattle.factotum_program.specs.declared.status.Status.{Status}
-use Rattle.factotum_program.specs.declared.status.Status.TheVariants.{Fine, Usage, ReadFault, WriteFault, BadFrame, Torn, NoMemory, Flood}
+use Rattle.factotum_program.specs.declared.status.Status.TheVariants.{Fine, Usage, ReadFault, WriteFault, WordFault, BadFrame, Torn, BadTables, AsEnded, NoMemory, Flood}
 use Rattle.factotum_program.specs.Pipe.{most_frame, replies_text, pipe_text}
-
--- the words are the one word `pipe`
-abbrev pub is_pipe : List (List ℕ) → Bool
-is_pipe (word ∷ []) = bytes_eq word (codes "pipe")
-is_pipe words = false
-
-abbrev pub IsPipe : List (List ℕ) → Type 0
-IsPipe words = is_pipe words ≡ true
 
 -- how many bytes of input a pipe takes: 2^40
 abbrev pub most_input : ℕ
@@ -96,7 +87,10 @@ EndsSo Fine left_old left_new held_old held_new = Answers left_old left_new held
 EndsSo Usage left_old left_new held_old held_new = ⊥
 EndsSo ReadFault left_old left_new held_old held_new = RepliesSoFar left_old left_new held_old held_new
 EndsSo WriteFault left_old left_new held_old held_new = RepliesInPart WriteFault left_old left_new held_old held_new
+EndsSo WordFault left_old left_new held_old held_new = ⊥
 EndsSo (BadFrame at size) left_old left_new held_old held_new = MeetsBadFrame at size left_old left_new held_old held_new
 EndsSo (Torn at) left_old left_new held_old held_new = EndsInside at left_old left_new held_old held_new
+EndsSo (BadTables speaks line) left_old left_new held_old held_new = ⊥
+EndsSo (AsEnded end) left_old left_new held_old held_new = ⊥
 EndsSo NoMemory left_old left_new held_old held_new = RepliesInPart NoMemory left_old left_new held_old held_new
 EndsSo (Flood limit) left_old left_new held_old held_new = (limit ≡ most_input) × Floods left_old left_new held_old held_new

@@ -1,46 +1,79 @@
 // The command words, and what each command does.
-ghost use Rattle.std.specs.Prelude.{◌≡◌, ◌≤◌, ◌↔◌, ◌⊎◌, List, ℕ, length, Some};
+ghost use Rattle.std.specs.Prelude.{◌≡◌, ◌≤◌, ◌⊎◌, List, ℕ, length, Some, true, false, codes};
 ghost use Rattle.wire_streams.specs.Causes.{Rose};
 ghost use Rattle.nine_frames.specs.Streams.{IsFrames};
 ghost use Rattle.factotum_program.specs.Pipe.{most_frame};
-ghost use Rattle.factotum_program.specs.Commands.{is_pipe, IsPipe, Answers, MeetsBadFrame, EndsInside, Floods, RepliesSoFar, RepliesInPart, most_input};
+ghost use Rattle.factotum_program.specs.Commands.{EndsSo, most_input};
+ghost use Rattle.factotum_program.specs.Serving.{IsServableAll, ServesSo, outside};
+ghost use Rattle.factotum_program.specs.Statuses.{is_printable};
+ghost use Rattle.factotum_program.specs.Words.{IsUnread, authsrv_value, is_authsrv, is_command, is_pipe};
 
+use crate::authsrv::serve;
 use crate::pipe::answer_input;
 use crate::status::Status;
+use crate::words::{Task, read_words};
 use std::alloc::Global;
 use wire_base::Text;
-use wire_streams::{Sink, Source};
+use wire_streams::{Sink, Source, Words};
 
-// Whether the words are the one word `pipe`.
-fn is_pipe(words: &[Text]) -> bool
-    ensures { result ≡ is_pipe words.now }
+// One connection of 9P.
+fn run_pipe<R: Source, W: Sink>(alloc: Global, input: &mut R, output: &mut W) -> Status
+    ensures ends { EndsSo result
+        (R.left input.old) (R.left input.new) (W.holds output.old) (W.holds output.new) }
+    ensures read_fault { result ≡ Status.ReadFault
+        → Rose (R.faults input.old) (R.faults input.new) }
+    ensures write_fault { result ≡ Status.WriteFault
+        → Rose (W.faults output.old) (W.faults output.new) }
+    ensures counted_reads { R.faults input.old ≤ R.faults input.new }
+    ensures counted_writes { W.faults output.old ≤ W.faults output.new }
 {
-    match words {
-        [word] => word.as_slice() == b"pipe".as_slice(),
-        _ => false,
+    match answer_input(alloc, input, output) {
+        Ok(()) => Status::Fine,
+        Err(status) => status,
     }
 }
 
 // The command; that it is complete follows from these clauses.
-fn run<R: Source, W: Sink>(alloc: Global, words: &[Text], input: &mut R, output: &mut W) -> Status
-    ensures usage { (result ≡ Status.Usage) ↔ (IsPipe words.now → ⊥) }
-    ensures untouched { result ≡ Status.Usage → (input.new ≡ input.old) × (output.new ≡ output.old) }
-    ensures fine { result ≡ Status.Fine → Answers (R.left input.old) (R.left input.new) (W.holds output.old) (W.holds output.new) }
-    ensures bad_frame { (at size : ℕ) → result ≡ Status.BadFrame at size → MeetsBadFrame at size (R.left input.old) (R.left input.new) (W.holds output.old) (W.holds output.new) }
-    ensures torn { (at : ℕ) → result ≡ Status.Torn at → EndsInside at (R.left input.old) (R.left input.new) (W.holds output.old) (W.holds output.new) }
-    ensures flood { (limit : ℕ) → result ≡ Status.Flood limit → (limit ≡ most_input) × Floods (R.left input.old) (R.left input.new) (W.holds output.old) (W.holds output.new) }
-    ensures read_fault { result ≡ Status.ReadFault → Rose (R.faults input.old) (R.faults input.new) }
-    ensures replies { result ≡ Status.ReadFault → RepliesSoFar (R.left input.old) (R.left input.new) (W.holds output.old) (W.holds output.new) }
-    ensures write_fault { result ≡ Status.WriteFault → Rose (W.faults output.old) (W.faults output.new) }
-    ensures front { (result ≡ Status.WriteFault) ⊎ (result ≡ Status.NoMemory) → RepliesInPart result (R.left input.old) (R.left input.new) (W.holds output.old) (W.holds output.new) }
+fn run<R: Source, F: Source, W: Sink, G: Words>(
+    alloc: Global,
+    words: &[Text],
+    input: &mut R,
+    keys: &mut F,
+    speaks: &mut F,
+    output: &mut W,
+    rand: &mut G,
+) -> Status
+    ensures usage { result ≡ Status.Usage → is_command words.now ≡ false }
+    ensures no_command { is_command words.now ≡ false → IsUnread words.now result }
+    ensures client { is_command words.now ≡ false
+        → (input.new ≡ input.old) × (output.new ≡ output.old) }
+    ensures tables { is_authsrv words.now ≡ false
+        → (keys.new ≡ keys.old) × (speaks.new ≡ speaks.old) × (rand.new ≡ rand.old) }
+    ensures piped { is_pipe words.now ≡ true → EndsSo result
+        (R.left input.old) (R.left input.new) (W.holds output.old) (W.holds output.new) }
+    ensures served { is_authsrv words.now ≡ true
+        → ServesSo (authsrv_value (codes "--dom") words.now) result
+        (outside (F.left keys.old) (F.left speaks.old)
+        (R.left input.old) (G.to_come rand.old) (W.holds output.old))
+        (outside (F.left keys.new) (F.left speaks.new)
+        (R.left input.new) (G.to_come rand.new) (W.holds output.new)) }
+    ensures read_fault { result ≡ Status.ReadFault → Rose (R.faults input.old) (R.faults input.new)
+        ⊎ (Rose (F.faults keys.old) (F.faults keys.new)
+        ⊎ Rose (F.faults speaks.old) (F.faults speaks.new)) }
+    ensures pipe_fault { is_pipe words.now ≡ true → result ≡ Status.ReadFault
+        → Rose (R.faults input.old) (R.faults input.new) }
+    ensures write_fault { result ≡ Status.WriteFault
+        → Rose (W.faults output.old) (W.faults output.new) }
+    ensures word_fault { result ≡ Status.WordFault → Rose (G.faults rand.old) (G.faults rand.new) }
     ensures counted_reads { R.faults input.old ≤ R.faults input.new }
+    ensures counted_keys { F.faults keys.old ≤ F.faults keys.new }
+    ensures counted_speaks { F.faults speaks.old ≤ F.faults speaks.new }
     ensures counted_writes { W.faults output.old ≤ W.faults output.new }
+    ensures counted_words { G.faults rand.old ≤ G.faults rand.new }
 {
-    if !is_pipe(words) {
-        return Status::Usage;
-    }
-    match answer_input(alloc, input, output) {
-        Ok(()) => Status::Fine,
+    match read_words(alloc, words) {
+        Ok(Task::Pipe) => run_pipe(alloc, input, output),
+        Ok(Task::Authsrv(given)) => serve(alloc, given.dom, input, keys, speaks, output, rand),
         Err(status) => status,
     }
 }
@@ -48,38 +81,76 @@ fn run<R: Source, W: Sink>(alloc: Global, words: &[Text], input: &mut R, output:
 /// Carries out the command that the words name, the words behind the program's name.
 ///
 /// `pipe` is one connection of 9P: each frame of the input, at most 2^40 bytes, is answered before more is read, and its
-/// replies are written. What was read and written by then is told for every status.
-pub fn run_command<R: Source, W: Sink>(
+/// replies are written.
+///
+/// `authsrv --dom D --keys PATH --speaks PATH` is the authentication server of domain D for one client. The keys and who
+/// speaks for whom, at most 2^22 bytes each, are read whole and then parsed, each in this order; then the client's
+/// requests, at most 2^40 bytes, are answered, each before more is read, with three words drawn for each. The paths are
+/// the caller's: it opens both files.
+///
+/// What was read, drawn and written by then is told for every status.
+pub fn run_command<R: Source, F: Source, W: Sink, G: Words>(
     alloc: Global,
     words: &[Text],
     input: &mut R,
+    keys: &mut F,
+    speaks: &mut F,
     output: &mut W,
+    rand: &mut G,
 ) -> Status
-    // The words.
-    ensures usage { (result ≡ Status.Usage) ↔ (IsPipe words.now → ⊥) }
-    ensures untouched { result ≡ Status.Usage → (input.new ≡ input.old) × (output.new ≡ output.old) }
+    // The words. Words of no command leave all as it was, and `pipe` the tables and the words that are drawn.
+    ensures usage { result ≡ Status.Usage → is_command words.now ≡ false }
+    ensures no_command { is_command words.now ≡ false → IsUnread words.now result }
+    ensures client { is_command words.now ≡ false
+        → (input.new ≡ input.old) × (output.new ≡ output.old) }
+    ensures tables { is_authsrv words.now ≡ false
+        → (keys.new ≡ keys.old) × (speaks.new ≡ speaks.old) × (rand.new ≡ rand.old) }
 
-    // The input was read to its end, it is whole frames, and the text of their pipe was written.
-    ensures fine { result ≡ Status.Fine → Answers (R.left input.old) (R.left input.new) (W.holds output.old) (W.holds output.new) }
+    // Each status of a command has its cause in what was read, and what was drawn and written by then is told.
+    ensures piped { is_pipe words.now ≡ true → EndsSo result
+        (R.left input.old) (R.left input.new) (W.holds output.old) (W.holds output.new) }
+    ensures served { is_authsrv words.now ≡ true
+        → ServesSo (authsrv_value (codes "--dom") words.now) result
+        (outside (F.left keys.old) (F.left speaks.old)
+        (R.left input.old) (G.to_come rand.old) (W.holds output.old))
+        (outside (F.left keys.new) (F.left speaks.new)
+        (R.left input.new) (G.to_come rand.new) (W.holds output.new)) }
 
-    // Every other status has its cause in what was read, and the replies to the whole frames before it were written.
-    ensures bad_frame { (at size : ℕ) → result ≡ Status.BadFrame at size → MeetsBadFrame at size (R.left input.old) (R.left input.new) (W.holds output.old) (W.holds output.new) }
-    ensures torn { (at : ℕ) → result ≡ Status.Torn at → EndsInside at (R.left input.old) (R.left input.new) (W.holds output.old) (W.holds output.new) }
-    ensures flood { (limit : ℕ) → result ≡ Status.Flood limit → (limit ≡ most_input) × Floods (R.left input.old) (R.left input.new) (W.holds output.old) (W.holds output.new) }
-    ensures read_fault { result ≡ Status.ReadFault → Rose (R.faults input.old) (R.faults input.new) }
-    ensures replies { result ≡ Status.ReadFault → RepliesSoFar (R.left input.old) (R.left input.new) (W.holds output.old) (W.holds output.new) }
-
-    // After a write fault and want of memory a front of these replies was written.
-    ensures write_fault { result ≡ Status.WriteFault → Rose (W.faults output.old) (W.faults output.new) }
-    ensures front { (result ≡ Status.WriteFault) ⊎ (result ≡ Status.NoMemory) → RepliesInPart result (R.left input.old) (R.left input.new) (W.holds output.old) (W.holds output.new) }
-
-    // No count of faults falls.
+    // A fault comes only where the count of one of its objects rose, and no count falls.
+    ensures read_fault { result ≡ Status.ReadFault → Rose (R.faults input.old) (R.faults input.new)
+        ⊎ (Rose (F.faults keys.old) (F.faults keys.new)
+        ⊎ Rose (F.faults speaks.old) (F.faults speaks.new)) }
+    ensures pipe_fault { is_pipe words.now ≡ true → result ≡ Status.ReadFault
+        → Rose (R.faults input.old) (R.faults input.new) }
+    ensures write_fault { result ≡ Status.WriteFault
+        → Rose (W.faults output.old) (W.faults output.new) }
+    ensures word_fault { result ≡ Status.WordFault → Rose (G.faults rand.old) (G.faults rand.new) }
     ensures counted_reads { R.faults input.old ≤ R.faults input.new }
+    ensures counted_keys { F.faults keys.old ≤ F.faults keys.new }
+    ensures counted_speaks { F.faults speaks.old ≤ F.faults speaks.new }
     ensures counted_writes { W.faults output.old ≤ W.faults output.new }
+    ensures counted_words { G.faults rand.old ≤ G.faults rand.new }
+
+    // Each status has a line.
+    ensures printable { is_printable result ≡ true }
 
     // What is told, valid and without faults is answered, unless memory runs out.
-    ensures complete { (content : List ℕ) → IsPipe words.now → R.left input.old ≡ Some content → IsFrames most_frame content → length content ≤ most_input
-        → (Rose (R.faults input.old) (R.faults input.new) → ⊥) → (Rose (W.faults output.old) (W.faults output.new) → ⊥) → (result ≡ Status.Fine) ⊎ (result ≡ Status.NoMemory) }
+    ensures pipe_complete { (content : List ℕ) → is_pipe words.now ≡ true
+        → R.left input.old ≡ Some content
+        → IsFrames most_frame content → length content ≤ most_input
+        → (Rose (R.faults input.old) (R.faults input.new) → ⊥)
+        → (Rose (W.faults output.old) (W.faults output.new) → ⊥)
+        → (result ≡ Status.Fine) ⊎ (result ≡ Status.NoMemory) }
+    ensures authsrv_complete { is_authsrv words.now ≡ true
+        → IsServableAll (authsrv_value (codes "--dom") words.now)
+        (outside (F.left keys.old) (F.left speaks.old)
+        (R.left input.old) (G.to_come rand.old) (W.holds output.old))
+        → (Rose (R.faults input.old) (R.faults input.new) → ⊥)
+        → (Rose (F.faults keys.old) (F.faults keys.new) → ⊥)
+        → (Rose (F.faults speaks.old) (F.faults speaks.new) → ⊥)
+        → (Rose (W.faults output.old) (W.faults output.new) → ⊥)
+        → (Rose (G.faults rand.old) (G.faults rand.new) → ⊥)
+        → (result ≡ Status.Fine) ⊎ (result ≡ Status.NoMemory) }
 {
-    run(alloc, words, input, output)
+    run(alloc, words, input, keys, speaks, output, rand)
 }

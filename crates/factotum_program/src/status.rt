@@ -1,8 +1,9 @@
 // The statuses of a command, their numbers and their texts.
-ghost use Rattle.std.specs.Prelude.{◌≡◌, ◌++◌, IfOk, OnOk, OnErr, string_bytes};
-ghost use Rattle.factotum_program.specs.Statuses.{status_number, bad_frame_text, torn_text, flood_text, status_text};
-ghost use Rattle.factotum_program.specs.declared.status.Status.TheVariants.{NoMemory};
+ghost use Rattle.std.specs.Prelude.{◌≡◌, ◌++◌, IfOk, OnOk, OnErr, string_bytes, true};
+ghost use Rattle.factotum_program.specs.Statuses.{status_number, bad_frame_text, torn_text, flood_text, bad_table_text, unknown_text, ended_text, is_printable, status_text};
+ghost use Rattle.factotum_program.specs.declared.status.Status.TheVariants.{AsEnded, NoMemory};
 
+use auth_server::AuthEnd;
 use std::alloc::Global;
 use wire_base::{Bytes, NoMemory};
 
@@ -13,17 +14,23 @@ pub enum Status {
     Fine,
     /// The words are no command's words.
     Usage,
-    /// A read of the input failed.
+    /// A read of the input, or of a table, failed.
     ReadFault,
     /// A write of the output failed.
     WriteFault,
+    /// No word could be drawn.
+    WordFault,
     /// At this offset of the input stands a size of a frame that is under 7 or over 8216.
     BadFrame { at: u64, size: u32 },
-    /// The input ended inside the frame that begins at this offset.
+    /// The input ended inside the frame or request that begins at this offset.
     Torn { at: u64 },
+    /// A table's first bad line, counted from 1: of who speaks for whom, or of the keys.
+    BadTables { speaks: bool, line: u32 },
+    /// The authentication server ended its client so: by an unknown request or too many wrong answers.
+    AsEnded(AuthEnd),
     /// Memory ran out.
     NoMemory,
-    /// The input has more bytes than the limit.
+    /// The input, or a table, has more bytes than the limit.
     Flood { limit: u64 },
 }
 
@@ -45,8 +52,11 @@ impl Status {
             Status::Usage => 1,
             Status::ReadFault => 2,
             Status::WriteFault => 3,
+            Status::WordFault => 4,
             Status::BadFrame { .. } => 5,
             Status::Torn { .. } => 6,
+            Status::BadTables { .. } => 8,
+            Status::AsEnded(_) => 9,
             Status::NoMemory => 10,
             Status::Flood { .. } => 11,
         }
@@ -71,8 +81,41 @@ fn flood_text(alloc: Global, limit: u64) -> Result<String, NoMemory>
     Ok(format!(in alloc; "factotum: input over {limit} bytes\n")?)
 }
 
+fn bad_table_text(alloc: Global, speaks: bool, line: u32) -> Result<String, NoMemory>
+    ensures { IfOk result (λ text. string_bytes text ≡ bad_table_text speaks line) }
+{
+    if speaks {
+        Ok(format!(in alloc; "factotum: speaks line {line}\n")?)
+    } else {
+        Ok(format!(in alloc; "factotum: keys line {line}\n")?)
+    }
+}
+
+fn unknown_text(alloc: Global, at: u64, kind: u8) -> Result<String, NoMemory>
+    ensures { IfOk result (λ text. string_bytes text ≡ unknown_text at kind) }
+{
+    Ok(format!(in alloc; "factotum: unknown request {kind} at {at}\n")?)
+}
+
+// Appends the line of a client's end.
+fn print_end(alloc: Global, end: &AuthEnd, out: &mut Bytes) -> Result<(), NoMemory>
+    requires { is_printable (AsEnded end.now) ≡ true }
+    ensures ok { OnOk result (out.new ≡ out.old ++ ended_text end.now) }
+    ensures err { OnErr result (out.new ≡ out.old) }
+{
+    match end {
+        AuthEnd::UnknownType { at, kind } => {
+            let text = unknown_text(alloc, *at, *kind)?;
+            out.append(text.as_bytes())
+        }
+        AuthEnd::TooManyWrong => out.append(b"factotum: too many wrong answers\n"),
+        _ => unreachable!(),
+    }
+}
+
 /// Appends a status's line for standard error: nothing where it is fine.
 pub fn print_status(alloc: Global, status: &Status, out: &mut Bytes) -> Result<(), NoMemory>
+    requires { is_printable status.now ≡ true }
     ensures ok { OnOk result (out.new ≡ out.old ++ status_text status.now) }
     ensures err { OnErr result (out.new ≡ out.old) }
 {
@@ -81,6 +124,7 @@ pub fn print_status(alloc: Global, status: &Status, out: &mut Bytes) -> Result<(
         Status::Usage => out.append(b"factotum: usage\n"),
         Status::ReadFault => out.append(b"factotum: read fault\n"),
         Status::WriteFault => out.append(b"factotum: write fault\n"),
+        Status::WordFault => out.append(b"factotum: word fault\n"),
         Status::BadFrame { at, size } => {
             let text = bad_frame_text(alloc, *at, *size)?;
             out.append(text.as_bytes())
@@ -89,6 +133,11 @@ pub fn print_status(alloc: Global, status: &Status, out: &mut Bytes) -> Result<(
             let text = torn_text(alloc, *at)?;
             out.append(text.as_bytes())
         }
+        Status::BadTables { speaks, line } => {
+            let text = bad_table_text(alloc, *speaks, *line)?;
+            out.append(text.as_bytes())
+        }
+        Status::AsEnded(end) => print_end(alloc, end, out),
         Status::NoMemory => out.append(b"factotum: out of memory\n"),
         Status::Flood { limit } => {
             let text = flood_text(alloc, *limit)?;

@@ -1,11 +1,15 @@
 // The command on objects in memory, by hand from section 5 of the Plan 9 manual and factotum(4), and its statuses.
+ghost use Rattle.std.specs.Prelude.{◌≡◌, true};
+ghost use Rattle.factotum_program.specs.Statuses.{is_printable};
+
 use crate::{Status, print_status, run_command};
+use auth_server::AuthEnd;
 use std::alloc::Global;
 use std::io::{self, Read};
 use std::process::Abort;
 use std::test::Fail;
 use wire_base::{Bytes, Text, TextList};
-use wire_streams::{Got, MemSink, MemSource, ReadSource, Source, SteadySource};
+use wire_streams::{Got, MemSink, MemSource, MemWords, ReadSource, Sink, Source, SteadySource};
 
 mod batches;
 
@@ -69,12 +73,33 @@ fn bytes_of(alloc: Global, digits: &str) -> Result<Vec<u8>, Fail> {
 }
 
 // The words behind the program's name, with a blank between.
-fn words_of(alloc: Global, line: &str) -> Result<TextList, Fail> {
+pub(crate) fn words_of(alloc: Global, line: &str) -> Result<TextList, Fail> {
     let mut words = TextList::new(alloc);
     for word in line.split_whitespace() {
         words.push(Text::from_slice(alloc, word.as_bytes())?.ok_or("no text")?)?;
     }
     Ok(words)
+}
+
+// Carries out a command that neither reads tables nor draws words: the first such call would fail.
+fn run_alone<R: Source, W: Sink>(
+    alloc: Global,
+    words: &[Text],
+    input: &mut R,
+    output: &mut W,
+) -> Result<Status, Fail> {
+    let mut keys = MemSource::new(Vec::new(alloc), [1_u64].to_vec(alloc)?);
+    let mut speaks = MemSource::new(Vec::new(alloc), [1_u64].to_vec(alloc)?);
+    let mut rand = MemWords::new(Vec::new(alloc), [1_u64].to_vec(alloc)?);
+    Ok(run_command(
+        alloc,
+        words,
+        input,
+        &mut keys,
+        &mut speaks,
+        output,
+        &mut rand,
+    ))
 }
 
 // A pipe ends with this status and writes this, where the calls of these numbers fail.
@@ -90,7 +115,7 @@ fn expect_pipe(
     let words = words_of(alloc, "pipe")?;
     let mut source = MemSource::new(input, [failed_read].to_vec(alloc)?);
     let mut sink = MemSink::new(Vec::new(alloc), [failed_write].to_vec(alloc)?);
-    let ended = run_command(alloc, words.as_slice(), &mut source, &mut sink);
+    let ended = run_alone(alloc, words.as_slice(), &mut source, &mut sink)?;
     assert_eq!(rt; ended, status, "{name}");
     assert_eq!(rt; sink.content(), written, "{name}");
     Ok(())
@@ -248,7 +273,7 @@ fn expect_cut(
             at: 0,
         });
         let mut sink = MemSink::new(Vec::new(alloc), Vec::new(alloc));
-        let ended = run_command(alloc, words.as_slice(), &mut source, &mut sink);
+        let ended = run_alone(alloc, words.as_slice(), &mut source, &mut sink)?;
         assert_eq!(rt; ended, status, "cut at {cut}");
         assert_eq!(rt; sink.content(), written, "cut at {cut}");
     }
@@ -330,7 +355,7 @@ fn a_reply_is_written_before_more_is_read(rt: HostRuntime) -> Result<(), Fail> {
     let words = words_of(alloc, "pipe")?;
     let mut source = MemSource::new(bytes_of(alloc, VERSION)?, [2_u64].to_vec(alloc)?);
     let mut sink = MemSink::new(Vec::new(alloc), [1_u64].to_vec(alloc)?);
-    let ended = run_command(alloc, words.as_slice(), &mut source, &mut sink);
+    let ended = run_alone(alloc, words.as_slice(), &mut source, &mut sink)?;
     assert_eq!(rt; ended, Status::WriteFault);
     let mut byte = [0_u8; 1];
     assert!(rt;
@@ -340,14 +365,43 @@ fn a_reply_is_written_before_more_is_read(rt: HostRuntime) -> Result<(), Fail> {
     Ok(())
 }
 
+// No command's words.
+static OTHER_WORDS: [&str; 25] = [
+    "",
+    "pipe x",
+    "Pipe",
+    "pipes",
+    "x pipe",
+    "world",
+    "gen --number 7",
+    "gen --rounds 0 --number 7",
+    "gen --number 7 --rounds 4",
+    "serve --listen x --auth y",
+    "authsrv",
+    "--dom x --keys k --speaks s",
+    "authsrv --dom x --keys k",
+    "authsrv --dom x --keys k --speaks",
+    "authsrv --dom x --keys k --keys s",
+    "authsrv --dom x --keys k --speaks s --dom x",
+    "authsrv --dom x --keys k --speaks s t",
+    "authsrv --dom=x --keys k --speaks s",
+    "authsrv -- --dom x --keys k --speaks s",
+    "authsrv --do x --keys k --speaks s",
+    "authsrv --help",
+    "authsrv --dom x --keys -k --speaks s",
+    "authsrv --dom -x --keys k --speaks s",
+    "authsrv --dom a@b --keys k --speaks s",
+    "authsrv --dom 012345678901234567890123456789012345678901234567 --keys k --speaks s",
+];
+
 #[test]
 fn other_words_leave_all_as_it_was(rt: HostRuntime) -> Result<(), Fail> {
     let alloc = rt.alloc();
-    for line in ["", "pipe x", "Pipe", "pipes", "x pipe"] {
+    for line in OTHER_WORDS {
         let words = words_of(alloc, line)?;
         let mut source = SteadySource::new(b"hello".to_vec(alloc)?);
         let mut sink = MemSink::new(b"so ".to_vec(alloc)?, Vec::new(alloc));
-        let ended = run_command(alloc, words.as_slice(), &mut source, &mut sink);
+        let ended = run_alone(alloc, words.as_slice(), &mut source, &mut sink)?;
         assert_eq!(rt; ended, Status::Usage, "{line}");
         assert_eq!(rt; sink.content(), b"so ".as_slice(), "{line}");
         let mut left = [b'-'; 6];
@@ -357,30 +411,83 @@ fn other_words_leave_all_as_it_was(rt: HostRuntime) -> Result<(), Fail> {
     Ok(())
 }
 
+// A status has this number, and this line on standard error.
+fn expect_line(
+    rt: &impl Abort,
+    alloc: Global,
+    status: Status,
+    number: u8,
+    line: &str,
+) -> Result<(), Fail>
+    requires { is_printable status ≡ true }
+{
+    let mut out = Bytes::new(alloc);
+    print_status(alloc, &status, &mut out)?;
+    assert_eq!(rt; status.number(), number, "{line}");
+    assert_eq!(rt; out.as_slice(), line.as_bytes(), "{line}");
+    Ok(())
+}
+
 #[test]
 fn statuses_have_numbers_and_lines(rt: HostRuntime) -> Result<(), Fail> {
     let alloc = rt.alloc();
-    let mut lines = Bytes::new(alloc);
-    for (status, number) in [
-        (Status::Fine, 0),
-        (Status::Usage, 1),
-        (Status::ReadFault, 2),
-        (Status::WriteFault, 3),
-        (Status::BadFrame { at: 19, size: 6 }, 5),
-        (Status::Torn { at: 1234567890123 }, 6),
-        (Status::NoMemory, 10),
-        (
-            Status::Flood {
-                limit: 1099511627776,
-            },
-            11,
-        ),
-    ] {
-        assert_eq!(rt; status.number(), number);
-        print_status(alloc, &status, &mut lines)?;
-    }
-    let want =
-        "factotum: usage\nfactotum: read fault\nfactotum: write fault\nfactotum: bad frame size 6 at 19\nfactotum: input ends inside the message at 1234567890123\nfactotum: out of memory\nfactotum: input over 1099511627776 bytes\n";
-    assert_eq!(rt; lines.as_slice(), want.as_bytes());
-    Ok(())
+    expect_line(&rt, alloc, Status::Fine, 0, "")?;
+    expect_line(&rt, alloc, Status::Usage, 1, "factotum: usage\n")?;
+    expect_line(&rt, alloc, Status::ReadFault, 2, "factotum: read fault\n")?;
+    expect_line(&rt, alloc, Status::WriteFault, 3, "factotum: write fault\n")?;
+    expect_line(&rt, alloc, Status::WordFault, 4, "factotum: word fault\n")?;
+    expect_line(
+        &rt,
+        alloc,
+        Status::NoMemory,
+        10,
+        "factotum: out of memory\n",
+    )
+}
+
+#[test]
+fn statuses_tell_their_places(rt: HostRuntime) -> Result<(), Fail> {
+    let alloc = rt.alloc();
+    let status = Status::BadFrame { at: 19, size: 6 };
+    expect_line(&rt, alloc, status, 5, "factotum: bad frame size 6 at 19\n")?;
+    let (status, line) = (
+        Status::Torn { at: 1234567890123 },
+        "factotum: input ends inside the message at 1234567890123\n",
+    );
+    expect_line(&rt, alloc, status, 6, line)?;
+    let status = Status::Flood {
+        limit: 1099511627776,
+    };
+    expect_line(
+        &rt,
+        alloc,
+        status,
+        11,
+        "factotum: input over 1099511627776 bytes\n",
+    )
+}
+
+#[test]
+fn statuses_of_tables_and_clients(rt: HostRuntime) -> Result<(), Fail> {
+    let alloc = rt.alloc();
+    let status = Status::BadTables {
+        speaks: false,
+        line: 2,
+    };
+    expect_line(&rt, alloc, status, 8, "factotum: keys line 2\n")?;
+    let status = Status::BadTables {
+        speaks: true,
+        line: 4097,
+    };
+    expect_line(&rt, alloc, status, 8, "factotum: speaks line 4097\n")?;
+    let status = Status::AsEnded(AuthEnd::UnknownType { at: 141, kind: 7 });
+    expect_line(
+        &rt,
+        alloc,
+        status,
+        9,
+        "factotum: unknown request 7 at 141\n",
+    )?;
+    let status = Status::AsEnded(AuthEnd::TooManyWrong);
+    expect_line(&rt, alloc, status, 9, "factotum: too many wrong answers\n")
 }

@@ -1,8 +1,20 @@
+use Rattle.std.proofs.Common.{◌≡◌, ◌⊎◌, inl, inr, true, false, refl}
+use Rattle.factotum_program.specs.Serving.{outside}
 use Rattle.factotum_program.proofs.CommandLemmas.{two_left}
+use Rattle.factotum_program.proofs.ServeLemmas.{served_to_end}
+use Rattle.factotum_program.proofs.CommandWords.{any_printable}
 use Rattle.factotum_program.proofs.command.run_command.Goals as goal
 
-pub returns-clause-complete : goal.returns-clause-complete
-returns-clause-complete g c = λ content is_pipe told whole few read write.
+pub returns-clause-printable : goal.returns-clause-printable
+returns-clause-printable g c = any_printable c.args.words.now c.run.result _ _ _ _ _ _ _ c.run.ensures.no_command c.run.ensures.piped c.run.ensures.served
+
+pub returns-clause-pipe_complete : goal.returns-clause-pipe_complete
+returns-clause-pipe_complete g c = λ content is_pipe told whole few read write.
     two_left c.run.result content _ _ _ _ told whole few
-    (λ e. c.run.ensures.usage.0 e is_pipe) (λ e. read (c.run.ensures.read_fault e)) (λ e. write (c.run.ensures.write_fault e))
-    c.run.ensures.bad_frame c.run.ensures.torn c.run.ensures.flood
+    (λ e. read (c.run.ensures.pipe_fault is_pipe e)) (λ e. write (c.run.ensures.write_fault e)) (c.run.ensures.piped is_pipe)
+
+pub returns-clause-authsrv_complete : goal.returns-clause-authsrv_complete
+returns-clause-authsrv_complete g c = λ is_authsrv servable input keys speaks output rand.
+    served_to_end _ _ _ servable c.run.result (c.run.ensures.served is_authsrv)
+    (λ e. elim (c.run.ensures.read_fault e) [ inl i ↦ input i | inr (inl k) ↦ keys k | inr (inr s) ↦ speaks s ])
+    (λ e. output (c.run.ensures.write_fault e)) (λ e. rand (c.run.ensures.word_fault e))
