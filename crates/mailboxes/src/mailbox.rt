@@ -25,8 +25,11 @@ impl Model for Mailbox {
 
     ghost use Rattle.mailboxes.specs.Kept.{pending_of, places, reply_bytes};
 
-    ghost view = { λ m. record { replies = map reply_bytes m.replies.items; waits = map pending_of
-        m.waits.items; has_room = m.has_room } };
+    ghost view = { λ m. record {
+      replies = map reply_bytes m.replies.items;
+      waits = map pending_of m.waits.items;
+      has_room = m.has_room;
+    } };
 
     ghost invariant = { λ m. deque_len m.replies + vec_len m.waits + places m.has_room
         ≤ deque_capacity m.replies };

@@ -81,8 +81,11 @@ impl Model for Framer {
 
     ghost Value = { Framing };
 
-    ghost view = { λ f. record { limit = f.limit; before = f.before; held = drop f.front
-        f.bytes.items } };
+    ghost view = { λ f. record {
+      limit = f.limit;
+      before = f.before;
+      held = drop f.front f.bytes.items;
+    } };
 
     ghost invariant = { λ f. (f.front ≤ length f.bytes.items)
         × (f.before + (length f.bytes.items - f.front) < 2 ^ 63) };
