@@ -116,6 +116,9 @@ stop_gone (BadFrame at size) origin held later gathered stream gone s = record {
 stop_gone (Torn at) origin held later gathered stream gone s = absurd s
 stop_gone NoMemory origin held later gathered stream gone s = part_gone NoMemory origin held later gathered (replies_text (frames_in stream)) gone s
 stop_gone (Flood limit) origin held later gathered stream gone s = absurd s
+stop_gone WordFault origin held later gathered stream gone s = absurd s
+stop_gone (BadTables speaks line) origin held later gathered stream gone s = absurd s
+stop_gone (AsEnded end) origin held later gathered stream gone s = absurd s
 
 -- a stop of the answers tells a part of all replies
 told_so : (status : Status) (origin held : Option (List ℕ)) (gathered stream : List ℕ) → StopsAt origin held gathered stream status → GathersPart NoMemory origin held gathered (replies_text (frames_in stream))
@@ -127,6 +130,9 @@ told_so (BadFrame at size) origin held gathered stream s = part_memory origin he
 told_so (Torn at) origin held gathered stream s = absurd s
 told_so NoMemory origin held gathered stream s = s
 told_so (Flood limit) origin held gathered stream s = absurd s
+told_so WordFault origin held gathered stream s = absurd s
+told_so (BadTables speaks line) origin held gathered stream s = absurd s
+told_so (AsEnded end) origin held gathered stream s = absurd s
 
 pub stop_failed : (status other : Status) (origin held later : Option (List ℕ)) (gathered stream : List ℕ) → other ≡ WriteFault → GainsPart other held later gathered → StopsAt origin held gathered stream status → StopsAt origin later [] stream other
 stop_failed status other origin held later gathered stream is p s =
