@@ -87,7 +87,8 @@ impl Conversation {
 
     /// The template that is asked of a key, where one is needed. It takes no memory.
     pub fn template(&self) -> Option<&Tuple>
-        ensures { Shows self.now (λ s. asked_in (question_of s)) (option_map (λ t. t.now) result) }
+        ensures { Shows self.now (λ s. asked_in (question_of s))
+            (option_map (λ t. t.now) result) }
     {
         match &self.begun {
             Some(begun) => begun.asked(),
@@ -159,7 +160,8 @@ impl Conversation {
 impl Conversation {
     /// A request is written, which a copy is kept of.
     pub fn store(&mut self, alloc: Global, request: Written<'_>) -> Result<(), NoMemory>
-        ensures kept { OnOk result (Keeps self.old self.new (c.Stored (request_meant request.entry))) }
+        ensures kept { OnOk result (Keeps self.old self.new
+            (c.Stored (request_meant request.entry))) }
         ensures unchanged { OnErr result (self.new ≡ self.old) }
     {
         if !phase::is_resting(&self.phase) {
@@ -434,7 +436,8 @@ impl Conversation {
     }
 
     fn ask_consent(&mut self, serial: u64) -> Result<(), NoMemory>
-        ensures met { OnOk result (Meets self.old self.new (λ s. sought s (c.AsksConsent serial))) }
+        ensures met { OnOk result (Meets self.old self.new
+            (λ s. sought s (c.AsksConsent serial))) }
         ensures unchanged { OnErr result (self.new ≡ self.old) }
     {
         self.phase = Phase::OnConfirm(serial);

@@ -39,7 +39,8 @@ pub fn read_template(alloc: Global, text: &[u8]) -> Result<Option<Tuple>, NoMemo
 
 #[tactic(auto, using(crate::proofs::TemplateLemmas::few_fit))]
 fn limit_template(template: Tuple) -> Option<Tuple>
-    ensures value { result ≡ (if nat_le (length template) most_attrs then Some template else None) }
+    ensures value { result
+        ≡ (if nat_le (length template) most_attrs then Some template else None) }
     ensures fits { IfSome result (λ t. fits_start t ≡ true) }
 {
     if template.attrs().len() <= MOST_ATTRIBUTES {

@@ -164,16 +164,16 @@ fn carry(
 fn check_rows(
     rt: &impl Abort,
     alloc: Global,
+    conversation: &mut Conversation,
     ring: &KeyRing,
     word: [u8; 8],
     rows: &[Row],
-) -> Result<Conversation, Fail> {
-    let mut conversation = Conversation::new(alloc);
+) -> Result<(), Fail> {
     for (request, title, rest) in rows {
-        carry(alloc, &mut conversation, ring, word, *request)?;
-        check_answer(rt, alloc, &mut conversation, title, rest)?;
+        carry(alloc, conversation, ring, word, *request)?;
+        check_answer(rt, alloc, conversation, title, rest)?;
     }
-    Ok(conversation)
+    Ok(())
 }
 
 // The answer is there, and then it was read.
@@ -196,75 +196,120 @@ fn check_answer(
     Ok(())
 }
 
+fn check_accepted(rt: &impl Abort, conversation: &Conversation) {
+    assert!(rt; matches!(conversation.outcome(), Some(Outcome::Accepted(_))));
+    assert!(rt; matches!(conversation.chosen(), Some(key) if key.serial() == 1));
+}
+
 #[test]
-fn a_client_and_a_server_log_in(rt: HostRuntime) -> Result<(), Fail> {
-    let alloc = rt.alloc();
-    let client = check_rows(&rt, alloc, &ring_of(alloc, ANN)?, WORD, &CLIENT)?;
-    assert!(rt; matches!(client.outcome(), Some(Outcome::Accepted(_))));
-    assert!(rt; matches!(client.chosen(), Some(key) if key.serial() == 1));
-    let server = check_rows(&rt, alloc, &ring_of(alloc, SRV)?, CHAL, &SERVER)?;
-    assert!(rt; matches!(server.outcome(), Some(Outcome::Accepted(_))));
+fn a_client_logs_in(rt: HostRuntime) -> Result<(), Fail> {
+    let ring = ring_of(rt.alloc(), ANN)?;
+    let mut client = Conversation::new(rt.alloc());
+    check_rows(&rt, rt.alloc(), &mut client, &ring, WORD, &CLIENT)?;
+    check_accepted(&rt, &client);
+    Ok(())
+}
+
+#[test]
+fn a_server_logs_in(rt: HostRuntime) -> Result<(), Fail> {
+    let ring = ring_of(rt.alloc(), SRV)?;
+    let mut server = Conversation::new(rt.alloc());
+    check_rows(&rt, rt.alloc(), &mut server, &ring, CHAL, &SERVER)?;
+    check_accepted(&rt, &server);
     Ok(())
 }
 
 #[test]
 fn requests_are_refused(rt: HostRuntime) -> Result<(), Fail> {
-    let alloc = rt.alloc();
-    let left = check_rows(&rt, alloc, &KeyRing::new(alloc), WORD, &REFUSED)?;
+    let ring = KeyRing::new(rt.alloc());
+    let mut left = Conversation::new(rt.alloc());
+    check_rows(&rt, rt.alloc(), &mut left, &ring, WORD, &REFUSED)?;
     assert!(rt; left.chosen().is_none());
     Ok(())
 }
 
-#[test]
-fn a_user_is_asked(rt: HostRuntime) -> Result<(), Fail> {
-    let alloc = rt.alloc();
-    let ring = ring_of(alloc, ANN_ASKED)?;
-    let mut client = check_rows(&rt, alloc, &ring, WORD, &CLIENT[..2])?;
-    client.store(alloc, Request::Write(REQUEST))?;
-    assert!(rt; client.has_request());
+// A client whose request for a key was carried out.
+fn seek(alloc: Global, client: &mut Conversation) -> Result<(), Fail> {
+    client.store(alloc, Request::Start(b"proto=p9sk1 role=client"))?;
     client.carry_out(alloc, WORD)?;
+    client.took();
+    client.store(alloc, Request::Read)?;
+    client.carry_out(alloc, WORD)?;
+    client.took();
+    client.store(alloc, Request::Write(REQUEST))?;
+    client.carry_out(alloc, WORD)?;
+    Ok(())
+}
+
+fn look_for_key(alloc: Global, client: &mut Conversation, ring: &KeyRing) -> Result<(), Fail> {
+    let found = client.find_key(alloc, ring, OPEN);
+    client.sought(alloc, found)?;
+    Ok(())
+}
+
+fn check_asked(rt: &impl Abort, alloc: Global, client: &Conversation) -> Result<(), Fail> {
     let mut out = Bytes::new(alloc);
     if let Some(template) = client.template() {
         print_tuple(template, &mut out)?;
     }
     assert_eq!(rt; out.as_slice(), b"proto=p9sk1 dom=x user?".as_slice());
-    let found = client.find_key(alloc, &ring, OPEN);
-    assert!(rt; matches!(found, Found::AsksConsent(_)));
-    client.sought(alloc, found)?;
+    Ok(())
+}
+
+fn check_consent(
+    rt: &impl Abort,
+    alloc: Global,
+    client: &mut Conversation,
+    ring: &KeyRing,
+) -> Result<(), Fail> {
+    seek(alloc, client)?;
+    check_asked(rt, alloc, client)?;
+    look_for_key(alloc, client, ring)?;
     client.consented(true)?;
-    let found = client.find_key(alloc, &ring, OPEN);
-    client.sought(alloc, found)?;
+    look_for_key(alloc, client, ring)?;
     assert!(rt; matches!(client.question(), Some((asked, Shape::Tickets)) if asked == QUESTION));
     client.unheard();
-    check_answer(&rt, alloc, &mut client, b"error no server", b"")
+    check_answer(rt, alloc, client, b"error no server", b"")
+}
+
+#[test]
+fn a_user_is_asked(rt: HostRuntime) -> Result<(), Fail> {
+    let ring = ring_of(rt.alloc(), ANN_ASKED)?;
+    let mut client = Conversation::new(rt.alloc());
+    check_consent(&rt, rt.alloc(), &mut client, &ring)
+}
+
+fn check_needkey(
+    rt: &impl Abort,
+    alloc: Global,
+    client: &mut Conversation,
+    ring: &KeyRing,
+) -> Result<(), Fail> {
+    seek(alloc, client)?;
+    client.sought(alloc, Found::AsksKey)?;
+    client.key_told();
+    look_for_key(alloc, client, ring)?;
+    client.roomless();
+    check_answer(rt, alloc, client, b"error out of memory", b"")
+}
+
+#[test]
+fn a_user_is_asked_for_a_key(rt: HostRuntime) -> Result<(), Fail> {
+    let ring = ring_of(rt.alloc(), ANN)?;
+    let mut client = Conversation::new(rt.alloc());
+    check_needkey(&rt, rt.alloc(), &mut client, &ring)
+}
+
+fn check_shut(rt: &impl Abort, alloc: Global, client: &mut Conversation) -> Result<(), Fail> {
+    seek(alloc, client)?;
+    client.sought(alloc, Found::AsksKey)?;
+    client.shut();
+    let wanted = b"needkey proto=p9sk1 dom=x user? !password?";
+    check_answer(rt, alloc, client, wanted, b"")
 }
 
 #[test]
 fn a_user_is_asked_in_vain(rt: HostRuntime) -> Result<(), Fail> {
-    let alloc = rt.alloc();
-    let ring = KeyRing::new(alloc);
-    let mut client = check_rows(&rt, alloc, &ring, WORD, &CLIENT[..2])?;
-    client.store(alloc, Request::Write(REQUEST))?;
-    client.carry_out(alloc, WORD)?;
-    let found = client.find_key(alloc, &ring, OPEN);
-    assert!(rt; matches!(found, Found::AsksKey));
-    client.sought(alloc, found)?;
-    client.shut();
-    let wanted = b"needkey proto=p9sk1 dom=x user? !password?";
-    check_answer(&rt, alloc, &mut client, wanted, b"")
-}
-
-#[test]
-fn a_login_ends_without_room(rt: HostRuntime) -> Result<(), Fail> {
-    let alloc = rt.alloc();
-    let mut client = check_rows(&rt, alloc, &KeyRing::new(alloc), WORD, &CLIENT[..2])?;
-    client.store(alloc, Request::Write(REQUEST))?;
-    client.carry_out(alloc, WORD)?;
-    client.sought(alloc, Found::AsksKey)?;
-    client.key_told();
-    let ring = ring_of(alloc, ANN)?;
-    let found = client.find_key(alloc, &ring, OPEN);
-    client.sought(alloc, found)?;
-    client.roomless();
-    check_answer(&rt, alloc, &mut client, b"error out of memory", b"")
+    let mut client = Conversation::new(rt.alloc());
+    check_shut(&rt, rt.alloc(), &mut client)
 }
