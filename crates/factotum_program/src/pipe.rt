@@ -42,10 +42,16 @@ fn taken_by(session: &Session) -> usize
 // Answers the frames that are whole with the next piece of the input.
 fn answer_bytes<W: Sink>(session: &mut Session, piece: &[u8], output: &mut W) -> Result<(), Status>
     requires room { taken_by session.old + length piece.now ≤ most_input }
-    ensures ok { OnOk result ((origin : Option (List ℕ)) (stream : List ℕ) → AllHanded origin (W.holds output.old) [] stream session.old.framer session.old.agent → AllHanded origin (W.holds output.new) [] (stream ++ piece.now) session.new.framer session.new.agent) }
-    ensures err { IfErr result (λ status. (origin : Option (List ℕ)) (stream : List ℕ) → AllHanded origin (W.holds output.old) [] stream session.old.framer session.old.agent → StopsAt origin (W.holds output.new) [] (stream ++ piece.now) status) }
+    ensures ok { OnOk result ((origin : Option (List ℕ)) (stream : List ℕ)
+        → AllHanded origin (W.holds output.old) [] stream session.old.framer session.old.agent
+        → AllHanded origin (W.holds output.new) []
+        (stream ++ piece.now) session.new.framer session.new.agent) }
+    ensures err { IfErr result (λ status. (origin : Option (List ℕ)) (stream : List ℕ)
+        → AllHanded origin (W.holds output.old) [] stream session.old.framer session.old.agent
+        → StopsAt origin (W.holds output.new) [] (stream ++ piece.now) status) }
     ensures taken { OnOk result (taken_by session.new ≡ taken_by session.old + length piece.now) }
-    ensures cause { IfErr result (λ status. status ≡ Status.WriteFault → Rose (W.faults output.old) (W.faults output.new)) }
+    ensures cause { IfErr result (λ status. status ≡ Status.WriteFault
+        → Rose (W.faults output.old) (W.faults output.new)) }
     ensures which { IfErr result (λ status. status ≡ Status.ReadFault → ⊥) }
     ensures counted { W.faults output.old ≤ W.faults output.new }
 {
@@ -67,13 +73,19 @@ fn answer_piece<R: Source, W: Sink>(
 ) -> Result<bool, Status>
     requires room { 0 < length chunk.old }
     requires few { taken_by session.old ≤ most_input }
-    ensures ok { OnOk result ((first origin : Option (List ℕ)) → Piped first (R.left input.old) origin (W.holds output.old) session.old → Piped first (R.left input.new) origin (W.holds output.new) session.new) }
+    ensures ok { OnOk result ((first origin : Option (List ℕ))
+        → Piped first (R.left input.old) origin (W.holds output.old) session.old
+        → Piped first (R.left input.new) origin (W.holds output.new) session.new) }
     ensures at_end { IfOk result (λ more. more ≡ false → IsAtEnd (R.left input.new)) }
-    ensures err { IfErr result (λ status. (first origin : Option (List ℕ)) → Piped first (R.left input.old) origin (W.holds output.old) session.old → EndsSo status first (R.left input.new) origin (W.holds output.new)) }
+    ensures err { IfErr result (λ status. (first origin : Option (List ℕ))
+        → Piped first (R.left input.old) origin (W.holds output.old) session.old
+        → EndsSo status first (R.left input.new) origin (W.holds output.new)) }
     ensures few { OnOk result (taken_by session.new ≤ most_input) }
     ensures more { IfOk result (λ more. more ≡ true → taken_by session.old < taken_by session.new) }
-    ensures read_fault { IfErr result (λ status. status ≡ Status.ReadFault → Rose (R.faults input.old) (R.faults input.new)) }
-    ensures write_fault { IfErr result (λ status. status ≡ Status.WriteFault → Rose (W.faults output.old) (W.faults output.new)) }
+    ensures read_fault { IfErr result (λ status. status ≡ Status.ReadFault
+        → Rose (R.faults input.old) (R.faults input.new)) }
+    ensures write_fault { IfErr result (λ status. status ≡ Status.WriteFault
+        → Rose (W.faults output.old) (W.faults output.new)) }
     ensures counted_reads { R.faults input.old ≤ R.faults input.new }
     ensures counted_writes { W.faults output.old ≤ W.faults output.new }
 {
@@ -94,9 +106,13 @@ fn answer_piece<R: Source, W: Sink>(
 
 // The end of the input: the connection is hung up, where the input doesn't end inside a frame.
 fn end(session: &mut Session) -> Result<(), Status>
-    ensures ok { OnOk result ((first now origin held : Option (List ℕ)) → Piped first now origin held session.old → IsAtEnd now → Answers first now origin held) }
-    ensures err { IfErr result (λ status. (first now origin held : Option (List ℕ)) → Piped first now origin held session.old → IsAtEnd now → EndsSo status first now origin held) }
-    ensures which { IfErr result (λ status. (status ≡ Status.ReadFault → ⊥) × (status ≡ Status.WriteFault → ⊥)) }
+    ensures ok { OnOk result ((first now origin held : Option (List ℕ))
+        → Piped first now origin held session.old → IsAtEnd now → Answers first now origin held) }
+    ensures err { IfErr result (λ status. (first now origin held : Option (List ℕ))
+        → Piped first now origin held session.old → IsAtEnd now
+        → EndsSo status first now origin held) }
+    ensures which { IfErr result
+        (λ status. (status ≡ Status.ReadFault → ⊥) × (status ≡ Status.WriteFault → ⊥)) }
 {
     if session.framer.held() > 0 {
         let at = session.framer.place();
@@ -110,7 +126,8 @@ fn end(session: &mut Session) -> Result<(), Status>
 
 // Before the first read.
 fn begin(alloc: Global) -> Result<Session, NoMemory>
-    ensures begun { IfOk result (λ session. (first origin : Option (List ℕ)) → Piped first first origin origin session) }
+    ensures begun { IfOk result (λ session. (first origin : Option (List ℕ))
+        → Piped first first origin origin session) }
     ensures none { IfOk result (λ session. taken_by session ≡ 0) }
 {
     Ok(Session {
@@ -127,11 +144,17 @@ fn answer_pieces<R: Source, W: Sink>(
     output: &mut W,
 ) -> Result<(), Status>
     requires few { taken_by session.old ≤ most_input }
-    ensures ok { OnOk result ((first origin : Option (List ℕ)) → Piped first (R.left input.old) origin (W.holds output.old) session.old → Piped first (R.left input.new) origin (W.holds output.new) session.new) }
+    ensures ok { OnOk result ((first origin : Option (List ℕ))
+        → Piped first (R.left input.old) origin (W.holds output.old) session.old
+        → Piped first (R.left input.new) origin (W.holds output.new) session.new) }
     ensures at_end { OnOk result (IsAtEnd (R.left input.new)) }
-    ensures err { IfErr result (λ status. (first origin : Option (List ℕ)) → Piped first (R.left input.old) origin (W.holds output.old) session.old → EndsSo status first (R.left input.new) origin (W.holds output.new)) }
-    ensures read_fault { IfErr result (λ status. status ≡ Status.ReadFault → Rose (R.faults input.old) (R.faults input.new)) }
-    ensures write_fault { IfErr result (λ status. status ≡ Status.WriteFault → Rose (W.faults output.old) (W.faults output.new)) }
+    ensures err { IfErr result (λ status. (first origin : Option (List ℕ))
+        → Piped first (R.left input.old) origin (W.holds output.old) session.old
+        → EndsSo status first (R.left input.new) origin (W.holds output.new)) }
+    ensures read_fault { IfErr result (λ status. status ≡ Status.ReadFault
+        → Rose (R.faults input.old) (R.faults input.new)) }
+    ensures write_fault { IfErr result (λ status. status ≡ Status.WriteFault
+        → Rose (W.faults output.old) (W.faults output.new)) }
     ensures counted_reads { R.faults input.old ≤ R.faults input.new }
     ensures counted_writes { W.faults output.old ≤ W.faults output.new }
 {
@@ -146,10 +169,15 @@ pub(crate) fn answer_input<R: Source, W: Sink>(
     input: &mut R,
     output: &mut W,
 ) -> Result<(), Status>
-    ensures ok { OnOk result (Answers (R.left input.old) (R.left input.new) (W.holds output.old) (W.holds output.new)) }
-    ensures err { IfErr result (λ status. EndsSo status (R.left input.old) (R.left input.new) (W.holds output.old) (W.holds output.new)) }
-    ensures read_fault { IfErr result (λ status. status ≡ Status.ReadFault → Rose (R.faults input.old) (R.faults input.new)) }
-    ensures write_fault { IfErr result (λ status. status ≡ Status.WriteFault → Rose (W.faults output.old) (W.faults output.new)) }
+    ensures ok { OnOk result
+        (Answers (R.left input.old) (R.left input.new) (W.holds output.old) (W.holds output.new)) }
+    ensures err { IfErr result
+        (λ status. EndsSo status (R.left input.old) (R.left input.new) (W.holds output.old)
+        (W.holds output.new)) }
+    ensures read_fault { IfErr result (λ status. status ≡ Status.ReadFault
+        → Rose (R.faults input.old) (R.faults input.new)) }
+    ensures write_fault { IfErr result (λ status. status ≡ Status.WriteFault
+        → Rose (W.faults output.old) (W.faults output.new)) }
     ensures counted_reads { R.faults input.old ≤ R.faults input.new }
     ensures counted_writes { W.faults output.old ≤ W.faults output.new }
 {
