@@ -11,8 +11,10 @@ ghost use Rattle.nine_print.specs.Lines.{t_line, r_line};
 pub fn no_secret_is_shown()
     ensures writes { (tag fid offset : ℕ) (front name value other : List ℕ)
         → list_all is_in_line name ≡ true → length value ≡ length other
-        → t_line (record { tag = tag; body = Write fid offset (front ++ 33 ∷ name ++ 61 ∷ value) }) ≡ t_line (record { tag = tag; body = Write fid offset (front ++ 33 ∷ name ++ 61 ∷ other) }) }
+        → t_line (record { tag = tag; body = Write fid offset (front ++ 33 ∷ name ++ 61 ∷ value) })
+        ≡ t_line (record { tag = tag; body = Write fid offset (front ++ 33 ∷ name ++ 61 ∷ other) }) }
     ensures reads { (tag : ℕ) (front name value other : List ℕ) → list_all is_in_line name ≡ true
         → length value ≡ length other
-        → r_line (record { tag = tag; body = Read (front ++ 33 ∷ name ++ 61 ∷ value) }) ≡ r_line (record { tag = tag; body = Read (front ++ 33 ∷ name ++ 61 ∷ other) }) }
+        → r_line (record { tag = tag; body = Read (front ++ 33 ∷ name ++ 61 ∷ value) })
+        ≡ r_line (record { tag = tag; body = Read (front ++ 33 ∷ name ++ 61 ∷ other) }) }
 {}

@@ -343,7 +343,9 @@ pub fn show<R: Source, W: Sink>(alloc: Global, input: &mut R, output: &mut W) ->
     // What is told, valid and without faults is shown to its end, unless memory runs out.
     ensures complete { (content : List ℕ) → R.left input.old ≡ Some content
         → IsFrames most_frame content → length content ≤ most_input
-        → (Rose (R.faults input.old) (R.faults input.new) → ⊥) → (Rose (W.faults output.old) (W.faults output.new) → ⊥) → (result ≡ ShowEnd.Fine) ⊎ (result ≡ ShowEnd.NoMemory) }
+        → (Rose (R.faults input.old) (R.faults input.new) → ⊥)
+        → (Rose (W.faults output.old) (W.faults output.new) → ⊥)
+        → (result ≡ ShowEnd.Fine) ⊎ (result ≡ ShowEnd.NoMemory) }
 {
     match show_input(alloc, input, output) {
         Ok(()) => ShowEnd::Fine,
