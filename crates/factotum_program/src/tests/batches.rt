@@ -1,8 +1,9 @@
 // The replies to the frames of one read go out together, before the next read.
 use super::{
-    KEY_CONVERSATION, KEY_REPLIES, VERSION, VERSION_REPLY, bytes_of, expect_pipe, words_of,
+    KEY_CONVERSATION, KEY_REPLIES, VERSION, VERSION_REPLY, bytes_of, expect_pipe, run_alone,
+    words_of,
 };
-use crate::{Status, run_command};
+use crate::Status;
 use std::cell::Cell;
 use std::io::{self, Cursor, ErrorKind, Read, Write};
 use std::test::Fail;
@@ -63,7 +64,7 @@ fn a_write_that_fails_in_the_middle_leaves_a_front(rt: HostRuntime) -> Result<()
     let mut room = Cursor::new([0_u8; 30]);
     let mut source = ReadSource::new(Cursor::new(bytes_of(alloc, KEY_CONVERSATION)?));
     let mut sink = WriteSink::new(&mut room);
-    let ended = run_command(alloc, words.as_slice(), &mut source, &mut sink);
+    let ended = run_alone(alloc, words.as_slice(), &mut source, &mut sink)?;
     assert_eq!(rt; ended, Status::WriteFault);
     let front = replies.get(..30).ok_or("too short")?;
     assert_eq!(rt; room.get_ref().as_slice(), front);
@@ -121,7 +122,7 @@ fn a_client_that_waits_for_its_reply_gets_it(rt: HostRuntime) -> Result<(), Fail
         heard: &heard,
     });
     let mut sink = WriteSink::new(Hearing { heard: &heard });
-    let ended = run_command(alloc, words.as_slice(), &mut source, &mut sink);
+    let ended = run_alone(alloc, words.as_slice(), &mut source, &mut sink)?;
     assert_eq!(rt; ended, Status::Fine);
     assert_eq!(rt; heard.get(), 57);
     Ok(())
