@@ -1,6 +1,6 @@
--- Examples of the definitions, computed. They are no part of what is claimed of the product. No file of the agent makes a
--- read wait yet, so a stub stands in place of a protocol: that a read waits and what settles it is written down as deeds,
--- and all that follows of it is computed.
+-- Examples of the definitions, computed. They are no part of what is claimed of the product. That reads wait and what
+-- settles them is written down here as deeds, whatever file they are of, and all that follows of it is computed; reads of
+-- rpc stand with conversations in another file.
 use Rattle.std.proofs.Common.{◌≡◌, ℕ, List, [], ◌∷◌, Err, Some, None, false, refl}
 use Rattle.std.specs.Prelude.{codes}
 use Rattle.nine_messages.specs.declared.message.TBody.TheVariants as t
@@ -14,7 +14,7 @@ use Rattle.agent_history.specs.declared.event.Event.TheVariants.{Hang, Take, Tak
 use Rattle.agent_history.specs.declared.event.StepAnswer.TheVariants.{Reply, NoReply, Gone, Stopped}
 use Rattle.agent_history.specs.Deeds.{Deed, OfFids, OfReplies, OfConnection, Halted, Versioned, Walked, Opened, Answered, Awaited, Settled, Taken, Entered, Hung, fid_of, text_of, is_halted}
 use Rattle.agent_history.specs.Replies.{waits, untaken, swept}
-use Rattle.agent_history.specs.Requests.{Call, refusal, after, granted_body, reply_of}
+use Rattle.agent_history.specs.Requests.{Call, refusal, after, granted_body, replied, reply_of}
 use Rattle.agent_history.specs.Histories.{most_events, answer_after, does, after_event}
 
 -- connection 1 has fid 7 open on log, and two of its reads of it wait, the first under tag 5 and the second under tag 6;
@@ -100,7 +100,7 @@ others_wait_on = refl
 
 abbrev clunked : List Deed
 unfolding after reply_of
-clunked = swept (OfReplies 1 (Answered 8 (reply_of waiting (call 1 8) (t.Clunk 7))) ∷ after waiting (call 1 8) (t.Clunk 7))
+clunked = swept (replied (call 1 8) (reply_of waiting (call 1 8) (t.Clunk 7)) (after waiting (call 1 8) (t.Clunk 7)))
 
 told_unknown : untaken clunked 1 ≡ under 8 r.Clunk ∷ under 5 (r.Error (codes "unknown fid")) ∷ under 6 (r.Error (codes "unknown fid")) ∷ []
 unfolding clunked

@@ -11,6 +11,7 @@ use Rattle.file_tree.specs.Calls.{attached, at_rest, opened}
 use Rattle.key_lists.specs.Lists.{KeyList}
 use Rattle.key_lists.specs.Edits.{KeyEdit, keys_after}
 use Rattle.key_lists.specs.Listing.{list_text}
+use Rattle.talks.specs.Calls.{Call}
 
 -- what was done with the fids of a connection
 pub data FidDeed : Type 0 where
@@ -63,6 +64,12 @@ pub data Deed : Type 0 where
   OfKeys : (conn : ℕ) (deed : KeyDeed) → Deed
   OfReplies : (conn : ℕ) (deed : ReplyDeed) → Deed
   OfConnection : (conn : ℕ) (deed : ConnectionDeed) → Deed
+  -- what the conversation of a number met
+  OfTalk : (conv : ℕ) (call : Call) → Deed
+  -- a conversation asks the authentication server, under the next number
+  Raised : (conv : ℕ) → Deed
+  -- the oldest question that wasn't handed out yet was handed out
+  HandedOut : Deed
   -- the replies to the reads that were settled stand behind the others of their connections, in the order in which the
   -- reads came
   Swept : Deed

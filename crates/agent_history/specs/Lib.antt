@@ -1,4 +1,5 @@
 pub mod Deeds
 pub mod Replies
+pub mod Conversations
 pub mod Requests
 pub mod Histories

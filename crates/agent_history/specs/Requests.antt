@@ -22,10 +22,17 @@ use Rattle.file_tree.specs.Directories.{dir_bytes, dir_end}
 use Rattle.file_tree.specs.Calls.{fid_fault, attach_fault, walk_fault, open_fault, dir_fault, node_of, mode_of, is_open, reads, writes}
 use Rattle.key_lists.specs.Listing.{list_text}
 use Rattle.key_lists.specs.CtlLines.{CtlLine, OnKeys, Debug, lines_of, carried_out, lines_fault}
-use Rattle.agent_history.specs.Deeds.{Deed, KeyDeed, OfFids, OfKeys, OfReplies, Versioned, Attached, Walked, Opened, Listed, Browsed, Clunked, Edited, Switched, Answered, Flushed, msize_of, fid_of, held_by, next_of, holder_of, keys_of, text_of}
-use Rattle.agent_history.specs.Replies.{waits_under}
+use Rattle.agent_history.specs.Deeds.{Deed, KeyDeed, OfFids, OfKeys, OfReplies, OfTalk, Versioned, Attached, Walked, Opened, Listed, Browsed, Clunked, Edited, Switched, Answered, Awaited, Flushed, msize_of, fid_of, held_by, next_of, holder_of, keys_of, text_of}
+use Rattle.rpc_file.specs.Requests.{RpcRequest}
+use Rattle.rpc_file.specs.Requests as rpc
+use Rattle.rpc_file.specs.declared.request.RpcFault.{RpcFault}
+use Rattle.rpc_file.specs.declared.request.RpcFault.TheVariants.{TooLong, UnknownVerb}
+use Rattle.talks.specs.Calls as calls
+use Rattle.talks.specs.Standings.{Phase, Kept, Resting, Waiting}
+use Rattle.agent_history.specs.Replies.{waits, waits_for, waits_under}
+use Rattle.agent_history.specs.Conversations.{conv_of, met, speakers, standing_of, then_took, told}
 
--- what every request carries: its connection, its tag, and the word that was drawn for it, which nothing uses yet
+-- what every request carries: its connection, its tag, and the word that was drawn for it
 pub record Call : Type 0 where
   pub conn : ℕ
   pub tag : ℕ
@@ -63,7 +70,6 @@ lets_write (Some mode) = writes mode
 
 -- a file whose opening isn't served yet
 abbrev pub opens_later : Node → Bool
-opens_later Rpc = true
 opens_later Confirm = true
 opens_later Needkey = true
 opens_later node = false
@@ -72,6 +78,47 @@ opens_later node = false
 abbrev pub reads_later : Node → Bool
 reads_later Log = true
 reads_later node = opens_later node
+
+-- the file of conversations
+abbrev pub is_rpc : Node → Bool
+is_rpc Rpc = true
+is_rpc node = false
+
+-- how many conversations may stand, and how many reads of a connection may wait
+abbrev pub most_talks : ℕ
+most_talks = 256
+
+abbrev pub most_waits : ℕ
+most_waits = 64
+
+-- what became of the latest request of the conversation that a fid has open
+abbrev pub phase_in : List Deed → Option ℕ → Phase
+phase_in done None = Resting
+phase_in done (Some conv) = (standing_of done conv).phase
+
+abbrev pub phase_of : List Deed → ℕ → ℕ → Phase
+phase_of done conn fid = phase_in done (conv_of done conn fid)
+
+abbrev pub is_resting : Phase → Bool
+is_resting Resting = true
+is_resting phase = false
+
+abbrev pub has_answer : Phase → Bool
+has_answer (Kept answer) = true
+has_answer phase = false
+
+-- as many reads of a connection wait as may
+abbrev pub waits_enough : List Deed → ℕ → Bool
+waits_enough done conn = not (nat_lt (length (waits done conn)) most_waits)
+
+-- what is written is no request of rpc
+abbrev pub is_too_long : Result RpcRequest RpcFault → Bool
+is_too_long (Err TooLong) = true
+is_too_long result = false
+
+abbrev pub is_unknown : Result RpcRequest RpcFault → Bool
+is_unknown (Err UnknownVerb) = true
+is_unknown result = false
 
 -- a test, and the text that refuses by it: of a list of them the first that holds decides
 abbrev pub Test : Type 0
@@ -100,6 +147,7 @@ refusal done call (t.Open fid mode) =
     let node = node_of (fid_of done call.conn fid) in
     fid_first (open_fault (fid_of done call.conn fid) mode) (
     (is_exclusive node && is_some (holder_of done node), codes "exclusive use file already open")
+    ∷ (is_rpc node && not (nat_lt (length (speakers done)) most_talks), codes "too many conversations")
     ∷ (opens_later node, codes "not served")
     ∷ [])
 refusal done call (t.Create fid name perm mode) = fid_first (fid_fault (fid_of done call.conn fid)) ((true, codes "permission denied") ∷ [])
@@ -109,12 +157,18 @@ refusal done call (t.Read fid offset count) =
     (not (is_open (fid_of done call.conn fid)), codes "not open")
     ∷ (not (lets_read (mode_of (fid_of done call.conn fid))), codes "not open for reading")
     ∷ (is_elsewhere node (next_of done call.conn fid) offset, codes "bad directory offset")
+    ∷ (is_rpc node && waits_for done call.conn fid, codes "rpc busy")
+    ∷ (is_rpc node && is_resting (phase_of done call.conn fid), codes "no rpc pending")
+    ∷ (is_rpc node && (not (has_answer (phase_of done call.conn fid)) && waits_enough done call.conn), codes "too many waiting")
     ∷ (reads_later node, codes "not served")
     ∷ [])
 refusal done call (t.Write fid offset content) =
     fid_first (fid_fault (fid_of done call.conn fid)) (
     (not (is_open (fid_of done call.conn fid)), codes "not open")
     ∷ (not (lets_write (mode_of (fid_of done call.conn fid))), codes "not open for writing")
+    ∷ (is_rpc (node_of (fid_of done call.conn fid)) && not (is_resting (phase_of done call.conn fid)), codes "rpc busy")
+    ∷ (is_rpc (node_of (fid_of done call.conn fid)) && is_too_long (rpc.request_of content), codes "rpc too long")
+    ∷ (is_rpc (node_of (fid_of done call.conn fid)) && is_unknown (rpc.request_of content), codes "unknown rpc verb")
     ∷ (opens_later (node_of (fid_of done call.conn fid)), codes "not served")
     ∷ [])
 refusal done call (t.Clunk fid) = fid_first (fid_fault (fid_of done call.conn fid)) []
@@ -145,6 +199,34 @@ reading done conn fid offset count Factotum = OfFids conn (Browsed fid (dir_end 
 reading done conn fid offset count Ctl = if offset == 0 then OfFids conn (Listed fid) ∷ done else done
 reading done conn fid offset count node = done
 
+-- a read of rpc carries out the request that is there
+abbrev pub carrying_out : ℕ → List ℕ → Phase → List Deed → List Deed
+carrying_out conv word (Waiting request) done = met conv (calls.CarriedOut word) done
+carrying_out conv word phase done = done
+
+abbrev pub carried : ℕ → List ℕ → List Deed → List Deed
+carried conv word done = carrying_out conv word (standing_of done conv).phase done
+
+-- the answer, if one is there, is read, and else the read waits for it
+abbrev pub reading_answer : Call → ℕ → ℕ → ℕ → Phase → List Deed → List Deed
+reading_answer call conv fid count (Kept answer) done = then_took conv count answer done
+reading_answer call conv fid count phase done = OfReplies call.conn (Awaited call.tag fid count) ∷ done
+
+abbrev pub reading_talk : Call → ℕ → ℕ → Option ℕ → List Deed → List Deed
+reading_talk call fid count None done = done
+reading_talk call fid count (Some conv) done = reading_answer call conv fid count (standing_of (carried conv call.word done) conv).phase (carried conv call.word done)
+
+-- a read of a file
+abbrev pub reading_file : List Deed → Call → ℕ → ℕ → ℕ → Node → List Deed
+reading_file done call fid offset count node =
+    if is_rpc node then reading_talk call fid count (conv_of done call.conn fid) done
+    else reading done call.conn fid offset count node
+
+-- a request is written on rpc
+abbrev pub stored : Option ℕ → Result RpcRequest RpcFault → List Deed → List Deed
+stored (Some conv) (Ok request) done = OfTalk conv (calls.Stored request) ∷ done
+stored conv result done = done
+
 -- what a line of ctl does that is carried out
 abbrev pub line_deed : CtlLine → KeyDeed
 line_deed (OnKeys edit) = Edited edit
@@ -155,6 +237,12 @@ abbrev pub lines_done : ℕ → List CtlLine → List Deed → List Deed
 lines_done conn [] done = done
 lines_done conn (said ∷ more) done = lines_done conn more (OfKeys conn (line_deed said) ∷ done)
 
+-- a write of a file
+abbrev pub writing : List Deed → Call → ℕ → List ℕ → Node → List Deed
+writing done call fid content node =
+    if is_rpc node then stored (conv_of done call.conn fid) (rpc.request_of content) done
+    else lines_done call.conn (carried_out (keys_of done) (lines_of content)) done
+
 -- the deeds after it, but for its reply
 unfoldable pub after : List Deed → Call → TBody → List Deed
 after done call (t.Version msize version) = OfFids call.conn (Versioned (agreed msize version)) ∷ done
@@ -162,8 +250,8 @@ after done call (t.Attach fid afid uname aname) = OfFids call.conn (Attached fid
 after done call (t.Flush oldtag) = OfReplies call.conn (Flushed oldtag) ∷ done
 after done call (t.Walk fid newfid wname) = walking call.conn newfid (lead_to (node_of (fid_of done call.conn fid)) wname) done
 after done call (t.Open fid mode) = OfFids call.conn (Opened fid mode) ∷ done
-after done call (t.Read fid offset count) = reading done call.conn fid offset (effective count (msize_of done call.conn)) (node_of (fid_of done call.conn fid))
-after done call (t.Write fid offset content) = lines_done call.conn (carried_out (keys_of done) (lines_of content)) done
+after done call (t.Read fid offset count) = reading_file done call fid offset (effective count (msize_of done call.conn)) (node_of (fid_of done call.conn fid))
+after done call (t.Write fid offset content) = writing done call fid content (node_of (fid_of done call.conn fid))
 after done call (t.Clunk fid) = OfFids call.conn (Clunked fid) ∷ done
 after done call (t.Remove fid) = OfFids call.conn (Clunked fid) ∷ done
 after done call body = done
@@ -195,20 +283,38 @@ abbrev pub written : List ℕ → Option (List ℕ) → RBody
 written content None = r.Write (length content)
 written content (Some text) = r.Error text
 
-unfoldable pub reply_of : List Deed → Call → TBody → RBody
-reply_of done call (t.Version msize version) = r.Version (min msize most_msize) (if is_known version then codes "9P2000" else codes "unknown")
-reply_of done call (t.Auth afid uname aname) = r.Error (codes "authentication not required")
-reply_of done call (t.Attach fid afid uname aname) = r.Attach (qid_of Root)
-reply_of done call (t.Flush oldtag) = r.Flush
-reply_of done call (t.Walk fid newfid wname) = r.Walk (map qid_of (visited (node_of (fid_of done call.conn fid)) wname))
-reply_of done call (t.Open fid mode) = r.Open (qid_of (node_of (fid_of done call.conn fid))) 0
-reply_of done call (t.Create fid name perm mode) = r.Error (codes "permission denied")
-reply_of done call (t.Read fid offset count) = r.Read (content_of done call.conn fid offset (effective count (msize_of done call.conn)) (node_of (fid_of done call.conn fid)))
-reply_of done call (t.Write fid offset content) = written content (lines_fault (keys_of done) (lines_of content))
-reply_of done call (t.Clunk fid) = r.Clunk
-reply_of done call (t.Remove fid) = r.Error (codes "permission denied")
-reply_of done call (t.Stat fid) = r.Stat (record_of (node_of (fid_of done call.conn fid)))
-reply_of done call (t.Wstat fid stat) = r.Error (codes "permission denied")
+-- a read of rpc is replied to where an answer is there, and else it waits
+abbrev pub answer_read : ℕ → Phase → Option RBody
+answer_read count (Kept answer) = Some (told count answer)
+answer_read count phase = None
+
+abbrev pub talk_read : List ℕ → ℕ → Option ℕ → List Deed → Option RBody
+talk_read word count None done = None
+talk_read word count (Some conv) done = answer_read count (standing_of (carried conv word done) conv).phase
+
+abbrev pub read_reply : List Deed → Call → ℕ → ℕ → ℕ → Node → Option RBody
+read_reply done call fid offset count node =
+    if is_rpc node then talk_read call.word count (conv_of done call.conn fid) done
+    else Some (r.Read (content_of done call.conn fid offset count node))
+
+abbrev pub write_reply : List Deed → List ℕ → Node → RBody
+write_reply done content node = if is_rpc node then r.Write (length content) else written content (lines_fault (keys_of done) (lines_of content))
+
+-- none where it waits for its reply
+unfoldable pub reply_of : List Deed → Call → TBody → Option RBody
+reply_of done call (t.Version msize version) = Some (r.Version (min msize most_msize) (if is_known version then codes "9P2000" else codes "unknown"))
+reply_of done call (t.Auth afid uname aname) = Some (r.Error (codes "authentication not required"))
+reply_of done call (t.Attach fid afid uname aname) = Some (r.Attach (qid_of Root))
+reply_of done call (t.Flush oldtag) = Some r.Flush
+reply_of done call (t.Walk fid newfid wname) = Some (r.Walk (map qid_of (visited (node_of (fid_of done call.conn fid)) wname)))
+reply_of done call (t.Open fid mode) = Some (r.Open (qid_of (node_of (fid_of done call.conn fid))) 0)
+reply_of done call (t.Create fid name perm mode) = Some (r.Error (codes "permission denied"))
+reply_of done call (t.Read fid offset count) = read_reply done call fid offset (effective count (msize_of done call.conn)) (node_of (fid_of done call.conn fid))
+reply_of done call (t.Write fid offset content) = Some (write_reply done content (node_of (fid_of done call.conn fid)))
+reply_of done call (t.Clunk fid) = Some r.Clunk
+reply_of done call (t.Remove fid) = Some (r.Error (codes "permission denied"))
+reply_of done call (t.Stat fid) = Some (r.Stat (record_of (node_of (fid_of done call.conn fid))))
+reply_of done call (t.Wstat fid stat) = Some (r.Error (codes "permission denied"))
 
 -- ---- frames
 
@@ -253,17 +359,21 @@ after_granted done call (Ok body) = after done call body
 unfoldable pub after_frame : List Deed → Call → List ℕ → List Deed
 after_frame done call frame = after_granted done call (granted done call frame)
 
--- the reply to a frame
-abbrev pub body_for : List Deed → Call → Result TBody (List ℕ) → RBody
-body_for done call (Err text) = r.Error text
+-- the reply to a frame; none where it waits for it
+abbrev pub body_for : List Deed → Call → Result TBody (List ℕ) → Option RBody
+body_for done call (Err text) = Some (r.Error text)
 body_for done call (Ok body) = reply_of done call body
 
-unfoldable pub body_to : List Deed → Call → List ℕ → RBody
+unfoldable pub body_to : List Deed → Call → List ℕ → Option RBody
 body_to done call frame = body_for done call (granted done call frame)
 
--- the deeds after a frame: what it does, and then its reply
+-- the deeds after a frame: what it does, and then its reply, if it has one
+abbrev pub replied : Call → Option RBody → List Deed → List Deed
+replied call None done = done
+replied call (Some body) done = OfReplies call.conn (Answered call.tag body) ∷ done
+
 abbrev pub answered : List Deed → Call → List ℕ → List Deed
-answered done call frame = OfReplies call.conn (Answered call.tag (body_to done call frame)) ∷ after_frame done call frame
+answered done call frame = replied call (body_to done call frame) (after_frame done call frame)
 
 -- the tag of a frame
 abbrev pub tag_in : Option ℕ → ℕ

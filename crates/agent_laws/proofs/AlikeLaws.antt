@@ -1,15 +1,24 @@
 -- Histories that did the same but for secrets do so whatever happens next, and answer alike.
-use Rattle.std.proofs.Common.{◌≡◌, ℕ, suc, ◌+◌, List, [], ◌∷◌, ◌++◌, length, drop, map, reverse, Bool, true, false, cond, ltb, ◌&&◌, not, refl, ap, ◌∙◌}
+use Rattle.std.proofs.Common.{◌≡◌, ℕ, suc, ◌+◌, List, [], ◌∷◌, ◌++◌, length, drop, map, reverse, Bool, true, false, cond, eqb, ltb, ◌&&◌, not, Option, Some, None, refl, sym, ap, subst, ◌∙◌}
+use Rattle.std.specs.Prelude.{find, option_map}
+use Rattle.std.specs.List.{list_all, list_any}
+use Rattle.std.proofs.lemmas.Bool.{and_parts, or_parts}
 use Rattle.nine_messages.specs.declared.message.RMsg.{RMsg}
 use Rattle.nine_messages.specs.declared.message.RBody.{RBody}
+use Rattle.file_tree.specs.Calls.{node_of}
+use Rattle.talks.specs.Calls as calls
+use Rattle.talks.specs.Standings.{question_of, standing}
+use Rattle.agent_history.specs.declared.event.StepAnswer.TheVariants.{Stopped}
 use Rattle.agent_history.specs.declared.event.Event.{Event}
 use Rattle.agent_history.specs.declared.event.Event.TheVariants.{Request, Hang, Answer, NoAnswer, NoRoom, Take, TakeAsk, Stop}
-use Rattle.agent_history.specs.Deeds.{Deed, OfReplies, OfConnection, Swept, Halted, Answered, Taken, Entered, Hung, is_halted, was_hung, was_opened}
+use Rattle.agent_history.specs.Deeds.{Deed, OfFids, OfKeys, OfReplies, OfConnection, OfTalk, Raised, HandedOut, Swept, Halted, Versioned, Attached, Walked, Opened, Listed, Browsed, Clunked, Answered, Taken, Entered, Hung, fid_of, is_halted, was_hung, was_opened}
+use Rattle.agent_history.specs.Conversations.{Question, Speaker, asker, next_question, questions, resumed, speakers}
 use Rattle.agent_history.specs.Replies.{has_settled, replies, swept, taken, untaken}
-use Rattle.agent_history.specs.Requests.{Call, after_frame, answered, body_to, call_of}
-use Rattle.agent_history.specs.Histories.{History, answer, deeds, does, entered, most_events, taking}
-use Rattle.agent_laws.specs.Laws.{SameButSecrets, all_open, hidden_deed}
-use Rattle.agent_laws.proofs.SecretLaws.{body_to_alike, deeds_open, frame_alike, sight}
+use Rattle.agent_history.specs.Requests.{Call, after_frame, answered, body_to, call_of, is_rpc, replied}
+use Rattle.agent_history.specs.Histories.{History, Answer as IsAnswer, answer, asks, deeds, does, entered, handing, most_events, question_put, taking}
+use Rattle.agent_laws.specs.Laws.{SameButSecrets, all_asked, all_open, asks_server, has_conversed, hidden_deed, stands}
+use Rattle.agent_laws.proofs.GrowLaws.{KeepsOf, all_are_asked, conn_of, event_grows, is_done, on_its_own}
+use Rattle.agent_laws.proofs.SecretLaws.{body_to_alike, deeds_open, frame_alike, none_speaks, sight}
 
 -- ---- what an event does to both
 
@@ -30,11 +39,14 @@ entered_alike a b at s = on_both (was_opened a at) (was_opened b at) a b _ _ ((s
 swept_alike : (a b : List Deed) → SameButSecrets a b → SameButSecrets (swept a) (swept b)
 swept_alike a b s = on_both (has_settled a) (has_settled b) (Swept ∷ a) (Swept ∷ b) a b (sight a b s).settled (more_alike a b Swept refl refl s) s
 
-answered_alike : (a b : List Deed) (call : Call) (frame : List ℕ) → SameButSecrets a b → SameButSecrets (answered a call frame) (answered b call frame)
-answered_alike a b call frame s = same_reply (body_to a call frame) (body_to b call frame) (body_to_alike a b s call frame)
-  where
-    same_reply : (one other : RBody) → one ≡ other → SameButSecrets (OfReplies call.conn (Answered call.tag one) ∷ after_frame a call frame) (OfReplies call.conn (Answered call.tag other) ∷ after_frame b call frame)
-    same_reply one other e = rw e (more_alike (after_frame a call frame) (after_frame b call frame) (OfReplies call.conn (Answered call.tag other)) refl refl (frame_alike a b s call frame))
+replied_alike : (a b : List Deed) (call : Call) (o : Option RBody) → SameButSecrets a b → SameButSecrets (replied call o a) (replied call o b)
+replied_alike a b call None s = s
+replied_alike a b call (Some body) s = more_alike a b (OfReplies call.conn (Answered call.tag body)) refl refl s
+
+answered_alike : (a b : List Deed) (call : Call) (frame : List ℕ) → SameButSecrets a b → has_conversed a ≡ false → SameButSecrets (answered a call frame) (answered b call frame)
+answered_alike a b call frame s none =
+    subst (λ (o : Option RBody). SameButSecrets (answered a call frame) (replied call o (after_frame b call frame))) (body_to_alike a b s none call frame)
+    (replied_alike (after_frame a call frame) (after_frame b call frame) call (body_to a call frame) (frame_alike a b s none call frame))
 
 left_alike : (a b : List Deed) (at : ℕ) → SameButSecrets a b → untaken a at ≡ untaken b at
 left_alike a b at s = ap (λ (n : ℕ). drop n (reverse (replies a at))) ((sight a b s).took at) ∙ ap (λ (rs : List RMsg). drop (taken b at) (reverse rs)) ((sight a b s).answers at)
@@ -46,19 +58,54 @@ taking_alike at (reply ∷ rest) a b s = more_alike a b (OfReplies at Taken) ref
 take_alike : (a b : List Deed) (at : ℕ) → SameButSecrets a b → SameButSecrets (taking at (untaken a at) (entered at a)) (taking at (untaken b at) (entered at b))
 take_alike a b at s = rw (left_alike a b at s) (taking_alike at (untaken b at) (entered at a) (entered at b) (entered_alike a b at s))
 
-does_alike : (e : Event) (a b : List Deed) → SameButSecrets a b → SameButSecrets (does a e) (does b e)
-does_alike (Request at frame word) a b s =
+-- where no conversation stands, none has a question
+no_questions : (done : List Deed) (qs : List Question) → speakers done ≡ [] → list_all (λ q. stands done q.conv && asks_server done q.conv) qs ≡ true → qs ≡ []
+no_questions done [] e h = refl
+no_questions done (q ∷ qs) e h =
+    let there = (and_parts (stands done q.conv) (asks_server done q.conv) (and_parts (stands done q.conv && asks_server done q.conv) (list_all (λ x. stands done x.conv && asks_server done x.conv) qs) h).0).0 in
+    absurd (let no_way : true ≡ false = sym there ∙ ap (λ (standing : List Speaker). list_any (λ s. eqb s.conv q.conv) standing) e in cc)
+
+nobody_asked : (done : List Deed) (call : ℕ) → has_conversed done ≡ false → all_asked done ≡ true → asker done call ≡ None
+nobody_asked done call none known =
+    ap (λ (qs : List Question). option_map (λ q. q.conv) (find (λ q. eqb q.call call) qs)) (no_questions done (questions done) (none_speaks done none) known)
+
+-- so what the authentication server answers does nothing
+resumed_alike : (a b : List Deed) (call : ℕ) (came : calls.Call) → SameButSecrets a b → has_conversed a ≡ false → all_asked a ≡ true → SameButSecrets (swept (resumed (asker a call) came a)) (swept (resumed (asker b call) came b))
+resumed_alike a b call came s none known =
+    let asks = ap (λ (qs : List Question). option_map (λ q. q.conv) (find (λ q. eqb q.call call) qs)) (sight a b s).asking in
+    let nobody = nobody_asked a call none known in
+    let other : asker b call ≡ None = sym asks ∙ nobody in
+    subst (λ (o : Option ℕ). SameButSecrets (swept (resumed (asker a call) came a)) (swept (resumed o came b))) (sym other)
+    (subst (λ (o : Option ℕ). SameButSecrets (swept (resumed o came a)) (swept b)) (sym nobody) (swept_alike a b s))
+
+handing_alike : (o : Option Question) (a b : List Deed) → SameButSecrets a b → SameButSecrets (handing o a) (handing o b)
+handing_alike None a b s = s
+handing_alike (Some question) a b s = more_alike a b HandedOut refl refl s
+
+next_alike : (a b : List Deed) → SameButSecrets a b → next_question a ≡ next_question b
+next_alike a b s = ap (λ (qs : List Question). find (λ q. not q.handed) qs) (sight a b s).asking
+
+entered_quiet : (at : ℕ) (done : List Deed) → has_conversed done ≡ false → has_conversed (entered at done) ≡ false
+entered_quiet at done none = by_cases (was_opened done at)
+  where
+    by_cases : (b : Bool) → has_conversed (cond b done (OfConnection at Entered ∷ done)) ≡ false
+    by_cases true = none
+    by_cases false = none
+
+does_alike : (e : Event) (a b : List Deed) → SameButSecrets a b → has_conversed a ≡ false → all_asked a ≡ true → SameButSecrets (does a e) (does b e)
+does_alike (Request at frame word) a b s none known =
     on_both (was_hung a at) (was_hung b at) a b _ _ ((sight a b s).hung at) s
-    (swept_alike _ _ (answered_alike (entered at a) (entered at b) (call_of at frame word) frame (entered_alike a b at s)))
-does_alike (Take at) a b s = on_both (was_hung a at) (was_hung b at) a b _ _ ((sight a b s).hung at) s (take_alike a b at s)
-does_alike (Hang at) a b s =
+    (swept_alike _ _ (answered_alike (entered at a) (entered at b) (call_of at frame word) frame (entered_alike a b at s) (entered_quiet at a none)))
+does_alike (Take at) a b s none known = on_both (was_hung a at) (was_hung b at) a b _ _ ((sight a b s).hung at) s (take_alike a b at s)
+does_alike (Hang at) a b s none known =
     on_both (was_opened a at && not (was_hung a at)) (was_opened b at && not (was_hung b at)) (OfConnection at Hung ∷ a) (OfConnection at Hung ∷ b) a b
     (rw ((sight a b s).opened at, (sight a b s).hung at) refl) (more_alike a b (OfConnection at Hung) refl refl s) s
-does_alike Stop a b s = more_alike a b Halted refl refl s
-does_alike (Answer call bytes) a b s = s
-does_alike (NoAnswer call) a b s = s
-does_alike (NoRoom call) a b s = s
-does_alike TakeAsk a b s = s
+does_alike Stop a b s none known = more_alike a b Halted refl refl s
+does_alike (Answer call bytes) a b s none known = resumed_alike a b call (calls.Heard bytes) s none known
+does_alike (NoAnswer call) a b s none known = resumed_alike a b call calls.Unheard s none known
+does_alike (NoRoom call) a b s none known = resumed_alike a b call calls.Roomless s none known
+does_alike TakeAsk a b s none known =
+    subst (λ (o : Option Question). SameButSecrets (handing (next_question a) a) (handing o b)) (next_alike a b s) (handing_alike (next_question a) a b s)
 
 -- ---- histories
 
@@ -75,17 +122,49 @@ two_alike A B one other s t = record {
   many = ap suc s.many;
 }
 
-events_alike : (more A B : History) → LookAlike A B → LookAlike (more ++ A) (more ++ B)
-events_alike [] A B s = s
-events_alike (e ∷ more) A B s =
-    let t = events_alike more A B s in
-    two_alike (more ++ A) (more ++ B) e e t (does_alike e (deeds (more ++ A)) (deeds (more ++ B)) t.done)
+-- a conversation that was opened stays opened
+abbrev Quieter : Bool → List Deed → Type 0
+Quieter before done = has_conversed done ≡ false → before ≡ false
+
+quiet_more : (before : Bool) (conn : ℕ) → KeepsOf (is_done conn) (Quieter before)
+quiet_more before conn done (OfFids at (Opened f mode)) kind fits q = λ none. q (or_parts (is_rpc (node_of (fid_of done at f))) (has_conversed done) none).1
+quiet_more before conn done (OfFids at (Versioned msize)) kind fits q = q
+quiet_more before conn done (OfFids at (Attached f)) kind fits q = q
+quiet_more before conn done (OfFids at (Walked f node)) kind fits q = q
+quiet_more before conn done (OfFids at (Listed f)) kind fits q = q
+quiet_more before conn done (OfFids at (Browsed f next)) kind fits q = q
+quiet_more before conn done (OfFids at (Clunked f)) kind fits q = q
+quiet_more before conn done (OfKeys at deed) kind fits q = q
+quiet_more before conn done (OfReplies at deed) kind fits q = q
+quiet_more before conn done (OfConnection at deed) kind fits q = q
+quiet_more before conn done (OfTalk conv call) kind fits q = q
+quiet_more before conn done (Raised conv) kind fits q = q
+quiet_more before conn done HandedOut kind fits q = q
+quiet_more before conn done Swept kind fits q = q
+quiet_more before conn done Halted kind fits q = q
+
+quiet_before : (e : Event) (H : History) → has_conversed (deeds (e ∷ H)) ≡ false → has_conversed (deeds H) ≡ false
+quiet_before e H = event_grows (Quieter (has_conversed (deeds H))) (conn_of e) (quiet_more (has_conversed (deeds H)) (conn_of e)) e H (on_its_own e) (λ none. none)
+
+events_alike : (more A B : History) → has_conversed (deeds (more ++ A)) ≡ false → LookAlike A B → LookAlike (more ++ A) (more ++ B)
+events_alike [] A B none s = s
+events_alike (e ∷ more) A B none s =
+    let before = quiet_before e (more ++ A) none in
+    let t = events_alike more A B before s in
+    two_alike (more ++ A) (more ++ B) e e t (does_alike e (deeds (more ++ A)) (deeds (more ++ B)) t.done before (all_are_asked (more ++ A)))
+
+question_alike : (a b : List Deed) (o : Option Question) → SameButSecrets a b → question_put a o ≡ question_put b o
+question_alike a b None s = refl
+question_alike a b (Some q) s = ap (λ (met : List calls.Call). asks q (question_of (standing met))) ((sight a b s).talking q.conv)
 
 answer_alike : (e : Event) (A B : History) → LookAlike A B → answer A e ≡ answer B e
 answer_alike (Take at) A B s =
     let seen = sight (deeds A) (deeds B) s.done in
     rw (seen.halted, seen.hung at, left_alike (deeds A) (deeds B) at s.done) refl
-answer_alike TakeAsk A B s = rw ((sight (deeds A) (deeds B) s.done).halted) refl
+answer_alike TakeAsk A B s =
+    ap (λ (b : Bool). cond b (Stopped, []) (question_put (deeds A) (next_question (deeds A)))) (sight (deeds A) (deeds B) s.done).halted
+    ∙ ap (λ (o : Option Question). cond (is_halted (deeds B)) (Stopped, []) (question_put (deeds A) o)) (next_alike (deeds A) (deeds B) s.done)
+    ∙ ap (λ (x : IsAnswer). cond (is_halted (deeds B)) (Stopped, []) x) (question_alike (deeds A) (deeds B) (next_question (deeds B)) s.done)
 answer_alike (Request at frame word) A B s = refl
 answer_alike (Hang at) A B s = refl
 answer_alike (Answer call bytes) A B s = refl
@@ -97,7 +176,7 @@ itself_alike : (H : History) → LookAlike H H
 itself_alike H = record { done = record { alike = refl; open_deletes = deeds_open H }; many = refl }
 
 pub no_answer_tells : (history more : History) (event one other : Event) → all_open (does (deeds history) one) ≡ true → map hidden_deed (does (deeds history) one) ≡ map hidden_deed (does (deeds history) other)
-    → answer (more ++ one ∷ history) event ≡ answer (more ++ other ∷ history) event
-no_answer_tells history more event one other opens same =
+    → has_conversed (deeds (more ++ one ∷ history)) ≡ false → answer (more ++ one ∷ history) event ≡ answer (more ++ other ∷ history) event
+no_answer_tells history more event one other opens same none =
     answer_alike event (more ++ one ∷ history) (more ++ other ∷ history)
-    (events_alike more (one ∷ history) (other ∷ history) (two_alike history history one other (itself_alike history) (record { alike = same; open_deletes = opens })))
+    (events_alike more (one ∷ history) (other ∷ history) none (two_alike history history one other (itself_alike history) (record { alike = same; open_deletes = opens })))

@@ -1,14 +1,15 @@
 -- What a deed on one connection leaves as it was on the others, and that what an event does to fids, keys and
 -- connections is done by deeds of its own connection.
-use Rattle.std.proofs.Common.{◌≡◌, ℕ, ◌+◌, List, [], ◌∷◌, Bool, true, false, eqb, not, if◌then◌else◌, refl, ap, ◌∙◌, arith}
+use Rattle.std.proofs.Common.{◌≡◌, ℕ, ◌+◌, List, [], ◌∷◌, Bool, true, false, Option, Some, None, eqb, not, refl, ap, ◌∙◌, arith}
 use Rattle.std.proofs.lemmas.Bool.{eqb-true, ne_eqb, not-true}
 use Rattle.agent_history.specs.declared.event.Event.{Event}
 use Rattle.agent_history.specs.declared.event.Event.TheVariants.{Request, Hang, Answer, NoAnswer, NoRoom, Take, TakeAsk, Stop}
-use Rattle.agent_history.specs.Deeds.{Deed, FidDeed, KeyDeed, ReplyDeed, ConnectionDeed, OfFids, OfKeys, OfReplies, OfConnection, Swept, Halted, Versioned, Attached, Walked, Opened, Listed, Browsed, Clunked, Edited, Switched, Answered, Awaited, Settled, Flushed, Taken, Entered, Hung, msize_of, fid_of, held_by, next_of, text_of, is_halted}
+use Rattle.agent_history.specs.Deeds.{Deed, FidDeed, KeyDeed, ReplyDeed, ConnectionDeed, OfFids, OfKeys, OfReplies, OfConnection, OfTalk, Raised, HandedOut, Swept, Halted, Versioned, Attached, Walked, Opened, Listed, Browsed, Clunked, Edited, Switched, Answered, Awaited, Settled, Flushed, Taken, Entered, Hung, msize_of, fid_of, held_by, next_of, text_of, is_halted}
 use Rattle.agent_history.specs.Requests.{Call, after_frame}
-use Rattle.agent_history.specs.Histories.{History, deeds, has_stopped}
-use Rattle.agent_laws.specs.Laws.{Adds, has_connection, is_of, is_of_replies, is_on}
-use Rattle.agent_laws.proofs.GrowLaws.{KeepsOf, done_by_asked, event_grows, event_on, frame_grows, is_asked, is_done}
+use Rattle.agent_history.specs.Conversations.{Question, next_question}
+use Rattle.agent_history.specs.Histories.{History, deeds, does, handing, has_stopped}
+use Rattle.agent_laws.specs.Laws.{Adds, all_asked, has_connection, is_of, is_of_talks, is_on}
+use Rattle.agent_laws.proofs.GrowLaws.{KeepsIf, KeepsOf, answer_does, done_by_asked, event_grows, event_on, frame_grows, is_asked, is_done, is_told_so, last_or_not, no_answer_does, no_room_does}
 
 -- ---- deeds of one connection
 
@@ -20,17 +21,22 @@ is_done_is_of conn (OfFids at deed) e = e
 is_done_is_of conn (OfKeys at deed) e = e
 is_done_is_of conn (OfConnection at deed) e = e
 is_done_is_of conn (OfReplies at deed) e = refl
+is_done_is_of conn (OfTalk conv call) e = refl
+is_done_is_of conn (Raised conv) e = refl
+is_done_is_of conn HandedOut e = refl
 is_done_is_of conn Swept e = refl
 is_done_is_of conn Halted e = refl
 
 adds_more : (conn : ℕ) (before : List Deed) → KeepsOf (is_done conn) (Adds (is_of conn) before)
 adds_more conn before done deed kind fits h = (deed ∷ h.0, ap (λ (ds : List Deed). deed ∷ ds) h.1, rw (is_done_is_of conn deed kind) h.2)
 
-asked_adds : (conn : ℕ) (before : List Deed) → KeepsOf (is_asked conn) (Adds (is_of conn) before)
-asked_adds conn before done deed kind fits h = adds_more conn before done deed (done_by_asked conn deed kind) fits h
+-- whatever is known of questions
+asked_adds : (Known : Type 0) (conn : ℕ) (before : List Deed) → KeepsIf Known (is_asked conn) (Adds (is_of conn) before)
+asked_adds Known conn before done deed kind fits h = (deed ∷ h.0, ap (λ (ds : List Deed). deed ∷ ds) h.1, rw (is_done_is_of conn deed (done_by_asked conn deed kind)) h.2)
 
 pub frame_adds : (done : List Deed) (call : Call) (frame : List ℕ) → Adds (is_of call.conn) done (after_frame done call frame)
-frame_adds done call frame = frame_grows (Adds (is_of call.conn) done) call (asked_adds call.conn done) done frame (adds_none (is_of call.conn) done)
+frame_adds done call frame =
+    frame_grows (all_asked done ≡ true) (Adds (is_of call.conn) done) call (asked_adds (all_asked done ≡ true) call.conn done) done frame (λ known. known) (adds_none (is_of call.conn) done)
 
 on_its_connection : (e : Event) (conn : ℕ) → is_on conn e ≡ true → event_on conn e
 on_its_connection (Request at frame word) conn on = eqb-true at conn on
@@ -46,28 +52,39 @@ pub event_adds : (e : Event) (H : History) (conn : ℕ) → is_on conn e ≡ tru
 event_adds e H conn on = event_grows (Adds (is_of conn) (deeds H)) conn (adds_more conn (deeds H)) e H (on_its_connection e conn on) (adds_none (is_of conn) (deeds H))
 
 -- an event that is on no connection
-halts_or_not : (b : Bool) (done : List Deed) → Adds is_of_replies done (if b then done else Halted ∷ done)
-halts_or_not true done = adds_none is_of_replies done
-halts_or_not false done = (Halted ∷ [], refl, refl)
+told_is_of_talks : (deed : Deed) → is_told_so deed ≡ true → is_of_talks deed ≡ true
+told_is_of_talks (OfTalk conv call) e = refl
+told_is_of_talks (Raised conv) e = refl
+told_is_of_talks (OfReplies at deed) e = refl
+told_is_of_talks HandedOut e = refl
+told_is_of_talks Swept e = refl
+told_is_of_talks Halted e = refl
+told_is_of_talks (OfFids at deed) e = absurd cc
+told_is_of_talks (OfKeys at deed) e = absurd cc
+told_is_of_talks (OfConnection at deed) e = absurd cc
 
-quiet_adds : (halted within : Bool) (done : List Deed) → Adds is_of_replies done (if halted then done else if within then done else Halted ∷ done)
-quiet_adds true within done = adds_none is_of_replies done
-quiet_adds false within done = halts_or_not within done
+told_adds : (Known : Type 0) (before : List Deed) → KeepsIf Known is_told_so (Adds is_of_talks before)
+told_adds Known before done deed kind fits h = (deed ∷ h.0, ap (λ (ds : List Deed). deed ∷ ds) h.1, rw (told_is_of_talks deed kind) h.2)
 
-stop_adds : (halted within : Bool) (done : List Deed) → Adds is_of_replies done (if halted then done else if within then Halted ∷ done else Halted ∷ Halted ∷ done)
-stop_adds true within done = adds_none is_of_replies done
-stop_adds false true done = (Halted ∷ [], refl, refl)
-stop_adds false false done = (Halted ∷ Halted ∷ [], refl, refl)
+stops_too : (before done : List Deed) → Adds is_of_talks before done → Adds is_of_talks before (Halted ∷ done)
+stops_too before done h = (Halted ∷ h.0, ap (λ (ds : List Deed). Halted ∷ ds) h.1, h.2)
 
-pub others_add : (e : Event) (H : History) → has_connection e ≡ false → Adds is_of_replies (deeds H) (deeds (e ∷ H))
-others_add (Request at frame word) H none = absurd cc
-others_add (Take at) H none = absurd cc
-others_add (Hang at) H none = absurd cc
-others_add Stop H none = stop_adds (is_halted (deeds H)) _ (deeds H)
-others_add (Answer call bytes) H none = quiet_adds (is_halted (deeds H)) _ (deeds H)
-others_add (NoAnswer call) H none = quiet_adds (is_halted (deeds H)) _ (deeds H)
-others_add (NoRoom call) H none = quiet_adds (is_halted (deeds H)) _ (deeds H)
-others_add TakeAsk H none = quiet_adds (is_halted (deeds H)) _ (deeds H)
+hands_out : (o : Option Question) (done : List Deed) → Adds is_of_talks done (handing o done)
+hands_out None done = adds_none is_of_talks done
+hands_out (Some question) done = (HandedOut ∷ [], refl, refl)
+
+does_add : (e : Event) (done : List Deed) → has_connection e ≡ false → Adds is_of_talks done (does done e)
+does_add (Request at frame word) done none = absurd cc
+does_add (Take at) done none = absurd cc
+does_add (Hang at) done none = absurd cc
+does_add Stop done none = (Halted ∷ [], refl, refl)
+does_add (Answer number bytes) done none = answer_does (all_asked done ≡ true) (Adds is_of_talks done) (told_adds (all_asked done ≡ true) done) number bytes done (λ known. known) (adds_none is_of_talks done)
+does_add (NoAnswer number) done none = no_answer_does (all_asked done ≡ true) (Adds is_of_talks done) (told_adds (all_asked done ≡ true) done) number done (λ known. known) (adds_none is_of_talks done)
+does_add (NoRoom number) done none = no_room_does (all_asked done ≡ true) (Adds is_of_talks done) (told_adds (all_asked done ≡ true) done) number done (λ known. known) (adds_none is_of_talks done)
+does_add TakeAsk done none = hands_out (next_question done) done
+
+pub others_add : (e : Event) (H : History) → has_connection e ≡ false → Adds is_of_talks (deeds H) (deeds (e ∷ H))
+others_add e H none = last_or_not (Adds is_of_talks (deeds H)) H e (stops_too (deeds H)) (adds_none is_of_talks (deeds H)) (does_add e (deeds H) none)
 
 -- ---- the other connections
 
@@ -119,6 +136,9 @@ same_for (OfFids at deed) before conn e = fids_same_for at deed before conn (not
 same_for (OfKeys at deed) before conn e = keys_same_for at deed before conn
 same_for (OfReplies at deed) before conn e = replies_same_for at deed before conn
 same_for (OfConnection at deed) before conn e = connection_same_for at deed before conn (not-true (eqb at conn) e)
+same_for (OfTalk conv call) before conn e = record { msize = refl; fids = λ fid. refl; texts = λ fid. refl; nexts = λ fid. refl; held = refl }
+same_for (Raised conv) before conn e = record { msize = refl; fids = λ fid. refl; texts = λ fid. refl; nexts = λ fid. refl; held = refl }
+same_for HandedOut before conn e = record { msize = refl; fids = λ fid. refl; texts = λ fid. refl; nexts = λ fid. refl; held = refl }
 same_for Swept before conn e = record { msize = refl; fids = λ fid. refl; texts = λ fid. refl; nexts = λ fid. refl; held = refl }
 same_for Halted before conn e = absurd cc
 
@@ -143,6 +163,9 @@ same_more before at conn off done (OfFids c deed) kind fits s = λ going. same_t
 same_more before at conn off done (OfKeys c deed) kind fits s = λ going. same_then before done conn (OfKeys c deed) (s going) (keys_same_for c deed done conn)
 same_more before at conn off done (OfReplies c deed) kind fits s = λ going. same_then before done conn (OfReplies c deed) (s going) (replies_same_for c deed done conn)
 same_more before at conn off done (OfConnection c deed) kind fits s = λ going. same_then before done conn (OfConnection c deed) (s going) (connection_same_for c deed done conn (ap (λ (n : ℕ). eqb n conn) (eqb-true c at kind) ∙ off))
+same_more before at conn off done (OfTalk conv call) kind fits s = λ going. same_then before done conn (OfTalk conv call) (s going) (record { msize = refl; fids = λ fid. refl; texts = λ fid. refl; nexts = λ fid. refl; held = refl })
+same_more before at conn off done (Raised conv) kind fits s = λ going. same_then before done conn (Raised conv) (s going) (record { msize = refl; fids = λ fid. refl; texts = λ fid. refl; nexts = λ fid. refl; held = refl })
+same_more before at conn off done HandedOut kind fits s = λ going. same_then before done conn HandedOut (s going) (record { msize = refl; fids = λ fid. refl; texts = λ fid. refl; nexts = λ fid. refl; held = refl })
 same_more before at conn off done Swept kind fits s = λ going. same_then before done conn Swept (s going) (record { msize = refl; fids = λ fid. refl; texts = λ fid. refl; nexts = λ fid. refl; held = refl })
 same_more before at conn off done Halted kind fits s = λ going. absurd cc
 

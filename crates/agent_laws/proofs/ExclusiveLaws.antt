@@ -8,7 +8,7 @@ use Rattle.file_tree.specs.declared.tree.FidState.{FidState}
 use Rattle.file_tree.specs.Tree.{file, is_exclusive}
 use Rattle.file_tree.specs.Calls.{is_open, node_of, at_rest, attached, opened}
 use Rattle.file_tree.proofs.WalkLaws.{one_path}
-use Rattle.agent_history.specs.Deeds.{Deed, OfFids, OfKeys, OfReplies, OfConnection, Swept, Halted, Versioned, Attached, Walked, Opened, Listed, Browsed, Clunked, Edited, Switched, Entered, Hung, fid_of, holder_of, names, without}
+use Rattle.agent_history.specs.Deeds.{Deed, OfFids, OfKeys, OfReplies, OfConnection, OfTalk, Raised, HandedOut, Swept, Halted, Versioned, Attached, Walked, Opened, Listed, Browsed, Clunked, Edited, Switched, Entered, Hung, fid_of, holder_of, names, without}
 use Rattle.agent_history.specs.Histories.{History, deeds}
 use Rattle.agent_laws.specs.Laws.{has_open}
 use Rattle.agent_laws.proofs.GrowLaws.{KeepsOf, history_grows, is_done}
@@ -120,6 +120,9 @@ holder_more c done (OfKeys at (Edited edit)) own fits h node x conn fid p = h no
 holder_more c done (OfKeys at Switched) own fits h node x conn fid p = h node x conn fid p
 holder_more c done (OfReplies at deed) own fits h node x conn fid p = h node x conn fid p
 holder_more c done (OfConnection at Entered) own fits h node x conn fid p = h node x conn fid p
+holder_more c done (OfTalk conv call) own fits h node x conn fid p = h node x conn fid p
+holder_more c done (Raised conv) own fits h node x conn fid p = h node x conn fid p
+holder_more c done HandedOut own fits h node x conn fid p = h node x conn fid p
 holder_more c done Swept own fits h node x conn fid p = h node x conn fid p
 holder_more c done Halted own fits h node x conn fid p = absurd cc
 
@@ -138,12 +141,12 @@ two_open_are_one H node conn fid other another x one two =
 abbrev pub Opener : List Deed → Type 0
 Opener done = (node : Node) (conn fid : ℕ) → holder_of done node ≡ Some (conn, fid) → has_open done node conn fid ≡ true
 
-still_has : (b : Bool) (node : Node) (new o : Option FidState) → b ≡ false → Has node o → Has node (cond b new o)
+pub still_has : (b : Bool) (node : Node) (new o : Option FidState) → b ≡ false → Has node o → Has node (cond b new o)
 still_has true node new o off h = absurd cc
 still_has false node new o off h = h
 
 -- a fid that rests isn't the one
-another_rests : (done : List Deed) (node : Node) (at f conn fid : ℕ) → is_open (fid_of done at f) ≡ false → Has node (fid_of done conn fid) → (eqb at conn && eqb f fid) ≡ false
+pub another_rests : (done : List Deed) (node : Node) (at f conn fid : ℕ) → is_open (fid_of done at f) ≡ false → Has node (fid_of done conn fid) → (eqb at conn && eqb f fid) ≡ false
 another_rests done node at f conn fid rests h = elim (cases_Bool (eqb at conn && eqb f fid)) [
   | inl on ↦
       (let is = both_same at conn f fid on in
@@ -185,6 +188,9 @@ opener_more c done (OfKeys at (Edited edit)) own fits h node conn fid e = h node
 opener_more c done (OfKeys at Switched) own fits h node conn fid e = h node conn fid e
 opener_more c done (OfReplies at deed) own fits h node conn fid e = h node conn fid e
 opener_more c done (OfConnection at Entered) own fits h node conn fid e = h node conn fid e
+opener_more c done (OfTalk conv call) own fits h node conn fid e = h node conn fid e
+opener_more c done (Raised conv) own fits h node conn fid e = h node conn fid e
+opener_more c done HandedOut own fits h node conn fid e = h node conn fid e
 opener_more c done Swept own fits h node conn fid e = h node conn fid e
 opener_more c done Halted own fits h node conn fid e = absurd cc
 

@@ -1,11 +1,11 @@
 -- Every reply fits what was agreed on its connection, and has a spelling.
 use Rattle.std.proofs.Common.{◌≡◌, ℕ, zero, suc, ◌+◌, ◌-◌, ◌*◌, min, ◌<◌, ◌≤◌, ◌^◌, List, [], ◌∷◌, length, take, drop, map, reverse, ◌++◌, Bool, true, false, cond, eqb, leb, ltb, ◌&&◌, not, Option, Some, None, refl, sym, ap, subst, ◌∙◌, inl, inr, arith, codes, length-append}
-use Rattle.std.specs.Prelude.{Result, Ok, Err, All}
-use Rattle.std.specs.List.{filter_map, flat_map, AllByRecursion}
+use Rattle.std.specs.Prelude.{Result, Ok, Err, All, find, option_map}
+use Rattle.std.specs.List.{filter, filter_map, flat_map, cons_option, AllByRecursion}
 use Rattle.std.specs.Int.{Width, w8, w16, w32, w64}
-use Rattle.std.proofs.lemmas.Bool.{cases_Bool, cases_lt, eq-eqb, leb-true, ltb-false}
+use Rattle.std.proofs.lemmas.Bool.{cases_Bool, cases_lt, eq-eqb, eqb-true, leb-true, ltb-false}
 use Rattle.std.proofs.lemmas.List.{length-take, length-map, reverse-append, get_or_past}
-use Rattle.std.proofs.lemmas.List.Elements.{All-nil, All-cons, All-append, All-take, All-map, All-get_or, recursion_from_All}
+use Rattle.std.proofs.lemmas.List.Elements.{All-nil, All-cons, All-take, All-map, All-get_or}
 use Rattle.wire_base.specs.Readers.{Reader, ◌>>=◌, number, block, string, times, listed, both, no_more}
 use Rattle.wire_base.proofs.ReaderLaws.{AreBytes, AreBytes-drop, AreBytes-take, bind_ok, no_more_taken, wide16}
 use Rattle.nine_messages.specs.declared.qid.Qid.{Qid}
@@ -27,16 +27,19 @@ use Rattle.file_tree.specs.Stats.{record_of}
 use Rattle.file_tree.specs.Directories.{size_of, behind, fitting, records, dir_bytes}
 use Rattle.file_tree.proofs.RecordLaws.{size_small}
 use Rattle.file_tree.proofs.WalkLaws.{at_most}
+use Rattle.rpc_file.specs.Answers.{answer_text}
+use Rattle.rpc_file.specs.declared.answer.RpcAnswer.{RpcAnswer}
+use Rattle.talks.specs.Standings.{Phase, Resting, Waiting as IsStored, Seeking, OnConfirm, OnNeedkey, OnServer, Kept}
 use Rattle.agent_history.specs.declared.event.Event.{Event}
 use Rattle.agent_history.specs.declared.event.Event.TheVariants.{Request, Hang, Answer, NoAnswer, NoRoom, Take, TakeAsk, Stop}
-use Rattle.agent_history.specs.Deeds.{Deed, OfFids, OfKeys, OfReplies, OfConnection, Swept, Halted, Versioned, Attached, Walked, Opened, Listed, Browsed, Clunked, Answered, Awaited, Settled, Flushed, Taken, Entered, Hung, fid_of, keys_of, msize_of, was_hung, was_opened}
+use Rattle.agent_history.specs.Deeds.{Deed, OfFids, OfKeys, OfReplies, OfConnection, OfTalk, Raised, HandedOut, Swept, Halted, Versioned, Attached, Walked, Opened, Listed, Browsed, Clunked, Answered, Awaited, Settled, Flushed, Taken, Entered, Hung, fid_of, keys_of, msize_of, was_hung, was_opened}
 use Rattle.key_lists.specs.CtlLines.{lines_of, lines_fault}
-use Rattle.agent_history.specs.Replies.{Wait, replies, reply_in, taken, has_settled, swept, untaken}
-use Rattle.agent_history.specs.Requests.{Call, after, after_frame, after_granted, answered, body_for, body_to, call_of, content_of, ctl_text, effective, granted, is_known, least_msize, most_msize, piece, proto_text, reply_of, tag_of, written}
-use Rattle.agent_history.specs.Histories.{History, deeds, does, entered, taking}
-use Rattle.agent_laws.specs.Laws.{gives_content, given, longest_reply, put_out, reply_to}
-use Rattle.agent_laws.proofs.GrowLaws.{KeepsOf, SizeFits, answered_grows, either_way, entered_grows, frame_grows, history_grows, is_asked, is_done, last_or_not, said_of_done}
-use Rattle.agent_laws.proofs.HistoryLaws.{NoneWaits, deed_none, none_waits}
+use Rattle.agent_history.specs.Replies.{Wait, fid_given_up, first_of, is_unsettled, replies, reply_in, settle_fid, settle_tag, settled_by, taken, untaken, waits}
+use Rattle.agent_history.specs.Conversations.{Question, conv_of, fits, next_question, standing_of, told}
+use Rattle.agent_history.specs.Requests.{Call, after, after_frame, after_granted, answer_read, answered, body_for, body_to, call_of, carried, content_of, ctl_text, effective, granted, is_known, is_rpc, least_msize, most_msize, piece, proto_text, read_reply, replied, reply_of, tag_of, talk_read, write_reply, written}
+use Rattle.agent_history.specs.Histories.{History, deeds, does, entered, handing, taking}
+use Rattle.agent_laws.specs.Laws.{all_asked, gives_content, given, longest_reply, most_read, put_out, reply_to}
+use Rattle.agent_laws.proofs.GrowLaws.{Fits, KeepsOf, SizeFits, all_are_asked, answer_does, either_way, entered_known, frame_grows, history_grows, is_asked, is_done, is_told_so, last_or_not, no_answer_does, no_room_does, swept_grows}
 use Rattle.agent_laws.proofs.ReplyLaws.{given_in_order, frames_put_out}
 use Rattle.agent_laws.proofs.ToldLaws.{is_told, told_short, told_string, Tells, Gives, lines_tell, frame_gives}
 
@@ -61,6 +64,9 @@ deed_agreed at done (OfKeys c deed) own fits p = p
 deed_agreed at done (OfReplies c deed) own fits p = p
 deed_agreed at done (OfConnection c Entered) own fits p = p
 deed_agreed at done (OfConnection c Hung) own fits p = λ conn. either_agreed (eqb c conn) None (msize_of done conn) tt (p conn)
+deed_agreed at done (OfTalk conv call) own fits p = p
+deed_agreed at done (Raised conv) own fits p = p
+deed_agreed at done HandedOut own fits p = p
 deed_agreed at done Swept own fits p = p
 deed_agreed at done Halted own fits p = λ conn. tt
 
@@ -261,54 +267,113 @@ version_told : (known : Bool) → is_told (version_text known) ≡ true
 version_told true = refl
 version_told false = refl
 
--- all replies but what a read gives
-other_fits : (done : List Deed) (call : Call) (body : TBody) → IsFew body → gives_content (reply_of done call body) ≡ false → FitsIn 256 (reply_of done call body)
-unfolding reply_of
-other_fits done call (t.Version msize version) few other = omega (arith, told_short (version_text (is_known version)) (version_told (is_known version)))
-other_fits done call (t.Auth afid uname aname) few other = omega arith
-other_fits done call (t.Attach fid afid uname aname) few other = omega arith
-other_fits done call (t.Flush oldtag) few other = omega arith
-other_fits done call (t.Walk fid newfid wname) few other =
-    let nodes = visited (node_of (fid_of done call.conn fid)) wname in
-    omega (arith, few, qids_len (map qid_of nodes), length-map nodes qid_of, at_most (node_of (fid_of done call.conn fid)) wname)
-other_fits done call (t.Open fid mode) few other = omega arith
-other_fits done call (t.Create fid name perm mode) few other = omega arith
-other_fits done call (t.Read fid offset count) few other = absurd cc
-other_fits done call (t.Write fid offset content) few other = written_fits content _ (lines_tell (keys_of done) (lines_of content))
-other_fits done call (t.Clunk fid) few other = omega arith
-other_fits done call (t.Remove fid) few other = omega arith
-other_fits done call (t.Stat fid) few other = omega (arith, size_small (node_of (fid_of done call.conn fid)))
-other_fits done call (t.Wstat fid stat) few other = omega arith
+-- the reply, if there is one, is so
+abbrev Each : (RBody → Type 0) → Option RBody → Type 0
+Each P None = Unit {0}
+Each P (Some body) = P body
 
-granted_other : (done : List Deed) (call : Call) (g : Result TBody (List ℕ)) → Gives IsFew g → gives_content (body_for done call g) ≡ false → FitsIn 256 (body_for done call g)
-granted_other done call (Err text) gives other = error_fits text (gives.told text refl)
-granted_other done call (Ok body) gives other = other_fits done call body (gives.holds body refl) other
+either_each : (P : RBody → Type 0) (b : Bool) (one other : Option RBody) → Each P one → Each P other → Each P (cond b one other)
+either_each P true one other p q = p
+either_each P false one other p q = q
+
+-- an answer of rpc that is read
+told_each : (P : RBody → Type 0) (count : ℕ) (answer : RpcAnswer) → (length (answer_text answer) ≤ count → P (r.Read (answer_text answer))) → P (r.Error (codes "read too small")) → P (told count answer)
+told_each P count answer one other = by_size (fits count answer) refl
+  where
+    by_size : (b : Bool) → fits count answer ≡ b → P (cond b (r.Read (answer_text answer)) (r.Error (codes "read too small")))
+    by_size true e = one (leb-true (length (answer_text answer)) count e)
+    by_size false e = other
+
+answer_each : (P : RBody → Type 0) (count : ℕ) (ph : Phase) → ((answer : RpcAnswer) → P (told count answer)) → Each P (answer_read count ph)
+answer_each P count (Kept answer) p = p answer
+answer_each P count Resting p = tt
+answer_each P count (IsStored request) p = tt
+answer_each P count Seeking p = tt
+answer_each P count (OnConfirm serial) p = tt
+answer_each P count OnNeedkey p = tt
+answer_each P count OnServer p = tt
+
+talk_each : (P : RBody → Type 0) (word : List ℕ) (count : ℕ) (o : Option ℕ) (done : List Deed) → ((answer : RpcAnswer) → P (told count answer)) → Each P (talk_read word count o done)
+talk_each P word count None done p = tt
+talk_each P word count (Some conv) done p = answer_each P count (standing_of (carried conv word done) conv).phase p
+
+-- a read is answered by what rpc answers, or by what the file gives
+read_each : (P : RBody → Type 0) (done : List Deed) (call : Call) (fid offset count : ℕ) (node : Node) → ((answer : RpcAnswer) → P (told count answer)) → P (r.Read (content_of done call.conn fid offset count node))
+    → Each P (read_reply done call fid offset count node)
+read_each P done call fid offset count node p q =
+    either_each P (is_rpc node) (talk_read call.word count (conv_of done call.conn fid) done) (Some (r.Read (content_of done call.conn fid offset count node))) (talk_each P call.word count (conv_of done call.conn fid) done p) q
+
+-- a write is answered by its count, or by a text
+write_each : (P : RBody → Type 0) (done : List Deed) (content : List ℕ) (node : Node) → P (r.Write (length content)) → ((o : Option (List ℕ)) → Tells o → P (written content o)) → P (write_reply done content node)
+write_each P done content node p q = by_file (is_rpc node)
+  where
+    by_file : (b : Bool) → P (cond b (r.Write (length content)) (written content (lines_fault (keys_of done) (lines_of content))))
+    by_file true = p
+    by_file false = q (lines_fault (keys_of done) (lines_of content)) (lines_tell (keys_of done) (lines_of content))
+
+-- all replies but what a read gives
+abbrev OtherFits : RBody → Type 0
+OtherFits body = gives_content body ≡ false → FitsIn 256 body
+
+other_fits : (done : List Deed) (call : Call) (body : TBody) → IsFew body → Each OtherFits (reply_of done call body)
+unfolding reply_of
+other_fits done call (t.Version msize version) few = λ other. omega (arith, told_short (version_text (is_known version)) (version_told (is_known version)))
+other_fits done call (t.Auth afid uname aname) few = λ other. omega arith
+other_fits done call (t.Attach fid afid uname aname) few = λ other. omega arith
+other_fits done call (t.Flush oldtag) few = λ other. omega arith
+other_fits done call (t.Walk fid newfid wname) few =
+    let nodes = visited (node_of (fid_of done call.conn fid)) wname in
+    λ other. omega (arith, few, qids_len (map qid_of nodes), length-map nodes qid_of, at_most (node_of (fid_of done call.conn fid)) wname)
+other_fits done call (t.Open fid mode) few = λ other. omega arith
+other_fits done call (t.Create fid name perm mode) few = λ other. omega arith
+other_fits done call (t.Read fid offset count) few =
+    let most = effective count (msize_of done call.conn) in
+    read_each OtherFits done call fid offset most (node_of (fid_of done call.conn fid)) (λ answer. told_each OtherFits most answer (λ small other. absurd cc) (λ other. omega arith)) (λ other. absurd cc)
+other_fits done call (t.Write fid offset content) few = write_each OtherFits done content (node_of (fid_of done call.conn fid)) (λ other. omega arith) (λ o tells other. written_fits content o tells)
+other_fits done call (t.Clunk fid) few = λ other. omega arith
+other_fits done call (t.Remove fid) few = λ other. omega arith
+other_fits done call (t.Stat fid) few = λ other. omega (arith, size_small (node_of (fid_of done call.conn fid)))
+other_fits done call (t.Wstat fid stat) few = λ other. omega arith
+
+granted_other : (done : List Deed) (call : Call) (g : Result TBody (List ℕ)) → Gives IsFew g → Each OtherFits (body_for done call g)
+granted_other done call (Err text) gives = λ other. error_fits text (gives.told text refl)
+granted_other done call (Ok body) gives = other_fits done call body (gives.holds body refl)
 
 -- what a read gives holds so much as is agreed, and no other reply gives content
-content_agreed : (done : List Deed) (call : Call) (body : TBody) → SizeFits (msize_of done call.conn) → gives_content (reply_of done call body) ≡ true → FitsIn (longest_reply (msize_of done call.conn)) (reply_of done call body)
-unfolding reply_of
-content_agreed done call (t.Version msize version) h gives = absurd cc
-content_agreed done call (t.Auth afid uname aname) h gives = absurd cc
-content_agreed done call (t.Attach fid afid uname aname) h gives = absurd cc
-content_agreed done call (t.Flush oldtag) h gives = absurd cc
-content_agreed done call (t.Walk fid newfid wname) h gives = absurd cc
-content_agreed done call (t.Open fid mode) h gives = absurd cc
-content_agreed done call (t.Create fid name perm mode) h gives = absurd cc
-content_agreed done call (t.Read fid offset count) h gives =
-    omega (arith, content_fits done call.conn fid offset (effective count (msize_of done call.conn)) (node_of (fid_of done call.conn fid)), effective_fits count (msize_of done call.conn) h)
-content_agreed done call (t.Write fid offset content) h gives = absurd (not_content content (lines_fault (keys_of done) (lines_of content)) gives)
-  where
-    not_content : (bytes : List ℕ) (o : Option (List ℕ)) → gives_content (written bytes o) ≡ true → ⊥
-    not_content bytes None e = cc
-    not_content bytes (Some text) e = cc
-content_agreed done call (t.Clunk fid) h gives = absurd cc
-content_agreed done call (t.Remove fid) h gives = absurd cc
-content_agreed done call (t.Stat fid) h gives = absurd cc
-content_agreed done call (t.Wstat fid stat) h gives = absurd cc
+abbrev ContentFits : ℕ → RBody → Type 0
+ContentFits room body = gives_content body ≡ true → FitsIn room body
 
-granted_content : (done : List Deed) (call : Call) (g : Result TBody (List ℕ)) → SizeFits (msize_of done call.conn) → gives_content (body_for done call g) ≡ true → FitsIn (longest_reply (msize_of done call.conn)) (body_for done call g)
-granted_content done call (Err text) h gives = absurd cc
-granted_content done call (Ok body) h gives = content_agreed done call body h gives
+not_content : (room : ℕ) (bytes : List ℕ) (o : Option (List ℕ)) → ContentFits room (written bytes o)
+not_content room bytes None e = absurd cc
+not_content room bytes (Some text) e = absurd cc
+
+content_agreed : (done : List Deed) (call : Call) (body : TBody) → SizeFits (msize_of done call.conn) → Each (ContentFits (longest_reply (msize_of done call.conn))) (reply_of done call body)
+unfolding reply_of
+content_agreed done call (t.Version msize version) h = λ gives. absurd cc
+content_agreed done call (t.Auth afid uname aname) h = λ gives. absurd cc
+content_agreed done call (t.Attach fid afid uname aname) h = λ gives. absurd cc
+content_agreed done call (t.Flush oldtag) h = λ gives. absurd cc
+content_agreed done call (t.Walk fid newfid wname) h = λ gives. absurd cc
+content_agreed done call (t.Open fid mode) h = λ gives. absurd cc
+content_agreed done call (t.Create fid name perm mode) h = λ gives. absurd cc
+content_agreed done call (t.Read fid offset count) h =
+    let o = msize_of done call.conn in
+    let most = effective count o in
+    let node = node_of (fid_of done call.conn fid) in
+    read_each (ContentFits (longest_reply o)) done call fid offset most node
+    (λ answer. told_each (ContentFits (longest_reply o)) most answer (λ small gives. omega (arith, small, effective_fits count o h)) (λ gives. absurd cc))
+    (λ gives. omega (arith, content_fits done call.conn fid offset most node, effective_fits count o h))
+content_agreed done call (t.Write fid offset content) h =
+    let room = longest_reply (msize_of done call.conn) in
+    write_each (ContentFits room) done content (node_of (fid_of done call.conn fid)) (λ gives. absurd cc) (λ o tells. not_content room content o)
+content_agreed done call (t.Clunk fid) h = λ gives. absurd cc
+content_agreed done call (t.Remove fid) h = λ gives. absurd cc
+content_agreed done call (t.Stat fid) h = λ gives. absurd cc
+content_agreed done call (t.Wstat fid stat) h = λ gives. absurd cc
+
+granted_content : (done : List Deed) (call : Call) (g : Result TBody (List ℕ)) → SizeFits (msize_of done call.conn) → Each (ContentFits (longest_reply (msize_of done call.conn))) (body_for done call g)
+granted_content done call (Err text) h = λ gives. absurd cc
+granted_content done call (Ok body) h = content_agreed done call body h
 
 -- ---- how long a frame is
 
@@ -319,106 +384,307 @@ frame_len kind tag fields = omega arith
 frame_fits : (room tag : ℕ) (body : RBody) → FitsIn room body → length (frame (r_kind body) tag (r_fields body)) ≤ room
 frame_fits room tag body h = omega (arith, frame_len (r_kind body) tag (r_fields body), h)
 
-pub others_no_longer : (done : List Deed) (conn : ℕ) (bytes word : List ℕ) → gives_content (reply_to done conn bytes word).body ≡ false → length (r_frame (reply_to done conn bytes word)) ≤ least_msize
+-- of a reply holds what holds of its body, and it has the tag of its request
+each_reply : (P : RBody → Type 0) (o : Option RBody) (tag : ℕ) (reply : RMsg) → Each P o → option_map (λ (body : RBody). record { tag = tag; body = body }) o ≡ Some reply → (tag ≡ reply.tag) × P reply.body
+each_reply P None tag reply p e = absurd cc
+each_reply P (Some body) tag reply p e =
+    let same : record { tag = tag; body = body } ≡ reply = cc in
+    (ap (λ (m : RMsg). m.tag) same, subst P (ap (λ (m : RMsg). m.body) same) p)
+
+pub others_no_longer : (done : List Deed) (conn : ℕ) (bytes word : List ℕ) (reply : RMsg) → reply_to done conn bytes word ≡ Some reply → gives_content reply.body ≡ false → length (r_frame reply) ≤ least_msize
 unfolding reply_to body_to
-others_no_longer done conn bytes word other =
+others_no_longer done conn bytes word reply e other =
     let call = call_of conn bytes word in
     let granted_is = frame_gives IsFew done call bytes (request_few bytes) in
-    frame_fits 256 (tag_of bytes) (body_for done call (granted done call bytes)) (granted_other done call (granted done call bytes) granted_is other)
+    let each = granted_other done call (granted done call bytes) granted_is in
+    frame_fits 256 reply.tag reply.body ((each_reply OtherFits (body_for done call (granted done call bytes)) (tag_of bytes) reply each e).1 other)
 
-content_no_longer : (done : List Deed) (conn : ℕ) (bytes word : List ℕ) → SizeFits (msize_of done conn) → gives_content (reply_to done conn bytes word).body ≡ true → length (r_frame (reply_to done conn bytes word)) ≤ longest_reply (msize_of done conn)
+content_no_longer : (done : List Deed) (conn : ℕ) (bytes word : List ℕ) (reply : RMsg) → reply_to done conn bytes word ≡ Some reply → SizeFits (msize_of done conn) → gives_content reply.body ≡ true → length (r_frame reply) ≤ longest_reply (msize_of done conn)
 unfolding reply_to body_to
-content_no_longer done conn bytes word h gives =
+content_no_longer done conn bytes word reply e h gives =
     let call = call_of conn bytes word in
-    frame_fits _ (tag_of bytes) (body_for done call (granted done call bytes)) (granted_content done call (granted done call bytes) h gives)
+    let room = longest_reply (msize_of done conn) in
+    let each = granted_content done call (granted done call bytes) h in
+    frame_fits room reply.tag reply.body ((each_reply (ContentFits room) (body_for done call (granted done call bytes)) (tag_of bytes) reply each e).1 gives)
 
-no_longer : (done : List Deed) (conn : ℕ) (bytes word : List ℕ) → SizeFits (msize_of done conn) → length (r_frame (reply_to done conn bytes word)) ≤ longest_reply (msize_of done conn)
-no_longer done conn bytes word h = elim (cases_Bool (gives_content (reply_to done conn bytes word).body)) [
-  | inl gives ↦ content_no_longer done conn bytes word h gives
-  | inr other ↦ omega (arith, others_no_longer done conn bytes word other, room_least (msize_of done conn) h)
+no_longer : (done : List Deed) (conn : ℕ) (bytes word : List ℕ) (reply : RMsg) → reply_to done conn bytes word ≡ Some reply → SizeFits (msize_of done conn) → length (r_frame reply) ≤ longest_reply (msize_of done conn)
+no_longer done conn bytes word reply e h = elim (cases_Bool (gives_content reply.body)) [
+  | inl gives ↦ content_no_longer done conn bytes word reply e h gives
+  | inr other ↦ omega (arith, others_no_longer done conn bytes word reply e other, room_least (msize_of done conn) h)
 ]
 
-pub reply_no_longer : (H : History) (conn : ℕ) (bytes word : List ℕ) → length (r_frame (reply_to (deeds H) conn bytes word)) ≤ longest_reply (msize_of (deeds H) conn)
-reply_no_longer H conn bytes word = no_longer (deeds H) conn bytes word (all_agreed H conn)
+pub reply_no_longer : (H : History) (conn : ℕ) (bytes word : List ℕ) (reply : RMsg) → reply_to (deeds H) conn bytes word ≡ Some reply → length (r_frame reply) ≤ longest_reply (msize_of (deeds H) conn)
+reply_no_longer H conn bytes word reply e = no_longer (deeds H) conn bytes word reply e (all_agreed H conn)
 
 -- ---- how much a take puts out
 
 abbrev IsShort : RMsg → Type 0
 IsShort reply = length (r_frame reply) ≤ 8216
 
-abbrev AllShort : List Deed → Type 0
-AllShort done = (conn : ℕ) → All IsShort (replies done conn)
+-- a read that waits is of no more bytes than may be read, and its reply, once it has one, fits
+abbrev WaitFitsIn : Option ℕ → Wait → Type 0
+WaitFitsIn o wait = (wait.count ≤ most_read o) × Each (FitsIn (longest_reply o)) wait.reply
 
-either_short : (b : Bool) (one other : List RMsg) → All IsShort one → All IsShort other → All IsShort (cond b one other)
-either_short true one other p q = p
-either_short false one other p q = q
+-- what is agreed, what waits and what was replied
+pub record Shorts (done : List Deed) : Type 0 where
+  pub agreed : AllAgreed done
+  pub waiting : (conn : ℕ) → AllByRecursion (WaitFitsIn (msize_of done conn)) (waits done conn)
+  pub given : (conn : ℕ) → AllByRecursion IsShort (replies done conn)
 
--- what a request does gives no reply but its own
-asked_short : (at : ℕ) → KeepsOf (is_asked at) AllShort
-asked_short at done (OfFids c deed) own fits p = p
-asked_short at done (OfKeys c deed) own fits p = p
-asked_short at done (OfReplies c (Flushed tag)) own fits p = p
-asked_short at done (OfReplies c (Answered tag body)) own fits p = absurd cc
-asked_short at done (OfReplies c (Awaited tag fid count)) own fits p = absurd cc
-asked_short at done (OfReplies c (Settled tag body)) own fits p = absurd cc
-asked_short at done (OfReplies c Taken) own fits p = absurd cc
-asked_short at done (OfConnection c deed) own fits p = absurd cc
-asked_short at done Swept own fits p = absurd cc
-asked_short at done Halted own fits p = absurd cc
+-- ---- lists of reads that wait
 
-swept_short : (done : List Deed) → NoneWaits done → AllShort done → AllShort (Swept ∷ done)
-swept_short done none p conn = subst (λ (rs : List RMsg). All IsShort (rs ++ replies done conn)) (sym (ap (λ (ws : List Wait). reverse (filter_map reply_in ws)) (none conn))) (p conn)
+abbrev Waiting : Option ℕ → List Wait → Type 0
+Waiting o ws = AllByRecursion (WaitFitsIn o) ws
 
-answered_short : (done : List Deed) (at : ℕ) (frame word : List ℕ) → AllAgreed done → AllShort done → AllShort (answered done (call_of at frame word) frame)
+read_fits : (o : Option ℕ) (count : ℕ) → SizeFits o → count ≤ most_read o → 11 + count ≤ longest_reply o
+read_fits None count h small = omega (arith, small)
+read_fits (Some msize) count h small = omega (arith, small, h.0)
+
+told_fits : (o : Option ℕ) (count : ℕ) (answer : RpcAnswer) → SizeFits o → count ≤ most_read o → FitsIn (longest_reply o) (told count answer)
+told_fits o count answer h small =
+    told_each (FitsIn (longest_reply o)) count answer (λ fitting. omega (arith, fitting, read_fits o count h small)) (omega (arith, room_least o h))
+
+append_waiting : (o : Option ℕ) (ws : List Wait) (w : Wait) → Waiting o ws → WaitFitsIn o w → Waiting o (ws ++ w ∷ [])
+append_waiting o [] w h f = (f, tt)
+append_waiting o (x ∷ ws) w h f = (h.0, append_waiting o ws w h.1 f)
+
+filter_waiting : (o : Option ℕ) (p : Wait → Bool) (ws : List Wait) → Waiting o ws → Waiting o (filter p ws)
+filter_waiting o p [] h = tt
+filter_waiting o p (w ∷ ws) h = elim (cases_Bool (p w)) [
+  | inl e ↦ rw e (h.0, filter_waiting o p ws h.1)
+  | inr e ↦ rw e (filter_waiting o p ws h.1)
+]
+
+first_fits : (room : ℕ) (body : RBody) (old : Option RBody) → FitsIn room body → Each (FitsIn room) old → Each (FitsIn room) (first_of body old)
+first_fits room body None f h = f
+first_fits room body (Some first) f h = h
+
+settled_fits : (o : Option ℕ) (body : RBody) (w : Wait) → FitsIn (longest_reply o) body → WaitFitsIn o w → WaitFitsIn o (settled_by body w)
+settled_fits o body w f h = (h.0, first_fits (longest_reply o) body w.reply f h.1)
+
+tag_waiting : (o : Option ℕ) (tag : ℕ) (body : RBody) (ws : List Wait) → FitsIn (longest_reply o) body → Waiting o ws → Waiting o (settle_tag tag body ws)
+tag_waiting o tag body [] f h = tt
+tag_waiting o tag body (w ∷ ws) f h = elim (cases_Bool (eqb w.tag tag)) [
+  | inl e ↦ rw e (settled_fits o body w f h.0, h.1)
+  | inr e ↦ rw e (h.0, tag_waiting o tag body ws f h.1)
+]
+
+fid_fits : (b : Bool) (o : Option ℕ) (body : RBody) (w : Wait) → FitsIn (longest_reply o) body → WaitFitsIn o w → WaitFitsIn o (cond b (settled_by body w) w)
+fid_fits true o body w f h = settled_fits o body w f h
+fid_fits false o body w f h = h
+
+fid_waiting : (o : Option ℕ) (fid : ℕ) (body : RBody) (ws : List Wait) → FitsIn (longest_reply o) body → Waiting o ws → Waiting o (map (settle_fid fid body) ws)
+fid_waiting o fid body [] f h = tt
+fid_waiting o fid body (w ∷ ws) f h = (fid_fits (eqb w.fid fid) o body w f h.0, fid_waiting o fid body ws f h.1)
+
+-- the wait that is found is so
+found_step : (o : Option ℕ) (p : Wait → Bool) (w wait : Wait) (ws : List Wait) (b : Bool) → cond b (Some w) (find p ws) ≡ Some wait → WaitFitsIn o w → (find p ws ≡ Some wait → WaitFitsIn o wait) → WaitFitsIn o wait
+found_step o p w wait ws true e h more = let same : w ≡ wait = cc in subst (WaitFitsIn o) same h
+found_step o p w wait ws false e h more = more e
+
+found_waiting : (o : Option ℕ) (p : Wait → Bool) (wait : Wait) (ws : List Wait) → find p ws ≡ Some wait → Waiting o ws → WaitFitsIn o wait
+found_waiting o p wait [] e h = absurd cc
+found_waiting o p wait (w ∷ ws) e h = found_step o p w wait ws (p w) e h.0 (λ f. found_waiting o p wait ws f h.1)
+
+-- the replies of those that are settled
+settled_short : (o : Option ℕ) (tag : ℕ) (reply : Option RBody) (rest : List RMsg) → longest_reply o ≤ 8216 → Each (FitsIn (longest_reply o)) reply → AllByRecursion IsShort rest
+    → AllByRecursion IsShort (cons_option (option_map (λ (body : RBody). record { tag = tag; body = body }) reply) rest)
+settled_short o tag None rest room h more = more
+settled_short o tag (Some body) rest room h more = (omega (arith, room, frame_fits (longest_reply o) tag body h), more)
+
+settled_all : (o : Option ℕ) (ws : List Wait) → longest_reply o ≤ 8216 → Waiting o ws → AllByRecursion IsShort (filter_map reply_in ws)
+settled_all o [] room h = tt
+settled_all o (w ∷ ws) room h = settled_short o w.tag w.reply (filter_map reply_in ws) room h.0.1 (settled_all o ws room h.1)
+
+both_short : (xs ys : List RMsg) → AllByRecursion IsShort xs → AllByRecursion IsShort ys → AllByRecursion IsShort (xs ++ ys)
+both_short [] ys h k = k
+both_short (x ∷ xs) ys h k = (h.0, both_short xs ys h.1 k)
+
+reversed_short : (rs : List RMsg) → AllByRecursion IsShort rs → AllByRecursion IsShort (reverse rs)
+reversed_short [] h = tt
+reversed_short (reply ∷ rs) h = subst (AllByRecursion IsShort) (sym (reverse-append (reply ∷ []) rs)) (both_short (reverse rs) (reply ∷ []) (reversed_short rs h.1) (h.0, tt))
+
+-- ---- every deed but a request's own reply
+
+abbrev is_other : Deed → Bool
+is_other (OfReplies at (Answered tag body)) = false
+is_other deed = true
+
+other_by_asked : (conn : ℕ) (deed : Deed) → is_asked conn deed ≡ true → is_other deed ≡ true
+other_by_asked conn (OfReplies at (Answered tag body)) e = absurd cc
+other_by_asked conn (OfReplies at (Awaited tag fid count)) e = refl
+other_by_asked conn (OfReplies at (Settled tag body)) e = refl
+other_by_asked conn (OfReplies at (Flushed tag)) e = refl
+other_by_asked conn (OfReplies at Taken) e = refl
+other_by_asked conn (OfFids at deed) e = refl
+other_by_asked conn (OfKeys at deed) e = refl
+other_by_asked conn (OfConnection at deed) e = refl
+other_by_asked conn (OfTalk conv call) e = refl
+other_by_asked conn (Raised conv) e = refl
+other_by_asked conn HandedOut e = refl
+other_by_asked conn Swept e = refl
+other_by_asked conn Halted e = refl
+
+other_by_told : (deed : Deed) → is_told_so deed ≡ true → is_other deed ≡ true
+other_by_told (OfReplies at (Answered tag body)) e = absurd cc
+other_by_told (OfReplies at (Awaited tag fid count)) e = refl
+other_by_told (OfReplies at (Settled tag body)) e = refl
+other_by_told (OfReplies at (Flushed tag)) e = refl
+other_by_told (OfReplies at Taken) e = refl
+other_by_told (OfFids at deed) e = refl
+other_by_told (OfKeys at deed) e = refl
+other_by_told (OfConnection at deed) e = refl
+other_by_told (OfTalk conv call) e = refl
+other_by_told (Raised conv) e = refl
+other_by_told HandedOut e = refl
+other_by_told Swept e = refl
+other_by_told Halted e = refl
+
+-- a version or a hang drops what waits on its connection
+dropped : (b : Bool) (new old : Option ℕ) (ws : List Wait) → Waiting old ws → Waiting (cond b new old) (cond b [] ws)
+dropped true new old ws h = tt
+dropped false new old ws h = h
+
+on_one : (b : Bool) (o : Option ℕ) (one other : List Wait) → Waiting o one → Waiting o other → Waiting o (cond b one other)
+on_one true o one other h k = h
+on_one false o one other h k = k
+
+on_it : (b : Bool) (o : Option ℕ) (one other : List Wait) → (b ≡ true → Waiting o one) → Waiting o other → Waiting o (cond b one other)
+on_it true o one other h k = h refl
+on_it false o one other h k = k
+
+deed_shorts : (done : List Deed) (deed : Deed) → is_other deed ≡ true → Fits done deed → Shorts done → Shorts (deed ∷ done)
+deed_shorts done (OfFids c (Versioned msize)) own fits h = record {
+  agreed = deed_agreed c done (OfFids c (Versioned msize)) (eq-eqb c c refl) fits h.agreed;
+  waiting = λ conn. dropped (eqb c conn) msize (msize_of done conn) (waits done conn) (h.waiting conn);
+  given = h.given;
+}
+deed_shorts done (OfFids c (Clunked fid)) own fits h = record {
+  agreed = h.agreed;
+  waiting = λ conn. on_one (eqb c conn) (msize_of done conn) _ (waits done conn)
+      (fid_waiting (msize_of done conn) fid fid_given_up (waits done conn) (omega (arith, room_least (msize_of done conn) (h.agreed conn))) (h.waiting conn)) (h.waiting conn);
+  given = h.given;
+}
+deed_shorts done (OfFids c (Attached fid)) own fits h = record { agreed = h.agreed; waiting = h.waiting; given = h.given }
+deed_shorts done (OfFids c (Walked fid node)) own fits h = record { agreed = h.agreed; waiting = h.waiting; given = h.given }
+deed_shorts done (OfFids c (Opened fid mode)) own fits h = record { agreed = h.agreed; waiting = h.waiting; given = h.given }
+deed_shorts done (OfFids c (Listed fid)) own fits h = record { agreed = h.agreed; waiting = h.waiting; given = h.given }
+deed_shorts done (OfFids c (Browsed fid next)) own fits h = record { agreed = h.agreed; waiting = h.waiting; given = h.given }
+deed_shorts done (OfKeys c deed) own fits h = record { agreed = h.agreed; waiting = h.waiting; given = h.given }
+deed_shorts done (OfReplies c (Answered tag body)) own fits h = absurd cc
+deed_shorts done (OfReplies c (Awaited tag fid count)) own fits h = record {
+  agreed = h.agreed;
+  waiting = λ conn. on_it (eqb c conn) (msize_of done conn) _ (waits done conn)
+      (λ on. append_waiting (msize_of done conn) (waits done conn) (record { tag = tag; fid = fid; count = count; reply = None }) (h.waiting conn) (subst (λ (n : ℕ). count ≤ most_read (msize_of done n)) (eqb-true c conn on) fits.size, tt)) (h.waiting conn);
+  given = h.given;
+}
+deed_shorts done (OfReplies c (Settled tag body)) own fits h = record {
+  agreed = h.agreed;
+  waiting = λ conn. on_it (eqb c conn) (msize_of done conn) _ (waits done conn)
+      (λ on. tag_waiting (msize_of done conn) tag body (waits done conn) (subst (λ (n : ℕ). FitsIn (longest_reply (msize_of done n)) body) (eqb-true c conn on)
+      (subst (FitsIn (longest_reply (msize_of done c))) (sym fits.told_so) (told_fits (msize_of done c) fits.wait.count fits.answer (h.agreed c) (found_waiting (msize_of done c) fits.test fits.wait (waits done c) fits.found (h.waiting c)).0))) (h.waiting conn)) (h.waiting conn);
+  given = h.given;
+}
+deed_shorts done (OfReplies c (Flushed tag)) own fits h = record {
+  agreed = h.agreed;
+  waiting = λ conn. on_one (eqb c conn) (msize_of done conn) _ (waits done conn) (filter_waiting (msize_of done conn) (λ (w : Wait). not (eqb w.tag tag)) (waits done conn) (h.waiting conn)) (h.waiting conn);
+  given = h.given;
+}
+deed_shorts done (OfReplies c Taken) own fits h = record { agreed = h.agreed; waiting = h.waiting; given = h.given }
+deed_shorts done (OfConnection c Entered) own fits h = record { agreed = h.agreed; waiting = h.waiting; given = h.given }
+deed_shorts done (OfConnection c Hung) own fits h = record {
+  agreed = deed_agreed c done (OfConnection c Hung) (eq-eqb c c refl) fits h.agreed;
+  waiting = λ conn. dropped (eqb c conn) None (msize_of done conn) (waits done conn) (h.waiting conn);
+  given = h.given;
+}
+deed_shorts done (OfTalk conv call) own fits h = record { agreed = h.agreed; waiting = h.waiting; given = h.given }
+deed_shorts done (Raised conv) own fits h = record { agreed = h.agreed; waiting = h.waiting; given = h.given }
+deed_shorts done HandedOut own fits h = record { agreed = h.agreed; waiting = h.waiting; given = h.given }
+deed_shorts done Swept own fits h = record {
+  agreed = h.agreed;
+  waiting = λ conn. filter_waiting (msize_of done conn) is_unsettled (waits done conn) (h.waiting conn);
+  given = λ conn. both_short (reverse (filter_map reply_in (waits done conn))) (replies done conn)
+      (reversed_short (filter_map reply_in (waits done conn)) (settled_all (msize_of done conn) (waits done conn) (room_most (msize_of done conn) (h.agreed conn)) (h.waiting conn))) (h.given conn);
+}
+deed_shorts done Halted own fits h = record { agreed = λ conn. tt; waiting = λ conn. tt; given = h.given }
+
+asked_short : (at : ℕ) → KeepsOf (is_asked at) Shorts
+asked_short at done deed kind fits h = deed_shorts done deed (other_by_asked at deed kind) fits h
+
+told_short_too : KeepsOf is_told_so Shorts
+told_short_too done deed kind fits h = deed_shorts done deed (other_by_told deed kind) fits h
+
+-- ---- events
+
+reply_short : (on : Bool) (reply : RMsg) (rs : List RMsg) → IsShort reply → AllByRecursion IsShort rs → AllByRecursion IsShort (cond on (reply ∷ rs) rs)
+reply_short true reply rs short h = (short, h)
+reply_short false reply rs short h = h
+
+-- the request's own reply
+replied_short : (call : Call) (o : Option RBody) (done : List Deed) → ((body : RBody) → o ≡ Some body → IsShort (record { tag = call.tag; body = body })) → Shorts done → Shorts (replied call o done)
+replied_short call None done short h = h
+replied_short call (Some body) done short h = record {
+  agreed = h.agreed;
+  waiting = h.waiting;
+  given = λ conn. reply_short (eqb call.conn conn) (record { tag = call.tag; body = body }) (replies done conn) (short body refl) (h.given conn);
+}
+
+own_short : (done : List Deed) (at : ℕ) (frame word : List ℕ) → AllAgreed done → (body : RBody) → body_to done (call_of at frame word) frame ≡ Some body → IsShort (record { tag = tag_of frame; body = body })
 unfolding reply_to
-answered_short done at frame word agreed p conn =
-    let call = call_of at frame word in
-    let before = frame_grows AllShort call (asked_short at) done frame p in
-    let reply = reply_to done at frame word in
-    let short : IsShort reply = omega (arith, no_longer done at frame word (agreed at), room_most (msize_of done at) (agreed at)) in
-    either_short (eqb at conn) (reply ∷ replies (after_frame done call frame) conn) (replies (after_frame done call frame) conn) (All-cons IsShort reply (replies (after_frame done call frame) conn) short (before conn)) (before conn)
+own_short done at frame word agreed body e =
+    let reply : RMsg = record { tag = tag_of frame; body = body } in
+    omega (arith, no_longer done at frame word reply (ap (option_map (λ (b : RBody). record { tag = tag_of frame; body = b })) e) (agreed at), room_most (msize_of done at) (agreed at))
 
-request_short : (done : List Deed) (at : ℕ) (frame word : List ℕ) → AllAgreed done → NoneWaits done → AllShort done → AllShort (does done (Request at frame word))
-request_short done at frame word agreed none p =
+entered_short : (at : ℕ) (done : List Deed) → Shorts done → Shorts (entered at done)
+entered_short at done h = either_way Shorts (was_opened done at) done (OfConnection at Entered ∷ done) h (deed_shorts done (OfConnection at Entered) refl tt h)
+
+request_short : (done : List Deed) (at : ℕ) (frame word : List ℕ) → all_asked done ≡ true → Shorts done → Shorts (does done (Request at frame word))
+request_short done at frame word known h =
     let opened = entered at done in
     let call = call_of at frame word in
-    let after = answered opened call frame in
-    let agreed_too = entered_grows AllAgreed at (said_of_done AllAgreed at (deed_agreed at)) done agreed in
-    let none_too = answered_grows NoneWaits call (said_of_done NoneWaits at (deed_none at)) opened frame (entered_grows NoneWaits at (said_of_done NoneWaits at (deed_none at)) done none) in
-    let all = answered_short opened at frame word agreed_too (entered_short done at p) in
-    either_way AllShort (was_hung done at) done (swept after) p (either_way AllShort (has_settled after) (Swept ∷ after) after (swept_short after none_too all) all)
-  where
-    entered_short : (done : List Deed) (at : ℕ) → AllShort done → AllShort (entered at done)
-    entered_short done at p = either_way AllShort (was_opened done at) done (OfConnection at Entered ∷ done) p p
+    let start = entered_short at done h in
+    let after = frame_grows (Unit {0}) Shorts call (asked_short at) opened frame (entered_known (Unit {0}) at done (λ x. known)) start in
+    either_way Shorts (was_hung done at) done _ h
+    (swept_grows (Unit {0}) Shorts told_short_too (answered opened call frame) (replied_short call (body_to opened call frame) (after_frame opened call frame) (own_short opened at frame word start.agreed) after))
 
-taking_short : (at : ℕ) (left : List RMsg) (done : List Deed) → AllShort done → AllShort (taking at left done)
-taking_short at [] done p = p
-taking_short at (reply ∷ rest) done p = p
+taking_short : (at : ℕ) (left : List RMsg) (done : List Deed) → Shorts done → Shorts (taking at left done)
+taking_short at [] done h = h
+taking_short at (reply ∷ rest) done h = deed_shorts done (OfReplies at Taken) refl tt h
 
-event_short : (e : Event) (done : List Deed) → AllAgreed done → NoneWaits done → AllShort done → AllShort (does done e)
-event_short (Request at frame word) done agreed none p = request_short done at frame word agreed none p
-event_short (Take at) done agreed none p =
-    either_way AllShort (was_hung done at) done (taking at (untaken done at) (entered at done)) p
-    (taking_short at (untaken done at) (entered at done) (either_way AllShort (was_opened done at) done (OfConnection at Entered ∷ done) p p))
-event_short (Hang at) done agreed none p = either_way AllShort (was_opened done at && not (was_hung done at)) (OfConnection at Hung ∷ done) done p p
-event_short Stop done agreed none p = p
-event_short (Answer call bytes) done agreed none p = p
-event_short (NoAnswer call) done agreed none p = p
-event_short (NoRoom call) done agreed none p = p
-event_short TakeAsk done agreed none p = p
+handing_short : (o : Option Question) (done : List Deed) → Shorts done → Shorts (handing o done)
+handing_short None done h = h
+handing_short (Some question) done h = deed_shorts done HandedOut refl tt h
 
-replies_short : (H : History) → AllShort (deeds H)
-replies_short [] = λ conn. All-nil IsShort
-replies_short (e ∷ H) = last_or_not AllShort H e (λ done q. q) (replies_short H) (event_short e (deeds H) (all_agreed H) (none_waits H) (replies_short H))
+event_short : (e : Event) (done : List Deed) → all_asked done ≡ true → Shorts done → Shorts (does done e)
+event_short (Request at frame word) done known h = request_short done at frame word known h
+event_short (Take at) done known h = either_way Shorts (was_hung done at) done (taking at (untaken done at) (entered at done)) h (taking_short at (untaken done at) (entered at done) (entered_short at done h))
+event_short (Hang at) done known h = either_way Shorts (was_opened done at && not (was_hung done at)) (OfConnection at Hung ∷ done) done (deed_shorts done (OfConnection at Hung) refl tt h) h
+event_short Stop done known h = deed_shorts done Halted refl tt h
+event_short (Answer call bytes) done known h = answer_does (Unit {0}) Shorts told_short_too call bytes done (λ x. known) h
+event_short (NoAnswer call) done known h = no_answer_does (Unit {0}) Shorts told_short_too call done (λ x. known) h
+event_short (NoRoom call) done known h = no_room_does (Unit {0}) Shorts told_short_too call done (λ x. known) h
+event_short TakeAsk done known h = handing_short (next_question done) done h
 
-all_reversed : (rs : List RMsg) → AllByRecursion IsShort rs → All IsShort (reverse rs)
-all_reversed [] h = All-nil IsShort
-all_reversed (reply ∷ rs) h = subst (All IsShort) (sym (reverse-append (reply ∷ []) rs)) (All-append IsShort (reverse rs) (reply ∷ []) (all_reversed rs h.1) (All-cons IsShort reply [] h.0 (All-nil IsShort)))
+pub all_short : (H : History) → Shorts (deeds H)
+all_short [] = record { agreed = λ conn. tt; waiting = λ conn. tt; given = λ conn. tt }
+all_short (e ∷ H) = last_or_not Shorts H e (λ done q. deed_shorts done Halted refl tt q) (all_short H) (event_short e (deeds H) (all_are_asked H) (all_short H))
+
+-- no read that waits is of more bytes than may be read
+counts_all : (o : Option ℕ) (ws : List Wait) → Waiting o ws → All (λ (wait : Wait). wait.count ≤ most_read o) ws
+counts_all o [] h = All-nil (λ (wait : Wait). wait.count ≤ most_read o)
+counts_all o (w ∷ ws) h = All-cons (λ (wait : Wait). wait.count ≤ most_read o) w ws h.0.0 (counts_all o ws h.1)
+
+pub counts_fit : (H : History) (conn : ℕ) → All (λ (wait : Wait). wait.count ≤ most_read (msize_of (deeds H) conn)) (waits (deeds H) conn)
+counts_fit H conn = counts_all (msize_of (deeds H) conn) (waits (deeds H) conn) ((all_short H).waiting conn)
+
+to_all : (rs : List RMsg) → AllByRecursion IsShort rs → All IsShort rs
+to_all [] h = All-nil IsShort
+to_all (reply ∷ rs) h = All-cons IsShort reply rs h.0 (to_all rs h.1)
 
 pub frames_no_longer : (H : History) (conn : ℕ) → All (λ (bytes : List ℕ). length bytes ≤ most_msize) (put_out H conn)
 frames_no_longer H conn =
     let rs = replies (deeds H) conn in
-    let all = All-take IsShort (taken (deeds H) conn) (reverse rs) (all_reversed rs (recursion_from_All IsShort rs (replies_short H conn))) in
+    let all = All-take IsShort (taken (deeds H) conn) (reverse rs) (to_all (reverse rs) (reversed_short rs ((all_short H).given conn))) in
     let got = subst (All IsShort) (sym (given_in_order H conn)) all in
     subst (All (λ (bytes : List ℕ). length bytes ≤ most_msize)) (sym (frames_put_out H conn)) (All-map (λ (bytes : List ℕ). length bytes ≤ most_msize) r_frame (given H conn) got)
 
@@ -426,6 +692,9 @@ frames_no_longer H conn =
 
 abbrev TellsVersion : ℕ → RBody → Type 0
 TellsVersion msize body = body ≡ r.Version msize (codes "9P2000")
+
+abbrev SaysVersion : ℕ → Option RBody → Type 0
+SaysVersion msize o = o ≡ Some (r.Version msize (codes "9P2000"))
 
 known_is_told : (known : Bool) (size msize : ℕ) → TellsVersion msize (r.Version size (version_text known)) → cond known (Some size) None ≡ Some msize
 known_is_told true size msize e = let same : size ≡ msize = cc in ap Some same
@@ -435,27 +704,44 @@ not_version : (content : List ℕ) (o : Option (List ℕ)) (msize : ℕ) → Tel
 not_version content None msize e = cc
 not_version content (Some text) msize e = cc
 
-body_told : (done : List Deed) (call : Call) (body : TBody) (msize : ℕ) → TellsVersion msize (reply_of done call body) → msize_of (after done call body) call.conn ≡ Some msize
+abbrev NoVersion : ℕ → RBody → Type 0
+NoVersion msize body = TellsVersion msize body → ⊥
+
+says_it : (body : RBody) (msize : ℕ) → SaysVersion msize (Some body) → TellsVersion msize body
+says_it body msize e = let same : body ≡ r.Version msize (codes "9P2000") = cc in same
+
+not_each : (msize : ℕ) (o : Option RBody) → Each (NoVersion msize) o → SaysVersion msize o → ⊥
+not_each msize None h e = cc
+not_each msize (Some body) h e = h (says_it body msize e)
+
+answer_no_version : (count msize : ℕ) (answer : RpcAnswer) → NoVersion msize (told count answer)
+answer_no_version count msize answer = told_each (NoVersion msize) count answer (λ small e. cc) (λ e. cc)
+
+body_told : (done : List Deed) (call : Call) (body : TBody) (msize : ℕ) → SaysVersion msize (reply_of done call body) → msize_of (after done call body) call.conn ≡ Some msize
 unfolding reply_of after
-body_told done call (t.Version offered version) msize e = rw (eq-eqb call.conn call.conn refl) (known_is_told (is_known version) (min offered most_msize) msize e)
+body_told done call (t.Version offered version) msize e = rw (eq-eqb call.conn call.conn refl) (known_is_told (is_known version) (min offered most_msize) msize (says_it _ msize e))
 body_told done call (t.Auth afid uname aname) msize e = absurd cc
 body_told done call (t.Attach fid afid uname aname) msize e = absurd cc
 body_told done call (t.Flush oldtag) msize e = absurd cc
 body_told done call (t.Walk fid newfid wname) msize e = absurd cc
 body_told done call (t.Open fid mode) msize e = absurd cc
 body_told done call (t.Create fid name perm mode) msize e = absurd cc
-body_told done call (t.Read fid offset count) msize e = absurd cc
-body_told done call (t.Write fid offset content) msize e = absurd (not_version content (lines_fault (keys_of done) (lines_of content)) msize e)
+body_told done call (t.Read fid offset count) msize e =
+    let most = effective count (msize_of done call.conn) in
+    let node = node_of (fid_of done call.conn fid) in
+    absurd (not_each msize _ (read_each (NoVersion msize) done call fid offset most node (λ answer. answer_no_version most msize answer) (λ f. cc)) e)
+body_told done call (t.Write fid offset content) msize e =
+    absurd (not_each msize _ (write_each (NoVersion msize) done content (node_of (fid_of done call.conn fid)) (λ f. cc) (λ o tells. not_version content o msize)) e)
 body_told done call (t.Clunk fid) msize e = absurd cc
 body_told done call (t.Remove fid) msize e = absurd cc
 body_told done call (t.Stat fid) msize e = absurd cc
 body_told done call (t.Wstat fid stat) msize e = absurd cc
 
-granted_told : (done : List Deed) (call : Call) (g : Result TBody (List ℕ)) (msize : ℕ) → TellsVersion msize (body_for done call g) → msize_of (after_granted done call g) call.conn ≡ Some msize
+granted_told : (done : List Deed) (call : Call) (g : Result TBody (List ℕ)) (msize : ℕ) → SaysVersion msize (body_for done call g) → msize_of (after_granted done call g) call.conn ≡ Some msize
 granted_told done call (Err text) msize e = absurd cc
 granted_told done call (Ok body) msize e = body_told done call body msize e
 
-pub told_is_agreed : (done : List Deed) (call : Call) (msize : ℕ) (bytes : List ℕ) → body_to done call bytes ≡ r.Version msize (codes "9P2000") → msize_of (after_frame done call bytes) call.conn ≡ Some msize
+pub told_is_agreed : (done : List Deed) (call : Call) (msize : ℕ) (bytes : List ℕ) → body_to done call bytes ≡ Some (r.Version msize (codes "9P2000")) → msize_of (after_frame done call bytes) call.conn ≡ Some msize
 unfolding body_to after_frame
 told_is_agreed done call msize bytes e = granted_told done call (granted done call bytes) msize e
 
@@ -479,7 +765,11 @@ written_valid : (content : List ℕ) (o : Option (List ℕ)) → Tells o → len
 written_valid content None h small = small
 written_valid content (Some text) h small = told_string text (h text refl)
 
-body_valid : (done : List Deed) (call : Call) (body : TBody) → t_fits body → r_fits (reply_of done call body)
+-- an answer of rpc that is read has a spelling
+answer_valid : (count : ℕ) (answer : RpcAnswer) → count < 2 ^ 32 → r_fits (told count answer)
+answer_valid count answer small = told_each r_fits count answer (λ fitting. omega (arith, fitting, small)) (told_string _ refl)
+
+body_valid : (done : List Deed) (call : Call) (body : TBody) → t_fits body → Each r_fits (reply_of done call body)
 unfolding reply_of
 body_valid done call (t.Version msize version) fits = (omega arith, told_string (version_text (is_known version)) (version_told (is_known version)))
 body_valid done call (t.Auth afid uname aname) fits = told_string _ refl
@@ -491,14 +781,17 @@ body_valid done call (t.Walk fid newfid wname) fits =
 body_valid done call (t.Open fid mode) fits = (qid_fits (node_of (fid_of done call.conn fid)), omega arith)
 body_valid done call (t.Create fid name perm mode) fits = told_string _ refl
 body_valid done call (t.Read fid offset count) fits =
-    omega (arith, fits.1, content_fits done call.conn fid offset (effective count (msize_of done call.conn)) (node_of (fid_of done call.conn fid)), effective_asked count (msize_of done call.conn))
-body_valid done call (t.Write fid offset content) fits = written_valid content _ (lines_tell (keys_of done) (lines_of content)) fits.1
+    let most = effective count (msize_of done call.conn) in
+    let node = node_of (fid_of done call.conn fid) in
+    read_each r_fits done call fid offset most node (λ answer. answer_valid most answer (omega (arith, fits.1, effective_asked count (msize_of done call.conn))))
+    (omega (arith, fits.1, content_fits done call.conn fid offset most node, effective_asked count (msize_of done call.conn)))
+body_valid done call (t.Write fid offset content) fits = write_each r_fits done content (node_of (fid_of done call.conn fid)) fits.1 (λ o tells. written_valid content o tells fits.1)
 body_valid done call (t.Clunk fid) fits = tt
 body_valid done call (t.Remove fid) fits = told_string _ refl
 body_valid done call (t.Stat fid) fits = omega (arith, size_small (node_of (fid_of done call.conn fid)))
 body_valid done call (t.Wstat fid stat) fits = told_string _ refl
 
-granted_valid : (done : List Deed) (call : Call) (g : Result TBody (List ℕ)) → Gives t_fits g → r_fits (body_for done call g)
+granted_valid : (done : List Deed) (call : Call) (g : Result TBody (List ℕ)) → Gives t_fits g → Each r_fits (body_for done call g)
 granted_valid done call (Err text) gives = told_string text (gives.told text refl)
 granted_valid done call (Ok body) gives = body_valid done call body (gives.holds body refl)
 
@@ -514,12 +807,14 @@ each_byte bytes small i = elim (cases_lt i (length bytes)) [
   | inr le ↦ rw (get_or_past bytes i 0 le) (omega arith)
 ]
 
-pub reply_valid : (done : List Deed) (conn : ℕ) (bytes word : List ℕ) → All (λ (b : ℕ). b < 256) bytes → IsReply (r_frame (reply_to done conn bytes word)) (reply_to done conn bytes word)
+pub reply_valid : (done : List Deed) (conn : ℕ) (bytes word : List ℕ) (reply : RMsg) → All (λ (b : ℕ). b < 256) bytes → reply_to done conn bytes word ≡ Some reply → IsReply (r_frame reply) reply
 unfolding reply_to body_to
-reply_valid done conn bytes word small =
+reply_valid done conn bytes word reply small e =
     let are = each_byte bytes small in
     let call = call_of conn bytes word in
-    record { spelling = refl; tag = tag_small bytes are; fields = granted_valid done call (granted done call bytes) (frame_gives t_fits done call bytes (request_fits bytes are)) }
+    let valid = granted_valid done call (granted done call bytes) (frame_gives t_fits done call bytes (request_fits bytes are)) in
+    let parts = each_reply r_fits (body_for done call (granted done call bytes)) (tag_of bytes) reply valid e in
+    record { spelling = refl; tag = subst (λ (n : ℕ). n < 2 ^ 16) parts.0 (tag_small bytes are); fields = parts.1 }
 
-pub reply_read : (done : List Deed) (conn : ℕ) (bytes word : List ℕ) → All (λ (b : ℕ). b < 256) bytes → r_reading (r_frame (reply_to done conn bytes word)) ≡ Ok (reply_to done conn bytes word)
-reply_read done conn bytes word small = reply_again (r_frame (reply_to done conn bytes word)) (reply_to done conn bytes word) (reply_valid done conn bytes word small)
+pub reply_read : (done : List Deed) (conn : ℕ) (bytes word : List ℕ) (reply : RMsg) → All (λ (b : ℕ). b < 256) bytes → reply_to done conn bytes word ≡ Some reply → r_reading (r_frame reply) ≡ Ok reply
+reply_read done conn bytes word reply small e = reply_again (r_frame reply) reply (reply_valid done conn bytes word reply small e)

@@ -1,3 +1,4 @@
+mod AskLaws
 mod GrowLaws
 mod DeedLaws
 mod FidLaws
@@ -14,3 +15,6 @@ mod SecretLaws
 mod AlikeLaws
 mod WriteLaws
 mod ConversationLaws
+mod WaitLaws
+mod EditLaws
+mod PutLaws

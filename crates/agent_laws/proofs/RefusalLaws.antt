@@ -1,13 +1,15 @@
 -- A refused request changes nothing, and of the lines of a write those before the first refused one stand alone.
-use Rattle.std.proofs.Common.{◌≡◌, ℕ, List, [], ◌∷◌, ◌++◌, true, Option, Some, None, refl, ap, ◌∙◌, inl, inr, append-nil}
+use Rattle.std.proofs.Common.{◌≡◌, ℕ, List, [], ◌∷◌, ◌++◌, Bool, true, false, cond, Option, Some, None, refl, ap, ◌∙◌, inl, inr, append-nil}
 use Rattle.std.specs.Prelude.{Result, Ok, Err, ◌⊎◌}
 use Rattle.nine_messages.specs.declared.message.TBody.{TBody}
 use Rattle.nine_messages.specs.declared.message.TBody.TheVariants as t
+use Rattle.nine_messages.specs.declared.message.RBody.{RBody}
 use Rattle.nine_messages.specs.declared.message.RBody.TheVariants as r
+use Rattle.file_tree.specs.Calls.{node_of}
 use Rattle.key_lists.specs.Lists.{KeyList}
 use Rattle.key_lists.specs.CtlLines.{CtlLine, after_lines, carried_out, keys_with, keys_with_all, line_over, lines_fault}
-use Rattle.agent_history.specs.Deeds.{Deed}
-use Rattle.agent_history.specs.Requests.{Call, after, after_frame, after_granted, body_for, body_to, granted, reply_of}
+use Rattle.agent_history.specs.Deeds.{Deed, fid_of}
+use Rattle.agent_history.specs.Requests.{Call, after, after_frame, after_granted, body_for, body_to, granted, is_rpc, reply_of}
 use Rattle.agent_laws.specs.Laws.{HasFirstRefused, IsFirstRefused, may_err_and_act}
 
 -- ---- requests
@@ -16,12 +18,17 @@ pub refused_changes_nothing : (done : List Deed) (call : Call) (frame text : Lis
 unfolding after_frame
 refused_changes_nothing done call frame text e = ap (after_granted done call) e
 
-pub refused_is_told : (done : List Deed) (call : Call) (frame text : List ℕ) → granted done call frame ≡ Err text → body_to done call frame ≡ r.Error text
+pub refused_is_told : (done : List Deed) (call : Call) (frame text : List ℕ) → granted done call frame ≡ Err text → body_to done call frame ≡ Some (r.Error text)
 unfolding body_to
 refused_is_told done call frame text e = ap (body_for done call) e
 
+-- a read of another file is answered by no error
+read_errs : (X : Type 0) (b : Bool) (o : Option RBody) (content text : List ℕ) → cond b o (Some (r.Read content)) ≡ Some (r.Error text) → X ⊎ (b ≡ true)
+read_errs X true o content text e = inr refl
+read_errs X false o content text e = absurd cc
+
 -- a request that is carried out and answered by an error changes nothing, but for those that may err and act
-body_errs : (done : List Deed) (call : Call) (body : TBody) (text : List ℕ) → reply_of done call body ≡ r.Error text → (after done call body ≡ done) ⊎ (may_err_and_act done call body ≡ true)
+body_errs : (done : List Deed) (call : Call) (body : TBody) (text : List ℕ) → reply_of done call body ≡ Some (r.Error text) → (after done call body ≡ done) ⊎ (may_err_and_act done call body ≡ true)
 unfolding reply_of after
 body_errs done call (t.Version msize version) text e = absurd cc
 body_errs done call (t.Auth afid uname aname) text e = inl refl
@@ -30,19 +37,19 @@ body_errs done call (t.Flush oldtag) text e = absurd cc
 body_errs done call (t.Walk fid newfid wname) text e = absurd cc
 body_errs done call (t.Open fid mode) text e = absurd cc
 body_errs done call (t.Create fid name perm mode) text e = inl refl
-body_errs done call (t.Read fid offset count) text e = absurd cc
+body_errs done call (t.Read fid offset count) text e = read_errs _ (is_rpc (node_of (fid_of done call.conn fid))) _ _ text e
 body_errs done call (t.Write fid offset content) text e = inr refl
 body_errs done call (t.Clunk fid) text e = absurd cc
 body_errs done call (t.Remove fid) text e = inr refl
 body_errs done call (t.Stat fid) text e = inl refl
 body_errs done call (t.Wstat fid stat) text e = inl refl
 
-granted_errs : (done : List Deed) (call : Call) (g : Result TBody (List ℕ)) (text : List ℕ) → body_for done call g ≡ r.Error text
+granted_errs : (done : List Deed) (call : Call) (g : Result TBody (List ℕ)) (text : List ℕ) → body_for done call g ≡ Some (r.Error text)
     → (after_granted done call g ≡ done) ⊎ ((body : TBody) × (g ≡ Ok body) × (may_err_and_act done call body ≡ true))
 granted_errs done call (Err other) text e = inl refl
 granted_errs done call (Ok body) text e = elim (body_errs done call body text e) [ inl same ↦ inl same | inr acts ↦ inr (body, refl, acts) ]
 
-pub error_changes_nothing : (done : List Deed) (call : Call) (frame text : List ℕ) → body_to done call frame ≡ r.Error text
+pub error_changes_nothing : (done : List Deed) (call : Call) (frame text : List ℕ) → body_to done call frame ≡ Some (r.Error text)
     → (after_frame done call frame ≡ done) ⊎ ((body : TBody) × (granted done call frame ≡ Ok body) × (may_err_and_act done call body ≡ true))
 unfolding body_to after_frame
 error_changes_nothing done call frame text e = granted_errs done call (granted done call frame) text e

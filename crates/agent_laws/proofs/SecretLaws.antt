@@ -1,8 +1,8 @@
 -- What is read off the deeds stays when the secrets of the keys added are hidden, and so does what is answered.
-use Rattle.std.proofs.Common.{◌≡◌, ℕ, List, [], ◌∷◌, map, Bool, true, false, cond, eqb, ◌&&◌, not, Option, Some, None, refl, sym, ap, ◌∙◌, codes}
-use Rattle.std.specs.Prelude.{Result, Ok, Err, option_map}
-use Rattle.std.specs.List.{list_any}
-use Rattle.std.proofs.lemmas.Bool.{and_parts, not-true}
+use Rattle.std.proofs.Common.{◌≡◌, ℕ, List, [], ◌∷◌, ◌++◌, length, map, Bool, true, false, cond, eqb, ◌&&◌, ◌||◌, not, Option, Some, None, refl, sym, ap, ◌∙◌, codes}
+use Rattle.std.specs.Prelude.{Result, Ok, Err, find, option_map}
+use Rattle.std.specs.List.{filter, list_any}
+use Rattle.std.proofs.lemmas.Bool.{and_parts, not-true, or_parts}
 use Rattle.nine_messages.specs.declared.message.TMsg.{TMsg}
 use Rattle.nine_messages.specs.declared.message.RBody.{RBody}
 use Rattle.nine_messages.specs.declared.message.RBody.TheVariants as r
@@ -12,7 +12,7 @@ use Rattle.nine_messages.specs.Decoding.{request_of}
 use Rattle.file_tree.specs.declared.tree.Node.{Node}
 use Rattle.file_tree.specs.declared.tree.Node.TheVariants.{Root, Factotum, Rpc, Ctl, Confirm, Needkey, Proto, Log}
 use Rattle.file_tree.specs.declared.tree.FidState.{FidState}
-use Rattle.file_tree.specs.Tree.{lead_to}
+use Rattle.file_tree.specs.Tree.{file, lead_to}
 use Rattle.file_tree.specs.Directories.{dir_end}
 use Rattle.file_tree.specs.Calls.{node_of}
 use Rattle.attr_tuples.specs.declared.attr.Attr.{Attr}
@@ -24,13 +24,17 @@ use Rattle.key_lists.specs.Lists.{KeyList, added, deleted, delete_fault, tells_s
 use Rattle.key_lists.specs.Edits.{KeyEdit, Add, Delete}
 use Rattle.key_lists.specs.Listing.{list_text}
 use Rattle.key_lists.specs.CtlLines.{CtlLine, OnKeys, Debug, carried_out, delete_text, keys_with, line_fault, line_over, lines_fault, lines_of, read_line}
-use Rattle.agent_history.specs.Deeds.{Deed, OfFids, OfKeys, OfReplies, OfConnection, Swept, Halted, Versioned, Attached, Walked, Opened, Listed, Browsed, Clunked, Edited, Switched, Answered, Awaited, Settled, Flushed, Taken, Entered, Hung, fid_of, held_by, holder_of, is_halted, keys_of, msize_of, next_of, text_of, was_hung, was_opened}
+use Rattle.rpc_file.specs.Requests.{request_of as request_in}
+use Rattle.talks.specs.Calls as calls
+use Rattle.talks.specs.Standings.{standing}
+use Rattle.agent_history.specs.Deeds.{Deed, OfFids, OfKeys, OfReplies, OfConnection, OfTalk, Raised, HandedOut, Swept, Halted, Versioned, Attached, Walked, Opened, Listed, Browsed, Clunked, Edited, Switched, Answered, Awaited, Settled, Flushed, Taken, Entered, Hung, fid_of, held_by, holder_of, is_halted, keys_of, msize_of, next_of, text_of, was_hung, was_opened, names}
 use Rattle.agent_history.specs.Replies.{has_settled, replies, taken, waits}
-use Rattle.agent_history.specs.Requests.{Call, call_of, tag_of, after, after_frame, after_granted, agreed, body_for, body_to, content_of, effective, granted, granted_body, is_over, lines_done, reading, refusal, reply_of, walking, written}
+use Rattle.agent_history.specs.Conversations.{Speaker, conv_of, hand_first, of_speakers, opened_talks, questions, raised, speakers, talk}
+use Rattle.agent_history.specs.Requests.{Call, call_of, tag_of, after, after_frame, after_granted, agreed, body_for, body_to, content_of, effective, granted, granted_body, is_over, is_rpc, lines_done, phase_in, phase_of, read_reply, reading, reading_file, reading_talk, refusal, reply_of, stored, talk_read, walking, write_reply, writing, written}
 use Rattle.agent_history.specs.declared.event.Event.{Event}
 use Rattle.agent_history.specs.Histories.{History, deeds, does}
-use Rattle.agent_laws.specs.Laws.{SameButSecrets, all_open, hidden_deed, hidden_edit, is_open_deed, is_open_edit, reply_to}
-use Rattle.agent_laws.proofs.GrowLaws.{Fits, KeepsOf, choice_none, conn_of, does_grows, frame_grows, history_grows, is_asked, is_done, is_line, line_is_right, lines_grow, of_message, on_its_own, said_over, unless_wrong}
+use Rattle.agent_laws.specs.Laws.{SameButSecrets, all_asked, all_open, has_conversed, hidden_deed, hidden_edit, is_open_deed, is_open_edit, reply_to}
+use Rattle.agent_laws.proofs.GrowLaws.{FitsIf, KeepsIf, choice_none, conn_of, does_grows, frame_grows, history_grows, is_asked, is_done, is_line, line_is_right, lines_grow, of_message, on_its_own, said_over, unless_wrong}
 use Rattle.agent_laws.proofs.RefusalLaws.{then_fault, then_lines}
 use Rattle.agent_laws.proofs.HiddenLaws.{hidden_list, added_hidden, deleted_hidden, line_fault_hidden, list_text_hidden}
 
@@ -46,6 +50,9 @@ keys_hidden (OfKeys at Switched ∷ done) o = keys_hidden done o
 keys_hidden (OfFids at deed ∷ done) o = keys_hidden done o
 keys_hidden (OfReplies at deed ∷ done) o = keys_hidden done o
 keys_hidden (OfConnection at deed ∷ done) o = keys_hidden done o
+keys_hidden (OfTalk talker call ∷ done) o = keys_hidden done o
+keys_hidden (Raised talker ∷ done) o = keys_hidden done o
+keys_hidden (HandedOut ∷ done) o = keys_hidden done o
 keys_hidden (Swept ∷ done) o = keys_hidden done o
 keys_hidden (Halted ∷ done) o = keys_hidden done o
 
@@ -70,6 +77,9 @@ msize_hidden (OfReplies at (Flushed tag) ∷ done) conn = msize_hidden done conn
 msize_hidden (OfReplies at Taken ∷ done) conn = msize_hidden done conn
 msize_hidden (OfConnection at Entered ∷ done) conn = msize_hidden done conn
 msize_hidden (OfConnection at Hung ∷ done) conn = rw (msize_hidden done conn) refl
+msize_hidden (OfTalk talker call ∷ done) conn = msize_hidden done conn
+msize_hidden (Raised talker ∷ done) conn = msize_hidden done conn
+msize_hidden (HandedOut ∷ done) conn = msize_hidden done conn
 msize_hidden (Swept ∷ done) conn = msize_hidden done conn
 msize_hidden (Halted ∷ done) conn = refl
 
@@ -91,6 +101,9 @@ fid_hidden (OfReplies at (Flushed tag) ∷ done) conn fid = fid_hidden done conn
 fid_hidden (OfReplies at Taken ∷ done) conn fid = fid_hidden done conn fid
 fid_hidden (OfConnection at Entered ∷ done) conn fid = fid_hidden done conn fid
 fid_hidden (OfConnection at Hung ∷ done) conn fid = rw (fid_hidden done conn fid) refl
+fid_hidden (OfTalk talker call ∷ done) conn fid = fid_hidden done conn fid
+fid_hidden (Raised talker ∷ done) conn fid = fid_hidden done conn fid
+fid_hidden (HandedOut ∷ done) conn fid = fid_hidden done conn fid
 fid_hidden (Swept ∷ done) conn fid = fid_hidden done conn fid
 fid_hidden (Halted ∷ done) conn fid = refl
 
@@ -112,6 +125,9 @@ held_hidden (OfReplies at (Flushed tag) ∷ done) conn = held_hidden done conn
 held_hidden (OfReplies at Taken ∷ done) conn = held_hidden done conn
 held_hidden (OfConnection at Entered ∷ done) conn = held_hidden done conn
 held_hidden (OfConnection at Hung ∷ done) conn = rw (held_hidden done conn) refl
+held_hidden (OfTalk talker call ∷ done) conn = held_hidden done conn
+held_hidden (Raised talker ∷ done) conn = held_hidden done conn
+held_hidden (HandedOut ∷ done) conn = held_hidden done conn
 held_hidden (Swept ∷ done) conn = held_hidden done conn
 held_hidden (Halted ∷ done) conn = refl
 
@@ -133,6 +149,9 @@ next_hidden (OfReplies at (Flushed tag) ∷ done) conn fid = next_hidden done co
 next_hidden (OfReplies at Taken ∷ done) conn fid = next_hidden done conn fid
 next_hidden (OfConnection at Entered ∷ done) conn fid = next_hidden done conn fid
 next_hidden (OfConnection at Hung ∷ done) conn fid = rw (next_hidden done conn fid) refl
+next_hidden (OfTalk talker call ∷ done) conn fid = next_hidden done conn fid
+next_hidden (Raised talker ∷ done) conn fid = next_hidden done conn fid
+next_hidden (HandedOut ∷ done) conn fid = next_hidden done conn fid
 next_hidden (Swept ∷ done) conn fid = next_hidden done conn fid
 next_hidden (Halted ∷ done) conn fid = refl
 
@@ -154,6 +173,9 @@ holder_hidden (OfReplies at (Flushed tag) ∷ done) node = holder_hidden done no
 holder_hidden (OfReplies at Taken ∷ done) node = holder_hidden done node
 holder_hidden (OfConnection at Entered ∷ done) node = holder_hidden done node
 holder_hidden (OfConnection at Hung ∷ done) node = rw (holder_hidden done node) refl
+holder_hidden (OfTalk talker call ∷ done) node = holder_hidden done node
+holder_hidden (Raised talker ∷ done) node = holder_hidden done node
+holder_hidden (HandedOut ∷ done) node = holder_hidden done node
 holder_hidden (Swept ∷ done) node = holder_hidden done node
 holder_hidden (Halted ∷ done) node = refl
 
@@ -175,6 +197,9 @@ waits_hidden (OfReplies at (Flushed tag) ∷ done) conn = rw (waits_hidden done 
 waits_hidden (OfReplies at Taken ∷ done) conn = waits_hidden done conn
 waits_hidden (OfConnection at Entered ∷ done) conn = waits_hidden done conn
 waits_hidden (OfConnection at Hung ∷ done) conn = rw (waits_hidden done conn) refl
+waits_hidden (OfTalk talker call ∷ done) conn = waits_hidden done conn
+waits_hidden (Raised talker ∷ done) conn = waits_hidden done conn
+waits_hidden (HandedOut ∷ done) conn = waits_hidden done conn
 waits_hidden (Swept ∷ done) conn = rw (waits_hidden done conn) refl
 waits_hidden (Halted ∷ done) conn = refl
 
@@ -196,6 +221,9 @@ settled_hidden (OfReplies at (Flushed tag) ∷ done) = settled_hidden done
 settled_hidden (OfReplies at Taken ∷ done) = settled_hidden done
 settled_hidden (OfConnection at Entered ∷ done) = settled_hidden done
 settled_hidden (OfConnection at Hung ∷ done) = settled_hidden done
+settled_hidden (OfTalk talker call ∷ done) = settled_hidden done
+settled_hidden (Raised talker ∷ done) = settled_hidden done
+settled_hidden (HandedOut ∷ done) = settled_hidden done
 settled_hidden (Swept ∷ done) = refl
 settled_hidden (Halted ∷ done) = refl
 
@@ -217,6 +245,9 @@ replies_hidden (OfReplies at (Flushed tag) ∷ done) conn = replies_hidden done 
 replies_hidden (OfReplies at Taken ∷ done) conn = replies_hidden done conn
 replies_hidden (OfConnection at Entered ∷ done) conn = replies_hidden done conn
 replies_hidden (OfConnection at Hung ∷ done) conn = replies_hidden done conn
+replies_hidden (OfTalk talker call ∷ done) conn = replies_hidden done conn
+replies_hidden (Raised talker ∷ done) conn = replies_hidden done conn
+replies_hidden (HandedOut ∷ done) conn = replies_hidden done conn
 replies_hidden (Swept ∷ done) conn = rw (replies_hidden done conn, waits_hidden done conn) refl
 replies_hidden (Halted ∷ done) conn = replies_hidden done conn
 
@@ -238,6 +269,9 @@ taken_hidden (OfReplies at (Flushed tag) ∷ done) conn = taken_hidden done conn
 taken_hidden (OfReplies at Taken ∷ done) conn = rw (taken_hidden done conn, replies_hidden done conn) refl
 taken_hidden (OfConnection at Entered ∷ done) conn = taken_hidden done conn
 taken_hidden (OfConnection at Hung ∷ done) conn = taken_hidden done conn
+taken_hidden (OfTalk talker call ∷ done) conn = taken_hidden done conn
+taken_hidden (Raised talker ∷ done) conn = taken_hidden done conn
+taken_hidden (HandedOut ∷ done) conn = taken_hidden done conn
 taken_hidden (Swept ∷ done) conn = taken_hidden done conn
 taken_hidden (Halted ∷ done) conn = taken_hidden done conn
 
@@ -259,6 +293,9 @@ opened_hidden (OfReplies at (Flushed tag) ∷ done) conn = opened_hidden done co
 opened_hidden (OfReplies at Taken ∷ done) conn = opened_hidden done conn
 opened_hidden (OfConnection at Entered ∷ done) conn = rw (opened_hidden done conn) refl
 opened_hidden (OfConnection at Hung ∷ done) conn = opened_hidden done conn
+opened_hidden (OfTalk talker call ∷ done) conn = opened_hidden done conn
+opened_hidden (Raised talker ∷ done) conn = opened_hidden done conn
+opened_hidden (HandedOut ∷ done) conn = opened_hidden done conn
 opened_hidden (Swept ∷ done) conn = opened_hidden done conn
 opened_hidden (Halted ∷ done) conn = opened_hidden done conn
 
@@ -280,6 +317,9 @@ hung_hidden (OfReplies at (Flushed tag) ∷ done) conn = hung_hidden done conn
 hung_hidden (OfReplies at Taken ∷ done) conn = hung_hidden done conn
 hung_hidden (OfConnection at Entered ∷ done) conn = hung_hidden done conn
 hung_hidden (OfConnection at Hung ∷ done) conn = rw (hung_hidden done conn) refl
+hung_hidden (OfTalk talker call ∷ done) conn = hung_hidden done conn
+hung_hidden (Raised talker ∷ done) conn = hung_hidden done conn
+hung_hidden (HandedOut ∷ done) conn = hung_hidden done conn
 hung_hidden (Swept ∷ done) conn = hung_hidden done conn
 hung_hidden (Halted ∷ done) conn = hung_hidden done conn
 
@@ -301,6 +341,9 @@ halted_hidden (OfReplies at (Flushed tag) ∷ done) = halted_hidden done
 halted_hidden (OfReplies at Taken ∷ done) = halted_hidden done
 halted_hidden (OfConnection at Entered ∷ done) = halted_hidden done
 halted_hidden (OfConnection at Hung ∷ done) = halted_hidden done
+halted_hidden (OfTalk talker call ∷ done) = halted_hidden done
+halted_hidden (Raised talker ∷ done) = halted_hidden done
+halted_hidden (HandedOut ∷ done) = halted_hidden done
 halted_hidden (Swept ∷ done) = halted_hidden done
 halted_hidden (Halted ∷ done) = refl
 
@@ -322,8 +365,208 @@ text_hidden (OfReplies at (Flushed tag) ∷ done) o conn fid = text_hidden done 
 text_hidden (OfReplies at Taken ∷ done) o conn fid = text_hidden done o conn fid
 text_hidden (OfConnection at Entered ∷ done) o conn fid = text_hidden done o conn fid
 text_hidden (OfConnection at Hung ∷ done) o conn fid = rw (text_hidden done o conn fid) refl
+text_hidden (OfTalk talker call ∷ done) o conn fid = text_hidden done o conn fid
+text_hidden (Raised talker ∷ done) o conn fid = text_hidden done o conn fid
+text_hidden (HandedOut ∷ done) o conn fid = text_hidden done o conn fid
 text_hidden (Swept ∷ done) o conn fid = text_hidden done o conn fid
 text_hidden (Halted ∷ done) o conn fid = refl
+
+opened_talks_hidden : (done : List Deed) → opened_talks (map hidden_deed done) ≡ opened_talks done
+opened_talks_hidden [] = refl
+opened_talks_hidden (OfFids at (Versioned msize) ∷ done) = opened_talks_hidden done
+opened_talks_hidden (OfFids at (Attached f) ∷ done) = opened_talks_hidden done
+opened_talks_hidden (OfFids at (Walked f to) ∷ done) = opened_talks_hidden done
+opened_talks_hidden (OfFids at (Opened f mode) ∷ done) = rw (fid_hidden done at f, opened_talks_hidden done) refl
+opened_talks_hidden (OfFids at (Listed f) ∷ done) = opened_talks_hidden done
+opened_talks_hidden (OfFids at (Browsed f place) ∷ done) = opened_talks_hidden done
+opened_talks_hidden (OfFids at (Clunked f) ∷ done) = opened_talks_hidden done
+opened_talks_hidden (OfKeys at (Edited edit) ∷ done) = opened_talks_hidden done
+opened_talks_hidden (OfKeys at Switched ∷ done) = opened_talks_hidden done
+opened_talks_hidden (OfReplies at (Answered tag body) ∷ done) = opened_talks_hidden done
+opened_talks_hidden (OfReplies at (Awaited tag f count) ∷ done) = opened_talks_hidden done
+opened_talks_hidden (OfReplies at (Settled tag body) ∷ done) = opened_talks_hidden done
+opened_talks_hidden (OfReplies at (Flushed tag) ∷ done) = opened_talks_hidden done
+opened_talks_hidden (OfReplies at Taken ∷ done) = opened_talks_hidden done
+opened_talks_hidden (OfConnection at Entered ∷ done) = opened_talks_hidden done
+opened_talks_hidden (OfConnection at Hung ∷ done) = opened_talks_hidden done
+opened_talks_hidden (OfTalk talker call ∷ done) = opened_talks_hidden done
+opened_talks_hidden (Raised talker ∷ done) = opened_talks_hidden done
+opened_talks_hidden (HandedOut ∷ done) = opened_talks_hidden done
+opened_talks_hidden (Swept ∷ done) = opened_talks_hidden done
+opened_talks_hidden (Halted ∷ done) = opened_talks_hidden done
+
+speakers_hidden : (done : List Deed) → speakers (map hidden_deed done) ≡ speakers done
+speakers_hidden [] = refl
+speakers_hidden (OfFids at (Versioned msize) ∷ done) = rw (speakers_hidden done) refl
+speakers_hidden (OfFids at (Attached f) ∷ done) = speakers_hidden done
+speakers_hidden (OfFids at (Walked f to) ∷ done) = speakers_hidden done
+speakers_hidden (OfFids at (Opened f mode) ∷ done) = rw (fid_hidden done at f, opened_talks_hidden done, speakers_hidden done) refl
+speakers_hidden (OfFids at (Listed f) ∷ done) = speakers_hidden done
+speakers_hidden (OfFids at (Browsed f place) ∷ done) = speakers_hidden done
+speakers_hidden (OfFids at (Clunked f) ∷ done) = rw (speakers_hidden done) refl
+speakers_hidden (OfKeys at (Edited edit) ∷ done) = speakers_hidden done
+speakers_hidden (OfKeys at Switched ∷ done) = speakers_hidden done
+speakers_hidden (OfReplies at (Answered tag body) ∷ done) = speakers_hidden done
+speakers_hidden (OfReplies at (Awaited tag f count) ∷ done) = speakers_hidden done
+speakers_hidden (OfReplies at (Settled tag body) ∷ done) = speakers_hidden done
+speakers_hidden (OfReplies at (Flushed tag) ∷ done) = speakers_hidden done
+speakers_hidden (OfReplies at Taken ∷ done) = speakers_hidden done
+speakers_hidden (OfConnection at Entered ∷ done) = speakers_hidden done
+speakers_hidden (OfConnection at Hung ∷ done) = rw (speakers_hidden done) refl
+speakers_hidden (OfTalk talker call ∷ done) = speakers_hidden done
+speakers_hidden (Raised talker ∷ done) = speakers_hidden done
+speakers_hidden (HandedOut ∷ done) = speakers_hidden done
+speakers_hidden (Swept ∷ done) = speakers_hidden done
+speakers_hidden (Halted ∷ done) = refl
+
+talk_hidden : (done : List Deed) (conv : ℕ) → talk (map hidden_deed done) conv ≡ talk done conv
+talk_hidden [] conv = refl
+talk_hidden (OfFids at (Versioned msize) ∷ done) conv = talk_hidden done conv
+talk_hidden (OfFids at (Attached f) ∷ done) conv = talk_hidden done conv
+talk_hidden (OfFids at (Walked f to) ∷ done) conv = talk_hidden done conv
+talk_hidden (OfFids at (Opened f mode) ∷ done) conv = talk_hidden done conv
+talk_hidden (OfFids at (Listed f) ∷ done) conv = talk_hidden done conv
+talk_hidden (OfFids at (Browsed f place) ∷ done) conv = talk_hidden done conv
+talk_hidden (OfFids at (Clunked f) ∷ done) conv = talk_hidden done conv
+talk_hidden (OfKeys at (Edited edit) ∷ done) conv = talk_hidden done conv
+talk_hidden (OfKeys at Switched ∷ done) conv = talk_hidden done conv
+talk_hidden (OfReplies at (Answered tag body) ∷ done) conv = talk_hidden done conv
+talk_hidden (OfReplies at (Awaited tag f count) ∷ done) conv = talk_hidden done conv
+talk_hidden (OfReplies at (Settled tag body) ∷ done) conv = talk_hidden done conv
+talk_hidden (OfReplies at (Flushed tag) ∷ done) conv = talk_hidden done conv
+talk_hidden (OfReplies at Taken ∷ done) conv = talk_hidden done conv
+talk_hidden (OfConnection at Entered ∷ done) conv = talk_hidden done conv
+talk_hidden (OfConnection at Hung ∷ done) conv = talk_hidden done conv
+talk_hidden (OfTalk talker call ∷ done) conv = rw (talk_hidden done conv) refl
+talk_hidden (Raised talker ∷ done) conv = talk_hidden done conv
+talk_hidden (HandedOut ∷ done) conv = talk_hidden done conv
+talk_hidden (Swept ∷ done) conv = talk_hidden done conv
+talk_hidden (Halted ∷ done) conv = talk_hidden done conv
+
+raised_hidden : (done : List Deed) → raised (map hidden_deed done) ≡ raised done
+raised_hidden [] = refl
+raised_hidden (OfFids at (Versioned msize) ∷ done) = raised_hidden done
+raised_hidden (OfFids at (Attached f) ∷ done) = raised_hidden done
+raised_hidden (OfFids at (Walked f to) ∷ done) = raised_hidden done
+raised_hidden (OfFids at (Opened f mode) ∷ done) = raised_hidden done
+raised_hidden (OfFids at (Listed f) ∷ done) = raised_hidden done
+raised_hidden (OfFids at (Browsed f place) ∷ done) = raised_hidden done
+raised_hidden (OfFids at (Clunked f) ∷ done) = raised_hidden done
+raised_hidden (OfKeys at (Edited edit) ∷ done) = raised_hidden done
+raised_hidden (OfKeys at Switched ∷ done) = raised_hidden done
+raised_hidden (OfReplies at (Answered tag body) ∷ done) = raised_hidden done
+raised_hidden (OfReplies at (Awaited tag f count) ∷ done) = raised_hidden done
+raised_hidden (OfReplies at (Settled tag body) ∷ done) = raised_hidden done
+raised_hidden (OfReplies at (Flushed tag) ∷ done) = raised_hidden done
+raised_hidden (OfReplies at Taken ∷ done) = raised_hidden done
+raised_hidden (OfConnection at Entered ∷ done) = raised_hidden done
+raised_hidden (OfConnection at Hung ∷ done) = raised_hidden done
+raised_hidden (OfTalk talker call ∷ done) = raised_hidden done
+raised_hidden (Raised talker ∷ done) = rw (raised_hidden done) refl
+raised_hidden (HandedOut ∷ done) = raised_hidden done
+raised_hidden (Swept ∷ done) = raised_hidden done
+raised_hidden (Halted ∷ done) = raised_hidden done
+
+-- the questions of the conversations that stand
+left_hidden : (deed : Deed) (done : List Deed) → speakers (deed ∷ map hidden_deed done) ≡ speakers (deed ∷ done) → questions (map hidden_deed done) ≡ questions done
+    → of_speakers (speakers (deed ∷ map hidden_deed done)) (questions (map hidden_deed done)) ≡ of_speakers (speakers (deed ∷ done)) (questions done)
+left_hidden deed done e f = ap (λ (standing : List Speaker). of_speakers standing (questions (map hidden_deed done))) e ∙ ap (of_speakers (speakers (deed ∷ done))) f
+
+met_hidden : (conv : ℕ) (call : calls.Call) (done : List Deed) → questions (map hidden_deed done) ≡ questions done → questions (OfTalk conv call ∷ map hidden_deed done) ≡ questions (OfTalk conv call ∷ done)
+met_hidden conv (calls.Heard bytes) done e = rw e refl
+met_hidden conv calls.Unheard done e = rw e refl
+met_hidden conv calls.Roomless done e = rw e refl
+met_hidden conv (calls.Stored request) done e = e
+met_hidden conv (calls.CarriedOut word) done e = e
+met_hidden conv (calls.Sought found) done e = e
+met_hidden conv (calls.Consented agrees) done e = e
+met_hidden conv calls.KeyTold done e = e
+met_hidden conv calls.Shut done e = e
+met_hidden conv calls.Took done e = e
+
+questions_hidden : (done : List Deed) → questions (map hidden_deed done) ≡ questions done
+questions_hidden [] = refl
+questions_hidden (OfFids at deed ∷ done) = left_hidden (OfFids at deed) done (speakers_hidden (OfFids at deed ∷ done)) (questions_hidden done)
+questions_hidden (OfConnection at deed ∷ done) = left_hidden (OfConnection at deed) done (speakers_hidden (OfConnection at deed ∷ done)) (questions_hidden done)
+questions_hidden (OfKeys at (Edited edit) ∷ done) = questions_hidden done
+questions_hidden (OfKeys at Switched ∷ done) = questions_hidden done
+questions_hidden (OfReplies at deed ∷ done) = questions_hidden done
+questions_hidden (OfTalk talker call ∷ done) = met_hidden talker call done (questions_hidden done)
+questions_hidden (Raised talker ∷ done) = rw (questions_hidden done, raised_hidden done) refl
+questions_hidden (HandedOut ∷ done) = ap hand_first (questions_hidden done)
+questions_hidden (Swept ∷ done) = questions_hidden done
+questions_hidden (Halted ∷ done) = refl
+
+conversed_hidden : (done : List Deed) → has_conversed (map hidden_deed done) ≡ has_conversed done
+conversed_hidden [] = refl
+conversed_hidden (OfFids at (Versioned msize) ∷ done) = conversed_hidden done
+conversed_hidden (OfFids at (Attached f) ∷ done) = conversed_hidden done
+conversed_hidden (OfFids at (Walked f to) ∷ done) = conversed_hidden done
+conversed_hidden (OfFids at (Opened f mode) ∷ done) = rw (fid_hidden done at f, conversed_hidden done) refl
+conversed_hidden (OfFids at (Listed f) ∷ done) = conversed_hidden done
+conversed_hidden (OfFids at (Browsed f place) ∷ done) = conversed_hidden done
+conversed_hidden (OfFids at (Clunked f) ∷ done) = conversed_hidden done
+conversed_hidden (OfKeys at (Edited edit) ∷ done) = conversed_hidden done
+conversed_hidden (OfKeys at Switched ∷ done) = conversed_hidden done
+conversed_hidden (OfReplies at (Answered tag body) ∷ done) = conversed_hidden done
+conversed_hidden (OfReplies at (Awaited tag f count) ∷ done) = conversed_hidden done
+conversed_hidden (OfReplies at (Settled tag body) ∷ done) = conversed_hidden done
+conversed_hidden (OfReplies at (Flushed tag) ∷ done) = conversed_hidden done
+conversed_hidden (OfReplies at Taken ∷ done) = conversed_hidden done
+conversed_hidden (OfConnection at Entered ∷ done) = conversed_hidden done
+conversed_hidden (OfConnection at Hung ∷ done) = conversed_hidden done
+conversed_hidden (OfTalk talker call ∷ done) = conversed_hidden done
+conversed_hidden (Raised talker ∷ done) = conversed_hidden done
+conversed_hidden (HandedOut ∷ done) = conversed_hidden done
+conversed_hidden (Swept ∷ done) = conversed_hidden done
+conversed_hidden (Halted ∷ done) = conversed_hidden done
+
+-- ---- where no conversation was opened none stands
+
+named_is_rpc : (node : Node) → is_rpc node ≡ false → eqb (file node).path (file Rpc).path ≡ false
+named_is_rpc Rpc e = absurd cc
+named_is_rpc Root e = refl
+named_is_rpc Factotum e = refl
+named_is_rpc Ctl e = refl
+named_is_rpc Confirm e = refl
+named_is_rpc Needkey e = refl
+named_is_rpc Proto e = refl
+named_is_rpc Log e = refl
+
+not_named : (o : Option FidState) → is_rpc (node_of o) ≡ false → names Rpc o ≡ false
+not_named None e = refl
+not_named (Some state) e = named_is_rpc state.node e
+
+opens_none : (o : Option FidState) (more : List Speaker) (s : Speaker) (c : Bool) → (is_rpc (node_of o) || c) ≡ false → (c ≡ false → more ≡ []) → cond (names Rpc o) (more ++ s ∷ []) more ≡ []
+opens_none o more s c e f = let parts = or_parts (is_rpc (node_of o)) c e in rw (not_named o parts.0) (f parts.1)
+
+pub none_speaks : (done : List Deed) → has_conversed done ≡ false → speakers done ≡ []
+none_speaks [] e = refl
+none_speaks (OfFids at (Versioned msize) ∷ done) e = ap (filter (λ (s : Speaker). not (eqb s.conn at))) (none_speaks done e)
+none_speaks (OfFids at (Attached f) ∷ done) e = none_speaks done e
+none_speaks (OfFids at (Walked f to) ∷ done) e = none_speaks done e
+none_speaks (OfFids at (Opened f mode) ∷ done) e = opens_none (fid_of done at f) (speakers done) (record { conv = opened_talks done; conn = at; fid = f }) (has_conversed done) e (none_speaks done)
+none_speaks (OfFids at (Listed f) ∷ done) e = none_speaks done e
+none_speaks (OfFids at (Browsed f place) ∷ done) e = none_speaks done e
+none_speaks (OfFids at (Clunked f) ∷ done) e = ap (filter (λ (s : Speaker). not (eqb s.conn at && eqb s.fid f))) (none_speaks done e)
+none_speaks (OfKeys at (Edited edit) ∷ done) e = none_speaks done e
+none_speaks (OfKeys at Switched ∷ done) e = none_speaks done e
+none_speaks (OfReplies at (Answered tag body) ∷ done) e = none_speaks done e
+none_speaks (OfReplies at (Awaited tag f count) ∷ done) e = none_speaks done e
+none_speaks (OfReplies at (Settled tag body) ∷ done) e = none_speaks done e
+none_speaks (OfReplies at (Flushed tag) ∷ done) e = none_speaks done e
+none_speaks (OfReplies at Taken ∷ done) e = none_speaks done e
+none_speaks (OfConnection at Entered ∷ done) e = none_speaks done e
+none_speaks (OfConnection at Hung ∷ done) e = ap (filter (λ (s : Speaker). not (eqb s.conn at))) (none_speaks done e)
+none_speaks (OfTalk talker call ∷ done) e = none_speaks done e
+none_speaks (Raised talker ∷ done) e = none_speaks done e
+none_speaks (HandedOut ∷ done) e = none_speaks done e
+none_speaks (Swept ∷ done) e = none_speaks done e
+none_speaks (Halted ∷ done) e = refl
+
+-- nor has a fid one open
+pub none_open : (done : List Deed) → has_conversed done ≡ false → (conn fid : ℕ) → conv_of done conn fid ≡ None
+none_open done e conn fid = ap (λ (standing : List Speaker). option_map (λ s. s.conv) (find (λ s. eqb s.conn conn && eqb s.fid fid) standing)) (none_speaks done e)
 
 -- ---- two lists of deeds that are the same but for secrets
 
@@ -338,6 +581,9 @@ open_hidden (OfKeys at Switched ∷ done) = open_hidden done
 open_hidden (OfFids at deed ∷ done) = open_hidden done
 open_hidden (OfReplies at deed ∷ done) = open_hidden done
 open_hidden (OfConnection at deed ∷ done) = open_hidden done
+open_hidden (OfTalk talker call ∷ done) = open_hidden done
+open_hidden (Raised talker ∷ done) = open_hidden done
+open_hidden (HandedOut ∷ done) = open_hidden done
 open_hidden (Swept ∷ done) = open_hidden done
 open_hidden (Halted ∷ done) = open_hidden done
 
@@ -365,6 +611,10 @@ pub record SameSight (a b : List Deed) : Type 0 where
   pub opened : (conn : ℕ) → was_opened a conn ≡ was_opened b conn
   pub hung : (conn : ℕ) → was_hung a conn ≡ was_hung b conn
   pub halted : is_halted a ≡ is_halted b
+  pub speaking : speakers a ≡ speakers b
+  pub asking : questions a ≡ questions b
+  pub talking : (conv : ℕ) → talk a conv ≡ talk b conv
+  pub conversed : has_conversed a ≡ has_conversed b
 
 pub sight : (a b : List Deed) → SameButSecrets a b → SameSight a b
 sight a b s = record {
@@ -383,6 +633,10 @@ sight a b s = record {
   opened = λ conn. alike (λ done. was_opened done conn) (λ done o. opened_hidden done conn) a b s;
   hung = λ conn. alike (λ done. was_hung done conn) (λ done o. hung_hidden done conn) a b s;
   halted = alike is_halted (λ done o. halted_hidden done) a b s;
+  speaking = alike speakers (λ done o. speakers_hidden done) a b s;
+  asking = alike questions (λ done o. questions_hidden done) a b s;
+  talking = λ conv. alike (λ done. talk done conv) (λ done o. talk_hidden done conv) a b s;
+  conversed = alike has_conversed (λ done o. conversed_hidden done) a b s;
 }
 
 -- ---- no deed deletes by a secret
@@ -391,33 +645,36 @@ template_open : (template : List Attr) (list : KeyList) → delete_fault templat
 unfolding delete_fault
 template_open template list e = (choice_none (list_any tells_secret template) _ (first_told ((eqb (matching template list) 0, NoneMatched) ∷ [])) e).0
 
-pub fitting_open : (done : List Deed) (deed : Deed) → Fits done deed → is_open_deed deed ≡ true
-fitting_open done (OfKeys at (Edited (Add key))) fits = refl
-fitting_open done (OfKeys at (Edited (Delete template))) fits = ap not (template_open template (keys_of done) fits)
-fitting_open done (OfKeys at Switched) fits = refl
-fitting_open done (OfFids at deed) fits = refl
-fitting_open done (OfReplies at deed) fits = refl
-fitting_open done (OfConnection at deed) fits = refl
-fitting_open done Swept fits = refl
-fitting_open done Halted fits = refl
+pub fitting_open : (Known : Type 0) (done : List Deed) (deed : Deed) → FitsIf Known done deed → is_open_deed deed ≡ true
+fitting_open Known done (OfKeys at (Edited (Add key))) fits = refl
+fitting_open Known done (OfKeys at (Edited (Delete template))) fits = ap not (template_open template (keys_of done) fits)
+fitting_open Known done (OfKeys at Switched) fits = refl
+fitting_open Known done (OfFids at deed) fits = refl
+fitting_open Known done (OfReplies at deed) fits = refl
+fitting_open Known done (OfConnection at deed) fits = refl
+fitting_open Known done (OfTalk talker call) fits = refl
+fitting_open Known done (Raised talker) fits = refl
+fitting_open Known done HandedOut fits = refl
+fitting_open Known done Swept fits = refl
+fitting_open Known done Halted fits = refl
 
 abbrev pub AllOpen : List Deed → Type 0
 AllOpen done = all_open done ≡ true
 
-open_more : (kind : Deed → Bool) → KeepsOf kind AllOpen
-open_more kind done deed own fits h = rw (fitting_open done deed fits) h
+open_more : (Known : Type 0) (kind : Deed → Bool) → KeepsIf Known kind AllOpen
+open_more Known kind done deed own fits h = rw (fitting_open Known done deed fits) h
 
 pub deeds_open : (H : History) → all_open (deeds H) ≡ true
-deeds_open H = history_grows AllOpen (λ conn. open_more (is_done conn)) refl H
+deeds_open H = history_grows AllOpen (λ conn. open_more (Unit {0}) (is_done conn)) refl H
 
 pub does_open : (H : History) (e : Event) → all_open (does (deeds H) e) ≡ true
-does_open H e = does_grows AllOpen (conn_of e) (open_more (is_done (conn_of e))) e (deeds H) (on_its_own e) (deeds_open H)
+does_open H e = does_grows AllOpen (conn_of e) (open_more (Unit {0}) (is_done (conn_of e))) e H (on_its_own e) (deeds_open H)
 
 pub frame_open : (done : List Deed) (call : Call) (frame : List ℕ) → all_open done ≡ true → all_open (after_frame done call frame) ≡ true
-frame_open done call frame o = frame_grows AllOpen call (open_more (is_asked call.conn)) done frame o
+frame_open done call frame o = frame_grows (all_asked done ≡ true) AllOpen call (open_more (all_asked done ≡ true) (is_asked call.conn)) done frame (λ known. known) o
 
 pub lines_open : (done : List Deed) (conn : ℕ) (lines : List (List ℕ)) → all_open done ≡ true → all_open (lines_done conn (carried_out (keys_of done) lines) done) ≡ true
-lines_open done conn lines o = lines_grow AllOpen conn (open_more (is_line conn)) lines done o
+lines_open done conn lines o = lines_grow AllOpen conn (open_more (Unit {0}) (is_line conn)) lines done o
 
 -- ---- lines, over keys that are the same but for secrets
 
@@ -491,6 +748,15 @@ lines_alike a b conn lines s e =
 
 -- ---- what refuses a request
 
+-- the requests of rpc stand alike
+phase_alike : (a b : List Deed) → SameSight a b → (conn fid : ℕ) → phase_of a conn fid ≡ phase_of b conn fid
+phase_alike a b s conn fid =
+    ap (λ (standing : List Speaker). phase_in a (option_map (λ s. s.conv) (find (λ s. eqb s.conn conn && eqb s.fid fid) standing))) s.speaking ∙ by_conv (conv_of b conn fid)
+  where
+    by_conv : (o : Option ℕ) → phase_in a o ≡ phase_in b o
+    by_conv None = refl
+    by_conv (Some conv) = ap (λ (calls_ : List calls.Call). (standing calls_).phase) (s.talking conv)
+
 refusal_alike : (a b : List Deed) (call : Call) → SameSight a b → (body : TBody) → refusal a call body ≡ refusal b call body
 unfolding refusal
 refusal_alike a b call s (t.Version msize version) = refl
@@ -498,10 +764,10 @@ refusal_alike a b call s (t.Auth afid uname aname) = refl
 refusal_alike a b call s (t.Attach fid afid uname aname) = rw (s.fids call.conn fid, s.counts call.conn) refl
 refusal_alike a b call s (t.Flush oldtag) = refl
 refusal_alike a b call s (t.Walk fid newfid wname) = rw (s.fids call.conn fid, s.fids call.conn newfid, s.counts call.conn) refl
-refusal_alike a b call s (t.Open fid mode) = rw (s.fids call.conn fid, s.holders (node_of (fid_of b call.conn fid))) refl
+refusal_alike a b call s (t.Open fid mode) = rw (s.fids call.conn fid, s.holders (node_of (fid_of b call.conn fid)), s.speaking) refl
 refusal_alike a b call s (t.Create fid name perm mode) = rw (s.fids call.conn fid) refl
-refusal_alike a b call s (t.Read fid offset count) = rw (s.fids call.conn fid, s.nexts call.conn fid) refl
-refusal_alike a b call s (t.Write fid offset content) = rw (s.fids call.conn fid) refl
+refusal_alike a b call s (t.Read fid offset count) = rw (phase_alike a b s call.conn fid, s.fids call.conn fid, s.nexts call.conn fid, s.waiting call.conn) refl
+refusal_alike a b call s (t.Write fid offset content) = rw (phase_alike a b s call.conn fid, s.fids call.conn fid) refl
 refusal_alike a b call s (t.Clunk fid) = rw (s.fids call.conn fid) refl
 refusal_alike a b call s (t.Remove fid) = rw (s.fids call.conn fid) refl
 refusal_alike a b call s (t.Stat fid) = rw (s.fids call.conn fid) refl
@@ -541,39 +807,67 @@ reading_alike conn fid offset count Needkey a b e = e
 reading_alike conn fid offset count Proto a b e = e
 reading_alike conn fid offset count Log a b e = e
 
-after_alike : (a b : List Deed) (call : Call) → SameSight a b → map hidden_deed a ≡ map hidden_deed b → (body : TBody) → map hidden_deed (after a call body) ≡ map hidden_deed (after b call body)
+-- as long as no conversation was opened
+pub record NoneOpen (a b : List Deed) : Type 0 where
+  pub one : (conn fid : ℕ) → conv_of a conn fid ≡ None
+  pub other : (conn fid : ℕ) → conv_of b conn fid ≡ None
+
+file_alike : (x : Bool) (one other a b : List Deed) → map hidden_deed one ≡ map hidden_deed other → map hidden_deed a ≡ map hidden_deed b → map hidden_deed (cond x one a) ≡ map hidden_deed (cond x other b)
+file_alike true one other a b e f = e
+file_alike false one other a b e f = f
+
+read_alike : (a b : List Deed) (call : Call) (fid offset count : ℕ) (node : Node) → NoneOpen a b → map hidden_deed a ≡ map hidden_deed b
+    → map hidden_deed (reading_file a call fid offset count node) ≡ map hidden_deed (reading_file b call fid offset count node)
+read_alike a b call fid offset count node none e =
+    file_alike (is_rpc node) _ _ (reading a call.conn fid offset count node) (reading b call.conn fid offset count node)
+    (ap (λ (o : Option ℕ). map hidden_deed (reading_talk call fid count o a)) (none.one call.conn fid) ∙ e ∙ sym (ap (λ (o : Option ℕ). map hidden_deed (reading_talk call fid count o b)) (none.other call.conn fid)))
+    (reading_alike call.conn fid offset count node a b e)
+
+write_alike : (a b : List Deed) (call : Call) (fid : ℕ) (content : List ℕ) (node : Node) → SameSight a b → NoneOpen a b → map hidden_deed a ≡ map hidden_deed b
+    → map hidden_deed (writing a call fid content node) ≡ map hidden_deed (writing b call fid content node)
+write_alike a b call fid content node s none e =
+    file_alike (is_rpc node) _ _ _ _
+    (ap (λ (o : Option ℕ). map hidden_deed (stored o (request_in content) a)) (none.one call.conn fid) ∙ e ∙ sym (ap (λ (o : Option ℕ). map hidden_deed (stored o (request_in content) b)) (none.other call.conn fid)))
+    (lines_alike a b call.conn (lines_of content) s e)
+
+after_alike : (a b : List Deed) (call : Call) → SameSight a b → NoneOpen a b → map hidden_deed a ≡ map hidden_deed b → (body : TBody) → map hidden_deed (after a call body) ≡ map hidden_deed (after b call body)
 unfolding after
-after_alike a b call s e (t.Version msize version) = ap (λ (ds : List Deed). OfFids call.conn (Versioned (agreed msize version)) ∷ ds) e
-after_alike a b call s e (t.Auth afid uname aname) = e
-after_alike a b call s e (t.Attach fid afid uname aname) = ap (λ (ds : List Deed). OfFids call.conn (Attached fid) ∷ ds) e
-after_alike a b call s e (t.Flush oldtag) = ap (λ (ds : List Deed). OfReplies call.conn (Flushed oldtag) ∷ ds) e
-after_alike a b call s e (t.Walk fid newfid wname) =
+after_alike a b call s none e (t.Version msize version) = ap (λ (ds : List Deed). OfFids call.conn (Versioned (agreed msize version)) ∷ ds) e
+after_alike a b call s none e (t.Auth afid uname aname) = e
+after_alike a b call s none e (t.Attach fid afid uname aname) = ap (λ (ds : List Deed). OfFids call.conn (Attached fid) ∷ ds) e
+after_alike a b call s none e (t.Flush oldtag) = ap (λ (ds : List Deed). OfReplies call.conn (Flushed oldtag) ∷ ds) e
+after_alike a b call s none e (t.Walk fid newfid wname) =
     ap (λ (o : Option FidState). map hidden_deed (walking call.conn newfid (lead_to (node_of o) wname) a)) (s.fids call.conn fid)
     ∙ walking_alike call.conn newfid (lead_to (node_of (fid_of b call.conn fid)) wname) a b e
-after_alike a b call s e (t.Open fid mode) = ap (λ (ds : List Deed). OfFids call.conn (Opened fid mode) ∷ ds) e
-after_alike a b call s e (t.Create fid name perm mode) = e
-after_alike a b call s e (t.Read fid offset count) =
-    ap (λ (o : Option FidState). map hidden_deed (reading a call.conn fid offset (effective count (msize_of a call.conn)) (node_of o))) (s.fids call.conn fid)
-    ∙ ap (λ (m : Option ℕ). map hidden_deed (reading a call.conn fid offset (effective count m) (node_of (fid_of b call.conn fid)))) (s.msizes call.conn)
-    ∙ reading_alike call.conn fid offset (effective count (msize_of b call.conn)) (node_of (fid_of b call.conn fid)) a b e
-after_alike a b call s e (t.Write fid offset content) = lines_alike a b call.conn (lines_of content) s e
-after_alike a b call s e (t.Clunk fid) = ap (λ (ds : List Deed). OfFids call.conn (Clunked fid) ∷ ds) e
-after_alike a b call s e (t.Remove fid) = ap (λ (ds : List Deed). OfFids call.conn (Clunked fid) ∷ ds) e
-after_alike a b call s e (t.Stat fid) = e
-after_alike a b call s e (t.Wstat fid stat) = e
+after_alike a b call s none e (t.Open fid mode) = ap (λ (ds : List Deed). OfFids call.conn (Opened fid mode) ∷ ds) e
+after_alike a b call s none e (t.Create fid name perm mode) = e
+after_alike a b call s none e (t.Read fid offset count) =
+    ap (λ (o : Option FidState). map hidden_deed (reading_file a call fid offset (effective count (msize_of a call.conn)) (node_of o))) (s.fids call.conn fid)
+    ∙ ap (λ (m : Option ℕ). map hidden_deed (reading_file a call fid offset (effective count m) (node_of (fid_of b call.conn fid)))) (s.msizes call.conn)
+    ∙ read_alike a b call fid offset (effective count (msize_of b call.conn)) (node_of (fid_of b call.conn fid)) none e
+after_alike a b call s none e (t.Write fid offset content) =
+    ap (λ (o : Option FidState). map hidden_deed (writing a call fid content (node_of o))) (s.fids call.conn fid)
+    ∙ write_alike a b call fid content (node_of (fid_of b call.conn fid)) s none e
+after_alike a b call s none e (t.Clunk fid) = ap (λ (ds : List Deed). OfFids call.conn (Clunked fid) ∷ ds) e
+after_alike a b call s none e (t.Remove fid) = ap (λ (ds : List Deed). OfFids call.conn (Clunked fid) ∷ ds) e
+after_alike a b call s none e (t.Stat fid) = e
+after_alike a b call s none e (t.Wstat fid stat) = e
 
-after_granted_alike : (a b : List Deed) (call : Call) → SameSight a b → map hidden_deed a ≡ map hidden_deed b → (g : Result TBody (List ℕ)) → map hidden_deed (after_granted a call g) ≡ map hidden_deed (after_granted b call g)
-after_granted_alike a b call s e (Err text) = e
-after_granted_alike a b call s e (Ok body) = after_alike a b call s e body
+after_granted_alike : (a b : List Deed) (call : Call) → SameSight a b → NoneOpen a b → map hidden_deed a ≡ map hidden_deed b → (g : Result TBody (List ℕ)) → map hidden_deed (after_granted a call g) ≡ map hidden_deed (after_granted b call g)
+after_granted_alike a b call s none e (Err text) = e
+after_granted_alike a b call s none e (Ok body) = after_alike a b call s none e body
 
-frame_is_alike : (a b : List Deed) → SameButSecrets a b → (call : Call) (frame : List ℕ) → map hidden_deed (after_frame a call frame) ≡ map hidden_deed (after_frame b call frame)
+pub none_is_open : (a b : List Deed) → SameButSecrets a b → has_conversed a ≡ false → NoneOpen a b
+none_is_open a b s none = record { one = none_open a none; other = none_open b (sym (sight a b s).conversed ∙ none) }
+
+frame_is_alike : (a b : List Deed) → SameButSecrets a b → has_conversed a ≡ false → (call : Call) (frame : List ℕ) → map hidden_deed (after_frame a call frame) ≡ map hidden_deed (after_frame b call frame)
 unfolding after_frame
-frame_is_alike a b s call frame =
-    after_granted_alike a b call (sight a b s) s.alike (granted a call frame)
+frame_is_alike a b s none call frame =
+    after_granted_alike a b call (sight a b s) (none_is_open a b s none) s.alike (granted a call frame)
     ∙ ap (λ (g : Result TBody (List ℕ)). map hidden_deed (after_granted b call g)) (granted_alike a b call (sight a b s) frame)
 
-pub frame_alike : (a b : List Deed) → SameButSecrets a b → (call : Call) (frame : List ℕ) → SameButSecrets (after_frame a call frame) (after_frame b call frame)
-frame_alike a b s call frame = record { alike = frame_is_alike a b s call frame; open_deletes = frame_open a call frame s.open_deletes }
+pub frame_alike : (a b : List Deed) → SameButSecrets a b → has_conversed a ≡ false → (call : Call) (frame : List ℕ) → SameButSecrets (after_frame a call frame) (after_frame b call frame)
+frame_alike a b s none call frame = record { alike = frame_is_alike a b s none call frame; open_deletes = frame_open a call frame s.open_deletes }
 
 -- ---- what is replied
 
@@ -587,33 +881,52 @@ content_alike a b conn fid offset count s Confirm = refl
 content_alike a b conn fid offset count s Needkey = refl
 content_alike a b conn fid offset count s Log = refl
 
-reply_alike : (a b : List Deed) (call : Call) → SameSight a b → (body : TBody) → reply_of a call body ≡ reply_of b call body
+read_replies_alike : (a b : List Deed) (call : Call) (fid offset count : ℕ) (node : Node) → SameSight a b → NoneOpen a b → read_reply a call fid offset count node ≡ read_reply b call fid offset count node
+read_replies_alike a b call fid offset count node s none = by_file (is_rpc node)
+  where
+    none_waits : talk_read call.word count (conv_of a call.conn fid) a ≡ talk_read call.word count (conv_of b call.conn fid) b
+    none_waits = ap (λ (o : Option ℕ). talk_read call.word count o a) (none.one call.conn fid) ∙ sym (ap (λ (o : Option ℕ). talk_read call.word count o b) (none.other call.conn fid))
+
+    by_file : (x : Bool) → cond x (talk_read call.word count (conv_of a call.conn fid) a) (Some (r.Read (content_of a call.conn fid offset count node))) ≡ cond x (talk_read call.word count (conv_of b call.conn fid) b) (Some (r.Read (content_of b call.conn fid offset count node)))
+    by_file true = none_waits
+    by_file false = ap (λ (content : List ℕ). Some (r.Read content)) (content_alike a b call.conn fid offset count s node)
+
+write_replies_alike : (a b : List Deed) (content : List ℕ) (node : Node) → SameSight a b → write_reply a content node ≡ write_reply b content node
+write_replies_alike a b content node s = by_file (is_rpc node)
+  where
+    by_file : (x : Bool) → cond x (r.Write (length content)) (written content (lines_fault (keys_of a) (lines_of content))) ≡ cond x (r.Write (length content)) (written content (lines_fault (keys_of b) (lines_of content)))
+    by_file true = refl
+    by_file false = ap (written content) (fault_same (keys_of a) (keys_of b) s.keys (lines_of content))
+
+reply_alike : (a b : List Deed) (call : Call) → SameSight a b → NoneOpen a b → (body : TBody) → reply_of a call body ≡ reply_of b call body
 unfolding reply_of
-reply_alike a b call s (t.Version msize version) = refl
-reply_alike a b call s (t.Auth afid uname aname) = refl
-reply_alike a b call s (t.Attach fid afid uname aname) = refl
-reply_alike a b call s (t.Flush oldtag) = refl
-reply_alike a b call s (t.Walk fid newfid wname) = rw (s.fids call.conn fid) refl
-reply_alike a b call s (t.Open fid mode) = rw (s.fids call.conn fid) refl
-reply_alike a b call s (t.Create fid name perm mode) = refl
-reply_alike a b call s (t.Read fid offset count) =
-    ap (λ (o : Option FidState). r.Read (content_of a call.conn fid offset (effective count (msize_of a call.conn)) (node_of o))) (s.fids call.conn fid)
-    ∙ ap (λ (m : Option ℕ). r.Read (content_of a call.conn fid offset (effective count m) (node_of (fid_of b call.conn fid)))) (s.msizes call.conn)
-    ∙ ap r.Read (content_alike a b call.conn fid offset (effective count (msize_of b call.conn)) s (node_of (fid_of b call.conn fid)))
-reply_alike a b call s (t.Write fid offset content) = ap (written content) (fault_same (keys_of a) (keys_of b) s.keys (lines_of content))
-reply_alike a b call s (t.Clunk fid) = refl
-reply_alike a b call s (t.Remove fid) = refl
-reply_alike a b call s (t.Stat fid) = rw (s.fids call.conn fid) refl
-reply_alike a b call s (t.Wstat fid stat) = refl
+reply_alike a b call s none (t.Version msize version) = refl
+reply_alike a b call s none (t.Auth afid uname aname) = refl
+reply_alike a b call s none (t.Attach fid afid uname aname) = refl
+reply_alike a b call s none (t.Flush oldtag) = refl
+reply_alike a b call s none (t.Walk fid newfid wname) = rw (s.fids call.conn fid) refl
+reply_alike a b call s none (t.Open fid mode) = rw (s.fids call.conn fid) refl
+reply_alike a b call s none (t.Create fid name perm mode) = refl
+reply_alike a b call s none (t.Read fid offset count) =
+    ap (λ (o : Option FidState). read_reply a call fid offset (effective count (msize_of a call.conn)) (node_of o)) (s.fids call.conn fid)
+    ∙ ap (λ (m : Option ℕ). read_reply a call fid offset (effective count m) (node_of (fid_of b call.conn fid))) (s.msizes call.conn)
+    ∙ read_replies_alike a b call fid offset (effective count (msize_of b call.conn)) (node_of (fid_of b call.conn fid)) s none
+reply_alike a b call s none (t.Write fid offset content) =
+    ap (λ (o : Option FidState). Some (write_reply a content (node_of o))) (s.fids call.conn fid) ∙ ap Some (write_replies_alike a b content (node_of (fid_of b call.conn fid)) s)
+reply_alike a b call s none (t.Clunk fid) = refl
+reply_alike a b call s none (t.Remove fid) = refl
+reply_alike a b call s none (t.Stat fid) = rw (s.fids call.conn fid) refl
+reply_alike a b call s none (t.Wstat fid stat) = refl
 
-body_for_alike : (a b : List Deed) (call : Call) → SameSight a b → (g : Result TBody (List ℕ)) → body_for a call g ≡ body_for b call g
-body_for_alike a b call s (Err text) = refl
-body_for_alike a b call s (Ok body) = reply_alike a b call s body
+body_for_alike : (a b : List Deed) (call : Call) → SameSight a b → NoneOpen a b → (g : Result TBody (List ℕ)) → body_for a call g ≡ body_for b call g
+body_for_alike a b call s none (Err text) = refl
+body_for_alike a b call s none (Ok body) = reply_alike a b call s none body
 
-pub body_to_alike : (a b : List Deed) → SameButSecrets a b → (call : Call) (frame : List ℕ) → body_to a call frame ≡ body_to b call frame
+pub body_to_alike : (a b : List Deed) → SameButSecrets a b → has_conversed a ≡ false → (call : Call) (frame : List ℕ) → body_to a call frame ≡ body_to b call frame
 unfolding body_to
-body_to_alike a b s call frame = ap (body_for a call) (granted_alike a b call (sight a b s) frame) ∙ body_for_alike a b call (sight a b s) (granted b call frame)
+body_to_alike a b s none call frame =
+    ap (body_for a call) (granted_alike a b call (sight a b s) frame) ∙ body_for_alike a b call (sight a b s) (none_is_open a b s none) (granted b call frame)
 
-pub reply_to_alike : (a b : List Deed) → SameButSecrets a b → (conn : ℕ) (frame word : List ℕ) → reply_to a conn frame word ≡ reply_to b conn frame word
+pub reply_to_alike : (a b : List Deed) → SameButSecrets a b → has_conversed a ≡ false → (conn : ℕ) (frame word : List ℕ) → reply_to a conn frame word ≡ reply_to b conn frame word
 unfolding reply_to
-reply_to_alike a b s conn frame word = ap (λ (body : RBody). record { tag = tag_of frame; body = body }) (body_to_alike a b s (call_of conn frame word) frame)
+reply_to_alike a b s none conn frame word = ap (option_map (λ (body : RBody). record { tag = tag_of frame; body = body })) (body_to_alike a b s none (call_of conn frame word) frame)

@@ -5,20 +5,27 @@ use Rattle.std.specs.List.{list_all}
 use Rattle.std.proofs.lemmas.Bool.{and_parts, not-true, eq-eqb}
 use Rattle.nine_messages.specs.declared.message.TBody.{TBody}
 use Rattle.nine_messages.specs.declared.message.TBody.TheVariants as t
+use Rattle.nine_messages.specs.declared.message.RBody.{RBody}
 use Rattle.nine_messages.specs.declared.message.RBody.TheVariants as r
 use Rattle.file_tree.specs.declared.tree.Node.{Node}
 use Rattle.file_tree.specs.declared.tree.Node.TheVariants.{Root, Factotum, Rpc, Ctl, Confirm, Needkey, Proto, Log}
 use Rattle.file_tree.specs.Tree.{lead_to}
 use Rattle.file_tree.specs.Calls.{node_of}
 use Rattle.key_lists.specs.Listing.{list_text}
+use Rattle.rpc_file.specs.Requests.{RpcRequest, request_of}
+use Rattle.rpc_file.specs.declared.answer.RpcAnswer.{RpcAnswer}
+use Rattle.rpc_file.specs.declared.request.RpcFault.{RpcFault}
+use Rattle.talks.specs.Calls as calls
+use Rattle.talks.specs.Standings.{Phase, Resting, Waiting, Seeking, OnConfirm, OnNeedkey, OnServer, Kept}
 use Rattle.agent_history.specs.declared.event.Event.{Event}
 use Rattle.agent_history.specs.declared.event.Event.TheVariants.{Request, Hang, Answer, NoAnswer, NoRoom, Take, TakeAsk, Stop}
-use Rattle.agent_history.specs.Deeds.{Deed, FidDeed, OfFids, OfKeys, OfReplies, OfConnection, Swept, Halted, Versioned, Attached, Walked, Opened, Listed, Browsed, Clunked, Edited, Switched, Entered, Hung, fid_of, is_halted, keys_of, msize_of, text_of, was_hung, was_opened}
+use Rattle.agent_history.specs.Deeds.{Deed, FidDeed, OfFids, OfKeys, OfReplies, OfConnection, OfTalk, Raised, HandedOut, Swept, Halted, Versioned, Attached, Walked, Opened, Listed, Browsed, Clunked, Edited, Switched, Entered, Hung, fid_of, is_halted, keys_of, msize_of, text_of, was_hung, was_opened}
 use Rattle.nine_messages.specs.declared.message.RMsg.{RMsg}
 use Rattle.key_lists.specs.CtlLines.{carried_out, lines_of}
-use Rattle.agent_history.specs.Replies.{has_settled, untaken}
-use Rattle.agent_history.specs.Requests.{Call, after, after_frame, after_granted, answered, call_of, content_of, ctl_text, effective, granted, lines_done, piece, reading, reply_of, walking}
-use Rattle.agent_history.specs.Histories.{History, deeds, does, entered, most_events, taking}
+use Rattle.agent_history.specs.Replies.{Wait, has_settled, swept, untaken}
+use Rattle.agent_history.specs.Conversations.{Question, Speaker, asker, conv_of, deliver_to, fits, give_to, met, next_question, raising, reader_of, resumed, seeking, speaker_of, standing_of, then_sought, then_took}
+use Rattle.agent_history.specs.Requests.{Call, after, after_frame, after_granted, answered, body_to, call_of, carried, carrying_out, ctl_text, effective, granted, is_rpc, lines_done, piece, read_reply, reading, reading_answer, reading_talk, replied, reply_of, stored, walking}
+use Rattle.agent_history.specs.Histories.{History, deeds, does, entered, handing, most_events, taking}
 use Rattle.agent_laws.specs.Laws.{StoodOnce, sets_text}
 use Rattle.agent_laws.proofs.GrowLaws.{KeepsOf, is_line, lines_grow}
 
@@ -65,11 +72,78 @@ line_sets_none before at conn fid done (OfKeys c Switched) line fits e = e
 line_sets_none before at conn fid done (OfFids c deed) line fits e = absurd cc
 line_sets_none before at conn fid done (OfReplies c deed) line fits e = absurd cc
 line_sets_none before at conn fid done (OfConnection c deed) line fits e = absurd cc
+line_sets_none before at conn fid done (OfTalk conv call) line fits e = absurd cc
+line_sets_none before at conn fid done (Raised conv) line fits e = absurd cc
+line_sets_none before at conn fid done HandedOut line fits e = absurd cc
 line_sets_none before at conn fid done Swept line fits e = absurd cc
 line_sets_none before at conn fid done Halted line fits e = absurd cc
 
 writing_finds : (at : ℕ) (lines : List (List ℕ)) (done : List Deed) (conn fid : ℕ) → Finds done conn fid (text_of (lines_done at (carried_out (keys_of done) lines) done) conn fid)
 writing_finds at lines done conn fid = inl (lines_grow (λ now. text_of now conn fid ≡ text_of done conn fid) at (line_sets_none done at conn fid) lines done refl)
+
+either_finds : (b : Bool) (before one other : List Deed) (conn fid : ℕ) → Finds before conn fid (text_of one conn fid) → Finds before conn fid (text_of other conn fid) → Finds before conn fid (text_of (cond b one other) conn fid)
+either_finds true before one other conn fid f g = f
+either_finds false before one other conn fid f g = g
+
+-- what conversations meet sets no text
+raising_finds : (conv : ℕ) (ph : Phase) (done : List Deed) (conn fid : ℕ) → text_of (raising conv ph done) conn fid ≡ text_of done conn fid
+raising_finds conv OnServer done conn fid = refl
+raising_finds conv Resting done conn fid = refl
+raising_finds conv (Waiting request) done conn fid = refl
+raising_finds conv Seeking done conn fid = refl
+raising_finds conv (OnConfirm serial) done conn fid = refl
+raising_finds conv OnNeedkey done conn fid = refl
+raising_finds conv (Kept answer) done conn fid = refl
+
+seeking_finds : (conv : ℕ) (ph : Phase) (done : List Deed) (conn fid : ℕ) → text_of (seeking conv ph done) conn fid ≡ text_of done conn fid
+seeking_finds conv Seeking done conn fid = refl
+seeking_finds conv OnServer done conn fid = refl
+seeking_finds conv Resting done conn fid = refl
+seeking_finds conv (Waiting request) done conn fid = refl
+seeking_finds conv (OnConfirm serial) done conn fid = refl
+seeking_finds conv OnNeedkey done conn fid = refl
+seeking_finds conv (Kept answer) done conn fid = refl
+
+met_finds : (conv : ℕ) (call : calls.Call) (done : List Deed) (conn fid : ℕ) → text_of (met conv call done) conn fid ≡ text_of done conn fid
+met_finds conv call done conn fid =
+    let one = OfTalk conv call ∷ done in
+    raising_finds conv (standing_of (then_sought conv one) conv).phase (then_sought conv one) conn fid ∙ seeking_finds conv (standing_of one conv).phase one conn fid
+
+took_finds : (conv count : ℕ) (answer : RpcAnswer) (done : List Deed) (conn fid : ℕ) → text_of (then_took conv count answer done) conn fid ≡ text_of done conn fid
+took_finds conv count answer done conn fid = by_cases (fits count answer)
+  where
+    by_cases : (b : Bool) → text_of (cond b (OfTalk conv calls.Took ∷ done) done) conn fid ≡ text_of done conn fid
+    by_cases true = refl
+    by_cases false = refl
+
+answer_finds : (call : Call) (conv f count : ℕ) (ph : Phase) (done : List Deed) (conn fid : ℕ) → text_of (reading_answer call conv f count ph done) conn fid ≡ text_of done conn fid
+answer_finds call conv f count (Kept answer) done conn fid = took_finds conv count answer done conn fid
+answer_finds call conv f count Resting done conn fid = refl
+answer_finds call conv f count (Waiting request) done conn fid = refl
+answer_finds call conv f count Seeking done conn fid = refl
+answer_finds call conv f count (OnConfirm serial) done conn fid = refl
+answer_finds call conv f count OnNeedkey done conn fid = refl
+answer_finds call conv f count OnServer done conn fid = refl
+
+carrying_finds : (conv : ℕ) (word : List ℕ) (ph : Phase) (done : List Deed) (conn fid : ℕ) → text_of (carrying_out conv word ph done) conn fid ≡ text_of done conn fid
+carrying_finds conv word (Waiting request) done conn fid = met_finds conv (calls.CarriedOut word) done conn fid
+carrying_finds conv word Resting done conn fid = refl
+carrying_finds conv word Seeking done conn fid = refl
+carrying_finds conv word (OnConfirm serial) done conn fid = refl
+carrying_finds conv word OnNeedkey done conn fid = refl
+carrying_finds conv word OnServer done conn fid = refl
+carrying_finds conv word (Kept answer) done conn fid = refl
+
+talk_finds : (call : Call) (f count : ℕ) (o : Option ℕ) (done : List Deed) (conn fid : ℕ) → Finds done conn fid (text_of (reading_talk call f count o done) conn fid)
+talk_finds call f count None done conn fid = stays done conn fid
+talk_finds call f count (Some conv) done conn fid =
+    let after = carried conv call.word done in
+    inl (answer_finds call conv f count (standing_of after conv).phase after conn fid ∙ carrying_finds conv call.word (standing_of done conv).phase done conn fid)
+
+storing_finds : (o : Option ℕ) (came : Result RpcRequest RpcFault) (done : List Deed) (conn fid : ℕ) → Finds done conn fid (text_of (stored o came done) conn fid)
+storing_finds None came done conn fid = stays done conn fid
+storing_finds (Some conv) (Ok request) done conn fid = stays done conn fid
+storing_finds (Some conv) (Err fault) done conn fid = stays done conn fid
 
 body_finds : (done : List Deed) (call : Call) (body : TBody) (conn fid : ℕ) → Finds done conn fid (text_of (after done call body) conn fid)
 unfolding after
@@ -80,8 +154,12 @@ body_finds done call (t.Flush oldtag) conn fid = stays done conn fid
 body_finds done call (t.Walk f newfid wname) conn fid = walking_finds call.conn newfid (lead_to (node_of (fid_of done call.conn f)) wname) done conn fid
 body_finds done call (t.Open f mode) conn fid = stays done conn fid
 body_finds done call (t.Create f name perm mode) conn fid = stays done conn fid
-body_finds done call (t.Read f offset count) conn fid = reading_finds call.conn f offset (effective count (msize_of done call.conn)) (node_of (fid_of done call.conn f)) done conn fid
-body_finds done call (t.Write f offset content) conn fid = writing_finds call.conn (lines_of content) done conn fid
+body_finds done call (t.Read f offset count) conn fid =
+    let node = node_of (fid_of done call.conn f) in
+    let most = effective count (msize_of done call.conn) in
+    either_finds (is_rpc node) done _ _ conn fid (talk_finds call f most (conv_of done call.conn f) done conn fid) (reading_finds call.conn f offset most node done conn fid)
+body_finds done call (t.Write f offset content) conn fid =
+    either_finds (is_rpc (node_of (fid_of done call.conn f))) done _ _ conn fid (storing_finds (conv_of done call.conn f) (request_of content) done conn fid) (writing_finds call.conn (lines_of content) done conn fid)
 body_finds done call (t.Clunk f) conn fid = anew _ done conn fid
 body_finds done call (t.Remove f) conn fid = anew _ done conn fid
 body_finds done call (t.Stat f) conn fid = stays done conn fid
@@ -93,7 +171,11 @@ granted_finds done call (Ok body) conn fid = body_finds done call body conn fid
 
 frame_finds : (done : List Deed) (call : Call) (frame : List ℕ) (conn fid : ℕ) → Finds done conn fid (text_of (answered done call frame) conn fid)
 unfolding after_frame
-frame_finds done call frame conn fid = granted_finds done call (granted done call frame) conn fid
+frame_finds done call frame conn fid = replied_finds (body_to done call frame)
+  where
+    replied_finds : (o : Option RBody) → Finds done conn fid (text_of (replied call o (after_frame done call frame)) conn fid)
+    replied_finds None = granted_finds done call (granted done call frame) conn fid
+    replied_finds (Some body) = granted_finds done call (granted done call frame) conn fid
 
 -- what an event does beside
 swept_finds : (b : Bool) (before done : List Deed) (conn fid : ℕ) → Finds before conn fid (text_of done conn fid) → Finds before conn fid (text_of (cond b (Swept ∷ done) done) conn fid)
@@ -108,9 +190,32 @@ taking_finds : (at : ℕ) (left : List RMsg) (done : List Deed) (conn fid : ℕ)
 taking_finds at [] done conn fid = stays done conn fid
 taking_finds at (reply ∷ rest) done conn fid = stays done conn fid
 
-either_finds : (b : Bool) (before one other : List Deed) (conn fid : ℕ) → Finds before conn fid (text_of one conn fid) → Finds before conn fid (text_of other conn fid) → Finds before conn fid (text_of (cond b one other) conn fid)
-either_finds true before one other conn fid f g = f
-either_finds false before one other conn fid f g = g
+given_finds : (conv at : ℕ) (answer : RpcAnswer) (o : Option Wait) (done : List Deed) (conn fid : ℕ) → text_of (give_to conv at answer o done) conn fid ≡ text_of done conn fid
+given_finds conv at answer None done conn fid = refl
+given_finds conv at answer (Some wait) done conn fid = took_finds conv wait.count answer done conn fid
+
+deliver_finds : (conv : ℕ) (ph : Phase) (o : Option Speaker) (done : List Deed) (conn fid : ℕ) → text_of (deliver_to conv ph o done) conn fid ≡ text_of done conn fid
+deliver_finds conv (Kept answer) (Some s) done conn fid = given_finds conv s.conn answer (reader_of done s) done conn fid
+deliver_finds conv (Kept answer) None done conn fid = refl
+deliver_finds conv Resting o done conn fid = refl
+deliver_finds conv (Waiting request) o done conn fid = refl
+deliver_finds conv Seeking o done conn fid = refl
+deliver_finds conv (OnConfirm serial) o done conn fid = refl
+deliver_finds conv OnNeedkey o done conn fid = refl
+deliver_finds conv OnServer o done conn fid = refl
+
+told_finds : (o : Option ℕ) (call : calls.Call) (done : List Deed) (conn fid : ℕ) → text_of (resumed o call done) conn fid ≡ text_of done conn fid
+told_finds None call done conn fid = refl
+told_finds (Some conv) call done conn fid =
+    let after = met conv call done in
+    deliver_finds conv (standing_of after conv).phase (speaker_of after conv) after conn fid ∙ met_finds conv call done conn fid
+
+resumed_finds : (before done : List Deed) (conn fid : ℕ) → text_of done conn fid ≡ text_of before conn fid → Finds before conn fid (text_of (swept done) conn fid)
+resumed_finds before done conn fid e = swept_finds (has_settled done) before done conn fid (inl e)
+
+handing_finds : (o : Option Question) (done : List Deed) (conn fid : ℕ) → Finds done conn fid (text_of (handing o done) conn fid)
+handing_finds None done conn fid = stays done conn fid
+handing_finds (Some question) done conn fid = stays done conn fid
 
 does_finds : (done : List Deed) (e : Event) (conn fid : ℕ) → Finds done conn fid (text_of (does done e) conn fid)
 does_finds done (Request at frame word) conn fid =
@@ -124,10 +229,10 @@ does_finds done (Take at) conn fid =
     (entered_finds (was_opened done at) at done conn fid _ (taking_finds at (untaken done at) (entered at done) conn fid))
 does_finds done (Hang at) conn fid = either_finds (was_opened done at && not (was_hung done at)) done (OfConnection at Hung ∷ done) done conn fid (anew _ done conn fid) (stays done conn fid)
 does_finds done Stop conn fid = inr (inl refl)
-does_finds done (Answer call bytes) conn fid = stays done conn fid
-does_finds done (NoAnswer call) conn fid = stays done conn fid
-does_finds done (NoRoom call) conn fid = stays done conn fid
-does_finds done TakeAsk conn fid = stays done conn fid
+does_finds done (Answer call bytes) conn fid = resumed_finds done (resumed (asker done call) (calls.Heard bytes) done) conn fid (told_finds (asker done call) (calls.Heard bytes) done conn fid)
+does_finds done (NoAnswer call) conn fid = resumed_finds done (resumed (asker done call) calls.Unheard done) conn fid (told_finds (asker done call) calls.Unheard done conn fid)
+does_finds done (NoRoom call) conn fid = resumed_finds done (resumed (asker done call) calls.Roomless done) conn fid (told_finds (asker done call) calls.Roomless done conn fid)
+does_finds done TakeAsk conn fid = handing_finds (next_question done) done conn fid
 
 -- ---- histories
 
@@ -164,12 +269,12 @@ found_stood true H conn fid = stands_now H
 found_stood false H conn fid = text_stood H conn fid
 
 pub read_is_piece : (H : History) (call : Call) (fid offset count : ℕ) → node_of (fid_of (deeds H) call.conn fid) ≡ Ctl
-    → (text : List ℕ) × StoodOnce H text × (reply_of (deeds H) call (t.Read fid offset count) ≡ r.Read (piece offset (effective count (msize_of (deeds H) call.conn)) text))
+    → (text : List ℕ) × StoodOnce H text × (reply_of (deeds H) call (t.Read fid offset count) ≡ Some (r.Read (piece offset (effective count (msize_of (deeds H) call.conn)) text)))
 unfolding reply_of
 read_is_piece H call fid offset count is = (
   ctl_text (deeds H) call.conn fid offset,
   found_stood (eqb offset 0) H call.conn fid,
-  ap (λ (node : Node). r.Read (content_of (deeds H) call.conn fid offset (effective count (msize_of (deeds H) call.conn)) node)) is,
+  ap (λ (node : Node). read_reply (deeds H) call fid offset (effective count (msize_of (deeds H) call.conn)) node) is,
 )
 
 -- ---- the text stays until it is set anew
@@ -189,6 +294,9 @@ text_same (OfKeys at deed) done conn fid e = refl
 text_same (OfReplies at deed) done conn fid e = refl
 text_same (OfConnection at Entered) done conn fid e = refl
 text_same (OfConnection at Hung) done conn fid e = rw e refl
+text_same (OfTalk conv call) done conn fid e = refl
+text_same (Raised conv) done conn fid e = refl
+text_same HandedOut done conn fid e = refl
 text_same Swept done conn fid e = refl
 text_same Halted done conn fid e = absurd cc
 

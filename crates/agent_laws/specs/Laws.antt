@@ -2,7 +2,7 @@
 -- fids that are held, files that are open, lists that stood at one moment, lines up to the first refused one, the
 -- replies that were given and how long they may be, and deeds that differ in secrets alone. After section 5 of the
 -- Plan 9 manual (fids, msize) and factotum(4) (ctl, whose keys are shown without their secrets).
-use Rattle.std.specs.Prelude.{◌≡◌, ℕ, List, [], ◌∷◌, ◌++◌, length, take, map, Bool, true, false, not, ◌&&◌, ◌||◌, ◌==◌, nat_eq, Option, Some, None, is_some, Ok, Err, if◌then◌else◌}
+use Rattle.std.specs.Prelude.{◌≡◌, ◌≤◌, ℕ, ◌-◌, List, [], ◌∷◌, ◌++◌, length, take, map, Bool, true, false, not, ◌&&◌, ◌||◌, ◌==◌, nat_eq, nat_lt, All, Option, Some, None, is_some, option_map, Ok, Err, if◌then◌else◌, find}
 use Rattle.std.specs.List.{list_any, list_all, IsDistinct}
 use Rattle.nine_messages.specs.declared.message.RMsg.{RMsg}
 use Rattle.nine_messages.specs.declared.message.TBody.{TBody}
@@ -19,27 +19,41 @@ use Rattle.key_lists.specs.Edits.{KeyEdit, Add, Delete}
 use Rattle.key_lists.specs.Listing.{list_text}
 use Rattle.agent_history.specs.declared.event.Event.{Event}
 use Rattle.agent_history.specs.declared.event.Event.TheVariants.{Request, Hang, Take}
-use Rattle.agent_history.specs.Deeds.{Deed, OfFids, OfKeys, OfReplies, OfConnection, Swept, Halted, Versioned, Attached, Walked, Opened, Listed, Clunked, Edited, Hung, fid_of, held_by, keys_of, names}
+use Rattle.rpc_file.specs.declared.answer.RpcAnswer.{RpcAnswer}
+use Rattle.talks.specs.Calls as calls
+use Rattle.talks.specs.Standings.{Phase, OnServer, finds}
+use Rattle.agent_history.specs.Deeds.{Deed, OfFids, OfKeys, OfConnection, OfTalk, Halted, Versioned, Attached, Walked, Opened, Listed, Clunked, Edited, Hung, fid_of, held_by, keys_of, msize_of, names, OfReplies, Settled}
 use Rattle.key_lists.specs.CtlLines.{OnKeys, after_lines, line_over, lines_fault, read_line}
-use Rattle.agent_history.specs.Replies.{untaken}
-use Rattle.agent_history.specs.Requests.{Call, body_to, call_of, least_msize, tag_of}
+use Rattle.agent_history.specs.Replies.{Wait, is_unsettled, untaken, waits}
+use Rattle.agent_history.specs.Conversations.{asking, questions, speakers, standing_of, Speaker, told}
+use Rattle.agent_history.specs.Requests.{Call, body_to, call_of, is_rpc, least_msize, most_waits, tag_of}
 use Rattle.agent_history.specs.Histories.{History, deeds, answer, is_reply}
 
 -- ---- deeds
 
--- whether a deed is of the connection: it is about its fids, its lines of ctl or itself; or it is about replies, or a stop
+-- whether a deed is of the connection: it is about its fids, its lines of ctl or itself; or it is about conversations,
+-- questions or replies, or a stop
 abbrev pub is_of : ℕ → Deed → Bool
 is_of conn (OfFids at deed) = at == conn
 is_of conn (OfKeys at deed) = at == conn
 is_of conn (OfConnection at deed) = at == conn
 is_of conn deed = true
 
--- whether it is about replies, or a stop
-abbrev pub is_of_replies : Deed → Bool
-is_of_replies (OfReplies at deed) = true
-is_of_replies Swept = true
-is_of_replies Halted = true
-is_of_replies deed = false
+-- whether it is about conversations, questions or replies, or a stop
+abbrev pub is_of_talks : Deed → Bool
+is_of_talks (OfFids at deed) = false
+is_of_talks (OfKeys at deed) = false
+is_of_talks (OfConnection at deed) = false
+is_of_talks deed = true
+
+-- whether it is a line of ctl, and whether it is what a conversation met
+abbrev pub is_edit : Deed → Bool
+is_edit (OfKeys at deed) = true
+is_edit deed = false
+
+abbrev pub is_talk : Deed → Bool
+is_talk (OfTalk conv call) = true
+is_talk deed = false
 
 -- some deeds of this kind came to those that were done before, and nothing else changed
 abbrev pub Adds : (Deed → Bool) → List Deed → List Deed → Type 0
@@ -114,18 +128,17 @@ pub record IsFirstRefused (keys : KeyList) (lines front : List (List ℕ)) (line
 abbrev pub HasFirstRefused : KeyList → List (List ℕ) → List ℕ → Type 0
 HasFirstRefused keys lines text = (front : List (List ℕ)) × (line : List ℕ) × (later : List (List ℕ)) × IsFirstRefused keys lines front line later text
 
--- the file is the one that conversations are held through
-abbrev pub is_rpc : Node → Bool
-is_rpc Rpc = true
-is_rpc node = false
+-- a request that reads the file of conversations
+abbrev pub reads_rpc : List Deed → Call → TBody → Bool
+reads_rpc done call (t.Read fid offset count) = is_rpc (node_of (fid_of done call.conn fid))
+reads_rpc done call body = false
 
 -- a request that may change something although its reply is an error: a remove gives the fid up, a write's lines before
 -- the first refused one stand, and a read of a conversation may have gone on with it when its answer is too long
 abbrev pub may_err_and_act : List Deed → Call → TBody → Bool
 may_err_and_act done call (t.Remove fid) = true
 may_err_and_act done call (t.Write fid offset content) = true
-may_err_and_act done call (t.Read fid offset count) = is_rpc (node_of (fid_of done call.conn fid))
-may_err_and_act done call body = false
+may_err_and_act done call body = reads_rpc done call body
 
 -- a fid opened the file of conversations
 abbrev pub has_conversed : List Deed → Bool
@@ -133,11 +146,44 @@ has_conversed [] = false
 has_conversed (OfFids at (Opened f mode) ∷ before) = is_rpc (node_of (fid_of before at f)) || has_conversed before
 has_conversed (deed ∷ before) = has_conversed before
 
+-- ---- conversations
+
+-- the conversation of a number stands
+abbrev pub stands : List Deed → ℕ → Bool
+stands done conv = list_any (λ s. s.conv == conv) (speakers done)
+
+-- two are held by one fid of one connection
+abbrev pub is_same_place : Speaker → Speaker → Bool
+is_same_place a b = a.conn == b.conn && a.fid == b.fid
+
+-- it waits for the authentication server
+abbrev pub is_on_server : Phase → Bool
+is_on_server OnServer = true
+is_on_server phase = false
+
+abbrev pub asks_server : List Deed → ℕ → Bool
+asks_server done conv = is_on_server (standing_of done conv).phase
+
+-- each question that stands is of such a conversation
+abbrev pub all_asked : List Deed → Bool
+all_asked done = list_all (λ q. stands done q.conv && asks_server done q.conv) (questions done)
+
+-- numbers that rise, all of them below a number
+abbrev pub rise_below : ℕ → List ℕ → Bool
+rise_below top [] = true
+rise_below top (n ∷ more) = nat_lt n top && list_all (nat_lt n) more && rise_below top more
+
+-- each search found what is found among the keys of the moment at which it was made
+abbrev pub AllSearched : List Deed → Type 0
+AllSearched [] = Unit {0}
+AllSearched (OfTalk conv (calls.Sought found) ∷ before) = (found ≡ finds (standing_of before conv) (asking before) (keys_of before)) × AllSearched before
+AllSearched (deed ∷ before) = AllSearched before
+
 -- ---- replies
 
--- the reply to a frame that comes on a connection with a word
-unfoldable pub reply_to : List Deed → ℕ → List ℕ → List ℕ → RMsg
-reply_to done conn frame word = record { tag = tag_of frame; body = body_to done (call_of conn frame word) frame }
+-- the reply to a frame that comes on a connection with a word; none where it waits for it
+unfoldable pub reply_to : List Deed → ℕ → List ℕ → List ℕ → Option RMsg
+reply_to done conn frame word = option_map (λ body. record { tag = tag_of frame; body = body }) (body_to done (call_of conn frame word) frame)
 
 -- whether a take of a connection is answered by a reply
 abbrev pub gives : History → ℕ → Bool
@@ -160,6 +206,33 @@ put_out (event ∷ before) conn = put_out before conn
 abbrev pub longest_reply : Option ℕ → ℕ
 longest_reply None = least_msize
 longest_reply (Some msize) = msize
+
+-- how many bytes a read may give: as many as a message of the size agreed holds
+abbrev pub most_read : Option ℕ → ℕ
+most_read None = 0
+most_read (Some msize) = msize - 24
+
+-- the reads of a connection that wait are so: each waits for its reply and for no more bytes than may be read, and its fid
+-- has rpc open; no two have the same tag or the same fid; and they are at most so many
+pub record AreWaiting (done : List Deed) (conn : ℕ) (reads : List Wait) : Type 0 where
+  pub unsettled : list_all is_unsettled reads ≡ true
+  pub fitting : All (λ wait. wait.count ≤ most_read (msize_of done conn)) reads
+  pub opened : list_all (λ wait. has_open done Rpc conn wait.fid) reads ≡ true
+  pub tags : IsDistinct nat_eq (map (λ wait. wait.tag) reads)
+  pub fids : IsDistinct nat_eq (map (λ wait. wait.fid) reads)
+  pub few : length reads ≤ most_waits
+
+-- the reply is what the read under the tag is told of an answer: it waited until then, and is told no more bytes than it
+-- may hold
+abbrev pub IsTold : List Wait → ℕ → RBody → Type 0
+IsTold reads tag body = (wait : Wait) × (answer : RpcAnswer)
+    × (find (λ w. w.tag == tag) reads ≡ Some wait) × (is_unsettled wait ≡ true) × (body ≡ told wait.count answer)
+
+-- each read that was settled was told so
+abbrev pub AllTold : List Deed → Type 0
+AllTold [] = Unit {0}
+AllTold (OfReplies conn (Settled tag body) ∷ before) = IsTold (waits before conn) tag body × AllTold before
+AllTold (deed ∷ before) = AllTold before
 
 -- whether a reply gives what was read
 abbrev pub gives_content : RBody → Bool

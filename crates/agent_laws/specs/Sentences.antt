@@ -1,25 +1,32 @@
 -- What the laws say, each sentence by its name.
-use Rattle.std.specs.Prelude.{◌≡◌, ◌≤◌, ◌<◌, ◌⊎◌, ℕ, List, [], ◌∷◌, ◌++◌, All, Ok, Err, Some, true, false, codes, drop, length, map, reverse, take}
+use Rattle.std.specs.Prelude.{◌≡◌, ◌≤◌, ◌<◌, ◌⊎◌, ◌+◌, ℕ, List, [], ◌∷◌, ◌++◌, All, Ok, Err, None, Some, is_some, true, false, codes, drop, length, map, reverse, take, not}
+use Rattle.std.specs.List.{IsDistinct}
 use Rattle.nine_messages.specs.Messages.{IsReply, r_frame}
 use Rattle.nine_messages.specs.Decoding.{r_reading}
 use Rattle.nine_messages.specs.declared.message.TBody.{TBody}
 use Rattle.nine_messages.specs.declared.message.TBody.TheVariants.{Read}
+use Rattle.nine_messages.specs.declared.message.RMsg.{RMsg}
 use Rattle.nine_messages.specs.declared.message.RBody.TheVariants as r
 use Rattle.file_tree.specs.declared.tree.Node.{Node}
-use Rattle.file_tree.specs.declared.tree.Node.TheVariants.{Ctl}
+use Rattle.file_tree.specs.declared.tree.Node.TheVariants.{Ctl, Rpc}
 use Rattle.file_tree.specs.Tree.{is_exclusive}
 use Rattle.file_tree.specs.Calls.{node_of}
 use Rattle.key_lists.specs.Lists.{KeyList}
 use Rattle.key_lists.specs.Edits.{standing}
 use Rattle.key_lists.specs.Listing.{list_text}
 use Rattle.key_lists.specs.CtlLines.{after_lines, carried_out, lines_fault}
+use Rattle.talks.specs.Calls.{Found, Sought}
+use Rattle.talks.specs.Standings.{finds}
 use Rattle.agent_history.specs.declared.event.Event.{Event}
-use Rattle.agent_history.specs.declared.event.Event.TheVariants.{Take}
-use Rattle.agent_history.specs.Deeds.{Deed, OfFids, Listed, edits_of, fid_of, held_by, holder_of, keys_of, msize_of, next_of, text_of}
-use Rattle.agent_history.specs.Replies.{replies, taken, untaken, waits}
-use Rattle.agent_history.specs.Requests.{Call, after_frame, body_to, effective, granted, least_msize, lines_done, most_msize, piece, reply_of}
+use Rattle.agent_history.specs.declared.event.Event.TheVariants.{Take, TakeAsk}
+use Rattle.agent_history.specs.declared.event.StepAnswer.TheVariants.{Ask}
+use Rattle.wire_base.specs.declared.shape.Shape.{Shape}
+use Rattle.agent_history.specs.Deeds.{Deed, KeyDeed, OfFids, OfKeys, Listed, edits_of, fid_of, held_by, holder_of, keys_of, msize_of, next_of, text_of, OfTalk}
+use Rattle.agent_history.specs.Replies.{has_settled, replies, taken, untaken, waits}
+use Rattle.agent_history.specs.Conversations.{chosen_at, conv_of, opened_talks, questions, raised, speakers, asking, standing_of, Question, next_question}
+use Rattle.agent_history.specs.Requests.{Call, after_frame, body_to, effective, granted, least_msize, lines_done, most_msize, most_talks, piece, reply_of}
 use Rattle.agent_history.specs.Histories.{History, answer, deeds, does, has_stopped}
-use Rattle.agent_laws.specs.Laws.{AddAlike, Adds, AreHeld, HasFirstRefused, IsFirstRefused, SameButSecrets, StoodOnce, all_open, given, gives, gives_content, has_connection, has_conversed, has_open, hidden_deed, is_of, is_of_replies, is_on, longest_reply, may_err_and_act, none_concerns, none_sets_text, put_out, reply_to}
+use Rattle.agent_laws.specs.Laws.{AddAlike, Adds, AllSearched, AreHeld, AreWaiting, HasFirstRefused, IsFirstRefused, SameButSecrets, StoodOnce, all_asked, all_open, given, gives, gives_content, has_connection, has_conversed, has_open, hidden_deed, is_of, is_of_talks, is_on, longest_reply, may_err_and_act, none_concerns, none_sets_text, put_out, reads_rpc, reply_to, rise_below, AllTold, is_same_place, is_edit, is_talk}
 
 -- ---- keys are the lines in order
 
@@ -34,7 +41,7 @@ ChangesItsOwn = (event : Event) (history : History) (conn : ℕ) → is_on conn 
 
 abbrev pub OthersChangeNone : Type 0
 OthersChangeNone = (event : Event) (history : History) → has_connection event ≡ false
-    → Adds is_of_replies (deeds history) (deeds (event ∷ history))
+    → Adds is_of_talks (deeds history) (deeds (event ∷ history))
 
 -- ---- a request acts on its connection
 
@@ -99,7 +106,7 @@ TextsStood = (history : History) (conn fid : ℕ) → StoodOnce history (text_of
 abbrev pub ReadsStood : Type 0
 ReadsStood = (history : History) (call : Call) (fid offset count : ℕ) → node_of (fid_of (deeds history) call.conn fid) ≡ Ctl
     → (text : List ℕ) × StoodOnce history text
-    × (reply_of (deeds history) call (Read fid offset count) ≡ r.Read (piece offset (effective count (msize_of (deeds history) call.conn)) text))
+    × (reply_of (deeds history) call (Read fid offset count) ≡ Some (r.Read (piece offset (effective count (msize_of (deeds history) call.conn)) text)))
 
 abbrev pub ListedStays : Type 0
 ListedStays = (more done : List Deed) (conn fid : ℕ) → none_sets_text more conn fid ≡ true
@@ -111,10 +118,10 @@ abbrev pub RefusedChangesNothing : Type 0
 RefusedChangesNothing = (done : List Deed) (call : Call) (frame text : List ℕ) → granted done call frame ≡ Err text → after_frame done call frame ≡ done
 
 abbrev pub RefusedIsTold : Type 0
-RefusedIsTold = (done : List Deed) (call : Call) (frame text : List ℕ) → granted done call frame ≡ Err text → body_to done call frame ≡ r.Error text
+RefusedIsTold = (done : List Deed) (call : Call) (frame text : List ℕ) → granted done call frame ≡ Err text → body_to done call frame ≡ Some (r.Error text)
 
 abbrev pub ErrorChangesNothing : Type 0
-ErrorChangesNothing = (done : List Deed) (call : Call) (frame text : List ℕ) → body_to done call frame ≡ r.Error text
+ErrorChangesNothing = (done : List Deed) (call : Call) (frame text : List ℕ) → body_to done call frame ≡ Some (r.Error text)
     → (after_frame done call frame ≡ done) ⊎ ((body : TBody) × (granted done call frame ≡ Ok body) × (may_err_and_act done call body ≡ true))
 
 -- ---- lines stand before the first refused
@@ -154,8 +161,8 @@ FramesPutOut = (history : History) (conn : ℕ) → put_out history conn ≡ map
 -- ---- a reply fits what was agreed
 
 abbrev pub ReplyFits : Type 0
-ReplyFits = (history : History) (conn : ℕ) (frame word : List ℕ)
-    → length (r_frame (reply_to (deeds history) conn frame word)) ≤ longest_reply (msize_of (deeds history) conn)
+ReplyFits = (history : History) (conn : ℕ) (frame word : List ℕ) (reply : RMsg) → reply_to (deeds history) conn frame word ≡ Some reply
+    → length (r_frame reply) ≤ longest_reply (msize_of (deeds history) conn)
 
 abbrev pub AgreedBetween : Type 0
 AgreedBetween = (history : History) (conn msize : ℕ) → msize_of (deeds history) conn ≡ Some msize → (least_msize ≤ msize) × (msize ≤ most_msize)
@@ -164,30 +171,83 @@ abbrev pub FramesFit : Type 0
 FramesFit = (history : History) (conn : ℕ) → All (λ frame. length frame ≤ most_msize) (put_out history conn)
 
 abbrev pub OthersFit : Type 0
-OthersFit = (done : List Deed) (conn : ℕ) (frame word : List ℕ) → gives_content (reply_to done conn frame word).body ≡ false
-    → length (r_frame (reply_to done conn frame word)) ≤ least_msize
+OthersFit = (done : List Deed) (conn : ℕ) (frame word : List ℕ) (reply : RMsg) → reply_to done conn frame word ≡ Some reply
+    → gives_content reply.body ≡ false → length (r_frame reply) ≤ least_msize
 
 abbrev pub ToldIsAgreed : Type 0
-ToldIsAgreed = (done : List Deed) (call : Call) (msize : ℕ) (frame : List ℕ) → body_to done call frame ≡ r.Version msize (codes "9P2000")
+ToldIsAgreed = (done : List Deed) (call : Call) (msize : ℕ) (frame : List ℕ) → body_to done call frame ≡ Some (r.Version msize (codes "9P2000"))
     → msize_of (after_frame done call frame) call.conn ≡ Some msize
 
 abbrev pub ReplyIsValid : Type 0
-ReplyIsValid = (done : List Deed) (conn : ℕ) (frame word : List ℕ) → All (λ b. b < 256) frame
-    → IsReply (r_frame (reply_to done conn frame word)) (reply_to done conn frame word)
+ReplyIsValid = (done : List Deed) (conn : ℕ) (frame word : List ℕ) (reply : RMsg) → All (λ b. b < 256) frame
+    → reply_to done conn frame word ≡ Some reply → IsReply (r_frame reply) reply
 
 abbrev pub ReplyIsRead : Type 0
-ReplyIsRead = (done : List Deed) (conn : ℕ) (frame word : List ℕ) → All (λ b. b < 256) frame
-    → r_reading (r_frame (reply_to done conn frame word)) ≡ Ok (reply_to done conn frame word)
+ReplyIsRead = (done : List Deed) (conn : ℕ) (frame word : List ℕ) (reply : RMsg) → All (λ b. b < 256) frame
+    → reply_to done conn frame word ≡ Some reply → r_reading (r_frame reply) ≡ Ok reply
 
--- ---- no read waits yet
+-- ---- reads that wait
 
-abbrev pub NoReadWaits : Type 0
-NoReadWaits = (history : History) (conn : ℕ) → waits (deeds history) conn ≡ []
+abbrev pub ReadsWait : Type 0
+ReadsWait = (history : History) (conn : ℕ) → AreWaiting (deeds history) conn (waits (deeds history) conn)
 
--- ---- no conversation is opened yet
+abbrev pub SettledAreSwept : Type 0
+SettledAreSwept = (history : History) → has_settled (deeds history) ≡ false
 
-abbrev pub NoConversation : Type 0
-NoConversation = (history : History) → has_conversed (deeds history) ≡ false
+abbrev pub SettledAreTold : Type 0
+SettledAreTold = (history : History) → AllTold (deeds history)
+
+abbrev pub OnlyReadsWait : Type 0
+OnlyReadsWait = (done : List Deed) (call : Call) (frame : List ℕ) → body_to done call frame ≡ None
+    → (body : TBody) × (granted done call frame ≡ Ok body) × (reads_rpc done call body ≡ true)
+
+abbrev pub WaitsBehind : Type 0
+WaitsBehind = (done : List Deed) (call : Call) (frame : List ℕ) → body_to done call frame ≡ None
+    → (fid : ℕ) × (count : ℕ)
+    × (waits (after_frame done call frame) call.conn ≡ waits done call.conn ++ record { tag = call.tag; fid = fid; count = count; reply = None } ∷ [])
+
+-- ---- conversations
+
+abbrev pub OpenersSpeak : Type 0
+OpenersSpeak = (history : History) (conn fid : ℕ) → is_some (conv_of (deeds history) conn fid) ≡ has_open (deeds history) Rpc conn fid
+
+abbrev pub OpenersSpeakOnce : Type 0
+OpenersSpeakOnce = (history : History) → IsDistinct is_same_place (speakers (deeds history))
+
+abbrev pub SpeakersAreFew : Type 0
+SpeakersAreFew = (history : History) → length (speakers (deeds history)) ≤ most_talks
+
+abbrev pub SpeakersRise : Type 0
+SpeakersRise = (history : History) → rise_below (opened_talks (deeds history)) (map (λ s. s.conv) (speakers (deeds history))) ≡ true
+
+-- ---- questions for the authentication server
+
+abbrev pub QuestionsAreAsked : Type 0
+QuestionsAreAsked = (history : History) → all_asked (deeds history) ≡ true
+
+abbrev pub QuestionsRise : Type 0
+QuestionsRise = (history : History) → rise_below (raised (deeds history) + 1) (map (λ q. q.call) (questions (deeds history))) ≡ true
+
+abbrev pub QuestionsArePut : Type 0
+QuestionsArePut = (history : History) (question : Question) → has_stopped history ≡ false → next_question (deeds history) ≡ Some question
+    → (request : List ℕ) × (shape : Shape) × (answer history TakeAsk ≡ (Ask question.call question.conv shape, request))
+
+-- ---- a search is over the keys of its moment
+
+abbrev pub SearchesAreOfTheMoment : Type 0
+SearchesAreOfTheMoment = (history : History) → AllSearched (deeds history)
+
+abbrev pub EditsOrTalks : Type 0
+EditsOrTalks = (event : Event) (history : History)
+    → Adds (λ deed. not (is_edit deed)) (deeds history) (deeds (event ∷ history)) ⊎ Adds (λ deed. not (is_talk deed)) (deeds history) (deeds (event ∷ history))
+
+abbrev pub SearchesKeysBefore : Type 0
+SearchesKeysBefore = (event : Event) (history : History) (later earlier : List Deed) (conv : ℕ) (found : Found)
+    → deeds (event ∷ history) ≡ later ++ OfTalk conv (Sought found) ∷ (earlier ++ deeds history)
+    → found ≡ finds (standing_of (earlier ++ deeds history) conv) (asking (earlier ++ deeds history)) (keys_of (deeds history))
+
+abbrev pub ChosenStays : Type 0
+ChosenStays = (done : List Deed) (at conn fid : ℕ) (deed : KeyDeed) → chosen_at (OfKeys at deed ∷ done) conn fid ≡ chosen_at done conn fid
 
 -- ---- ctl shows no secret
 

@@ -1,5 +1,5 @@
 // Laws of the definitions, each the contract of a function that does nothing.
-ghost use Rattle.agent_laws.specs.Sentences.{ActsOnItsConnection, AgreedBetween, ChangesItsOwn, CountsHide, DeedsHide, ErrorChangesNothing, EventLeavesFid, FidStays, FidsHeldAreCounted, FidsHide, FirstIsFound, FirstIsTold, FramesFit, FramesPutOut, FrontStands, GivenAndLeft, GivenInOrder, HolderOpened, HoldersHide, IsOpenOnce, KeysAreTheLines, LeftAfterTake, ListHides, ListedStays, NextsHide, NoAnswerTells, NoConversation, NoReadWaits, NoneDeletesBySecret, OpenerHolds, OthersChangeNone, OthersFit, OthersLeaveCounts, OthersLeaveFids, OthersLeaveNexts, OthersLeaveSizes, OthersLeaveTexts, ReadsStood, RefusedChangesNothing, RefusedIsTold, RepliesHide, ReplyFits, ReplyIsRead, ReplyIsValid, SizesHide, TextsHide, TextsStood, ToldIsAgreed, WriteMakesKeys, WritesAlike, WritesToldAlike};
+ghost use Rattle.agent_laws.specs.Sentences.{ActsOnItsConnection, AgreedBetween, ChangesItsOwn, ChosenStays, CountsHide, DeedsHide, EditsOrTalks, ErrorChangesNothing, EventLeavesFid, FidStays, FidsHeldAreCounted, FidsHide, FirstIsFound, FirstIsTold, FramesFit, FramesPutOut, FrontStands, GivenAndLeft, GivenInOrder, HolderOpened, HoldersHide, IsOpenOnce, KeysAreTheLines, LeftAfterTake, ListHides, ListedStays, NextsHide, NoAnswerTells, NoneDeletesBySecret, OnlyReadsWait, OpenerHolds, OpenersSpeak, OpenersSpeakOnce, OthersChangeNone, OthersFit, OthersLeaveCounts, OthersLeaveFids, OthersLeaveNexts, OthersLeaveSizes, OthersLeaveTexts, QuestionsAreAsked, QuestionsArePut, QuestionsRise, ReadsStood, ReadsWait, RefusedChangesNothing, RefusedIsTold, RepliesHide, ReplyFits, ReplyIsRead, ReplyIsValid, SearchesAreOfTheMoment, SearchesKeysBefore, SettledAreSwept, SettledAreTold, SizesHide, SpeakersAreFew, SpeakersRise, TextsHide, TextsStood, ToldIsAgreed, WaitsBehind, WriteMakesKeys, WritesAlike, WritesToldAlike};
 
 /// The keys are those of the accepted lines of ctl, in order: of lines that are the same in public the last one alone
 /// stands, at its own place, and none that a later line deleted.
@@ -8,13 +8,14 @@ pub fn keys_are_the_lines_in_order()
 {}
 
 /// What an event does to fids, to keys by lines of ctl, and to connections is of its own connection; an event that has none
-/// does nothing of the kind. Replies may go to any connection, and a stop is the end of all of them.
+/// does nothing of the kind. Conversations, questions and replies may be of any connection, and a stop is the end of all.
 pub fn an_event_changes_its_own_connection()
     ensures own { ChangesItsOwn }
     ensures others { OthersChangeNone }
 {}
 
-/// What a request does, its reply aside, is done by deeds of its connection, or by such as are about replies.
+/// What a request does, its reply aside, is done by deeds of its connection, or by such as are about conversations,
+/// questions and replies.
 pub fn a_request_acts_on_its_connection()
     ensures { ActsOnItsConnection }
 {}
@@ -103,14 +104,44 @@ pub fn a_reply_fits_what_was_agreed()
     ensures read { ReplyIsRead }
 {}
 
-/// No file is served yet whose reads wait.
-pub fn no_read_waits_yet()
-    ensures { NoReadWaits }
+/// The reads of a connection that wait are reads of rpc by fids that have it open, no two under one tag or of one fid, at
+/// most as many as may wait, each for no more bytes than the message agreed holds. Between two events none of them is
+/// settled; one that is settled is told an answer, or that it may hold too few bytes. A frame has no reply only where it
+/// is a read of rpc, and then it waits behind the others, under its tag.
+pub fn a_read_waits_for_an_answer_of_rpc()
+    ensures waits { ReadsWait }
+    ensures swept { SettledAreSwept }
+    ensures told { SettledAreTold }
+    ensures reads { OnlyReadsWait }
+    ensures behind { WaitsBehind }
 {}
 
-/// No open of the file of conversations is served yet.
-pub fn no_conversation_is_opened_yet()
-    ensures { NoConversation }
+/// A conversation stands as long as a fid has rpc open: each such fid of a connection has one, and one alone, and at most
+/// as many stand as may. Their numbers rise in the order in which they were opened, so that none is used twice.
+pub fn a_conversation_stands_while_rpc_is_open()
+    ensures openers { OpenersSpeak }
+    ensures once { OpenersSpeakOnce }
+    ensures few { SpeakersAreFew }
+    ensures numbers { SpeakersRise }
+{}
+
+/// Each question for the authentication server is of a conversation that stands and waits for the answer. Their numbers
+/// rise in the order in which they were raised, so that none is used twice. Where one wasn't handed out yet, a take of a
+/// question puts the oldest out, under its number and its conversation's.
+pub fn a_question_is_of_a_conversation_that_waits()
+    ensures asked { QuestionsAreAsked }
+    ensures numbers { QuestionsRise }
+    ensures put { QuestionsArePut }
+{}
+
+/// A search finds what is found among the keys of the moment at which it is made. No event both edits keys and lets a
+/// conversation meet something, so that these are the keys of the history before its event. The key that a conversation
+/// has chosen stays, whatever lines of ctl do to the keys.
+pub fn a_search_is_over_the_keys_of_its_moment()
+    ensures searches { SearchesAreOfTheMoment }
+    ensures apart { EditsOrTalks }
+    ensures before { SearchesKeysBefore }
+    ensures chosen { ChosenStays }
 {}
 
 /// What is read of ctl doesn't depend on the value of a secret: deeds that are the same but for the secrets of the keys

@@ -5,11 +5,13 @@
 mod laws;
 
 pub use laws::{
-    a_fid_held_counts, a_fid_stays_until_a_deed_that_concerns_it,
-    a_refused_request_changes_nothing, a_reply_fits_what_was_agreed, a_reply_is_taken_once,
-    a_request_acts_on_its_connection, a_write_does_what_its_lines_do, a_write_hides_its_secrets,
-    an_event_changes_its_own_connection, an_exclusive_file_is_open_once,
+    a_conversation_stands_while_rpc_is_open, a_fid_held_counts,
+    a_fid_stays_until_a_deed_that_concerns_it, a_question_is_of_a_conversation_that_waits,
+    a_read_waits_for_an_answer_of_rpc, a_refused_request_changes_nothing,
+    a_reply_fits_what_was_agreed, a_reply_is_taken_once, a_request_acts_on_its_connection,
+    a_search_is_over_the_keys_of_its_moment, a_write_does_what_its_lines_do,
+    a_write_hides_its_secrets, an_event_changes_its_own_connection, an_exclusive_file_is_open_once,
     ctl_reads_a_list_that_stood, ctl_shows_no_secret, keys_are_the_lines_in_order,
-    lines_stand_before_the_first_refused, no_conversation_is_opened_yet,
-    no_later_answer_tells_a_secret, no_read_waits_yet, other_connections_change_no_fid,
+    lines_stand_before_the_first_refused, no_later_answer_tells_a_secret,
+    other_connections_change_no_fid,
 };

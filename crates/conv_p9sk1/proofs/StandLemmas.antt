@@ -4,7 +4,7 @@ use Rattle.roles.specs.declared.answer.Gave.{Gave}
 use Rattle.roles.specs.declared.answer.Gave.TheVariants as g
 use Rattle.roles.specs.Answers.{Comes, bytes_with, talk_with}
 use Rattle.roles.specs.Starts.{Start}
-use Rattle.roles.specs.Talks.{Call}
+use Rattle.roles.specs.Talks.{Call, Progress, undone}
 use Rattle.roles.specs.Courses.{answer_after, answer_of, course, need_at, puts_after, bytes_of, then_course, verdict}
 use Rattle.conv_p9sk1.specs.declared.conv.SkConv.{SkConv}
 use Rattle.conv_p9sk1.specs.Steps.{start_of}
@@ -49,6 +49,10 @@ stands_on old new call f start talk s =
       reached = reached;
       needed = f.need before ∙ ap (λ x. need_at x (progress_of new)) s.begun ∙ ap (λ x. need_at start x) reached;
     }
+
+-- where a talk is as far with a call and its taking back as before both, it stands for the talk before both
+pub stands_back : (c : SkConv) (start : Start) (talk : List Call) (call : Call) → course start (undone ∷ call ∷ talk) ≡ course start talk → Stands c start (undone ∷ call ∷ talk) → Stands c start talk
+stands_back c start talk call same s = record { begun = s.begun; reached = s.reached ∙ same; needed = s.needed ∙ ap (λ (p : Progress). need_at start p) same }
 
 pub tells : (old new : SkConv) (given : Gave) (call : Call) → MayFollow old new given (verdict_in old call) → (start : Start) (talk : List Call) → Stands old start talk → Comes given (answer_after start talk call)
 tells old new given call m start talk s = comes given (answer_after start talk call) (λ memory. m.answer memory ∙ ap answer_of (same_verdict old start talk call s))

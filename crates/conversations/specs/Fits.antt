@@ -1,9 +1,11 @@
 -- When a conversation holds for a talk: what was begun is what the definitions say was begun, and so are the phase, the
 -- start and what the user said.
-use Rattle.std.specs.Prelude.{◌≡◌, ℕ, List, [], ◌∷◌, Bool, Option, Some, None}
+use Rattle.std.specs.Prelude.{◌≡◌, ℕ, List, [], ◌∷◌, Bool, false, Option, Some, None, if◌then◌else◌}
 use Rattle.attr_tuples.specs.declared.attr.Attr.{Attr}
+use Rattle.key_lists.specs.Lists.{KeyList}
 use Rattle.roles.specs.declared.answer.Gave.{Gave}
 use Rattle.roles.specs.declared.answer.StartFault.{StartFault}
+use Rattle.roles.specs.declared.need.Need.TheVariants.{Nothing}
 use Rattle.roles.specs.Starts.{Start}
 use Rattle.roles.specs.Talks.{get}
 use Rattle.roles.specs.Talks.{Call as Move}
@@ -12,9 +14,10 @@ use Rattle.conv_p9sk1.specs.Standing.{Stands}
 use Rattle.rpc_file.specs.declared.answer.RpcAnswer.{RpcAnswer}
 use Rattle.rpc_file.specs.declared.answer.RpcAnswer.TheVariants as a
 use Rattle.talks.specs.Answers.{move_answer, start_answer}
-use Rattle.talks.specs.Calls.{Call}
+use Rattle.talks.specs.Calls.{Call, CarriedOut, Sought}
+use Rattle.talks.specs.declared.said.Asking.{Asking}
 use Rattle.talks.specs.Roles.{answers, needs, puts, refuses}
-use Rattle.talks.specs.Standings.{Begun, Standing, begin, key_of, phase_after, standing, template_of, with_move}
+use Rattle.talks.specs.Standings.{Begun, Standing, begin, finds, key_of, phase_after, question_of, standing, template_of, then_stands, with_move}
 use Rattle.conversations.specs.declared.begun.Begun.{Begun as Held}
 use Rattle.conversations.specs.declared.conversation.Conversation.{Conversation}
 use Rattle.conversations.specs.declared.opening.Opening.{Opening}
@@ -22,6 +25,7 @@ use Rattle.conversations.specs.declared.opening.Opening.TheVariants as o
 use Rattle.conversations.specs.declared.phase.Phase.{Phase}
 use Rattle.conversations.specs.declared.phase.Phase.TheVariants as held
 use Rattle.conversations.specs.Meanings.{phase_of}
+use Rattle.conversations.specs.Shown.{is_seeking}
 
 -- ---- what was begun
 
@@ -72,15 +76,46 @@ Keeps old new call = (talk : List Call) → Holds old talk → Holds new (call �
 abbrev pub Shows : {A : Type 0} → Conversation → (Standing → A) → A → Type 0
 Shows c made shown = (talk : List Call) → Holds c talk → shown ≡ made (standing talk)
 
+-- ---- a request and the search that it wants
+
+-- a talk, and behind it a search among the keys of a moment, where a key is sought
+abbrev pub with_search : Asking → KeyList → List Call → List Call
+with_search asking list talk = if is_seeking (standing talk).phase then Sought (finds (standing talk) asking list) ∷ talk else talk
+
+-- whatever its talk was, it holds for the talk with the search that it wants
+abbrev pub Searches : Conversation → Conversation → Asking → KeyList → Type 0
+Searches old new asking list = (talk : List Call) → Holds old talk → Holds new (with_search asking list talk)
+
+-- whatever its talk was, it holds for the talk with its request carried out, and the search that this wants
+abbrev pub Performs : Conversation → Conversation → List ℕ → Asking → KeyList → Type 0
+Performs old new word asking list = (talk : List Call) → Holds old talk → Holds new (with_search asking list (CarriedOut word ∷ talk))
+
+-- whatever its talk was, it holds for it still
+abbrev pub Stays : Conversation → Conversation → Type 0
+Stays old new = (talk : List Call) → Holds old talk → Holds new talk
+
 -- ---- for the proofs of its methods alone
+
+-- a standing, and the search that it wants
+abbrev pub searched : Asking → KeyList → Standing → Standing
+searched asking list s = if is_seeking s.phase then then_stands s s.phase (Sought (finds s asking list)) else s
+
+-- nothing is needed, and the latest request that was carried out is forgotten
+pub record IsIdle (s : Standing) : Type 0 where
+  pub free : question_of s ≡ Nothing
+  pub starting : s.starting ≡ false
+
+-- where it was idle, it stands as it did, its phase aside
+abbrev pub PutsBack : Conversation → Conversation → Type 0
+PutsBack old new = (s : Standing) → Carries old s → IsIdle s → Carries new s
 
 -- however it stood, its phase aside, it stands so now
 abbrev pub Meets : Conversation → Conversation → (Standing → Standing) → Type 0
-Meets old new then = (s : Standing) → Carries old s → Fits new (then s)
+Meets old new change = (s : Standing) → Carries old s → Fits new (change s)
 
 -- however it stood, it stands so now
 abbrev pub Turns : Conversation → Conversation → (Standing → Standing) → Type 0
-Turns old new then = (s : Standing) → Fits old s → Fits new (then s)
+Turns old new change = (s : Standing) → Fits old s → Fits new (change s)
 
 -- a move of the machine was made, and answered so
 abbrev pub Made : SkConv → SkConv → Move → Gave → Type 0

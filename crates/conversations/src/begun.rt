@@ -1,8 +1,11 @@
 // A conversation that was started: the machine of its role, its template, and its key once it has one.
-ghost use Rattle.std.specs.Prelude.{◌≡◌, [], codes, IfOk, IfSome, OnErr, Some, option_map, length, nat_le, true, if◌then◌else◌};
+ghost use Rattle.std.specs.Prelude.{◌≡◌, ◌∷◌, [], codes, IfOk, IfSome, OnErr, Some, option_map, length, nat_le, true, if◌then◌else◌};
 ghost use Rattle.attr_tuples.specs.Forms.{is_dom, is_user};
 ghost use Rattle.attr_tuples.specs.Matching.{value_of};
 ghost use Rattle.attr_tuples.specs.Merging.{merged};
+ghost use Rattle.roles.specs.declared.need.Need.TheVariants.{Nothing};
+ghost use Rattle.roles.specs.Answers.{IsKey};
+ghost use Rattle.roles.specs.Talks.{Call as Move};
 ghost use Rattle.roles.specs.Talks.{found, get, give, heard, roomless, undone, unheard};
 ghost use Rattle.talks.specs.Answers.{attributes, info_answer, move_answer, text_or_none, told_key};
 ghost use Rattle.talks.specs.Roles.{answers, ends, has_ended, needs, puts};
@@ -110,7 +113,10 @@ impl Begun {
 
     /// The move that needed a key is taken back. It takes no memory.
     pub fn undo(&mut self)
-        ensures { (b : Beginning) → IsBegun self.old b → IsBegun self.new (with_move b undone) }
+        ensures met { (b : Beginning) → IsBegun self.old b → IsBegun self.new (with_move b undone) }
+        ensures back { (b : Beginning) (move : Move) → needs b.start b.moves ≡ Nothing
+            → IsKey (needs b.start (move ∷ b.moves)) → IsBegun self.old (with_move b move)
+            → IsBegun self.new b }
     {
         self.machine.undo_need();
     }

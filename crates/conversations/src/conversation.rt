@@ -1,15 +1,18 @@
 // A conversation.
-ghost use Rattle.std.specs.Prelude.{◌≡◌, ◌++◌, [], true, IfOk, List, OnErr, OnOk, Option, Some, option_copied, option_map};
+ghost use Rattle.std.specs.Prelude.{◌≡◌, ◌++◌, ◌∷◌, [], ℕ, false, true, IfOk, List, OnErr, OnOk, Option, Some, option_copied, option_map};
 ghost use Rattle.key_lists.specs.CtlLines.{few_of};
+ghost use Rattle.roles.specs.declared.need.Need.TheVariants.{Nothing};
+ghost use Rattle.roles.specs.Answers.{IsKey};
 ghost use Rattle.roles.specs.Starts.{fits_start};
-ghost use Rattle.rpc_file.specs.Requests.{asks_attributes, asks_info, meant as request_meant, reads, writes};
+ghost use Rattle.roles.specs.Talks.{Call as Move};
+ghost use Rattle.rpc_file.specs.Requests.{RpcRequest, asks_attributes, asks_info, meant as request_meant, reads, writes};
 ghost use Rattle.talks.specs.Calls as c;
 ghost use Rattle.talks.specs.Calls.{Call};
 ghost use Rattle.talks.specs.Meanings.{meant};
-ghost use Rattle.talks.specs.Roles.{refuses};
+ghost use Rattle.talks.specs.Roles.{needs, refuses};
 ghost use Rattle.talks.specs.Searches.{found_by};
-ghost use Rattle.talks.specs.Standings.{Begun as Beginning, answered, begin_once, carried_out, finds, key_of, moved, nothing_said, outcome_of, question_of, refused, role_name, sought, standing, start_by, started, taken_back, template_of, told_of, with_key};
-ghost use Rattle.conversations.specs.Fits.{BothBegun, Holds, IsBegun, Keeps, Meets, Shows, Turns};
+ghost use Rattle.talks.specs.Standings.{Begun as Beginning, Standing, Waiting, answered, begin_once, carried_out, finds, key_of, moved, nothing_said, outcome_of, question_of, refused, role_name, sought, standing, start_by, started, taken_back, template_of, then_stands, told_of, with_key, with_move};
+ghost use Rattle.conversations.specs.Fits.{BothBegun, Carries, Fits, Holds, IsBegun, IsIdle, Keeps, Meets, Performs, PutsBack, Searches, Shows, Stays, Turns, searched};
 ghost use Rattle.conversations.specs.Meanings.{request_of};
 ghost use Rattle.conversations.specs.Shown.{answer_text_of, asked_in, exchange_in, has_answer, has_request, is_resting, is_seeking, waits_for_server};
 
@@ -100,11 +103,7 @@ impl Conversation {
     pub fn find_key<'a>(&self, alloc: Global, ring: &'a KeyRing, asking: Asking) -> Found<'a>
         ensures { Shows self.now (λ s. finds s asking ring.now) (meant result) }
     {
-        let none = Tuple::new(alloc);
-        match &self.begun {
-            Some(begun) => find_for(ring, &none, begun, &self.said, asking),
-            None => find_none(ring, &none, &self.said, asking),
-        }
+        self.find(alloc, ring, asking)
     }
 
     /// The question for the authentication server, and where its answer ends, if there is one. It takes no memory.
@@ -199,15 +198,35 @@ impl Conversation {
         ensures kept { OnOk result (Keeps self.old self.new (c.Sought (meant found.entry))) }
         ensures unchanged { OnErr result (self.new ≡ self.old) }
     {
-        if !phase::is_seeking(&self.phase) {
-            return Ok(());
-        }
-        match found {
-            Found::Chosen(key) => self.use_key(alloc, key),
-            Found::AsksConsent(key) => self.ask_consent(key.serial()),
-            Found::AsksKey => self.ask_key(alloc),
-            Found::Denied => self.deny(),
-            Found::NoneServes => self.want_key(alloc),
+        self.take_found(alloc, found)
+    }
+
+    /// Where a key is sought, it is searched for among the keys of a ring, where these files are open.
+    pub fn seek_on(&mut self, alloc: Global, ring: &KeyRing, asking: Asking) -> Result<(), NoMemory>
+        ensures kept { OnOk result (Searches self.old self.new asking ring.now) }
+        ensures unchanged { OnErr result (self.new ≡ self.old) }
+    {
+        self.search(alloc, ring, asking)
+    }
+
+    /// The request is carried out, by a read for which this word was drawn; where it needs a key, that is searched for
+    /// among the keys of a ring, where these files are open.
+    pub fn perform(
+        &mut self,
+        alloc: Global,
+        word: [u8; 8],
+        ring: &KeyRing,
+        asking: Asking,
+    ) -> Result<(), NoMemory>
+        ensures kept { OnOk result (Performs self.old self.new word asking ring.now) }
+        ensures back { OnErr result (Stays self.old self.new) }
+    {
+        match mem::replace(&mut self.phase, Phase::Resting) {
+            Phase::Waiting(request) => self.perform_request(alloc, request, word, ring, asking),
+            other => {
+                self.phase = other;
+                self.search(alloc, ring, asking)
+            }
         }
     }
 
@@ -297,6 +316,59 @@ impl Conversation {
 // ---- a request is carried out
 
 impl Conversation {
+    fn perform_request(
+        &mut self,
+        alloc: Global,
+        request: Request,
+        word: [u8; 8],
+        ring: &KeyRing,
+        asking: Asking,
+    ) -> Result<(), NoMemory>
+        ensures met { OnOk result (Meets self.old self.new
+            (λ s. searched asking ring.now (carried_out s word (request_of request)))) }
+        ensures back { OnErr result ((s : Standing) → Carries self.old s → IsIdle s
+            → s.phase ≡ Waiting (request_of request) → Fits self.new s) }
+    {
+        let done = self.answer_and_search(alloc, &request, word, ring, asking);
+        if done.is_err() {
+            self.phase = Phase::Waiting(request);
+        }
+        done
+    }
+
+    // Its phase is lost where there is no memory.
+    fn answer_and_search(
+        &mut self,
+        alloc: Global,
+        request: &Request,
+        word: [u8; 8],
+        ring: &KeyRing,
+        asking: Asking,
+    ) -> Result<(), NoMemory>
+        ensures met { OnOk result (Meets self.old self.new
+            (λ s. searched asking ring.now (carried_out s word (request_of request.now)))) }
+        ensures back { OnErr result (PutsBack self.old self.new) }
+    {
+        self.answer_request(alloc, request, word)?;
+        let done = self.search(alloc, ring, asking);
+        if done.is_err() {
+            self.unmake_request();
+        }
+        done
+    }
+
+    // The request, for which a key is sought, is taken back without an answer.
+    fn unmake_request(&mut self)
+        ensures { (s : Standing) (word : List ℕ) (request : RpcRequest)
+            → Fits self.old (carried_out s word request)
+            → is_seeking (carried_out s word request).phase ≡ true
+            → IsIdle s → Carries self.new s }
+    {
+        let starting = self.starting;
+        self.starting = false;
+        take_back(starting, &mut self.begun);
+    }
+
     fn answer_request(
         &mut self,
         alloc: Global,
@@ -422,9 +494,49 @@ impl Conversation {
     }
 }
 
-// ---- a key was searched for
+// ---- a key is searched for
 
 impl Conversation {
+    fn find<'a>(&self, alloc: Global, ring: &'a KeyRing, asking: Asking) -> Found<'a>
+        ensures { (s : Standing) → Carries self.now s → meant result ≡ finds s asking ring.now }
+    {
+        let none = Tuple::new(alloc);
+        match &self.begun {
+            Some(begun) => find_for(ring, &none, begun, &self.said, asking),
+            None => find_none(ring, &none, &self.said, asking),
+        }
+    }
+
+    fn search(&mut self, alloc: Global, ring: &KeyRing, asking: Asking) -> Result<(), NoMemory>
+        ensures met { OnOk result (Turns self.old self.new (searched asking ring.now)) }
+        ensures unchanged { OnErr result (self.new ≡ self.old) }
+        ensures seeking { OnErr result ((s : Standing) → Fits self.old s
+            → is_seeking s.phase ≡ true) }
+    {
+        if !phase::is_seeking(&self.phase) {
+            return Ok(());
+        }
+        let found = self.find(alloc, ring, asking);
+        self.take_found(alloc, found)
+    }
+
+    fn take_found(&mut self, alloc: Global, found: Found<'_>) -> Result<(), NoMemory>
+        ensures met { OnOk result (Turns self.old self.new
+            (λ s. then_stands s s.phase (c.Sought (meant found.entry)))) }
+        ensures unchanged { OnErr result (self.new ≡ self.old) }
+    {
+        if !phase::is_seeking(&self.phase) {
+            return Ok(());
+        }
+        match found {
+            Found::Chosen(key) => self.use_key(alloc, key),
+            Found::AsksConsent(key) => self.ask_consent(key.serial()),
+            Found::AsksKey => self.ask_key(alloc),
+            Found::Denied => self.deny(),
+            Found::NoneServes => self.want_key(alloc),
+        }
+    }
+
     fn use_key(&mut self, alloc: Global, key: &Key) -> Result<(), NoMemory>
         ensures met { OnOk result (Turns self.old self.new (λ s. with_key s key.now s.begun)) }
         ensures unchanged { OnErr result (self.new ≡ self.old) }
@@ -507,8 +619,11 @@ impl Conversation {
 
 // A start that is taken back is none, and another move wasn't made.
 fn take_back(starting: bool, begun: &mut Option<Begun>)
-    ensures { (b : Option Beginning) → BothBegun begun.old b
+    ensures taken { (b : Option Beginning) → BothBegun begun.old b
         → BothBegun begun.new (taken_back starting b) }
+    ensures back { starting ≡ false → (b : Beginning) (move : Move)
+        → needs b.start b.moves ≡ Nothing → IsKey (needs b.start (move ∷ b.moves))
+        → BothBegun begun.old (Some (with_move b move)) → BothBegun begun.new (Some b) }
 {
     if starting {
         *begun = None;

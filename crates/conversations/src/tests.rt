@@ -150,11 +150,7 @@ fn carry(
     request: Request<'_>,
 ) -> Result<(), Fail> {
     conversation.store(alloc, request)?;
-    conversation.carry_out(alloc, word)?;
-    if conversation.seeks() {
-        let found = conversation.find_key(alloc, ring, CLOSED);
-        conversation.sought(alloc, found)?;
-    }
+    conversation.perform(alloc, word, ring, CLOSED)?;
     if conversation.waits_for_server() {
         conversation.heard(alloc, ANSWER)?;
     }
@@ -263,6 +259,7 @@ fn check_consent(
     ring: &KeyRing,
 ) -> Result<(), Fail> {
     seek(alloc, client)?;
+    assert!(rt; client.seeks());
     check_asked(rt, alloc, client)?;
     look_for_key(alloc, client, ring)?;
     client.consented(true)?;
@@ -288,7 +285,7 @@ fn check_needkey(
     seek(alloc, client)?;
     client.sought(alloc, Found::AsksKey)?;
     client.key_told();
-    look_for_key(alloc, client, ring)?;
+    client.seek_on(alloc, ring, OPEN)?;
     client.roomless();
     check_answer(rt, alloc, client, b"error out of memory", b"")
 }

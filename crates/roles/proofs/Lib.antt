@@ -1,4 +1,5 @@
 pub mod StartLemmas
 pub mod TemplateLemmas
 pub mod ValueLemmas
+pub mod UndoLaws
 mod Rows

@@ -5,6 +5,8 @@ use Rattle.roles.specs.declared.answer.Gave.{Gave}
 use Rattle.roles.specs.declared.answer.Gave.TheVariants as g
 use Rattle.roles.specs.declared.answer.StartFault.{StartFault}
 use Rattle.roles.specs.declared.answer.StartFault.TheVariants as fault
+use Rattle.roles.specs.declared.need.Need.{Need}
+use Rattle.roles.specs.declared.need.Need.TheVariants.{Nothing, Key, Exchange}
 use Rattle.roles.specs.Starts.{Start}
 use Rattle.roles.specs.Talks.{Call}
 
@@ -42,6 +44,16 @@ TellsAlways stands answers m given call = (start : Start) (talk : List Call) →
 
 abbrev pub KeepsAlways : {M : Type 0} → (M → Start → List Call → Type 0) → M → M → Call → Type 0
 KeepsAlways stands old new call = (start : Start) (talk : List Call) → stands old start talk → stands new start (call ∷ talk)
+
+-- a key is needed
+abbrev pub IsKey : Need → Type 0
+IsKey Nothing = ⊥
+IsKey (Key template) = Unit {0}
+IsKey (Exchange request shape) = ⊥
+
+-- where nothing was needed before the latest call, and a key since, the machine stands for the talk before that call
+abbrev pub TakesBack : {M : Type 0} → (M → Start → List Call → Type 0) → (Start → List Call → Need) → M → M → Type 0
+TakesBack stands needs old new = (start : Start) (talk : List Call) (call : Call) → stands old start (call ∷ talk) → needs start talk ≡ Nothing → IsKey (needs start (call ∷ talk)) → stands new start talk
 
 -- what is got by the call stands behind what stood before
 abbrev pub Puts : {M : Type 0} → (M → Start → List Call → Type 0) → (Start → List Call → Call → List ℕ) → M → Gave → Call → List ℕ → List ℕ → Type 0

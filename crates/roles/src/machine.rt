@@ -8,7 +8,7 @@ ghost use Rattle.roles.specs.declared.need.Need.{Need};
 ghost use Rattle.roles.specs.declared.need.Outcome.{Outcome};
 ghost use Rattle.roles.specs.Starts.{Start, start_with, fits_start};
 ghost use Rattle.roles.specs.Talks.{Call, give, get, found, heard, unheard, roomless, undone};
-ghost use Rattle.roles.specs.Answers.{IsTold, Tells, Keeps, TellsAlways, KeepsAlways, Puts, Shows};
+ghost use Rattle.roles.specs.Answers.{IsTold, Tells, Keeps, TellsAlways, KeepsAlways, TakesBack, Puts, Shows};
 
 use crate::answer::{Gave, StartFault};
 use crate::key::SkKey;
@@ -91,7 +91,8 @@ pub trait Machine {
     /// The call that wanted a key is taken back: the conversation is as before it. It takes no memory. What a start
     /// wants isn't taken back so; the machine is dropped.
     fn undo_need(&mut self)
-        ensures { KeepsAlways stands self.old self.new undone };
+        ensures kept { KeepsAlways stands self.old self.new undone }
+        ensures back { TakesBack stands needs self.old self.new };
 
     /// How the conversation stands, as to its end. It takes no memory.
     fn outcome(&self) -> Outcome

@@ -10,7 +10,7 @@ returns c = record {
   held = λ a b s. (sight a b s).counts;
   holders = λ a b s. (sight a b s).holders;
   msize = λ a b s. (sight a b s).msizes;
-  any_reply = λ a b s none. reply_to_alike a b s;
-  any_deeds = λ a b s none. frame_alike a b s;
+  any_reply = λ a b s none. reply_to_alike a b s none;
+  any_deeds = λ a b s none. frame_alike a b s none;
   open_deletes = deeds_open;
 }

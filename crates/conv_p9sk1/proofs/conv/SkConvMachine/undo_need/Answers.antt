@@ -1,6 +1,13 @@
+use Rattle.std.proofs.Common.{◌∷◌}
 use Rattle.roles.specs.Talks.{undone}
-use Rattle.conv_p9sk1.proofs.StandLemmas.{stands_on}
+use Rattle.roles.proofs.UndoLaws.{undone_call}
+use Rattle.conv_p9sk1.proofs.StandLemmas.{stands_back, stands_on}
 use Rattle.conv_p9sk1.proofs.conv.SkConvMachine.undo_need.Goals as goal
 
-pub returns : goal.returns
-returns c = stands_on c.args.self.now c.take_undone-answer.new.self undone c.take_undone-answer.ensures.follows
+pub returns-clause-kept : goal.returns-clause-kept
+returns-clause-kept c = stands_on c.args.self.now c.take_undone-answer.new.self undone c.take_undone-answer.ensures.follows
+
+pub returns-clause-back : goal.returns-clause-back
+returns-clause-back c = λ start talk call stands none key.
+    stands_back c.take_undone-answer.new.self start talk call (undone_call start talk call none key)
+    (stands_on c.args.self.now c.take_undone-answer.new.self undone c.take_undone-answer.ensures.follows start (call ∷ talk) stands)

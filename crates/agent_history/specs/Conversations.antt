@@ -1,0 +1,180 @@
+-- The conversations of an agent and their questions for the authentication server, read off a list of deeds. After
+-- factotum(4) of the Plan 9 manual: each opening of rpc is a conversation, which ends with its fid.
+use Rattle.std.specs.Prelude.{ℕ, ◌+◌, List, [], ◌∷◌, ◌++◌, length, filter, find, Bool, true, false, not, ◌&&◌, ◌==◌, nat_le, Option, Some, None, is_some, option_map, codes, if◌then◌else◌}
+use Rattle.std.specs.List.{list_any}
+use Rattle.nine_messages.specs.declared.message.RBody.{RBody}
+use Rattle.nine_messages.specs.declared.message.RBody.TheVariants as r
+use Rattle.file_tree.specs.declared.tree.Node.TheVariants.{Rpc, Confirm, Needkey}
+use Rattle.key_lists.specs.Lists.{KeyEntry}
+use Rattle.roles.specs.declared.need.Outcome.{Outcome}
+use Rattle.rpc_file.specs.Answers.{answer_text}
+use Rattle.rpc_file.specs.declared.answer.RpcAnswer.{RpcAnswer}
+use Rattle.talks.specs.Calls as calls
+use Rattle.talks.specs.Calls.{Call}
+use Rattle.talks.specs.declared.said.Asking.{Asking}
+use Rattle.talks.specs.Standings.{Phase, Standing, Kept, OnServer, Seeking, finds, key_of, outcome_of, standing}
+use Rattle.agent_history.specs.Deeds.{Deed, OfFids, OfReplies, OfConnection, OfTalk, Raised, HandedOut, Halted, Versioned, Opened, Clunked, Settled, Hung, fid_of, holder_of, keys_of, names}
+use Rattle.agent_history.specs.Replies.{Wait, is_unsettled, waits}
+
+-- ---- conversations
+
+-- how many were ever opened: they are numbered from 0
+abbrev pub opened_talks : List Deed → ℕ
+opened_talks [] = 0
+opened_talks (OfFids at (Opened f mode) ∷ before) = if names Rpc (fid_of before at f) then opened_talks before + 1 else opened_talks before
+opened_talks (deed ∷ before) = opened_talks before
+
+-- a conversation that stands, and the fid of a connection that has it open
+pub record Speaker : Type 0 where
+  pub conv : ℕ
+  pub conn : ℕ
+  pub fid : ℕ
+
+-- the conversations that stand, the oldest first
+abbrev pub speakers : List Deed → List Speaker
+speakers [] = []
+speakers (OfFids at (Opened f mode) ∷ before) = if names Rpc (fid_of before at f) then speakers before ++ record { conv = opened_talks before; conn = at; fid = f } ∷ [] else speakers before
+speakers (OfFids at (Versioned msize) ∷ before) = filter (λ s. not (s.conn == at)) (speakers before)
+speakers (OfFids at (Clunked f) ∷ before) = filter (λ s. not (s.conn == at && s.fid == f)) (speakers before)
+speakers (OfConnection at Hung ∷ before) = filter (λ s. not (s.conn == at)) (speakers before)
+speakers (Halted ∷ before) = []
+speakers (deed ∷ before) = speakers before
+
+-- the conversation that a fid has open
+abbrev pub conv_of : List Deed → ℕ → ℕ → Option ℕ
+conv_of done conn fid = option_map (λ s. s.conv) (find (λ s. s.conn == conn && s.fid == fid) (speakers done))
+
+-- who has the conversation of a number open
+abbrev pub speaker_of : List Deed → ℕ → Option Speaker
+speaker_of done conv = find (λ s. s.conv == conv) (speakers done)
+
+-- what a conversation met
+abbrev pub talk : List Deed → ℕ → List Call
+talk [] conv = []
+talk (OfTalk at call ∷ before) conv = if at == conv then call ∷ talk before conv else talk before conv
+talk (deed ∷ before) conv = talk before conv
+
+-- how it stands
+abbrev pub standing_of : List Deed → ℕ → Standing
+standing_of done conv = standing (talk done conv)
+
+-- how the conversation that a fid has open stands as to its end, once it has started, and the key that it has chosen
+abbrev pub outcome_in : List Deed → Option ℕ → Option Outcome
+outcome_in done None = None
+outcome_in done (Some conv) = outcome_of (standing_of done conv)
+
+abbrev pub outcome_at : List Deed → ℕ → ℕ → Option Outcome
+outcome_at done conn fid = outcome_in done (conv_of done conn fid)
+
+abbrev pub chosen_in : List Deed → Option ℕ → Option KeyEntry
+chosen_in done None = None
+chosen_in done (Some conv) = key_of (standing_of done conv)
+
+abbrev pub chosen_at : List Deed → ℕ → ℕ → Option KeyEntry
+chosen_at done conn fid = chosen_in done (conv_of done conn fid)
+
+-- the files by which a user is asked that are open
+abbrev pub asking : List Deed → Asking
+asking done = record { confirm = is_some (holder_of done Confirm); needkey = is_some (holder_of done Needkey) }
+
+-- ---- questions for the authentication server
+
+-- how many were ever raised: they are numbered from 1
+abbrev pub raised : List Deed → ℕ
+raised [] = 0
+raised (Raised conv ∷ before) = raised before + 1
+raised (deed ∷ before) = raised before
+
+-- a question that stands: its number, its conversation, and whether it was handed out
+pub record Question : Type 0 where
+  pub call : ℕ
+  pub conv : ℕ
+  pub handed : Bool
+
+-- the oldest that wasn't handed out is
+abbrev pub hand_first : List Question → List Question
+hand_first [] = []
+hand_first (q ∷ more) = if q.handed then q ∷ hand_first more else record { call = q.call; conv = q.conv; handed = true } ∷ more
+
+-- those of the conversations that stand
+abbrev pub of_speakers : List Speaker → List Question → List Question
+of_speakers standing questions = filter (λ q. list_any (λ s. s.conv == q.conv) standing) questions
+
+-- the questions that stand, the oldest first: each until it is answered, or is known to stay unanswered, or until its
+-- conversation ends
+abbrev pub questions : List Deed → List Question
+questions [] = []
+questions (Raised conv ∷ before) = questions before ++ record { call = raised before + 1; conv = conv; handed = false } ∷ []
+questions (HandedOut ∷ before) = hand_first (questions before)
+questions (OfTalk conv (calls.Heard bytes) ∷ before) = filter (λ q. not (q.conv == conv)) (questions before)
+questions (OfTalk conv calls.Unheard ∷ before) = filter (λ q. not (q.conv == conv)) (questions before)
+questions (OfTalk conv calls.Roomless ∷ before) = filter (λ q. not (q.conv == conv)) (questions before)
+questions (OfFids at deed ∷ before) = of_speakers (speakers (OfFids at deed ∷ before)) (questions before)
+questions (OfConnection at deed ∷ before) = of_speakers (speakers (OfConnection at deed ∷ before)) (questions before)
+questions (Halted ∷ before) = []
+questions (deed ∷ before) = questions before
+
+-- the conversation whose question has this number
+abbrev pub asker : List Deed → ℕ → Option ℕ
+asker done call = option_map (λ q. q.conv) (find (λ q. q.call == call) (questions done))
+
+-- the oldest question that wasn't handed out
+abbrev pub next_question : List Deed → Option Question
+next_question done = find (λ q. not q.handed) (questions done)
+
+-- ---- what follows on what a conversation met
+
+-- a question is raised where it is for the authentication server
+abbrev pub raising : ℕ → Phase → List Deed → List Deed
+raising conv OnServer done = Raised conv ∷ done
+raising conv phase done = done
+
+abbrev pub then_raised : ℕ → List Deed → List Deed
+then_raised conv done = raising conv (standing_of done conv).phase done
+
+-- a key is searched for where one is needed, among the keys of this moment
+abbrev pub seeking : ℕ → Phase → List Deed → List Deed
+seeking conv Seeking done = OfTalk conv (calls.Sought (finds (standing_of done conv) (asking done) (keys_of done))) ∷ done
+seeking conv phase done = done
+
+abbrev pub then_sought : ℕ → List Deed → List Deed
+then_sought conv done = seeking conv (standing_of done conv).phase done
+
+-- a conversation met something, and what it needs then is got for it
+abbrev pub met : ℕ → Call → List Deed → List Deed
+met conv call done = then_raised conv (then_sought conv (OfTalk conv call ∷ done))
+
+-- ---- answers
+
+-- an answer fits a read that may hold so many bytes
+abbrev pub fits : ℕ → RpcAnswer → Bool
+fits count answer = nat_le (length (answer_text answer)) count
+
+-- what the read is told: the answer's text, or that it holds too little
+abbrev pub told : ℕ → RpcAnswer → RBody
+told count answer = if fits count answer then r.Read (answer_text answer) else r.Error (codes "read too small")
+
+-- an answer that was read is gone, and one that doesn't fit is kept
+abbrev pub then_took : ℕ → ℕ → RpcAnswer → List Deed → List Deed
+then_took conv count answer done = if fits count answer then OfTalk conv calls.Took ∷ done else done
+
+-- the read that waits for the answers of a fid
+abbrev pub reader_of : List Deed → Speaker → Option Wait
+reader_of done s = find (λ wait. wait.fid == s.fid && is_unsettled wait) (waits done s.conn)
+
+-- an answer goes to the read that waits for it, if one does
+abbrev pub give_to : ℕ → ℕ → RpcAnswer → Option Wait → List Deed → List Deed
+give_to conv conn answer None done = done
+give_to conv conn answer (Some wait) done = OfReplies conn (Settled wait.tag (told wait.count answer)) ∷ then_took conv wait.count answer done
+
+abbrev pub deliver_to : ℕ → Phase → Option Speaker → List Deed → List Deed
+deliver_to conv (Kept answer) (Some s) done = give_to conv s.conn answer (reader_of done s) done
+deliver_to conv phase speaker done = done
+
+abbrev pub delivered : ℕ → List Deed → List Deed
+delivered conv done = deliver_to conv (standing_of done conv).phase (speaker_of done conv) done
+
+-- the authentication server is done with the question of a number
+abbrev pub resumed : Option ℕ → Call → List Deed → List Deed
+resumed None call done = done
+resumed (Some conv) call done = delivered conv (met conv call done)

@@ -1,0 +1,3 @@
+pub mod LeaveLemmas
+pub mod StandLemmas
+pub mod SpeakLemmas

@@ -1,0 +1,64 @@
+-- Of the code alone: what a method does to what is kept. No public contract cites these words.
+use Rattle.std.specs.Prelude.{◌≡◌, ℕ, ◌+◌, List, [], ◌∷◌, ◌++◌, filter, Bool, not, ◌&&◌, ◌==◌, Option, Some, None, is_some, if◌then◌else◌}
+use Rattle.std.specs.List.{list_any}
+use Rattle.talks.specs.Calls.{Call}
+use Rattle.conversations.specs.declared.conversation.Conversation.{Conversation}
+use Rattle.conversations.specs.Fits.{Holds, Keeps}
+use Rattle.agent_history.specs.Conversations.{Speaker}
+use Rattle.agent_talks.specs.declared.speaker.Speaker.{Speaker as HeldSpeaker}
+use Rattle.agent_talks.specs.declared.speaker.Leaving.{Leaving}
+use Rattle.agent_talks.specs.declared.speaker.Leaving.TheVariants as l
+use Rattle.agent_talks.specs.declared.held.Talks.{Talks}
+use Rattle.agent_talks.specs.Kept.{kept_at, questions_in, speakers_in}
+
+-- what was kept for a number met something, where something was
+abbrev pub BothMet : Option Conversation → Option Conversation → Call → Type 0
+BothMet None None call = Unit {0}
+BothMet None (Some new) call = ⊥
+BothMet (Some old) None call = ⊥
+BothMet (Some old) (Some new) call = Keeps old new call
+
+-- a conversation met something, and all others, who has them open and the numbers are as before
+pub record Meets (old new : Talks) (conv : ℕ) (call : Call) : Type 0 where
+  pub opened : new.opened ≡ old.opened
+  pub speakers : speakers_in new ≡ speakers_in old
+  pub this : BothMet (kept_at old conv) (kept_at new conv) call
+  pub others : (other : ℕ) → (conv ≡ other → ⊥) → kept_at new other ≡ kept_at old other
+  pub raised : new.raised ≡ old.raised
+
+-- a conversation that met nothing is kept
+abbrev pub IsNew : Option Conversation → Type 0
+IsNew None = ⊥
+IsNew (Some c) = Holds c []
+
+-- a fid of a connection has a conversation open from now on
+pub record Opens (old new : Talks) (conn fid : ℕ) : Type 0 where
+  pub opened : new.opened ≡ old.opened + 1
+  pub speakers : speakers_in new ≡ speakers_in old ++ record { conv = old.opened; conn = conn; fid = fid } ∷ []
+  pub this : IsNew (kept_at new old.opened)
+  pub others : (other : ℕ) → (old.opened ≡ other → ⊥) → kept_at new other ≡ kept_at old other
+  pub raised : new.raised ≡ old.raised
+  pub questions : questions_in new ≡ questions_in old
+
+-- who leaves
+abbrev pub leaves : Leaving → HeldSpeaker → Bool
+leaves (l.Fid conn fid) s = s.conn == conn && s.fid == fid
+leaves (l.Connection conn) s = s.conn == conn
+
+abbrev pub leaving_at : Leaving → List HeldSpeaker → ℕ → Bool
+leaving_at leaving speakers conv = list_any (λ s. leaves leaving s && s.conv == conv) speakers
+
+-- what is still kept for a number, if this was
+abbrev pub left_one : Leaving → HeldSpeaker → ℕ → Option Conversation → Option Conversation
+left_one leaving s conv o = if leaves leaving s && s.conv == conv then None else o
+
+abbrev pub left_at : Leaving → List HeldSpeaker → ℕ → Option Conversation → Option Conversation
+left_at leaving speakers conv o = if leaving_at leaving speakers conv then None else o
+
+-- the conversations of those who leave are kept no more, nor are their questions
+pub record Leaves (old new : Talks) (leaving : Leaving) : Type 0 where
+  pub opened : new.opened ≡ old.opened
+  pub speakers : new.speakers.items ≡ filter (λ s. not (leaves leaving s)) old.speakers.items
+  pub table : (conv : ℕ) → kept_at new conv ≡ left_at leaving old.speakers.items conv (kept_at old conv)
+  pub raised : new.raised ≡ old.raised
+  pub questions : new.questions.items ≡ filter (λ q. is_some (kept_at new q.conv)) old.questions.items

@@ -1,0 +1,25 @@
+-- What is kept of conversations and of their questions, in the words of the definitions.
+use Rattle.std.specs.Prelude.{ℕ, List, map, Bool, Option}
+use Rattle.std.specs.Ordering.{nat_cmp}
+use Rattle.std.specs.BTreeMap.{get}
+use Rattle.agent_history.specs.Conversations.{Question, Speaker}
+use Rattle.conversations.specs.declared.conversation.Conversation.{Conversation}
+use Rattle.agent_talks.specs.declared.question.Question.{Question as HeldQuestion}
+use Rattle.agent_talks.specs.declared.speaker.Speaker.{Speaker as HeldSpeaker}
+use Rattle.agent_talks.specs.declared.held.Talks.{Talks}
+
+abbrev pub speaker_of : HeldSpeaker → Speaker
+speaker_of s = record { conv = s.conv; conn = s.conn; fid = s.fid }
+
+abbrev pub question_of : HeldQuestion → Question
+question_of q = record { call = q.call; conv = q.conv; handed = q.handed }
+
+abbrev pub speakers_in : Talks → List Speaker
+speakers_in t = map speaker_of t.speakers.items
+
+abbrev pub questions_in : Talks → List Question
+questions_in t = map question_of t.questions.items
+
+-- the conversation of a number, if it is kept
+abbrev pub kept_at : Talks → ℕ → Option Conversation
+kept_at t conv = get nat_cmp t.table conv

@@ -1,0 +1,59 @@
+-- When the conversations that are kept are those that a list of deeds tells of.
+use Rattle.std.specs.Prelude.{◌≡◌, ℕ, ◌≤◌, List, [], Bool, true, false, ◌==◌, Option, Some, None}
+use Rattle.std.specs.List.{list_any}
+use Rattle.talks.specs.Calls.{Call}
+use Rattle.talks.specs.Standings.{OnServer}
+use Rattle.agent_history.specs.Deeds.{Deed}
+use Rattle.agent_history.specs.Conversations as told
+use Rattle.agent_history.specs.Conversations.{Question, Speaker, met, opened_talks, standing_of, talk}
+use Rattle.conversations.specs.declared.conversation.Conversation.{Conversation}
+use Rattle.conversations.specs.Fits.{Holds}
+use Rattle.agent_talks.specs.declared.held.Talks.{Talks}
+use Rattle.agent_talks.specs.Kept.{kept_at, questions_in, speakers_in}
+
+-- the conversation of a number is one of those that stand
+abbrev pub is_among : List Speaker → ℕ → Bool
+is_among standing conv = list_any (λ s. s.conv == conv) standing
+
+abbrev pub stands : List Deed → ℕ → Bool
+stands done conv = is_among (told.speakers done) conv
+
+-- some question is of the conversation of a number
+abbrev pub asks_for : List Question → ℕ → Bool
+asks_for questions conv = list_any (λ q. q.conv == conv) questions
+
+-- a conversation is kept exactly where it stands, and it holds for its talk
+abbrev pub IsKept : Bool → List Call → Option Conversation → Type 0
+IsKept true talk (Some c) = Holds c talk
+IsKept true talk None = ⊥
+IsKept false talk (Some c) = ⊥
+IsKept false talk None = Unit {0}
+
+-- a conversation stands, and the authentication server is asked for it
+pub record OnServerNow (done : List Deed) (conv : ℕ) : Type 0 where
+  pub stands : stands done conv ≡ true
+  pub phase : (standing_of done conv).phase ≡ OnServer
+
+pub record Speak (done : List Deed) (t : Talks) : Type 0 where
+  pub opened : t.opened ≡ opened_talks done
+  pub speakers : speakers_in t ≡ told.speakers done
+  pub table : (conv : ℕ) → IsKept (stands done conv) (talk done conv) (kept_at t conv)
+  pub raised : t.raised ≡ told.raised done
+  pub questions : questions_in t ≡ told.questions done
+  -- a conversation that wasn't opened yet met nothing
+  pub fresh : (conv : ℕ) → opened_talks done ≤ conv → talk done conv ≡ []
+  -- a question that stands is of a conversation that stands and waits for its answer
+  pub asked : (conv : ℕ) → asks_for (told.questions done) conv ≡ true → OnServerNow done conv
+
+-- the conversation of a number, where one is meant, met something
+abbrev pub met_by : Option ℕ → Call → List Deed → List Deed
+met_by None call done = done
+met_by (Some conv) call done = met conv call done
+
+-- the same conversations and the same questions
+pub record SameTalks (old new : Talks) : Type 0 where
+  pub opened : new.opened ≡ old.opened
+  pub speakers : speakers_in new ≡ speakers_in old
+  pub table : (conv : ℕ) → kept_at new conv ≡ kept_at old conv
+  pub raised : new.raised ≡ old.raised
+  pub questions : questions_in new ≡ questions_in old

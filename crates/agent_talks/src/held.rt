@@ -1,0 +1,225 @@
+// The conversations of an agent.
+ghost use Rattle.std.specs.Prelude.{◌≡◌, ◌==◌, ◌&&◌, [], ◌∷◌, List, ℕ, Option, OnOk, OnErr, filter, find, is_some, length, option_copied, option_map, true};
+ghost use Rattle.std.specs.BTreeMap.{get};
+ghost use Rattle.std.specs.Ordering.{nat_cmp};
+ghost use Rattle.file_tree.specs.declared.tree.Node.TheVariants.{Rpc};
+ghost use Rattle.rpc_file.specs.Requests.{meant};
+ghost use Rattle.talks.specs.Calls as c;
+ghost use Rattle.agent_history.specs.Deeds.{Deed, OfConnection, OfFids, OfTalk, Clunked, Hung, Opened, Versioned, fid_of, names};
+ghost use Rattle.agent_history.specs.Conversations.{conv_of, speaker_of, speakers, talk};
+ghost use Rattle.agent_talks.specs.Kept as kept;
+ghost use Rattle.agent_talks.specs.Changes.{Leaves, Meets, Opens, left_at, left_one};
+ghost use Rattle.agent_talks.specs.Speaks.{IsKept, SameTalks, Speak, stands};
+
+use crate::question::Question;
+use crate::speaker::{Leaving, Speaker, find_conv, find_number, keep_others, leaves};
+use conversations::Conversation;
+use rpc_file::Request;
+use std::alloc::Global;
+use std::collections::BTreeMap;
+use wire_base::NoMemory;
+
+/// The conversations that stand, each with the fid of a connection that has it open, and their questions for the
+/// authentication server. It has no Debug, which would print secrets.
+#[derive(Drop)]
+pub struct Talks {
+    speakers: Vec<Speaker>,
+    table: BTreeMap<u64, Conversation>,
+    opened: u64,
+    questions: Vec<Question>,
+    raised: u64,
+}
+
+// ---- what stands
+
+impl Talks {
+    /// No conversations. It takes no memory.
+    pub fn new(alloc: Global) -> Talks
+        ensures { Speak [] result }
+    {
+        Talks {
+            speakers: Vec::new(alloc),
+            table: BTreeMap::new(alloc),
+            opened: 0,
+            questions: Vec::new(alloc),
+            raised: 0,
+        }
+    }
+
+    /// How many stand.
+    pub fn count(&self) -> usize
+        ensures { (done : List Deed) → Speak done self.now → result ≡ length (speakers done) }
+    {
+        self.speakers.len()
+    }
+
+    /// The number of the conversation that a fid of a connection has open.
+    pub fn conv_at(&self, conn: u64, fid: u32) -> Option<u64>
+        ensures { (done : List Deed) → Speak done self.now → result ≡ conv_of done conn fid }
+    {
+        self.find_conv(conn, fid)
+    }
+
+    /// Who has the conversation of a number open.
+    pub fn speaker_of(&self, conv: u64) -> Option<&Speaker>
+        ensures { (done : List Deed) → Speak done self.now
+            → option_map kept.speaker_of (option_copied result) ≡ speaker_of done conv }
+    {
+        self.find_speaker(conv)
+    }
+
+    fn find_conv(&self, conn: u64, fid: u32) -> Option<u64>
+        ensures { result ≡ option_map (λ s. s.conv)
+            (find (λ s. s.conn == conn && s.fid == fid) self.now.speakers.items) }
+    {
+        find_conv(&self.speakers, conn, fid)
+    }
+
+    fn find_speaker(&self, conv: u64) -> Option<&Speaker>
+        ensures { option_copied result ≡ find (λ s. s.conv == conv) self.now.speakers.items }
+    {
+        find_number(&self.speakers, conv)
+    }
+
+    /// The conversation of a number, where it stands.
+    pub fn conversation(&self, conv: u64) -> Option<&Conversation>
+        ensures { (done : List Deed) → Speak done self.now
+            → IsKept (stands done conv) (talk done conv) (option_copied result) }
+    {
+        self.table.get(&conv)
+    }
+}
+
+// ---- they are opened, and end
+
+impl Talks {
+    fn open_at(&mut self, alloc: Global, conn: u64, fid: u32) -> Result<(), NoMemory>
+        ensures opens { OnOk result (Opens self.old self.new conn fid) }
+        ensures same { OnErr result (SameTalks self.old self.new) }
+    {
+        let conv = self.opened;
+        let Some(opened) = conv.checked_add(1) else {
+            return Err(NoMemory);
+        };
+        self.speakers.reserve(1)?;
+        self.table.insert(conv, Conversation::new(alloc))?;
+        self.opened = opened;
+        self.speakers.push(Speaker { conv, conn, fid }).unwrap();
+        Ok(())
+    }
+
+    /// A fid of a connection that names rpc was opened: it has a conversation from now on, under the next number.
+    pub fn open(&mut self, alloc: Global, conn: u64, fid: u32) -> Result<(), NoMemory>
+        ensures opened { OnOk result ((done : List Deed) (mode : ℕ)
+            → names Rpc (fid_of done conn fid) ≡ true → Speak done self.old
+            → Speak (OfFids conn (Opened fid mode) ∷ done) self.new) }
+        ensures same { OnErr result (SameTalks self.old self.new) }
+    {
+        self.open_at(alloc, conn, fid)
+    }
+}
+
+impl Talks {
+    fn leave(&mut self, leaving: Leaving)
+        ensures { Leaves self.old self.new leaving }
+    {
+        drop_left(&mut self.table, &self.speakers, leaving);
+        keep_others(&mut self.speakers, leaving);
+        keep_questions(&mut self.questions, &self.table);
+    }
+
+    /// A fid of a connection is given up: its conversation ends, and so do its questions. It takes no memory.
+    pub fn clunk(&mut self, conn: u64, fid: u32)
+        ensures { (done : List Deed) → Speak done self.old
+            → Speak (OfFids conn (Clunked fid) ∷ done) self.new }
+    {
+        self.leave(Leaving::Fid(conn, fid));
+    }
+
+    /// A version of a connection is answered: all its conversations end. It takes no memory.
+    pub fn version(&mut self, conn: u64)
+        ensures { (done : List Deed) (msize : Option ℕ) → Speak done self.old
+            → Speak (OfFids conn (Versioned msize) ∷ done) self.new }
+    {
+        self.leave(Leaving::Connection(conn));
+    }
+
+    /// A connection is hung up: all its conversations end. It takes no memory.
+    pub fn hang(&mut self, conn: u64)
+        ensures { (done : List Deed) → Speak done self.old
+            → Speak (OfConnection conn Hung ∷ done) self.new }
+    {
+        self.leave(Leaving::Connection(conn));
+    }
+}
+
+// The conversations of those who leave are kept no more.
+fn drop_left(table: &mut BTreeMap<u64, Conversation>, speakers: &[Speaker], leaving: Leaving)
+    ensures { (conv : ℕ) → get nat_cmp table.new conv
+        ≡ left_at leaving speakers.now conv (get nat_cmp table.old conv) }
+{
+    for speaker in speakers {
+        drop_one(table, leaving, speaker);
+    }
+}
+
+// The conversation of one who leaves is kept no more.
+fn drop_one(table: &mut BTreeMap<u64, Conversation>, leaving: Leaving, speaker: &Speaker)
+    ensures { (conv : ℕ) → get nat_cmp table.new conv
+        ≡ left_one leaving speaker.now conv (get nat_cmp table.old conv) }
+{
+    if leaves(leaving, speaker) {
+        table.remove(&speaker.conv);
+    }
+}
+
+// The questions of conversations that are kept.
+fn keep_questions(questions: &mut Vec<Question>, table: &BTreeMap<u64, Conversation>)
+    ensures { questions.new.items
+        ≡ filter (λ q. is_some (get nat_cmp table.now q.conv)) questions.old.items }
+{
+    questions.retain(|question| table.contains_key(&question.conv));
+}
+
+// ---- what they meet
+
+impl Talks {
+    fn store_at(&mut self, alloc: Global, conv: u64, request: Request<'_>) -> Result<(), NoMemory>
+        ensures meets { OnOk result (Meets self.old self.new conv
+            (c.Stored (meant request.entry))) }
+        ensures questions { self.new.questions ≡ self.old.questions }
+        ensures same { OnErr result (SameTalks self.old self.new) }
+    {
+        match self.table.get_mut(&conv) {
+            Some(conversation) => conversation.store(alloc, request),
+            None => Ok(()),
+        }
+    }
+
+    /// A request is written on a conversation that stands, which a copy is kept of.
+    pub fn store(&mut self, alloc: Global, conv: u64, request: Request<'_>) -> Result<(), NoMemory>
+        ensures kept { OnOk result ((done : List Deed) → stands done conv ≡ true
+            → Speak done self.old
+            → Speak (OfTalk conv (c.Stored (meant request.entry)) ∷ done) self.new) }
+        ensures same { OnErr result (SameTalks self.old self.new) }
+    {
+        self.store_at(alloc, conv, request)
+    }
+
+    fn took_at(&mut self, conv: u64)
+        ensures meets { Meets self.old self.new conv c.Took }
+        ensures questions { self.new.questions ≡ self.old.questions }
+    {
+        if let Some(conversation) = self.table.get_mut(&conv) {
+            conversation.took();
+        }
+    }
+
+    /// The answer of a conversation that stands was read. It takes no memory.
+    pub fn took(&mut self, conv: u64)
+        ensures { (done : List Deed) → stands done conv ≡ true → Speak done self.old
+            → Speak (OfTalk conv c.Took ∷ done) self.new }
+    {
+        self.took_at(conv);
+    }
+}
