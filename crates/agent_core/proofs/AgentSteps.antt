@@ -7,8 +7,8 @@ use Rattle.nine_messages.specs.Messages.{r_frame}
 use Rattle.agent_history.specs.Deeds.{is_halted, was_hung}
 use Rattle.agent_history.specs.Replies.{untaken}
 use Rattle.mailboxes.specs.Deliveries.{replies_at}
-use Rattle.agent_core.specs.declared.connection.Connection.{Connection}
-use Rattle.agent_core.specs.Connections.{is_hung}
+use Rattle.agent_requests.specs.declared.connection.Connection.{Connection}
+use Rattle.agent_requests.specs.Connections.{is_hung}
 use Rattle.agent_history.specs.Histories.{History, has_stopped, most_events, deeds, does, answer, first_reply, is_reply}
 use Rattle.agent_history.specs.declared.event.Event.TheVariants.{Take}
 use Rattle.agent_core.specs.declared.agent.State.{State}

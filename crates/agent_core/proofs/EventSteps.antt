@@ -19,11 +19,11 @@ use Rattle.agent_history.specs.Deeds.{Deed, FidDeed, KeyDeed, ReplyDeed, OfFids,
 use Rattle.agent_history.specs.Replies.{has_settled, swept, untaken}
 use Rattle.agent_history.specs.Requests.{Call, after, after_frame, after_granted, granted, answered, call_of, walking, reading, effective, line_deed, lines_done}
 use Rattle.agent_history.specs.Histories.{does, entered, taking}
-use Rattle.agent_core.specs.declared.connection.Connection.{Connection}
-use Rattle.agent_core.specs.declared.shared.Shared.{Shared}
+use Rattle.agent_requests.specs.declared.connection.Connection.{Connection}
+use Rattle.agent_requests.specs.declared.shared.Shared.{Shared}
 use Rattle.mailboxes.specs.Deliveries.{Delivers, replies_at}
-use Rattle.agent_core.specs.declared.shared.Holders.{Holders}
-use Rattle.agent_core.specs.Connections.{Keeps, Holds, Shares, is_opened, is_hung}
+use Rattle.agent_requests.specs.declared.shared.Holders.{Holders}
+use Rattle.agent_requests.specs.Connections.{Keeps, Holds, Shares, is_opened, is_hung}
 use Rattle.agent_core.specs.Events.{KeepsNothing, KeepsAt, Stands, AllStand, Serves, is_stop}
 
 same : (a : ℕ) → eqb a a ≡ true

@@ -1,5 +1,2 @@
-pub mod TreeLemmas
-pub mod RequestSteps
-pub mod FrameSteps
 pub mod EventSteps
 pub mod AgentSteps

@@ -4,12 +4,12 @@ use Rattle.std.specs.Prelude.{◌≡◌, ℕ, ◌≤◌, ◌+◌, List, [], leng
 use Rattle.agent_history.specs.declared.event.Event.{Event}
 use Rattle.agent_history.specs.Histories.{History, has_stopped, most_events, deeds}
 use Rattle.mailboxes.specs.Deliveries.{replies_at}
-use Rattle.agent_core.specs.declared.connection.Connection.{Connection}
+use Rattle.agent_requests.specs.declared.connection.Connection.{Connection}
 use Rattle.agent_core.specs.declared.agent.Running.{Running}
 use Rattle.agent_core.specs.declared.agent.State.{State}
 use Rattle.agent_core.specs.declared.agent.State.TheVariants.{Runs, Stopped}
 use Rattle.agent_core.specs.declared.agent.Agent.{Agent}
-use Rattle.agent_core.specs.Connections.{SameShared}
+use Rattle.agent_requests.specs.Connections.{SameShared}
 use Rattle.agent_core.specs.Events.{Lives, SameEach, TakesNoneOf, LeavesOneLess, HadOne, GivesUp, gives_to, is_stop, known}
 
 -- ---- agents

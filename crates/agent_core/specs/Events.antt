@@ -10,11 +10,11 @@ use Rattle.agent_history.specs.declared.event.StepAnswer.{StepAnswer}
 use Rattle.agent_history.specs.Deeds.{Deed, was_opened, was_hung, msize_of, fid_of, held_by, text_of, is_halted}
 use Rattle.agent_history.specs.Histories.{History, deeds, does, answer_after}
 use Rattle.mailboxes.specs.Deliveries.{KeepsNone, replies_at}
-use Rattle.agent_core.specs.declared.connection.Phase.{Phase}
-use Rattle.agent_core.specs.declared.connection.Phase.TheVariants.{Fresh}
-use Rattle.agent_core.specs.declared.connection.Connection.{Connection}
-use Rattle.agent_core.specs.declared.shared.Shared.{Shared}
-use Rattle.agent_core.specs.Connections.{Keeps, SameKept, Shares, IsFresh, IsHungUp, is_opened, is_hung}
+use Rattle.agent_requests.specs.declared.connection.Phase.{Phase}
+use Rattle.agent_requests.specs.declared.connection.Phase.TheVariants.{Fresh}
+use Rattle.agent_requests.specs.declared.connection.Connection.{Connection}
+use Rattle.agent_requests.specs.declared.shared.Shared.{Shared}
+use Rattle.agent_requests.specs.Connections.{Keeps, SameKept, Shares, IsFresh, IsHungUp, is_opened, is_hung}
 
 -- ---- connections
 

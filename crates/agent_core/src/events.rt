@@ -6,7 +6,7 @@ ghost use Rattle.agent_history.specs.Deeds.{Deed, is_halted};
 ghost use Rattle.agent_history.specs.Requests.{tag_of};
 ghost use Rattle.agent_history.specs.Histories.{does, is_reply};
 ghost use Rattle.mailboxes.specs.Deliveries.{replies_at};
-ghost use Rattle.agent_core.specs.Connections.{SameKept, SameShared};
+ghost use Rattle.agent_requests.specs.Connections.{SameKept, SameShared};
 ghost use Rattle.agent_core.specs.Events.{AllStand, AnswersAfter, FindsNone, AnswersFor, GivesUp, HangsUp, IsEvent, LeavesOneLess, LivesOn, SameEach, Serves, TakesNoneOf, gives_reply, gives_to, is_stop, known};
 
 use crate::call::Call;

@@ -2,16 +2,7 @@
 #![tactic(auto)]
 
 mod agent;
-mod call;
-mod connection;
 mod events;
-mod fid_requests;
-mod file_requests;
-mod listed;
-mod msize;
-mod refused;
-mod serve;
-mod shared;
 
 pub use agent::Agent;
 pub use agent_history::{Event, Shape, StepAnswer};

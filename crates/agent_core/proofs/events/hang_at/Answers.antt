@@ -3,7 +3,7 @@ use Rattle.std.specs.Ordering.{nat_cmp}
 use Rattle.std.specs.BTreeMap.{get}
 use Rattle.agent_history.specs.declared.event.Event.TheVariants as events
 use Rattle.agent_history.specs.Histories.{does}
-use Rattle.agent_core.specs.declared.connection.Connection.{Connection}
+use Rattle.agent_requests.specs.declared.connection.Connection.{Connection}
 use Rattle.agent_core.specs.Events.{Stands}
 use Rattle.agent_core.proofs.EventSteps.{all_stand, here_now, hang_others}
 use Rattle.agent_core.proofs.events.hang_at.Goals as goal

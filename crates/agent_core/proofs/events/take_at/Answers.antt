@@ -4,7 +4,7 @@ use Rattle.std.specs.BTreeMap.{get}
 use Rattle.std.proofs.lemmas.Result.{on_ok_weaker}
 use Rattle.agent_history.specs.declared.event.Event.TheVariants as events
 use Rattle.agent_history.specs.Histories.{does}
-use Rattle.agent_core.specs.declared.connection.Connection.{Connection}
+use Rattle.agent_requests.specs.declared.connection.Connection.{Connection}
 use Rattle.agent_core.specs.Events.{Stands, AllStand}
 use Rattle.agent_core.proofs.EventSteps.{all_stand, take_others}
 use Rattle.agent_core.proofs.events.take_at.Goals as goal

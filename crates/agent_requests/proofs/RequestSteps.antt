@@ -1,0 +1,204 @@
+-- From what the calls on a table of fids answer to what the history says of a request.
+use Rattle.std.proofs.Common.{◌≡◌, ◌≤◌, ℕ, List, [], ◌∷◌, Bool, true, false, ◌&&◌, not, cond, eqb, Option, Some, None, Result, Ok, Err, refl, sym, ap, subst, ◌∙◌, ◌⊎◌, inl, inr, min}
+use Rattle.std.specs.Prelude.{is_some, option_map, ok_or, codes, OnOk}
+use Rattle.std.proofs.lemmas.Bool.{le-ltb}
+use Rattle.nine_messages.specs.declared.message.TBody.TheVariants as t
+use Rattle.nine_messages.specs.declared.message.RBody.TheVariants as r
+use Rattle.nine_messages.specs.Messages.{r_frame}
+use Rattle.file_tree.specs.declared.tree.Node.{Node}
+use Rattle.file_tree.specs.declared.tree.FidState.{FidState}
+use Rattle.file_tree.specs.declared.tree.Node.TheVariants.{Root, Factotum}
+use Rattle.file_tree.specs.declared.fault.FidFault.{FidFault}
+use Rattle.file_tree.specs.declared.fault.FidFault.TheVariants.{BadOffset}
+use Rattle.file_tree.specs.Directories.{dir_bytes, dir_end}
+use Rattle.file_tree.specs.Tree.{is_exclusive, qid_of}
+use Rattle.file_tree.specs.Faults.{answered, fault_text}
+use Rattle.file_tree.specs.Calls.{node_of, open_fault, fid_fault, dir_fault}
+use Rattle.fid_table.specs.declared.fids.Fid.{Fid}
+use Rattle.fid_table.specs.Held.{state_at, next_at}
+use Rattle.fid_table.specs.Held as table
+use Rattle.key_lists.specs.Lists.{KeyList}
+use Rattle.key_lists.specs.Edits.{Add, Delete}
+use Rattle.key_lists.specs.CtlLines.{CtlLine, OnKeys, Debug, lines_of, carried_out, lines_fault, after_lines, keys_with, keys_with_all}
+use Rattle.agent_history.specs.Deeds.{Deed, OfFids, OfKeys, Versioned, Opened, Browsed, msize_of, fid_of, next_of, holder_of, keys_of}
+use Rattle.agent_history.specs.Requests.{Call, refusal, after, reply_of, agreed, effective, lets_read, opens_later, lets_write, written, line_deed, lines_done, is_known, most_msize}
+use Rattle.mailboxes.specs.declared.reply.Reply.{Reply}
+use Rattle.mailboxes.specs.declared.mailboxes.Mailboxes.{Mailboxes}
+use Rattle.mailboxes.specs.Kept.{reply_bytes}
+use Rattle.mailboxes.specs.Deliveries.{Delivers, under}
+use Rattle.agent_requests.specs.declared.connection.Connection.{Connection}
+use Rattle.agent_requests.specs.declared.shared.Holders.{Holders}
+use Rattle.agent_requests.specs.declared.shared.Shared.{Shared}
+use Rattle.agent_requests.specs.declared.refused.Refused.{Refused}
+use Rattle.agent_requests.specs.declared.refused.Refused.TheVariants as e
+use Rattle.agent_requests.specs.declared.refused.Refusal.TheVariants as f
+use Rattle.agent_requests.specs.Connections.{kept_fid, msize_in, Keeps, Holds, Shares, Told, Served}
+
+-- ---- answers
+
+state_kept : (f : Option FidState) (next : ℕ) → option_map (λ (held : Fid). held.state) (kept_fid f next) ≡ f
+state_kept None next = refl
+state_kept (Some state) next = refl
+
+-- what a fid names, to the table and to the history
+pub state_is : (done : List Deed) (conn : ℕ) (c : Connection) (fid : ℕ) → Keeps done conn c → state_at c.fids fid ≡ fid_of done conn fid
+state_is done conn c fid k = ap (option_map (λ (held : Fid). held.state)) (k.fids fid) ∙ state_kept (fid_of done conn fid) (next_of done conn fid)
+
+pub answered_ok : {X : Type 0} (o : Option FidFault) (x y : X) → answered o x ≡ Ok y → (o ≡ None) × (x ≡ y)
+answered_ok None x y e = (refl, cc)
+answered_ok (Some fault) x y e = absurd cc
+
+pub held_ok : {X E : Type 0} (o : Option X) (e : E) (x : X) → ok_or o e ≡ Ok x → o ≡ Some x
+held_ok None e x h = absurd cc
+held_ok (Some y) e x h = cc
+
+on_ok_at : {X E : Type 0} {P : Type 0} (result : Result X E) (x : X) → result ≡ Ok x → OnOk result P → P
+on_ok_at (Ok y) x e p = p
+on_ok_at (Err y) x e p = absurd cc
+
+pub told_served : (o : Option (List ℕ)) (S : Reply → Type 0) (reply : Reply) → o ≡ None → S reply → Told o S (Ok reply)
+told_served None S reply e s = s
+told_served (Some text) S reply e s = absurd cc
+
+told_same : (o : Option (List ℕ)) (S T : Reply → Type 0) (result : Result Reply Refused) → ((reply : Reply) → result ≡ Ok reply → S reply → T reply) → Told o S result → Told o T result
+told_same None S T (Ok reply) f s = f reply refl s
+told_same (Some text) S T (Ok reply) f s = absurd s
+told_same None S T (Err (e.For why)) f s = absurd s
+told_same (Some text) S T (Err (e.For why)) f s = s
+told_same None S T (Err e.NoMemory) f s = s
+told_same (Some text) S T (Err e.NoMemory) f s = s
+
+-- the same refusal, and what follows of what was served
+pub told_maps : (o p : Option (List ℕ)) (S T : Reply → Type 0) (result : Result Reply Refused) → o ≡ p → ((reply : Reply) → result ≡ Ok reply → S reply → T reply) → Told o S result → Told p T result
+told_maps o p S T result same f s = subst (λ (q : Option (List ℕ)). Told q T result) same (told_same o S T result f s)
+
+-- ---- version
+
+pub version_told : (done : List Deed) (call : Call) (msize : ℕ) (version : List ℕ) (c : Connection) (s : Shared) (reply : Reply) → 256 ≤ msize → Keeps (OfFids call.conn (Versioned (agreed msize version)) ∷ done) call.conn c → Shares (OfFids call.conn (Versioned (agreed msize version)) ∷ done) s
+    → reply_bytes reply ≡ r_frame (under call.tag (r.Version (min msize most_msize) (cond (is_known version) (codes "9P2000") (codes "unknown")))) → Told (refusal done call (t.Version msize version)) (Served done call (t.Version msize version) c s) (Ok reply)
+unfolding refusal after reply_of
+version_told done call msize version c s reply le k h said = rw le-ltb (record { keeps = k; shares = h; said = said })
+
+-- ---- open
+
+unfaulted : (f : Option FidState) (mode : ℕ) → open_fault f mode ≡ None → is_some f ≡ true
+unfolding open_fault
+unfaulted None mode e = absurd cc
+unfaulted (Some state) mode e = refl
+
+pub open_held : (f : Option FidState) (mode : ℕ) → open_fault f mode ≡ None → is_some f ≡ true
+open_held f mode e = unfaulted f mode e
+
+pub open_allowed : (done : List Deed) (call : Call) (fid mode : ℕ) (node : Node) → open_fault (fid_of done call.conn fid) mode ≡ None → node_of (fid_of done call.conn fid) ≡ node
+    → (is_exclusive node && is_some (holder_of done node)) ≡ false → opens_later node ≡ false → refusal done call (t.Open fid mode) ≡ None
+unfolding refusal
+open_allowed done call fid mode node fault named alone later = rw (fault, named, alone, later) refl
+
+pub open_served : (done : List Deed) (call : Call) (fid mode : ℕ) (node : Node) (c : Connection) (s : Shared) (reply : Reply) → Keeps (OfFids call.conn (Opened fid mode) ∷ done) call.conn c → s.ring ≡ keys_of done → Holds (OfFids call.conn (Opened fid mode) ∷ done) s.holders → Delivers done s.mailboxes
+    → node_of (fid_of done call.conn fid) ≡ node → reply_bytes reply ≡ r_frame (under call.tag (r.Open (qid_of node) 0)) → Served done call (t.Open fid mode) c s reply
+unfolding after reply_of
+open_served done call fid mode node c s reply k ring h mail named said = record {
+  keeps = k;
+  shares = record { ring = ring; holders = h; mail = record { mails = λ q live. let m = mail.mails q live in record { replies = m.replies; waits = m.waits }; settled = mail.settled } };
+  said = rw named said;
+}
+
+-- ---- read
+
+offset_refusal : (next offset : ℕ) → cond (is_some (dir_fault next offset)) (Some (codes "bad directory offset")) None ≡ option_map fault_text (dir_fault next offset)
+unfolding dir_fault
+offset_refusal next offset = here (not (eqb offset 0) && not (eqb offset next))
+  where
+    here : (b : Bool) → cond (is_some (cond b (Some BadOffset) None)) (Some (codes "bad directory offset")) None ≡ option_map fault_text (cond b (Some BadOffset) None)
+    here true = refl
+    here false = refl
+
+-- a file that is a directory
+abbrev pub IsDirectory : Node → Type 0
+IsDirectory node = (node ≡ Root) ⊎ (node ≡ Factotum)
+
+dir_refusal : (done : List Deed) (call : Call) (fid offset count : ℕ) (state : FidState) → fid_of done call.conn fid ≡ Some state → is_some state.mode ≡ true → lets_read state.mode ≡ true → IsDirectory state.node
+    → refusal done call (t.Read fid offset count) ≡ option_map fault_text (dir_fault (next_of done call.conn fid) offset)
+unfolding refusal fid_fault
+dir_refusal done call fid offset count state held opened lets (inl is) = rw (held, opened, lets, is) (offset_refusal (next_of done call.conn fid) offset)
+dir_refusal done call fid offset count state held opened lets (inr is) = rw (held, opened, lets, is) (offset_refusal (next_of done call.conn fid) offset)
+
+shares_read : (done : List Deed) (conn fid next : ℕ) (s : Shared) → Shares done s → Shares (OfFids conn (Browsed fid next) ∷ done) s
+shares_read done conn fid next s h = record {
+  ring = h.ring;
+  holders = record { confirm = h.holders.confirm; needkey = h.holders.needkey; log = h.holders.log };
+  mail = record { mails = λ q live. let m = h.mail.mails q live in record { replies = m.replies; waits = m.waits }; settled = h.mail.settled };
+}
+
+dir_served : (done : List Deed) (call : Call) (fid offset count : ℕ) (state : FidState) (c : Connection) (s : Shared) (reply : Reply) → fid_of done call.conn fid ≡ Some state → IsDirectory state.node
+    → Keeps (OfFids call.conn (Browsed fid (dir_end state.node offset (effective count (msize_of done call.conn)))) ∷ done) call.conn c → Shares done s
+    → reply_bytes reply ≡ r_frame (under call.tag (r.Read (dir_bytes state.node offset (effective count (msize_of done call.conn))))) → Served done call (t.Read fid offset count) c s reply
+unfolding after reply_of
+dir_served done call fid offset count state c s reply held (inl is) k h said = record { keeps = rw (held, is) (rw (← is) k); shares = rw (held, is) (shares_read done call.conn fid _ s h); said = rw (held, is) (rw (← is) said) }
+dir_served done call fid offset count state c s reply held (inr is) k h said = record { keeps = rw (held, is) (rw (← is) k); shares = rw (held, is) (shares_read done call.conn fid _ s h); said = rw (held, is) (rw (← is) said) }
+
+next_kept : (f : Option FidState) (state : FidState) (next : ℕ) → f ≡ Some state → table.next_of (kept_fid f next) ≡ next
+next_kept f state next held = rw held refl
+
+pub dir_told : (done : List Deed) (call : Call) (fid offset count most : ℕ) (state : FidState) (c d : Connection) (s : Shared) (result : Result Reply Refused) → Keeps done call.conn c → Shares done s
+    → fid_of done call.conn fid ≡ Some state → is_some state.mode ≡ true → lets_read state.mode ≡ true → most ≡ effective count (msize_in c.phase) → IsDirectory state.node
+    → Told (option_map fault_text (dir_fault (next_at c.fids fid) offset)) (λ reply. reply_bytes reply ≡ r_frame (under call.tag (r.Read (dir_bytes (node_of (state_at c.fids fid)) offset most)))) result
+    → OnOk result ((done : List Deed) (conn : ℕ) → Keeps done conn c → Keeps (OfFids conn (Browsed fid (dir_end (node_of (state_at c.fids fid)) offset most)) ∷ done) conn d)
+    → Told (refusal done call (t.Read fid offset count)) (Served done call (t.Read fid offset count) d s) result
+dir_told done call fid offset count most state c d s result k h held opened lets m is told ok =
+    let node : node_of (state_at c.fids fid) ≡ state.node = ap node_of (state_is done call.conn c fid k ∙ held) in
+    let size : most ≡ effective count (msize_of done call.conn) = m ∙ ap (effective count) k.msize in
+    let next : next_at c.fids fid ≡ next_of done call.conn fid = ap table.next_of (k.fids fid) ∙ next_kept (fid_of done call.conn fid) state (next_of done call.conn fid) held in
+    told_maps _ _ _ _ result (ap (λ (n : ℕ). option_map fault_text (dir_fault n offset)) next ∙ sym (dir_refusal done call fid offset count state held opened lets is))
+    (λ reply e said. dir_served done call fid offset count state d s reply held is (rw (← node, ← size) (on_ok_at result reply e ok done call.conn k)) h (rw (← node, ← size) said)) told
+
+-- ---- write
+
+pub write_allowed : (done : List Deed) (call : Call) (fid offset : ℕ) (content : List ℕ) (state : FidState) → fid_of done call.conn fid ≡ Some state → is_some state.mode ≡ true → lets_write state.mode ≡ true → opens_later state.node ≡ false
+    → refusal done call (t.Write fid offset content) ≡ None
+unfolding refusal fid_fault
+write_allowed done call fid offset content state held opened lets later = rw (held, opened, lets, later) refl
+
+-- lines of ctl change nothing that is kept of a connection, no holder, no reply and no read that waits
+keeps_lines : (conn : ℕ) (c : Connection) (said : List CtlLine) (done : List Deed) → Keeps done conn c → Keeps (lines_done conn said done) conn c
+keeps_lines conn c [] done k = k
+keeps_lines conn c (said ∷ more) done k = keeps_lines conn c more (OfKeys conn (line_deed said) ∷ done) (record { live = k.live; msize = k.msize; fids = k.fids; held = k.held; texts = k.texts })
+
+holds_lines : (conn : ℕ) (h : Holders) (said : List CtlLine) (done : List Deed) → Holds done h → Holds (lines_done conn said done) h
+holds_lines conn h [] done k = k
+holds_lines conn h (said ∷ more) done k = holds_lines conn h more (OfKeys conn (line_deed said) ∷ done) (record { confirm = k.confirm; needkey = k.needkey; log = k.log })
+
+delivers_lines : (conn : ℕ) (m : Mailboxes) (said : List CtlLine) (done : List Deed) → Delivers done m → Delivers (lines_done conn said done) m
+delivers_lines conn m [] done d = d
+delivers_lines conn m (said ∷ more) done d = delivers_lines conn m more (OfKeys conn (line_deed said) ∷ done) (record { mails = λ q live. let k = d.mails q live in record { replies = k.replies; waits = k.waits }; settled = d.settled })
+
+-- the keys of the deeds are those after the lines
+keys_line : (conn : ℕ) (said : CtlLine) (done : List Deed) → keys_of (OfKeys conn (line_deed said) ∷ done) ≡ keys_with said (keys_of done)
+keys_line conn (OnKeys (Add key)) done = refl
+keys_line conn (OnKeys (Delete template)) done = refl
+keys_line conn Debug done = refl
+
+keys_lines : (conn : ℕ) (said : List CtlLine) (done : List Deed) → keys_of (lines_done conn said done) ≡ keys_with_all said (keys_of done)
+keys_lines conn [] done = refl
+keys_lines conn (said ∷ more) done = keys_lines conn more (OfKeys conn (line_deed said) ∷ done) ∙ ap (keys_with_all more) (keys_line conn said done)
+
+pub write_served : (done : List Deed) (call : Call) (fid offset : ℕ) (content : List ℕ) (c : Connection) (s u : Shared) (reply : Reply) → Keeps done call.conn c → Shares done s → u.holders ≡ s.holders → u.mailboxes ≡ s.mailboxes → u.ring ≡ after_lines s.ring (lines_of content)
+    → reply_bytes reply ≡ r_frame (under call.tag (written content (lines_fault s.ring (lines_of content)))) → Served done call (t.Write fid offset content) c u reply
+unfolding after reply_of
+write_served done call fid offset content c s u reply k h holders mail ring said =
+    let lines : List CtlLine = carried_out (keys_of done) (lines_of content) in
+    record {
+      keeps = keeps_lines call.conn c lines done k;
+      shares = record {
+        ring = ring ∙ (ap (λ (keys : KeyList). after_lines keys (lines_of content)) h.ring ∙ sym (keys_lines call.conn lines done));
+        holders = subst (λ (now : Holders). Holds (lines_done call.conn lines done) now) (sym holders) (holds_lines call.conn s.holders lines done h.holders);
+        mail = subst (λ (now : Mailboxes). Delivers (lines_done call.conn lines done) now) (sym mail) (delivers_lines call.conn s.mailboxes lines done h.mail);
+      };
+      said = said ∙ ap (λ (keys : KeyList). r_frame (under call.tag (written content (lines_fault keys (lines_of content))))) h.ring;
+    }
+
+-- ---- auth
+
+pub auth_told : (done : List Deed) (call : Call) (afid : ℕ) (uname aname : List ℕ) (c : Connection) (s : Shared) → Told (refusal done call (t.Auth afid uname aname)) (Served done call (t.Auth afid uname aname) c s) (Err (e.For f.NoAuthentication))
+unfolding refusal
+auth_told done call afid uname aname c s = refl

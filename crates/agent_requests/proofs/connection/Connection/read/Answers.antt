@@ -1,0 +1,20 @@
+use Rattle.std.proofs.Common.{refl, sym, ◌∙◌, arith, ap, rules}
+use Rattle.agent_history.specs.Requests.{effective}
+use Rattle.agent_requests.specs.Connections.{asked}
+use Rattle.agent_requests.proofs.RequestSteps.{state_is, held_ok, dir_told}
+use Rattle.agent_requests.proofs.connection.Connection.read.Goals as goal
+
+pub returns-in-Root : goal.returns-in-Root
+returns-in-Root c =
+    let a = c.args in
+    record {
+      told = λ done keeps shares.
+          let held = sym (state_is done a.call.conn a.self.now a.fid keeps) ∙ held_ok _ _ _ (sym c.in_ok-state.ensures.answer) in
+          dir_told done (asked a.call) a.fid a.offset a.count _ c.in_ok-state.state a.self.now c.read_directory.new.self a.shared.now c.read_directory.result keeps shares
+          held (rw (c.is_none.ensures, c.if-is_none.false) refl) (sym c.lets_read.ensures ∙ c.if-not-lets_read.false) (c.effective-most.ensures.most ∙ ap (effective a.count) c.msize.ensures) c.in-Root.is c.read_directory.ensures.told c.read_directory.ensures.keeps;
+      hung = λ live. rw c.read_directory.ensures.phase live;
+      few = omega arith;
+      room = refl;
+      kept = c.read_directory.ensures.err;
+      shared = search rules;
+    }

@@ -1,0 +1,20 @@
+use Rattle.std.proofs.Common.{refl, sym, ◌∙◌}
+use Rattle.agent_requests.specs.Connections.{asked}
+use Rattle.agent_requests.proofs.RequestSteps.{state_is, told_served, write_allowed, write_served, held_ok}
+use Rattle.agent_requests.proofs.connection.Connection.write.Goals as goal
+
+pub returns : goal.returns
+returns c = λ offset.
+    let a = c.args in
+    record {
+      told = λ done keeps shares.
+          let held = sym (state_is done a.call.conn a.self.now a.fid keeps) ∙ held_ok _ _ _ (sym c.in_ok-state.ensures.answer) in
+          told_served _ _ _
+          (write_allowed done (asked a.call) a.fid offset a.content.now c.in_ok-state.state held (rw (c.is_none.ensures, c.if-is_none.false) refl) (sym c.lets_write.ensures ∙ c.if-not-lets_write.false) (sym c.opens_later.ensures ∙ c.if-opens_later.false))
+          (write_served done (asked a.call) a.fid offset a.content.now a.self.now a.shared.now _ _ keeps shares c.in_ok-write_lines.ensures.holders c.in_ok-write_lines.ensures.mailboxes c.in_ok-write_lines.ensures.keys c.in_ok-write_lines.ensures.said);
+      hung = λ live. live;
+      few = c.in_ok-write_lines.ensures.few;
+      room = rw c.in_ok-write_lines.ensures.mailboxes refl;
+      kept = tt;
+      shared = tt;
+    }

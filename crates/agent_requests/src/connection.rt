@@ -1,0 +1,101 @@
+// One connection.
+ghost use Rattle.std.specs.Prelude.{◌≡◌, ◌&&◌, List, [], ℕ, None, not, true};
+ghost use Rattle.std.specs.Ordering.{nat_cmp};
+ghost use Rattle.std.specs.BTreeMap.{get};
+ghost use Rattle.agent_history.specs.Deeds.{Deed};
+ghost use Rattle.agent_requests.specs.Connections.{IsFresh, IsHungUp, Keeps, is_hung, is_opened, msize_in};
+
+use listed_ring::SharedText;
+use crate::msize::Msize;
+use fid_table::Fids;
+use std::alloc::Global;
+use std::collections::BTreeMap;
+
+/// How far a connection has come.
+#[derive(Clone, Copy, Debug, PartialEq, Eq)]
+pub enum Phase {
+    /// It took part in no event that was carried out.
+    Fresh,
+    /// It was opened, and no version is agreed.
+    Open,
+    /// A version is agreed, with this largest message.
+    Agreed(Msize),
+    /// It was hung up.
+    Hung,
+}
+
+/// What the agent keeps of one connection.
+#[derive(Drop)]
+pub struct Connection {
+    pub phase: Phase,
+    /// The fids that are held.
+    pub fids: Fids,
+    /// Of a fid that is open on ctl and was read from 0, the text that it reads, with all others that read the same.
+    pub texts: BTreeMap<u32, SharedText>,
+}
+
+impl Connection {
+    fn in_phase(alloc: Global, phase: Phase) -> Connection
+        ensures phase { result.phase ≡ phase }
+        ensures fids { result.fids ≡ [] }
+        ensures texts { (fid : ℕ) → get nat_cmp result.texts fid ≡ None }
+    {
+        Connection {
+            phase,
+            fids: Fids::new(alloc),
+            texts: BTreeMap::new(alloc),
+        }
+    }
+
+    /// A connection of which nothing is known yet. It takes no memory.
+    pub fn new(alloc: Global) -> Connection
+        ensures { IsFresh result }
+    {
+        Connection::in_phase(alloc, Phase::Fresh)
+    }
+
+    /// A connection that was hung up: nothing else is kept of it. It takes no memory.
+    pub fn hung_up(alloc: Global) -> Connection
+        ensures { IsHungUp result }
+    {
+        Connection::in_phase(alloc, Phase::Hung)
+    }
+
+    /// Whether it was opened, and wasn't hung up.
+    pub fn is_open(&self) -> bool
+        ensures { result ≡ (is_opened self.now.phase && not (is_hung self.now.phase)) }
+    {
+        match self.phase {
+            Phase::Fresh | Phase::Hung => false,
+            Phase::Open | Phase::Agreed(_) => true,
+        }
+    }
+
+    pub fn is_hung(&self) -> bool
+        ensures { result ≡ is_hung self.now.phase }
+    {
+        matches!(self.phase, Phase::Hung)
+    }
+
+    /// The largest message that was agreed.
+    pub fn msize(&self) -> Option<Msize>
+        ensures { result ≡ msize_in self.now.phase }
+    {
+        match self.phase {
+            Phase::Agreed(msize) => Some(msize),
+            Phase::Fresh | Phase::Open | Phase::Hung => None,
+        }
+    }
+
+    /// It took part in an event that was carried out.
+    pub fn enter(&mut self)
+        ensures opened { is_opened self.new.phase ≡ true }
+        ensures hung { is_hung self.new.phase ≡ is_hung self.old.phase }
+        ensures keeps { (done : List Deed) (conn : ℕ) → Keeps done conn self.old
+            → Keeps done conn self.new }
+    {
+        if let Phase::Fresh = self.phase {
+            self.phase = Phase::Open;
+        }
+    }
+}

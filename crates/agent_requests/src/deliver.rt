@@ -1,0 +1,97 @@
+// What a conversation is told by the authentication server, and its answer to the read that waits for it.
+ghost use Rattle.std.specs.Prelude.{◌≡◌, List, ℕ, Option, OnErr, OnOk};
+ghost use Rattle.nine_messages.specs.Messages.{r_frame};
+ghost use Rattle.talks.specs.Calls as c;
+ghost use Rattle.agent_history.specs.Deeds.{Deed};
+ghost use Rattle.agent_history.specs.Replies.{swept};
+ghost use Rattle.agent_history.specs.Conversations.{asker, delivered, resumed};
+ghost use Rattle.agent_talks.specs.Speaks.{told_body};
+ghost use Rattle.mailboxes.specs.Kept.{reply_bytes};
+ghost use Rattle.mailboxes.specs.Deliveries.{under};
+ghost use Rattle.agent_requests.specs.Connections.{AreLive, SameShared, Shares};
+ghost use Rattle.agent_requests.specs.RpcRequests.{delivered_by};
+
+use crate::refused::Refusal;
+use crate::shared::Shared;
+use agent_talks::{Speaker, Told};
+use mailboxes::Reply;
+use std::alloc::Global;
+use wire_base::NoMemory;
+
+/// The reply to a read that is told this. It takes no memory.
+pub(crate) fn spell_told(tag: u16, told: Told) -> Reply
+    ensures { reply_bytes result ≡ r_frame (under tag (told_body told)) }
+{
+    match told {
+        Told::Answer(answer) => Reply::Answer { tag, answer },
+        Told::TooSmall => Refusal::ReadTooSmall.reply(tag),
+    }
+}
+
+impl Shared {
+    // The answer of a conversation goes to the read that waits for it, if one does. It takes no memory.
+    fn deliver(&mut self, conv: u64)
+        ensures shares { (done : List Deed) → AreLive done → Shares done self.old
+            → Shares (delivered conv done) self.new }
+        ensures ring { self.new.ring ≡ self.old.ring }
+    {
+        let Some(speaker) = self.talks.speaker_of(conv) else {
+            return;
+        };
+        let Speaker { conn, fid, .. } = *speaker;
+        let Some(read) = self.mailboxes.reader(conn, fid) else {
+            return;
+        };
+        if let Some(told) = self.talks.tell(conv, read.count) {
+            let reply = spell_told(read.tag, told);
+            self.mailboxes.settle(conn, read.tag, reply);
+        }
+    }
+
+    // The last of an answer of the authentication server: where it was for a conversation, that one's answer is delivered.
+    fn deliver_and_sweep(&mut self, conv: Option<u64>)
+        ensures shares { (done : List Deed) → AreLive done → Shares done self.old
+            → Shares (swept (delivered_by conv done)) self.new }
+        ensures ring { self.new.ring ≡ self.old.ring }
+    {
+        if let Some(conv) = conv {
+            self.deliver(conv);
+        }
+        self.mailboxes.sweep();
+    }
+
+    /// The authentication server answered the question of this number.
+    pub fn hear(&mut self, alloc: Global, call: u64, bytes: &[u8]) -> Result<(), NoMemory>
+        ensures shares { OnOk result ((done : List Deed) → AreLive done → Shares done self.old
+            → Shares (swept (resumed (asker done call) (c.Heard bytes.now) done)) self.new) }
+        ensures ring { self.new.ring ≡ self.old.ring }
+        ensures same { OnErr result (SameShared self.old self.new) }
+    {
+        let asker = self.talks.asker(call);
+        self.talks.heard(alloc, call, bytes)?;
+        self.deliver_and_sweep(asker);
+        Ok(())
+    }
+
+    /// The question of this number stays without an answer. It takes no memory.
+    pub fn hear_nothing(&mut self, call: u64)
+        ensures shares { (done : List Deed) → AreLive done → Shares done self.old
+            → Shares (swept (resumed (asker done call) c.Unheard done)) self.new }
+        ensures ring { self.new.ring ≡ self.old.ring }
+    {
+        let asker = self.talks.asker(call);
+        self.talks.unheard(call);
+        self.deliver_and_sweep(asker);
+    }
+
+    /// There was no memory for the answer to the question of this number. It takes no memory itself.
+    pub fn lack_room(&mut self, call: u64)
+        ensures shares { (done : List Deed) → AreLive done → Shares done self.old
+            → Shares (swept (resumed (asker done call) c.Roomless done)) self.new }
+        ensures ring { self.new.ring ≡ self.old.ring }
+    {
+        let asker = self.talks.asker(call);
+        self.talks.roomless(call);
+        self.deliver_and_sweep(asker);
+    }
+}

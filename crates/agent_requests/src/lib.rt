@@ -1,0 +1,17 @@
+//! The requests of a connection: each is answered as the definitions say of what was done before it.
+#![tactic(auto)]
+
+mod call;
+mod connection;
+mod deliver;
+mod fid_requests;
+mod file_requests;
+mod msize;
+mod refused;
+mod rpc_requests;
+mod serve;
+mod shared;
+
+pub use call::Call;
+pub use connection::{Connection, Phase};
+pub use shared::{Holders, Shared};
