@@ -1,29 +1,29 @@
 -- What is told of a connection after one more event.
-use Rattle.std.proofs.Common.{◌≡◌, ℕ, List, [], ◌∷◌, map, Bool, true, false, cond, eqb, ltb, not, ◌&&◌, ◌||◌, Equal, Greater, Option, Some, None, Result, refl, sym, subst, ◌∙◌, inl, inr, arith}
+use Rattle.std.proofs.Common.{◌≡◌, ℕ, List, [], ◌∷◌, ◌++◌, map, filter, Bool, true, false, cond, eqb, ltb, not, ◌&&◌, ◌||◌, Equal, Greater, Option, Some, None, refl, sym, subst, ◌∙◌, inl, inr, arith}
 use Rattle.std.specs.Ordering.{nat_cmp, is_eq}
 use Rattle.std.specs.BTreeMap.{is_at}
 use Rattle.std.proofs.lemmas.Bool.{cases_Bool, eq-eqb, eqb-true, ne_eqb, ltb-true, false≢true}
 use Rattle.nine_messages.specs.declared.message.RMsg.{RMsg}
 use Rattle.nine_messages.specs.Messages.{r_frame}
-use Rattle.nine_messages.specs.declared.message.TBody.{TBody}
-use Rattle.nine_messages.specs.declared.message.TBody.TheVariants as t
-use Rattle.std.specs.Prelude.{Ok, Err}
-use Rattle.file_tree.specs.declared.tree.Node.{Node}
-use Rattle.file_tree.specs.declared.tree.Node.TheVariants as n
-use Rattle.file_tree.specs.Tree.{lead_to}
-use Rattle.file_tree.specs.Calls.{node_of}
-use Rattle.key_lists.specs.CtlLines.{CtlLine, lines_of, carried_out}
+use Rattle.file_tree.specs.declared.tree.Node.TheVariants.{Rpc}
+use Rattle.talks.specs.Calls as calls
 use Rattle.agent_history.specs.declared.event.Event.{Event}
 use Rattle.agent_history.specs.declared.event.Event.TheVariants as v
-use Rattle.agent_history.specs.Deeds.{Deed, FidDeed, KeyDeed, ReplyDeed, OfFids, OfKeys, OfReplies, OfConnection, Swept, Versioned, Attached, Walked, Opened, Listed, Browsed, Clunked, Taken, Entered, Hung, was_opened, was_hung, is_halted, msize_of, fid_of, keys_of}
-use Rattle.agent_history.specs.Replies.{has_settled, swept, untaken}
-use Rattle.agent_history.specs.Requests.{Call, after, after_frame, after_granted, granted, answered, call_of, walking, reading, effective, line_deed, lines_done}
-use Rattle.agent_history.specs.Histories.{does, entered, taking}
+use Rattle.agent_history.specs.Deeds.{Deed, FidDeed, KeyDeed, ReplyDeed, OfFids, OfKeys, OfReplies, OfConnection, OfTalk, Raised, HandedOut, Swept, Versioned, Attached, Walked, Opened, Listed, Browsed, Clunked, Taken, Entered, Hung, was_opened, was_hung, is_halted, fid_of, keys_of, names}
+use Rattle.agent_history.specs.Replies.{swept, untaken}
+use Rattle.agent_history.specs.Conversations.{Question, Speaker, asker, next_question, opened_talks, resumed, speakers}
+use Rattle.agent_history.specs.Requests.{answered, call_of}
+use Rattle.agent_history.specs.Histories.{does, entered, handing, taking}
+use Rattle.agent_talks.specs.declared.held.Talks.{Talks}
+use Rattle.agent_talks.specs.Speaks.{Speak}
+use Rattle.agent_talks.proofs.OtherLemmas.{enter_speak, replies_speak, swept_speak}
+use Rattle.mailboxes.specs.Deliveries.{Delivers, replies_at}
 use Rattle.agent_requests.specs.declared.connection.Connection.{Connection}
 use Rattle.agent_requests.specs.declared.shared.Shared.{Shared}
-use Rattle.mailboxes.specs.Deliveries.{Delivers, replies_at}
 use Rattle.agent_requests.specs.declared.shared.Holders.{Holders}
-use Rattle.agent_requests.specs.Connections.{Keeps, Holds, Shares, is_opened, is_hung}
+use Rattle.agent_requests.specs.Connections.{AllLive, AreLive, Keeps, Holds, Shares, is_opened, is_hung}
+use Rattle.agent_requests.proofs.OwnDeeds.{IsOwn, OfAll, answered_own, entered_by, resumed_all, swept_by}
+use Rattle.agent_requests.proofs.ShareLemmas.{live_all, mail_entered}
 use Rattle.agent_core.specs.Events.{KeepsNothing, KeepsAt, Stands, AllStand, Serves, is_stop}
 
 same : (a : ℕ) → eqb a a ≡ true
@@ -31,76 +31,9 @@ same a = eq-eqb a a refl
 
 -- ---- what holds before an event of a connection, and after each deed that the event may do, holds after it
 
-pub record IsOwn (conn : ℕ) (P : List Deed → Type 0) : Type 0 where
-  pub fids : (deed : FidDeed) (done : List Deed) → P done → P (OfFids conn deed ∷ done)
-  pub keys : (deed : KeyDeed) (done : List Deed) → P done → P (OfKeys conn deed ∷ done)
-  pub replies : (deed : ReplyDeed) (done : List Deed) → P done → P (OfReplies conn deed ∷ done)
-  pub entered : (done : List Deed) → P done → P (OfConnection conn Entered ∷ done)
-  pub swept : (done : List Deed) → P done → P (Swept ∷ done)
-
-walking_own : (conn : ℕ) (P : List Deed → Type 0) → IsOwn conn P → (newfid : ℕ) (end : Option Node) (done : List Deed) → P done → P (walking conn newfid end done)
-walking_own conn P own newfid None done h = h
-walking_own conn P own newfid (Some node) done h = own.fids (Walked newfid node) done h
-
-listing_own : (conn : ℕ) (P : List Deed → Type 0) → IsOwn conn P → (fid : ℕ) (first : Bool) (done : List Deed) → P done → P (cond first (OfFids conn (Listed fid) ∷ done) done)
-listing_own conn P own fid true done h = own.fids (Listed fid) done h
-listing_own conn P own fid false done h = h
-
-reading_own : (conn : ℕ) (P : List Deed → Type 0) → IsOwn conn P → (fid offset count : ℕ) (node : Node) (done : List Deed) → P done → P (reading done conn fid offset count node)
-reading_own conn P own fid offset count n.Root done h = own.fids _ done h
-reading_own conn P own fid offset count n.Factotum done h = own.fids _ done h
-reading_own conn P own fid offset count n.Ctl done h = listing_own conn P own fid (eqb offset 0) done h
-reading_own conn P own fid offset count n.Rpc done h = h
-reading_own conn P own fid offset count n.Confirm done h = h
-reading_own conn P own fid offset count n.Needkey done h = h
-reading_own conn P own fid offset count n.Proto done h = h
-reading_own conn P own fid offset count n.Log done h = h
-
-lines_own : (conn : ℕ) (P : List Deed → Type 0) → IsOwn conn P → (said : List CtlLine) (done : List Deed) → P done → P (lines_done conn said done)
-lines_own conn P own [] done h = h
-lines_own conn P own (said ∷ more) done h = lines_own conn P own more (OfKeys conn (line_deed said) ∷ done) (own.keys (line_deed said) done h)
-
-after_own : (call : Call) (P : List Deed → Type 0) → IsOwn call.conn P → (done : List Deed) (body : TBody) → P done → P (after done call body)
-unfolding after
-after_own call P own done (t.Version msize version) h = own.fids _ done h
-after_own call P own done (t.Auth afid uname aname) h = h
-after_own call P own done (t.Attach fid afid uname aname) h = own.fids _ done h
-after_own call P own done (t.Flush oldtag) h = own.replies _ done h
-after_own call P own done (t.Walk fid newfid wname) h = walking_own call.conn P own newfid (lead_to (node_of (fid_of done call.conn fid)) wname) done h
-after_own call P own done (t.Open fid mode) h = own.fids _ done h
-after_own call P own done (t.Create fid name perm mode) h = h
-after_own call P own done (t.Read fid offset count) h = reading_own call.conn P own fid offset (effective count (msize_of done call.conn)) (node_of (fid_of done call.conn fid)) done h
-after_own call P own done (t.Write fid offset content) h = lines_own call.conn P own (carried_out (keys_of done) (lines_of content)) done h
-after_own call P own done (t.Clunk fid) h = own.fids _ done h
-after_own call P own done (t.Remove fid) h = own.fids _ done h
-after_own call P own done (t.Stat fid) h = h
-after_own call P own done (t.Wstat fid stat) h = h
-
-granted_own : (call : Call) (P : List Deed → Type 0) → IsOwn call.conn P → (done : List Deed) (g : Result TBody (List ℕ)) → P done → P (after_granted done call g)
-granted_own call P own done (Err text) h = h
-granted_own call P own done (Ok body) h = after_own call P own done body h
-
-frame_own : (call : Call) (P : List Deed → Type 0) → IsOwn call.conn P → (done : List Deed) (frame : List ℕ) → P done → P (after_frame done call frame)
-unfolding after_frame
-frame_own call P own done frame h = granted_own call P own done (granted done call frame) h
-
-swept_by : (P : List Deed → Type 0) → ((done : List Deed) → P done → P (Swept ∷ done)) → (done : List Deed) → P done → P (swept done)
-swept_by P sweeps done h = here (has_settled done)
-  where
-    here : (b : Bool) → P (cond b (Swept ∷ done) done)
-    here true = sweeps done h
-    here false = h
-
-entered_by : (conn : ℕ) (P : List Deed → Type 0) → ((done : List Deed) → P done → P (OfConnection conn Entered ∷ done)) → (done : List Deed) → P done → P (entered conn done)
-entered_by conn P enters done h = here (was_opened done conn)
-  where
-    here : (b : Bool) → P (cond b done (OfConnection conn Entered ∷ done))
-    here true = h
-    here false = enters done h
-
 served_own : (conn : ℕ) (P : List Deed → Type 0) → IsOwn conn P → (done : List Deed) (frame word : List ℕ) → P (entered conn done) → P (swept (answered (entered conn done) (call_of conn frame word) frame))
 served_own conn P own done frame word h =
-    swept_by P own.swept (answered (entered conn done) (call_of conn frame word) frame) (own.replies _ _ (frame_own (call_of conn frame word) P own (entered conn done) frame h))
+    swept_by P own.all.swept (answered (entered conn done) (call_of conn frame word) frame) (answered_own (call_of conn frame word) P own (entered conn done) frame h)
 
 request_own : (conn : ℕ) (P : List Deed → Type 0) → IsOwn conn P → (done : List Deed) (frame word : List ℕ) → P done → P (does done (v.Request conn frame word))
 request_own conn P own done frame word h = here (was_hung done conn)
@@ -111,7 +44,7 @@ request_own conn P own done frame word h = here (was_hung done conn)
 
 taking_own : (conn : ℕ) (P : List Deed → Type 0) → IsOwn conn P → (ms : List RMsg) (done : List Deed) → P done → P (taking conn ms done)
 taking_own conn P own [] done h = h
-taking_own conn P own (m ∷ ms) done h = own.replies Taken done h
+taking_own conn P own (m ∷ ms) done h = own.all.replies conn Taken done h
 
 take_own : (conn : ℕ) (P : List Deed → Type 0) → IsOwn conn P → (done : List Deed) → P done → P (does done (v.Take conn))
 take_own conn P own done h = here (was_hung done conn)
@@ -119,6 +52,14 @@ take_own conn P own done h = here (was_hung done conn)
     here : (b : Bool) → P (cond b done (taking conn (untaken done conn) (entered conn done)))
     here true = h
     here false = taking_own conn P own (untaken done conn) (entered conn done) (entered_by conn P own.entered done h)
+
+-- what the authentication server is done with
+resumed_by : (P : List Deed → Type 0) → OfAll P → (conv : Option ℕ) (call : calls.Call) (done : List Deed) → P done → P (swept (resumed conv call done))
+resumed_by P all conv call done h = swept_by P all.swept (resumed conv call done) (resumed_all P all conv call done h)
+
+handing_by : (P : List Deed → Type 0) → ((done : List Deed) → P done → P (HandedOut ∷ done)) → (q : Option Question) (done : List Deed) → P done → P (handing q done)
+handing_by P hands None done h = h
+handing_by P hands (Some q) done h = hands done h
 
 -- ---- connections that the event isn't on
 
@@ -152,6 +93,18 @@ at_replies : (conn q : ℕ) (o : Option Connection) (deed : ReplyDeed) (done : L
 at_replies conn q None deed done k = record { live = k.live; msize = k.msize; fids = k.fids; held = k.held; texts = k.texts }
 at_replies conn q (Some c) deed done k = record { live = k.live; msize = k.msize; fids = k.fids; held = k.held; texts = k.texts }
 
+at_talk : (q : ℕ) (o : Option Connection) (conv : ℕ) (call : calls.Call) (done : List Deed) → KeepsAt done q o → KeepsAt (OfTalk conv call ∷ done) q o
+at_talk q None conv call done k = record { live = k.live; msize = k.msize; fids = k.fids; held = k.held; texts = k.texts }
+at_talk q (Some c) conv call done k = record { live = k.live; msize = k.msize; fids = k.fids; held = k.held; texts = k.texts }
+
+at_raised : (q : ℕ) (o : Option Connection) (conv : ℕ) (done : List Deed) → KeepsAt done q o → KeepsAt (Raised conv ∷ done) q o
+at_raised q None conv done k = record { live = k.live; msize = k.msize; fids = k.fids; held = k.held; texts = k.texts }
+at_raised q (Some c) conv done k = record { live = k.live; msize = k.msize; fids = k.fids; held = k.held; texts = k.texts }
+
+at_handed : (q : ℕ) (o : Option Connection) (done : List Deed) → KeepsAt done q o → KeepsAt (HandedOut ∷ done) q o
+at_handed q None done k = record { live = k.live; msize = k.msize; fids = k.fids; held = k.held; texts = k.texts }
+at_handed q (Some c) done k = record { live = k.live; msize = k.msize; fids = k.fids; held = k.held; texts = k.texts }
+
 at_entered : (conn q : ℕ) (o : Option Connection) (done : List Deed) → KeepsAt done q o → KeepsAt (OfConnection conn Entered ∷ done) q o
 at_entered conn q None done k = record { live = k.live; msize = k.msize; fids = k.fids; held = k.held; texts = k.texts }
 at_entered conn q (Some c) done k = record { live = k.live; msize = k.msize; fids = k.fids; held = k.held; texts = k.texts }
@@ -160,14 +113,31 @@ at_swept : (q : ℕ) (o : Option Connection) (done : List Deed) → KeepsAt done
 at_swept q None done k = record { live = k.live; msize = k.msize; fids = k.fids; held = k.held; texts = k.texts }
 at_swept q (Some c) done k = record { live = k.live; msize = k.msize; fids = k.fids; held = k.held; texts = k.texts }
 
+stands_all : (q : ℕ) (o : Option Connection) → OfAll (λ done. Stands done q o)
+stands_all q o = record {
+  talks = record {
+    talk = λ conv call done s. record { opened = s.opened; hung = s.hung; keeps = λ live. at_talk q o conv call done (s.keeps live) };
+    raised = λ conv done s. record { opened = s.opened; hung = s.hung; keeps = λ live. at_raised q o conv done (s.keeps live) };
+  };
+  replies = λ at deed done s. record { opened = s.opened; hung = s.hung; keeps = λ live. at_replies at q o deed done (s.keeps live) };
+  swept = λ done s. record { opened = s.opened; hung = s.hung; keeps = λ live. at_swept q o done (s.keeps live) };
+}
+
 stands_own : (conn q : ℕ) (o : Option Connection) → eqb conn q ≡ false → IsOwn conn (λ done. Stands done q o)
 stands_own conn q o e = record {
   fids = λ deed done s. record { opened = s.opened; hung = s.hung; keeps = λ live. at_fids conn q o e deed done (s.keeps live) };
   keys = λ deed done s. record { opened = s.opened; hung = s.hung; keeps = λ live. at_keys conn q o deed done (s.keeps live) };
-  replies = λ deed done s. record { opened = s.opened; hung = s.hung; keeps = λ live. at_replies conn q o deed done (s.keeps live) };
   entered = λ done s. record { opened = rw e s.opened; hung = s.hung; keeps = λ live. at_entered conn q o done (s.keeps live) };
-  swept = λ done s. record { opened = s.opened; hung = s.hung; keeps = λ live. at_swept q o done (s.keeps live) };
+  all = stands_all q o;
 }
+
+-- what the authentication server is done with changes nothing that is kept of a connection
+pub resumed_stand : (conv : Option ℕ) (call : calls.Call) (done : List Deed) (at : ℕ → Option Connection) → AllStand done at → AllStand (swept (resumed conv call done)) at
+resumed_stand conv call done at all q = resumed_by (λ now. Stands now q (at q)) (stands_all q (at q)) conv call done (all q)
+
+pub handed_stand : (question : Option Question) (done : List Deed) (at : ℕ → Option Connection) → AllStand done at → AllStand (handing question done) at
+handed_stand question done at all q =
+    handing_by (λ now. Stands now q (at q)) (λ now s. record { opened = s.opened; hung = s.hung; keeps = λ live. at_handed q (at q) now (s.keeps live) }) question done (all q)
 
 pub request_others : (done : List Deed) (conn : ℕ) (frame word : List ℕ) (q : ℕ) (o : Option Connection) → eqb conn q ≡ false → Stands done q o → Stands (does done (v.Request conn frame word)) q o
 request_others done conn frame word q o e s = request_own conn (λ now. Stands now q o) (stands_own conn q o e) done frame word s
@@ -181,17 +151,19 @@ opened_own : (conn q : ℕ) → IsOwn conn (λ done. was_opened done q ≡ true)
 opened_own conn q = record {
   fids = λ deed done h. h;
   keys = λ deed done h. h;
-  replies = λ deed done h. h;
   entered = λ done h. here (eqb conn q) h;
-  swept = λ done h. h;
+  all = record { talks = record { talk = λ conv call done h. h; raised = λ conv done h. h }; replies = λ at deed done h. h; swept = λ done h. h };
 }
   where
     here : (b : Bool) {x : Bool} → x ≡ true → (b || x) ≡ true
     here true h = refl
     here false h = h
 
+halted_all : OfAll (λ done. is_halted done ≡ false)
+halted_all = record { talks = record { talk = λ conv call done h. h; raised = λ conv done h. h }; replies = λ at deed done h. h; swept = λ done h. h }
+
 halted_own : (conn : ℕ) → IsOwn conn (λ done. is_halted done ≡ false)
-halted_own conn = record { fids = λ deed done h. h; keys = λ deed done h. h; replies = λ deed done h. h; entered = λ done h. h; swept = λ done h. h }
+halted_own conn = record { fids = λ deed done h. h; keys = λ deed done h. h; entered = λ done h. h; all = halted_all }
 
 was_entered : (conn : ℕ) (done : List Deed) → was_opened (entered conn done) conn ≡ true
 was_entered conn done = elim (cases_Bool (was_opened done conn)) [
@@ -207,7 +179,8 @@ shares_entered conn s done h = entered_by conn (λ now. Shares now s)
     (λ now g. record {
       ring = g.ring;
       holders = record { confirm = g.holders.confirm; needkey = g.holders.needkey; log = g.holders.log };
-      mail = record { mails = λ q live. let m = g.mail.mails q live in record { replies = m.replies; waits = m.waits }; settled = g.mail.settled };
+      mail = mail_entered conn s.mailboxes now g.mail;
+      talks = enter_speak now s.talks conn g.talks;
     }) done h
 
 pub request_stands : (done : List Deed) (conn : ℕ) (frame word : List ℕ) (d : Connection) → was_hung done conn ≡ false → is_opened d.phase ≡ true → is_hung d.phase ≡ false → Keeps (answered (entered conn done) (call_of conn frame word) frame) conn d
@@ -232,8 +205,8 @@ taking_some conn [] X x rest e = absurd cc
 taking_some conn (m ∷ ms) X x rest e = refl
 
 pub take_serves : (done : List Deed) (conn : ℕ) (c d : Connection) (s u : Shared) (x : List ℕ) (rest : List (List ℕ)) → was_hung done conn ≡ false → Serves done conn c s → is_opened d.phase ≡ true → is_hung d.phase ≡ false → Keeps done conn d
-    → replies_at s.mailboxes conn ≡ x ∷ rest → u.ring ≡ s.ring → u.holders ≡ s.holders → ((now : List Deed) → Delivers now s.mailboxes → Delivers (OfReplies conn Taken ∷ now) u.mailboxes) → Serves (does done (v.Take conn)) conn d u
-take_serves done conn c d s u x rest live before opened held k some ring holders pops =
+    → replies_at s.mailboxes conn ≡ x ∷ rest → u.ring ≡ s.ring → u.holders ≡ s.holders → u.talks ≡ s.talks → ((now : List Deed) → Delivers now s.mailboxes → Delivers (OfReplies conn Taken ∷ now) u.mailboxes) → Serves (does done (v.Take conn)) conn d u
+take_serves done conn c d s u x rest live before opened held k some ring holders talks pops =
     let shares = shares_entered conn s done before.shares in
     let kept = at_replies conn conn (Some d) Taken (entered conn done) (keeps_entered conn d done k) in
     rw (live, taking_some conn (untaken done conn) (entered conn done) x rest (sym some ∙ (before.shares.mail.mails conn live).replies)) (record {
@@ -242,6 +215,7 @@ take_serves done conn c d s u x rest live before opened held k some ring holders
         ring = ring ∙ shares.ring;
         holders = subst (λ (now : Holders). Holds (OfReplies conn Taken ∷ entered conn done) now) (sym holders) (record { confirm = shares.holders.confirm; needkey = shares.holders.needkey; log = shares.holders.log });
         mail = pops (entered conn done) shares.mail;
+        talks = subst (λ (now : Talks). Speak (OfReplies conn Taken ∷ entered conn done) now) (sym talks) (replies_speak (entered conn done) s.talks conn Taken shares.talks);
       };
     })
 
@@ -281,18 +255,19 @@ runs_on done (v.Hang conn) h go = here (was_opened done conn && not (was_hung do
     here : (b : Bool) → is_halted (cond b (OfConnection conn Hung ∷ done) done) ≡ false
     here true = h
     here false = h
-runs_on done (v.Answer call bytes) h go = h
-runs_on done (v.NoAnswer call) h go = h
-runs_on done (v.NoRoom call) h go = h
-runs_on done v.TakeAsk h go = h
+runs_on done (v.Answer call bytes) h go = resumed_by (λ now. is_halted now ≡ false) halted_all (asker done call) (calls.Heard bytes) done h
+runs_on done (v.NoAnswer call) h go = resumed_by (λ now. is_halted now ≡ false) halted_all (asker done call) calls.Unheard done h
+runs_on done (v.NoRoom call) h go = resumed_by (λ now. is_halted now ≡ false) halted_all (asker done call) calls.Roomless done h
+runs_on done v.TakeAsk h go = handing_by (λ now. is_halted now ≡ false) (λ now k. k) (next_question done) done h
 runs_on done v.Stop h go = absurd (false≢true (sym go))
 
 -- what is shared after a sweep
-pub shares_swept : (last : List Deed) (s u : Shared) → Shares last s → (Delivers last s.mailboxes → Delivers (swept last) u.mailboxes) → u.ring ≡ s.ring → u.holders ≡ s.holders → Shares (swept last) u
-shares_swept last s u h sweeps ring holders = record {
+pub shares_swept : (last : List Deed) (s u : Shared) → Shares last s → (Delivers last s.mailboxes → Delivers (swept last) u.mailboxes) → u.ring ≡ s.ring → u.holders ≡ s.holders → u.talks ≡ s.talks → Shares (swept last) u
+shares_swept last s u h sweeps ring holders talks = record {
   ring = ring ∙ swept_by (λ now. s.ring ≡ keys_of now) (λ now e. e) last h.ring;
   holders = subst (λ (now : Holders). Holds (swept last) now) (sym holders) (swept_by (λ now. Holds now s.holders) (λ now k. record { confirm = k.confirm; needkey = k.needkey; log = k.log }) last h.holders);
   mail = sweeps h.mail;
+  talks = subst (λ (now : Talks). Speak (swept last) now) (sym talks) (swept_speak last s.talks h.talks);
 }
 
 -- ---- a hang
@@ -311,3 +286,84 @@ hang_others done conn q o e s = here (was_opened done conn && not (was_hung done
     here : (b : Bool) → Stands (cond b (OfConnection conn Hung ∷ done) done) q o
     here true = record { opened = s.opened; hung = rw e s.hung; keeps = λ live. at_hung conn q o e done (s.keeps (hung_before (eqb conn q) (was_hung done q) live)) }
     here false = s
+
+-- ---- conversations are open on connections that are live
+
+kept_live : (hung : ℕ → Bool) (keep : Speaker → Bool) (xs : List Speaker) → AllLive hung xs → AllLive hung (filter keep xs)
+kept_live hung keep [] h = tt
+kept_live hung keep (x ∷ xs) h = here (keep x)
+  where
+    here : (b : Bool) → AllLive hung (cond b (x ∷ filter keep xs) (filter keep xs))
+    here true = (h.0, kept_live hung keep xs h.1)
+    here false = kept_live hung keep xs h.1
+
+one_more_live : (hung : ℕ → Bool) (s : Speaker) (xs : List Speaker) → hung s.conn ≡ false → AllLive hung xs → AllLive hung (xs ++ s ∷ [])
+one_more_live hung s [] live h = (live, tt)
+one_more_live hung s (x ∷ xs) live h = (h.0, one_more_live hung s xs live h.1)
+
+left_live : (hung : ℕ → Bool) (conn : ℕ) (xs : List Speaker) → AllLive hung xs → AllLive (λ q. eqb conn q || hung q) (filter (λ s. not (eqb s.conn conn)) xs)
+left_live hung conn [] h = tt
+left_live hung conn (x ∷ xs) h = elim (cases_Bool (eqb x.conn conn)) [
+  | inl is ↦ rw is (left_live hung conn xs h.1)
+  | inr is ↦ rw is ((rw (eqb_not conn x.conn is, h.0) refl, left_live hung conn xs h.1))
+]
+  where
+    eqb_not : (a b : ℕ) → eqb b a ≡ false → eqb a b ≡ false
+    eqb_not a b e = ne_eqb a b (λ same. false≢true (sym e ∙ eq-eqb b a (sym same)))
+
+-- a connection is live, and so are those of all conversations
+record BothLive (conn : ℕ) (done : List Deed) : Type 0 where
+  own : was_hung done conn ≡ false
+  all : AreLive done
+
+fids_live : (conn : ℕ) (deed : FidDeed) (done : List Deed) → BothLive conn done → BothLive conn (OfFids conn deed ∷ done)
+fids_live conn (Versioned msize) done h = record { own = h.own; all = kept_live (λ q. was_hung done q) (λ s. not (eqb s.conn conn)) (speakers done) h.all }
+fids_live conn (Attached f) done h = record { own = h.own; all = h.all }
+fids_live conn (Walked f node) done h = record { own = h.own; all = h.all }
+fids_live conn (Opened f mode) done h = record { own = h.own; all = here (names Rpc (fid_of done conn f)) }
+  where
+    s : Speaker
+    s = record { conv = opened_talks done; conn = conn; fid = f }
+    here : (b : Bool) → AllLive (λ q. was_hung done q) (cond b (speakers done ++ s ∷ []) (speakers done))
+    here true = one_more_live (λ q. was_hung done q) s (speakers done) h.own h.all
+    here false = h.all
+fids_live conn (Listed f) done h = record { own = h.own; all = h.all }
+fids_live conn (Browsed f next) done h = record { own = h.own; all = h.all }
+fids_live conn (Clunked f) done h = record { own = h.own; all = kept_live (λ q. was_hung done q) (λ s. not (eqb s.conn conn && eqb s.fid f)) (speakers done) h.all }
+
+both_own : (conn : ℕ) → IsOwn conn (BothLive conn)
+both_own conn = record {
+  fids = fids_live conn;
+  keys = λ deed done h. record { own = h.own; all = h.all };
+  entered = λ done h. record { own = h.own; all = h.all };
+  all = record {
+    talks = record { talk = λ conv call done h. record { own = h.own; all = h.all }; raised = λ conv done h. record { own = h.own; all = h.all } };
+    replies = λ at deed done h. record { own = h.own; all = h.all };
+    swept = λ done h. record { own = h.own; all = h.all };
+  };
+}
+
+pub request_live : (done : List Deed) (conn : ℕ) (frame word : List ℕ) → AreLive done → AreLive (does done (v.Request conn frame word))
+request_live done conn frame word h = elim (cases_Bool (was_hung done conn)) [
+  | inl hung ↦ rw hung h
+  | inr live ↦ (request_own conn (BothLive conn) (both_own conn) done frame word (record { own = live; all = h })).all
+]
+
+pub take_live : (done : List Deed) (conn : ℕ) → AreLive done → AreLive (does done (v.Take conn))
+take_live done conn h = elim (cases_Bool (was_hung done conn)) [
+  | inl hung ↦ rw hung h
+  | inr live ↦ (take_own conn (BothLive conn) (both_own conn) done (record { own = live; all = h })).all
+]
+
+pub hang_live : (done : List Deed) (conn : ℕ) → AreLive done → AreLive (does done (v.Hang conn))
+hang_live done conn h = here (was_opened done conn && not (was_hung done conn))
+  where
+    here : (b : Bool) → AreLive (cond b (OfConnection conn Hung ∷ done) done)
+    here true = left_live (λ q. was_hung done q) conn (speakers done) h
+    here false = h
+
+pub resumed_live : (conv : Option ℕ) (call : calls.Call) (done : List Deed) → AreLive done → AreLive (swept (resumed conv call done))
+resumed_live conv call done h = resumed_by AreLive live_all conv call done h
+
+pub handed_live : (question : Option Question) (done : List Deed) → AreLive done → AreLive (handing question done)
+handed_live question done h = handing_by AreLive (λ now k. k) question done h

@@ -2,6 +2,7 @@
 -- of the deeds of the history; after a stop it keeps nothing.
 use Rattle.std.specs.Prelude.{◌≡◌, ℕ, ◌≤◌, ◌+◌, List, [], length, Bool, true, false, ◌⊎◌, Option}
 use Rattle.agent_history.specs.declared.event.Event.{Event}
+use Rattle.agent_history.specs.declared.event.StepAnswer.{StepAnswer}
 use Rattle.agent_history.specs.Histories.{History, has_stopped, most_events, deeds}
 use Rattle.mailboxes.specs.Deliveries.{replies_at}
 use Rattle.agent_requests.specs.declared.connection.Connection.{Connection}
@@ -10,7 +11,7 @@ use Rattle.agent_core.specs.declared.agent.State.{State}
 use Rattle.agent_core.specs.declared.agent.State.TheVariants.{Runs, Stopped}
 use Rattle.agent_core.specs.declared.agent.Agent.{Agent}
 use Rattle.agent_requests.specs.Connections.{SameShared}
-use Rattle.agent_core.specs.Events.{Lives, SameEach, TakesNoneOf, LeavesOneLess, HadOne, GivesUp, gives_to, is_stop, known}
+use Rattle.agent_core.specs.Events.{Lives, SameEach, TakesNoneOf, LeavesOneLess, HadOne, AsksFewer, HadAsk, NoneAsked, GivesUp, gives_to, is_stop, known, unasked}
 
 -- ---- agents
 
@@ -79,6 +80,18 @@ TakesNoneIn event (Runs r) = TakesNoneOf event (connection_at r) r.shared
 
 abbrev pub TakesNone : Event → Agent → Type 0
 TakesNone event agent = TakesNoneIn event agent.state
+
+-- how many questions for the authentication server weren't handed out yet
+abbrev pub unasked_in : State → ℕ
+unasked_in Stopped = 0
+unasked_in (Runs r) = unasked r.shared
+
+-- a question that is handed out is one less to ask, or none where it was the last event; what the authentication server
+-- answers raises none
+abbrev pub AsksFewerIn : Event → StepAnswer → State → State → Type 0
+AsksFewerIn event a (Runs old) (Runs new) = AsksFewer event a old.shared new.shared
+AsksFewerIn event a (Runs old) Stopped = HadAsk event a old.shared
+AsksFewerIn event a Stopped new = NoneAsked a
 
 -- ---- memory that is given up
 

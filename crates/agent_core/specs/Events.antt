@@ -1,20 +1,27 @@
 -- What an event does to what is kept of the connections, and to what they share.
-use Rattle.std.specs.Prelude.{◌≡◌, ℕ, ◌≤◌, ◌<◌, ◌+◌, List, [], ◌∷◌, ◌++◌, length, Bool, true, false, not, ◌&&◌, ◌⊎◌, nat_eq, Option, Some, None}
+use Rattle.std.specs.Prelude.{◌≡◌, ℕ, ◌≤◌, ◌<◌, ◌+◌, List, [], ◌∷◌, ◌++◌, length, Bool, true, false, not, ◌&&◌, ◌⊎◌, ◌==◌, filter, Option, Some, None}
 use Rattle.std.specs.List.{list_any}
 use Rattle.std.specs.Ordering.{nat_cmp}
 use Rattle.std.specs.BTreeMap.{BTreeMap, get}
 use Rattle.nine_messages.specs.Decoding.{IsFrame}
 use Rattle.agent_history.specs.declared.event.Event.{Event}
-use Rattle.agent_history.specs.declared.event.Event.TheVariants.{Request, Hang, Answer, Take, TakeAsk, Stop}
+use Rattle.agent_history.specs.declared.event.Event.TheVariants.{Request, Hang, Answer, NoAnswer, NoRoom, Take, TakeAsk, Stop}
+use Rattle.agent_history.specs.declared.event.StepAnswer.TheVariants.{Ask}
 use Rattle.agent_history.specs.declared.event.StepAnswer.{StepAnswer}
 use Rattle.agent_history.specs.Deeds.{Deed, was_opened, was_hung, msize_of, fid_of, held_by, text_of, is_halted}
 use Rattle.agent_history.specs.Histories.{History, deeds, does, answer_after}
 use Rattle.mailboxes.specs.Deliveries.{KeepsNone, replies_at}
+use Rattle.agent_history.specs.Conversations.{Question, standing_of}
+use Rattle.talks.specs.Standings.{question_of}
+use Rattle.roles.specs.declared.need.Need.{Need}
+use Rattle.roles.specs.declared.need.Need.TheVariants.{Nothing, Key, Exchange}
+use Rattle.wire_base.specs.declared.shape.Shape.{Shape}
+use Rattle.agent_talks.specs.Kept.{questions_in}
 use Rattle.agent_requests.specs.declared.connection.Phase.{Phase}
 use Rattle.agent_requests.specs.declared.connection.Phase.TheVariants.{Fresh}
 use Rattle.agent_requests.specs.declared.connection.Connection.{Connection}
 use Rattle.agent_requests.specs.declared.shared.Shared.{Shared}
-use Rattle.agent_requests.specs.Connections.{Keeps, SameKept, Shares, IsFresh, IsHungUp, is_opened, is_hung}
+use Rattle.agent_requests.specs.Connections.{AreLive, Keeps, SameKept, Shares, IsFresh, IsHungUp, is_opened, is_hung}
 
 -- ---- connections
 
@@ -54,10 +61,11 @@ pub record Serves (done : List Deed) (conn : ℕ) (c : Connection) (s : Shared) 
   pub stands : Stands done conn (Some c)
   pub shares : Shares done s
 
--- what is kept of all connections, and what they share
+-- what is kept of all connections, and what they share; no conversation that stands is open on one that was hung up
 pub record Lives (done : List Deed) (at : ℕ → Option Connection) (s : Shared) : Type 0 where
   pub shares : Shares done s
   pub connections : AllStand done at
+  pub live : AreLive done
 
 -- what lived lives after the event
 abbrev pub LivesOn : Event → (ℕ → Option Connection) → Shared → (ℕ → Option Connection) → Shared → Type 0
@@ -104,17 +112,33 @@ abbrev pub FindsNone : Option Connection → List (List ℕ) → Type 0
 FindsNone None replies = ⊥
 FindsNone (Some c) replies = (is_hung c.phase ≡ true) ⊎ (replies ≡ [])
 
--- the numbers of the questions for the authentication server that are out; none is raised yet
-abbrev pub questions : Shared → List ℕ
-questions s = []
+-- the questions for the authentication server that are out
+abbrev pub questions : Shared → List Question
+questions s = questions_in s.talks
+
+-- those that weren't handed out yet
+abbrev pub unasked : Shared → ℕ
+unasked s = length (filter (λ q. not q.handed) (questions s))
+
+-- what a conversation asks the authentication server was put out, if it asks something
+abbrev pub PutFor : Need → Option Shape → List ℕ → List ℕ → Type 0
+PutFor (Exchange request shape) (Some told) old new = (told ≡ shape) × (new ≡ old ++ request)
+PutFor (Exchange request shape) None old new = ⊥
+PutFor (Key template) (Some told) old new = ⊥
+PutFor (Key template) None old new = new ≡ old
+PutFor Nothing (Some told) old new = ⊥
+PutFor Nothing None old new = new ≡ old
+
+abbrev pub IsPut : List Deed → ℕ → Option Shape → List ℕ → List ℕ → Type 0
+IsPut done conv shape old new = PutFor (question_of (standing_of done conv)) shape old new
 
 -- Events that take no memory: a take that finds no reply on a connection that is known, an answer to a question that isn't
 -- out, a take of a question where none is out, a hang, the want of an answer, and a stop.
 abbrev pub TakesNoneOf : Event → (ℕ → Option Connection) → Shared → Type 0
 TakesNoneOf (Request conn frame word) at s = ⊥
 TakesNoneOf (Take conn) at s = FindsNone (at conn) (replies_at s.mailboxes conn)
-TakesNoneOf (Answer call bytes) at s = list_any (nat_eq call) (questions s) ≡ false
-TakesNoneOf TakeAsk at s = questions s ≡ []
+TakesNoneOf (Answer call bytes) at s = list_any (λ q. q.call == call) (questions s) ≡ false
+TakesNoneOf TakeAsk at s = unasked s ≡ 0
 TakesNoneOf event at s = Unit {0}
 
 -- a take of the connection finds a reply: it isn't hung up, and one is left
@@ -140,6 +164,24 @@ HadOne event s = ⊥
 abbrev pub LeavesOneLess : Event → Shared → Shared → Type 0
 LeavesOneLess (Take conn) old new = length (replies_at new.mailboxes conn) + 1 ≡ length (replies_at old.mailboxes conn)
 LeavesOneLess event old new = ⊥
+
+-- a question that is handed out is one less to ask, and what the authentication server answers raises none
+abbrev pub AsksFewer : Event → StepAnswer → Shared → Shared → Type 0
+AsksFewer TakeAsk (Ask call conv shape) old new = unasked new + 1 ≡ unasked old
+AsksFewer (Answer call bytes) a old new = unasked new ≤ unasked old
+AsksFewer (NoAnswer call) a old new = unasked new ≤ unasked old
+AsksFewer (NoRoom call) a old new = unasked new ≤ unasked old
+AsksFewer event a old new = Unit {0}
+
+-- there was a question to hand out
+abbrev pub HadAsk : Event → StepAnswer → Shared → Type 0
+HadAsk TakeAsk (Ask call conv shape) old = 0 < unasked old
+HadAsk event a old = Unit {0}
+
+-- no question is handed out
+abbrev pub NoneAsked : StepAnswer → Type 0
+NoneAsked (Ask call conv shape) = ⊥
+NoneAsked a = Unit {0}
 
 -- ---- memory that is given up
 

@@ -4,8 +4,10 @@ ghost use Rattle.agent_history.specs.Deeds.{Deed, is_halted};
 ghost use Rattle.agent_history.specs.Histories.{answer_after, is_reply};
 
 use crate::events::{Connections, Stepped, act, has_reply, is_stop};
-use crate::shared::Shared;
 use agent_history::{Event, StepAnswer};
+use agent_requests::Shared;
+use key_ring::Key;
+use roles::Outcome;
 use std::alloc::Global;
 use std::collections::BTreeMap;
 use std::mem::replace;
@@ -63,7 +65,10 @@ impl Agent {
     ghost use Rattle.agent_history.specs.Histories.{History, answer};
     ghost use Rattle.agent_history.specs.declared.event.Event.TheVariants as events;
     ghost use Rattle.agent_core.specs.Events.{Answers, IsEvent};
-    ghost use Rattle.agent_core.specs.Agents.{StandsFor, StandsBy, SameAgent, SameState, TakesOne, TakesOneIn, TakesNone, TakesNoneIn, GivesUpIn, gives_in};
+    ghost use Rattle.agent_core.specs.Agents.{StandsFor, StandsBy, SameAgent, SameState, TakesOne, TakesOneIn, TakesNone, TakesNoneIn, AsksFewerIn, GivesUpIn, gives_in};
+    ghost use Rattle.agent_history.specs.Conversations.{chosen_at, outcome_at};
+    ghost use Rattle.agent_history.specs.Histories.{deeds};
+    ghost use Rattle.std.specs.Prelude.{List, ℕ, option_copied};
 
     /// An agent without keys and connections.
     pub fn new(alloc: Global) -> Result<Agent, NoMemory>
@@ -96,6 +101,8 @@ impl Agent {
         ensures fewer { IfOk result (λ a. is_reply a ≡ true
             → TakesOneIn event.now (State.Runs running) self.new.state) }
         ensures gives { IfOk result (λ a. is_reply a ≡ gives_in event.now (State.Runs running)) }
+        ensures asks { IfOk result (λ a.
+            AsksFewerIn event.now a (State.Runs running) self.new.state) }
         ensures gives_up { OnOk result (GivesUpIn event.now (State.Runs running) self.new.state) }
     {
         let Running {
@@ -151,6 +158,10 @@ impl Agent {
         ensures fewer { IfOk result (λ a. is_reply a ≡ true
             → TakesOne event.now self.old self.new) }
 
+        // A question that is handed out is one less to hand out, and what is answered to one raises none.
+        ensures asks { IfOk result (λ a.
+            AsksFewerIn event.now a self.old.state self.new.state) }
+
         // A hang and a stop give up what was kept.
         ensures gives_up { OnOk result (GivesUpIn event.now self.old.state self.new.state) }
     {
@@ -169,6 +180,29 @@ impl Agent {
         match &self.state {
             State::Stopped => false,
             State::Runs(running) => has_reply(&running.connections, &running.shared, conn),
+        }
+    }
+
+    /// How the conversation that a fid of a connection has open stands as to its end; None where the fid has none, or it
+    /// hasn't started. It takes no memory.
+    pub fn outcome(&self, conn: u64, fid: u32) -> Option<Outcome>
+        ensures { (H : History) → StandsFor H self.now
+            → result ≡ outcome_at (deeds H) conn fid }
+    {
+        match &self.state {
+            State::Stopped => None,
+            State::Runs(running) => running.shared.talks.outcome_at(conn, fid),
+        }
+    }
+
+    /// The key that the conversation of a fid has chosen, if it has. It takes no memory.
+    pub fn chosen(&self, conn: u64, fid: u32) -> Option<&Key>
+        ensures { (H : History) → StandsFor H self.now
+            → option_copied result ≡ chosen_at (deeds H) conn fid }
+    {
+        match &self.state {
+            State::Stopped => None,
+            State::Runs(running) => running.shared.talks.chosen_at(conn, fid),
         }
     }
 }

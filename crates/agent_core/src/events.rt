@@ -5,17 +5,17 @@ ghost use Rattle.agent_history.specs.declared.event.Event.TheVariants as events;
 ghost use Rattle.agent_history.specs.Deeds.{Deed, is_halted};
 ghost use Rattle.agent_history.specs.Requests.{tag_of};
 ghost use Rattle.agent_history.specs.Histories.{does, is_reply};
+ghost use Rattle.agent_talks.specs.Speaks.{stands};
 ghost use Rattle.mailboxes.specs.Deliveries.{replies_at};
-ghost use Rattle.agent_requests.specs.Connections.{SameKept, SameShared};
-ghost use Rattle.agent_core.specs.Events.{AllStand, AnswersAfter, FindsNone, AnswersFor, GivesUp, HangsUp, IsEvent, LeavesOneLess, LivesOn, SameEach, Serves, TakesNoneOf, gives_reply, gives_to, is_stop, known};
+ghost use Rattle.agent_requests.specs.Connections.{AreLive, SameKept, SameShared, Shares};
+ghost use Rattle.agent_core.specs.Events.{AllStand, AnswersAfter, FindsNone, AnswersFor, AsksFewer, GivesUp, HangsUp, IsEvent, IsPut, LeavesOneLess, LivesOn, SameEach, Serves, TakesNoneOf, questions, gives_reply, gives_to, is_stop, known, unasked};
 
-use crate::call::Call;
-use crate::connection::Connection;
-use crate::shared::Shared;
 use agent_history::{Event, StepAnswer};
+use agent_requests::{Call, Connection, Shared};
+use agent_talks::Question;
 use std::alloc::Global;
 use std::collections::BTreeMap;
-use wire_base::{Bytes, NoMemory, get_u16};
+use wire_base::{Bytes, NoMemory, Shape, get_u16};
 
 pub(crate) type Connections = BTreeMap<u64, Connection>;
 
@@ -196,6 +196,46 @@ fn hang_at(alloc: Global, connections: &mut Connections, shared: &mut Shared, co
     }
 }
 
+// The oldest question for the authentication server that wasn't handed out yet is handed out, if there is one.
+fn take_ask(shared: &mut Shared, out: &mut Bytes) -> Stepped
+    ensures shares { OnOk result ((done : List Deed) → Shares done shared.old
+        → Shares (does done events.TakeAsk) shared.new) }
+    ensures answer { IfOk result (λ a. (done : List Deed) → is_halted done ≡ false
+        → Shares done shared.old → AnswersAfter done events.TakeAsk a out.old out.new) }
+    ensures ring { shared.new.ring ≡ shared.old.ring }
+    ensures err { OnErr result ((shared.new ≡ shared.old) × (out.new ≡ out.old)) }
+    ensures fewer { IfOk result (λ a. AsksFewer events.TakeAsk a shared.old shared.new) }
+    ensures takes_none { unasked shared.old ≡ 0 → IsOk result }
+    ensures none { IfOk result (λ a. is_reply a ≡ false) }
+{
+    let Some(question) = shared.talks.next_question() else {
+        return Ok(StepAnswer::NoAsk);
+    };
+    let Question { call, conv, .. } = *question;
+    let asked = put_question(shared, conv, out)?;
+    shared.talks.hand_out();
+    match asked {
+        Some(shape) => Ok(StepAnswer::Ask { call, conv, shape }),
+        None => Ok(StepAnswer::NoAsk),
+    }
+}
+
+// Puts out what a conversation asks the authentication server, and says where its answer ends.
+fn put_question(shared: &Shared, conv: u64, out: &mut Bytes) -> Result<Option<Shape>, NoMemory>
+    ensures put { IfOk result (λ shape. (done : List Deed) → stands done conv ≡ true
+        → Shares done shared.now → IsPut done conv shape out.old out.new) }
+    ensures err { OnErr result (out.new ≡ out.old) }
+{
+    let Some(conversation) = shared.talks.conversation(conv) else {
+        return Ok(None);
+    };
+    let Some((request, shape)) = conversation.question() else {
+        return Ok(None);
+    };
+    out.append(request)?;
+    Ok(Some(shape))
+}
+
 /// Whether a take of the connection is answered by a reply.
 pub(crate) fn has_reply(connections: &Connections, shared: &Shared, conn: u64) -> bool
     ensures { result ≡ gives_reply (known connections.now conn)
@@ -229,6 +269,7 @@ pub(crate) fn act(
     ensures err_out { OnErr result (out.new ≡ out.old) }
     ensures fewer { IfOk result (λ a. is_reply a ≡ true
         → LeavesOneLess event.now shared.old shared.new) }
+    ensures asks { IfOk result (λ a. AsksFewer event.now a shared.old shared.new) }
     ensures takes_none { TakesNoneOf event.now (known connections.old) shared.old → IsOk result }
     ensures gives { IfOk result (λ a. is_reply a
         ≡ gives_to event.now (known connections.old) shared.old) }
@@ -245,9 +286,19 @@ pub(crate) fn act(
             hang_at(alloc, connections, shared, *conn);
             Ok(StepAnswer::Done)
         }
-        Event::TakeAsk => Ok(StepAnswer::NoAsk),
-        Event::Answer { .. } | Event::NoAnswer { .. } | Event::NoRoom { .. } | Event::Stop => {
+        Event::TakeAsk => take_ask(shared, out),
+        Event::Answer { call, bytes } => {
+            shared.hear(alloc, *call, bytes.as_slice())?;
             Ok(StepAnswer::Done)
         }
+        Event::NoAnswer { call } => {
+            shared.hear_nothing(*call);
+            Ok(StepAnswer::Done)
+        }
+        Event::NoRoom { call } => {
+            shared.lack_room(*call);
+            Ok(StepAnswer::Done)
+        }
+        Event::Stop => Ok(StepAnswer::Done),
     }
 }

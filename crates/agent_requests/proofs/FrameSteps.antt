@@ -48,24 +48,24 @@ unfolding granted
 frame_through done call bytes m over is lacks repeats = rw (over, is, lacks, repeats) refl
 
 -- a refusal that is told
-pub refused_told : (g : Result TBody (List ℕ)) (S : Reply → Type 0) (why : Refusal) → g ≡ Err (refusal_text why) → Told (refusal_of g) S (Err (e.For why))
+pub refused_told : (g : Result TBody (List ℕ)) (S : Option Reply → Type 0) (why : Refusal) → g ≡ Err (refusal_text why) → Told (refusal_of g) S (Err (e.For why))
 refused_told g S why is = subst (λ (r : Result TBody (List ℕ)). Told (refusal_of r) S (Err (e.For why))) (sym is) refl
 
-served_frame : (done : List Deed) (call : Call) (bytes : List ℕ) (body : TBody) (c : Connection) (s : Shared) (reply : Reply) → granted done call bytes ≡ Ok body → Served done call body c s reply → FrameServed done call bytes c s reply
+served_frame : (done : List Deed) (call : Call) (bytes : List ℕ) (body : TBody) (c : Connection) (s : Shared) (reply : Option Reply) → granted done call bytes ≡ Ok body → Served done call body c s reply → FrameServed done call bytes c s reply
 unfolding after_frame body_to
 served_frame done call bytes body c s reply is h = record { keeps = rw is h.keeps; shares = rw is h.shares; said = rw is h.said }
 
 -- want of memory is told whatever refuses
-told_memory : (o : Option (List ℕ)) (S : Reply → Type 0) → Told o S (Err e.NoMemory)
+told_memory : (o : Option (List ℕ)) (S : Option Reply → Type 0) → Told o S (Err e.NoMemory)
 told_memory None S = tt
 told_memory (Some text) S = tt
 
 -- a frame that isn't read
-pub unread_told : (g : Result TBody (List ℕ)) (S : Reply → Type 0) (why : Refused) (Unread : Type 0) → ((why ≡ e.NoMemory) ⊎ ((why ≡ e.For f.BadMessage) × Unread)) → (Unread → g ≡ Err (codes "bad message")) → Told (refusal_of g) S (Err why)
+pub unread_told : (g : Result TBody (List ℕ)) (S : Option Reply → Type 0) (why : Refused) (Unread : Type 0) → ((why ≡ e.NoMemory) ⊎ ((why ≡ e.For f.BadMessage) × Unread)) → (Unread → g ≡ Err (codes "bad message")) → Told (refusal_of g) S (Err why)
 unread_told g S why Unread (inl memory) is = subst (λ (w : Refused). Told (refusal_of g) S (Err w)) (sym memory) (told_memory (refusal_of g) S)
 unread_told g S why Unread (inr bad) is = subst (λ (w : Refused). Told (refusal_of g) S (Err w)) (sym bad.0) (refused_told g S f.BadMessage (is bad.1))
 
-told_frame : (done : List Deed) (call : Call) (bytes : List ℕ) (body : TBody) (c : Connection) (s : Shared) (result : Result Reply Refused) (o : Option (List ℕ)) → granted done call bytes ≡ unless_refused body o
+told_frame : (done : List Deed) (call : Call) (bytes : List ℕ) (body : TBody) (c : Connection) (s : Shared) (result : Result (Option Reply) Refused) (o : Option (List ℕ)) → granted done call bytes ≡ unless_refused body o
     → Told o (Served done call body c s) result → Told (refusal_of (granted done call bytes)) (FrameServed done call bytes c s) result
 told_frame done call bytes body c s (Ok reply) None is h = subst (λ (r : Result TBody (List ℕ)). Told (refusal_of r) (FrameServed done call bytes c s) (Ok reply)) (sym is) (served_frame done call bytes body c s reply is h)
 told_frame done call bytes body c s (Ok reply) (Some text) is h = absurd h
@@ -73,22 +73,22 @@ told_frame done call bytes body c s (Err (e.For why)) None is h = absurd h
 told_frame done call bytes body c s (Err (e.For why)) (Some text) is h = subst (λ (r : Result TBody (List ℕ)). Told (refusal_of r) (FrameServed done call bytes c s) (Err (e.For why))) (sym is) h
 told_frame done call bytes body c s (Err e.NoMemory) o is h = told_memory (refusal_of (granted done call bytes)) (FrameServed done call bytes c s)
 
-pub frame_told : (done : List Deed) (call : Call) (bytes : List ℕ) (m : TMsg) (c : Connection) (s : Shared) (result : Result Reply Refused) → is_over (msize_of done call.conn) bytes ≡ false → request_of bytes ≡ Some m
+pub frame_told : (done : List Deed) (call : Call) (bytes : List ℕ) (m : TMsg) (c : Connection) (s : Shared) (result : Result (Option Reply) Refused) → is_over (msize_of done call.conn) bytes ≡ false → request_of bytes ≡ Some m
     → lacks_version done call m.body ≡ false → repeats_tag done call m.body ≡ false → Told (refusal done call m.body) (Served done call m.body c s) result → Told (refusal_of (granted done call bytes)) (FrameServed done call bytes c s) result
 frame_told done call bytes m c s result over is lacks repeats h = told_frame done call bytes m.body c s result (refusal done call m.body) (frame_through done call bytes m over is lacks repeats) h
 
-refused_is : (g : Result TBody (List ℕ)) (S : Reply → Type 0) (why : Refusal) → Told (refusal_of g) S (Err (e.For why)) → g ≡ Err (refusal_text why)
+refused_is : (g : Result TBody (List ℕ)) (S : Option Reply → Type 0) (why : Refusal) → Told (refusal_of g) S (Err (e.For why)) → g ≡ Err (refusal_text why)
 refused_is (Ok body) S why h = absurd h
 refused_is (Err text) S why h = ap Err (sym h)
 
 -- the reply to a frame that is refused, which changes nothing
 refused_frame : (done : List Deed) (call : Call) (bytes : List ℕ) (c : Connection) (s : Shared) (why : Refusal) → Keeps done call.conn c → Shares done s → granted done call bytes ≡ Err (refusal_text why)
-    → (reply : Reply) → reply_bytes reply ≡ error_frame (refusal_text why) call.tag → FrameServed done call bytes c s reply
+    → (reply : Reply) → reply_bytes reply ≡ error_frame (refusal_text why) call.tag → FrameServed done call bytes c s (Some reply)
 unfolding after_frame body_to
 refused_frame done call bytes c s why k h is reply said = record { keeps = rw is k; shares = rw is h; said = rw is said }
 
-pub answered_frame : (done : List Deed) (call : Call) (bytes : List ℕ) (c : Connection) (s : Shared) (S : Reply → Type 0) (why : Refusal) → Keeps done call.conn c → Shares done s → Told (refusal_of (granted done call bytes)) S (Err (e.For why))
-    → (reply : Reply) → reply_bytes reply ≡ error_frame (refusal_text why) call.tag → FrameServed done call bytes c s reply
+pub answered_frame : (done : List Deed) (call : Call) (bytes : List ℕ) (c : Connection) (s : Shared) (S : Option Reply → Type 0) (why : Refusal) → Keeps done call.conn c → Shares done s → Told (refusal_of (granted done call bytes)) S (Err (e.For why))
+    → (reply : Reply) → reply_bytes reply ≡ error_frame (refusal_text why) call.tag → FrameServed done call bytes c s (Some reply)
 answered_frame done call bytes c s S why k h told reply said = refused_frame done call bytes c s why k h (refused_is (granted done call bytes) S why told) reply said
 
 -- ---- what stays the same

@@ -22,56 +22,59 @@ use Rattle.agent_history.specs.Requests.{Call, after, after_frame, after_granted
 
 -- ---- deeds of conversations and of replies
 
-pub record OfAll (P : List Deed → Type 0) : Type 0 where
+pub record OfTalks (P : List Deed → Type 0) : Type 0 where
   pub talk : (conv : ℕ) (call : calls.Call) (done : List Deed) → P done → P (OfTalk conv call ∷ done)
   pub raised : (conv : ℕ) (done : List Deed) → P done → P (Raised conv ∷ done)
+
+pub record OfAll (P : List Deed → Type 0) : Type 0 where
+  pub talks : OfTalks P
   pub replies : (at : ℕ) (deed : ReplyDeed) (done : List Deed) → P done → P (OfReplies at deed ∷ done)
   pub swept : (done : List Deed) → P done → P (Swept ∷ done)
 
-sought_all : (P : List Deed → Type 0) → OfAll P → (conv : ℕ) (phase : Phase) (done : List Deed) → P done → P (seeking conv phase done)
-sought_all P all conv Seeking done h = all.talk conv _ done h
-sought_all P all conv Resting done h = h
-sought_all P all conv (Waiting request) done h = h
-sought_all P all conv (OnConfirm serial) done h = h
-sought_all P all conv OnNeedkey done h = h
-sought_all P all conv OnServer done h = h
-sought_all P all conv (Kept answer) done h = h
+sought_talks : (P : List Deed → Type 0) → OfTalks P → (conv : ℕ) (phase : Phase) (done : List Deed) → P done → P (seeking conv phase done)
+sought_talks P talks conv Seeking done h = talks.talk conv _ done h
+sought_talks P talks conv Resting done h = h
+sought_talks P talks conv (Waiting request) done h = h
+sought_talks P talks conv (OnConfirm serial) done h = h
+sought_talks P talks conv OnNeedkey done h = h
+sought_talks P talks conv OnServer done h = h
+sought_talks P talks conv (Kept answer) done h = h
 
-raised_all : (P : List Deed → Type 0) → OfAll P → (conv : ℕ) (phase : Phase) (done : List Deed) → P done → P (raising conv phase done)
-raised_all P all conv OnServer done h = all.raised conv done h
-raised_all P all conv Resting done h = h
-raised_all P all conv (Waiting request) done h = h
-raised_all P all conv Seeking done h = h
-raised_all P all conv (OnConfirm serial) done h = h
-raised_all P all conv OnNeedkey done h = h
-raised_all P all conv (Kept answer) done h = h
+raised_talks : (P : List Deed → Type 0) → OfTalks P → (conv : ℕ) (phase : Phase) (done : List Deed) → P done → P (raising conv phase done)
+raised_talks P talks conv OnServer done h = talks.raised conv done h
+raised_talks P talks conv Resting done h = h
+raised_talks P talks conv (Waiting request) done h = h
+raised_talks P talks conv Seeking done h = h
+raised_talks P talks conv (OnConfirm serial) done h = h
+raised_talks P talks conv OnNeedkey done h = h
+raised_talks P talks conv (Kept answer) done h = h
 
-pub met_all : (P : List Deed → Type 0) → OfAll P → (conv : ℕ) (call : calls.Call) (done : List Deed) → P done → P (met conv call done)
-met_all P all conv call done h =
+pub met_talks : (P : List Deed → Type 0) → OfTalks P → (conv : ℕ) (call : calls.Call) (done : List Deed) → P done → P (met conv call done)
+met_talks P talks conv call done h =
     let asked : List Deed = OfTalk conv call ∷ done in
-    raised_all P all conv (standing_of (then_sought conv asked) conv).phase (then_sought conv asked) (sought_all P all conv (standing_of asked conv).phase asked (all.talk conv call done h))
+    raised_talks P talks conv (standing_of (then_sought conv asked) conv).phase (then_sought conv asked) (sought_talks P talks conv (standing_of asked conv).phase asked (talks.talk conv call done h))
 
-pub took_all : (P : List Deed → Type 0) → OfAll P → (conv count : ℕ) (answer : RpcAnswer) (done : List Deed) → P done → P (then_took conv count answer done)
-took_all P all conv count answer done h = here (fits count answer)
+pub took_talks : (P : List Deed → Type 0) → OfTalks P → (conv count : ℕ) (answer : RpcAnswer) (done : List Deed) → P done → P (then_took conv count answer done)
+took_talks P talks conv count answer done h = here (fits count answer)
   where
     here : (b : Bool) → P (cond b (OfTalk conv calls.Took ∷ done) done)
-    here true = all.talk conv calls.Took done h
+    here true = talks.talk conv calls.Took done h
     here false = h
 
-carrying_all : (P : List Deed → Type 0) → OfAll P → (conv : ℕ) (word : List ℕ) (phase : Phase) (done : List Deed) → P done → P (carrying_out conv word phase done)
-carrying_all P all conv word (Waiting request) done h = met_all P all conv (calls.CarriedOut word) done h
-carrying_all P all conv word Resting done h = h
-carrying_all P all conv word Seeking done h = h
-carrying_all P all conv word (OnConfirm serial) done h = h
-carrying_all P all conv word OnNeedkey done h = h
-carrying_all P all conv word OnServer done h = h
-carrying_all P all conv word (Kept answer) done h = h
+carrying_talks : (P : List Deed → Type 0) → OfTalks P → (conv : ℕ) (word : List ℕ) (phase : Phase) (done : List Deed) → P done → P (carrying_out conv word phase done)
+carrying_talks P talks conv word (Waiting request) done h = met_talks P talks conv (calls.CarriedOut word) done h
+carrying_talks P talks conv word Resting done h = h
+carrying_talks P talks conv word Seeking done h = h
+carrying_talks P talks conv word (OnConfirm serial) done h = h
+carrying_talks P talks conv word OnNeedkey done h = h
+carrying_talks P talks conv word OnServer done h = h
+carrying_talks P talks conv word (Kept answer) done h = h
 
-pub carried_all : (P : List Deed → Type 0) → OfAll P → (conv : ℕ) (word : List ℕ) (done : List Deed) → P done → P (carried conv word done)
-carried_all P all conv word done h = carrying_all P all conv word (standing_of done conv).phase done h
+pub carried_talks : (P : List Deed → Type 0) → OfTalks P → (conv : ℕ) (word : List ℕ) (done : List Deed) → P done → P (carried conv word done)
+carried_talks P talks conv word done h = carrying_talks P talks conv word (standing_of done conv).phase done h
 
 answer_all : (P : List Deed → Type 0) → OfAll P → (call : Call) (conv fid count : ℕ) (phase : Phase) (done : List Deed) → P done → P (reading_answer call conv fid count phase done)
-answer_all P all call conv fid count (Kept answer) done h = took_all P all conv count answer done h
+answer_all P all call conv fid count (Kept answer) done h = took_talks P all.talks conv count answer done h
 answer_all P all call conv fid count Resting done h = all.replies call.conn (Awaited call.tag fid count) done h
 answer_all P all call conv fid count (Waiting request) done h = all.replies call.conn (Awaited call.tag fid count) done h
 answer_all P all call conv fid count Seeking done h = all.replies call.conn (Awaited call.tag fid count) done h
@@ -83,17 +86,17 @@ pub talk_all : (P : List Deed → Type 0) → OfAll P → (call : Call) (fid cou
 talk_all P all call fid count None done h = h
 talk_all P all call fid count (Some conv) done h =
     let now : List Deed = carried conv call.word done in
-    answer_all P all call conv fid count (standing_of now conv).phase now (carried_all P all conv call.word done h)
+    answer_all P all call conv fid count (standing_of now conv).phase now (carried_talks P all.talks conv call.word done h)
 
-pub stored_all : (P : List Deed → Type 0) → OfAll P → (conv : Option ℕ) (request : Result RpcRequest RpcFault) (done : List Deed) → P done → P (stored conv request done)
-stored_all P all (Some conv) (Ok request) done h = all.talk conv (calls.Stored request) done h
-stored_all P all (Some conv) (Err fault) done h = h
-stored_all P all None (Ok request) done h = h
-stored_all P all None (Err fault) done h = h
+pub stored_talks : (P : List Deed → Type 0) → OfTalks P → (conv : Option ℕ) (request : Result RpcRequest RpcFault) (done : List Deed) → P done → P (stored conv request done)
+stored_talks P talks (Some conv) (Ok request) done h = talks.talk conv (calls.Stored request) done h
+stored_talks P talks (Some conv) (Err fault) done h = h
+stored_talks P talks None (Ok request) done h = h
+stored_talks P talks None (Err fault) done h = h
 
 given_all : (P : List Deed → Type 0) → OfAll P → (conv conn : ℕ) (answer : RpcAnswer) (wait : Option Wait) (done : List Deed) → P done → P (give_to conv conn answer wait done)
 given_all P all conv conn answer None done h = h
-given_all P all conv conn answer (Some wait) done h = all.replies conn (Settled wait.tag (told wait.count answer)) (then_took conv wait.count answer done) (took_all P all conv wait.count answer done h)
+given_all P all conv conn answer (Some wait) done h = all.replies conn (Settled wait.tag (told wait.count answer)) (then_took conv wait.count answer done) (took_talks P all.talks conv wait.count answer done h)
 
 deliver_all : (P : List Deed → Type 0) → OfAll P → (conv : ℕ) (phase : Phase) (s : Option Speaker) (done : List Deed) → P done → P (deliver_to conv phase s done)
 deliver_all P all conv (Kept answer) (Some s) done h = given_all P all conv s.conn answer (reader_of done s) done h
@@ -110,7 +113,7 @@ delivered_all P all conv done h = deliver_all P all conv (standing_of done conv)
 
 pub resumed_all : (P : List Deed → Type 0) → OfAll P → (conv : Option ℕ) (call : calls.Call) (done : List Deed) → P done → P (resumed conv call done)
 resumed_all P all None call done h = h
-resumed_all P all (Some conv) call done h = delivered_all P all conv (met conv call done) (met_all P all conv call done h)
+resumed_all P all (Some conv) call done h = delivered_all P all conv (met conv call done) (met_talks P all.talks conv call done h)
 
 pub swept_by : (P : List Deed → Type 0) → ((done : List Deed) → P done → P (Swept ∷ done)) → (done : List Deed) → P done → P (swept done)
 swept_by P sweeps done h = here (has_settled done)
@@ -160,7 +163,7 @@ writing_own : (call : Call) (P : List Deed → Type 0) → IsOwn call.conn P →
 writing_own call P own fid content node done h = here (is_rpc node)
   where
     here : (b : Bool) → P (cond b (stored (conv_of done call.conn fid) (rpc.request_of content) done) (lines_done call.conn (carried_out (keys_of done) (lines_of content)) done))
-    here true = stored_all P own.all (conv_of done call.conn fid) (rpc.request_of content) done h
+    here true = stored_talks P own.all.talks (conv_of done call.conn fid) (rpc.request_of content) done h
     here false = lines_own call.conn P own.keys (carried_out (keys_of done) (lines_of content)) done h
 
 after_own : (call : Call) (P : List Deed → Type 0) → IsOwn call.conn P → (done : List Deed) (body : TBody) → P done → P (after done call body)

@@ -1,13 +1,14 @@
 -- From what the calls on a table of fids answer to what the history says of a request.
 use Rattle.std.proofs.Common.{◌≡◌, ◌≤◌, ℕ, List, [], ◌∷◌, Bool, true, false, ◌&&◌, not, cond, eqb, Option, Some, None, Result, Ok, Err, refl, sym, ap, subst, ◌∙◌, ◌⊎◌, inl, inr, min}
-use Rattle.std.specs.Prelude.{is_some, option_map, ok_or, codes, OnOk}
+use Rattle.std.specs.Prelude.{is_some, length, nat_lt, option_map, ok_or, codes, OnOk, OnErr}
 use Rattle.std.proofs.lemmas.Bool.{le-ltb}
 use Rattle.nine_messages.specs.declared.message.TBody.TheVariants as t
 use Rattle.nine_messages.specs.declared.message.RBody.TheVariants as r
 use Rattle.nine_messages.specs.Messages.{r_frame}
 use Rattle.file_tree.specs.declared.tree.Node.{Node}
 use Rattle.file_tree.specs.declared.tree.FidState.{FidState}
-use Rattle.file_tree.specs.declared.tree.Node.TheVariants.{Root, Factotum}
+use Rattle.file_tree.specs.declared.tree.Node.TheVariants.{Root, Factotum, Rpc}
+use Rattle.file_tree.specs.declared.tree.Node.TheVariants as n
 use Rattle.file_tree.specs.declared.fault.FidFault.{FidFault}
 use Rattle.file_tree.specs.declared.fault.FidFault.TheVariants.{BadOffset}
 use Rattle.file_tree.specs.Directories.{dir_bytes, dir_end}
@@ -21,7 +22,12 @@ use Rattle.key_lists.specs.Lists.{KeyList}
 use Rattle.key_lists.specs.Edits.{Add, Delete}
 use Rattle.key_lists.specs.CtlLines.{CtlLine, OnKeys, Debug, lines_of, carried_out, lines_fault, after_lines, keys_with, keys_with_all}
 use Rattle.agent_history.specs.Deeds.{Deed, OfFids, OfKeys, Versioned, Opened, Browsed, msize_of, fid_of, next_of, holder_of, keys_of}
-use Rattle.agent_history.specs.Requests.{Call, refusal, after, reply_of, agreed, effective, lets_read, opens_later, lets_write, written, line_deed, lines_done, is_known, most_msize}
+use Rattle.agent_history.specs.Conversations.{conv_of, speakers}
+use Rattle.agent_history.specs.Requests.{Call, refusal, after, reply_of, agreed, effective, lets_read, opens_later, lets_write, written, line_deed, lines_done, is_known, is_rpc, most_msize, most_talks}
+use Rattle.rpc_file.specs.Requests as rpc
+use Rattle.agent_talks.specs.declared.held.Talks.{Talks}
+use Rattle.agent_talks.specs.Speaks.{Speak}
+use Rattle.agent_talks.proofs.OtherLemmas.{browsed_speak, lines_speak}
 use Rattle.mailboxes.specs.declared.reply.Reply.{Reply}
 use Rattle.mailboxes.specs.declared.mailboxes.Mailboxes.{Mailboxes}
 use Rattle.mailboxes.specs.Kept.{reply_bytes}
@@ -32,7 +38,10 @@ use Rattle.agent_requests.specs.declared.shared.Shared.{Shared}
 use Rattle.agent_requests.specs.declared.refused.Refused.{Refused}
 use Rattle.agent_requests.specs.declared.refused.Refused.TheVariants as e
 use Rattle.agent_requests.specs.declared.refused.Refusal.TheVariants as f
-use Rattle.agent_requests.specs.Connections.{kept_fid, msize_in, Keeps, Holds, Shares, Told, Served}
+use Rattle.agent_requests.specs.Connections.{kept_fid, msize_in, Keeps, Holds, Says, Shares, Told, Served}
+use Rattle.agent_requests.specs.RpcRequests.{ReadServed, ReadTold, WriteServed, WriteTold, read_refusal, write_refusal}
+use Rattle.agent_requests.proofs.OwnDeeds.{lines_own, stored_talks, talk_all}
+use Rattle.agent_requests.proofs.ShareLemmas.{holds_keys, keeps_all, keeps_keys, mail_browsed, mail_keys}
 
 -- ---- answers
 
@@ -56,11 +65,15 @@ on_ok_at : {X E : Type 0} {P : Type 0} (result : Result X E) (x : X) → result 
 on_ok_at (Ok y) x e p = p
 on_ok_at (Err y) x e p = absurd cc
 
-pub told_served : (o : Option (List ℕ)) (S : Reply → Type 0) (reply : Reply) → o ≡ None → S reply → Told o S (Ok reply)
+pub on_err : {X E : Type 0} {P : Type 0} (result : Result X E) → P → OnErr result P
+on_err (Ok x) p = tt
+on_err (Err y) p = p
+
+pub told_served : (o : Option (List ℕ)) (S : Option Reply → Type 0) (reply : Option Reply) → o ≡ None → S reply → Told o S (Ok reply)
 told_served None S reply e s = s
 told_served (Some text) S reply e s = absurd cc
 
-told_same : (o : Option (List ℕ)) (S T : Reply → Type 0) (result : Result Reply Refused) → ((reply : Reply) → result ≡ Ok reply → S reply → T reply) → Told o S result → Told o T result
+told_same : (o : Option (List ℕ)) (S T : Option Reply → Type 0) (result : Result (Option Reply) Refused) → ((reply : Option Reply) → result ≡ Ok reply → S reply → T reply) → Told o S result → Told o T result
 told_same None S T (Ok reply) f s = f reply refl s
 told_same (Some text) S T (Ok reply) f s = absurd s
 told_same None S T (Err (e.For why)) f s = absurd s
@@ -69,13 +82,13 @@ told_same None S T (Err e.NoMemory) f s = s
 told_same (Some text) S T (Err e.NoMemory) f s = s
 
 -- the same refusal, and what follows of what was served
-pub told_maps : (o p : Option (List ℕ)) (S T : Reply → Type 0) (result : Result Reply Refused) → o ≡ p → ((reply : Reply) → result ≡ Ok reply → S reply → T reply) → Told o S result → Told p T result
+pub told_maps : (o p : Option (List ℕ)) (S T : Option Reply → Type 0) (result : Result (Option Reply) Refused) → o ≡ p → ((reply : Option Reply) → result ≡ Ok reply → S reply → T reply) → Told o S result → Told p T result
 told_maps o p S T result same f s = subst (λ (q : Option (List ℕ)). Told q T result) same (told_same o S T result f s)
 
 -- ---- version
 
 pub version_told : (done : List Deed) (call : Call) (msize : ℕ) (version : List ℕ) (c : Connection) (s : Shared) (reply : Reply) → 256 ≤ msize → Keeps (OfFids call.conn (Versioned (agreed msize version)) ∷ done) call.conn c → Shares (OfFids call.conn (Versioned (agreed msize version)) ∷ done) s
-    → reply_bytes reply ≡ r_frame (under call.tag (r.Version (min msize most_msize) (cond (is_known version) (codes "9P2000") (codes "unknown")))) → Told (refusal done call (t.Version msize version)) (Served done call (t.Version msize version) c s) (Ok reply)
+    → reply_bytes reply ≡ r_frame (under call.tag (r.Version (min msize most_msize) (cond (is_known version) (codes "9P2000") (codes "unknown")))) → Told (refusal done call (t.Version msize version)) (Served done call (t.Version msize version) c s) (Ok (Some reply))
 unfolding refusal after reply_of
 version_told done call msize version c s reply le k h said = rw le-ltb (record { keeps = k; shares = h; said = said })
 
@@ -90,18 +103,14 @@ pub open_held : (f : Option FidState) (mode : ℕ) → open_fault f mode ≡ Non
 open_held f mode e = unfaulted f mode e
 
 pub open_allowed : (done : List Deed) (call : Call) (fid mode : ℕ) (node : Node) → open_fault (fid_of done call.conn fid) mode ≡ None → node_of (fid_of done call.conn fid) ≡ node
-    → (is_exclusive node && is_some (holder_of done node)) ≡ false → opens_later node ≡ false → refusal done call (t.Open fid mode) ≡ None
+    → (is_exclusive node && is_some (holder_of done node)) ≡ false → (is_rpc node && not (nat_lt (length (speakers done)) most_talks)) ≡ false → opens_later node ≡ false → refusal done call (t.Open fid mode) ≡ None
 unfolding refusal
-open_allowed done call fid mode node fault named alone later = rw (fault, named, alone, later) refl
+open_allowed done call fid mode node fault named alone many later = rw (fault, named, alone, many, later) refl
 
-pub open_served : (done : List Deed) (call : Call) (fid mode : ℕ) (node : Node) (c : Connection) (s : Shared) (reply : Reply) → Keeps (OfFids call.conn (Opened fid mode) ∷ done) call.conn c → s.ring ≡ keys_of done → Holds (OfFids call.conn (Opened fid mode) ∷ done) s.holders → Delivers done s.mailboxes
-    → node_of (fid_of done call.conn fid) ≡ node → reply_bytes reply ≡ r_frame (under call.tag (r.Open (qid_of node) 0)) → Served done call (t.Open fid mode) c s reply
+pub open_served : (done : List Deed) (call : Call) (fid mode : ℕ) (node : Node) (c : Connection) (s : Shared) (reply : Reply) → Keeps (OfFids call.conn (Opened fid mode) ∷ done) call.conn c → Shares (OfFids call.conn (Opened fid mode) ∷ done) s
+    → node_of (fid_of done call.conn fid) ≡ node → reply_bytes reply ≡ r_frame (under call.tag (r.Open (qid_of node) 0)) → Served done call (t.Open fid mode) c s (Some reply)
 unfolding after reply_of
-open_served done call fid mode node c s reply k ring h mail named said = record {
-  keeps = k;
-  shares = record { ring = ring; holders = h; mail = record { mails = λ q live. let m = mail.mails q live in record { replies = m.replies; waits = m.waits }; settled = mail.settled } };
-  said = rw named said;
-}
+open_served done call fid mode node c s reply k h named said = record { keeps = k; shares = h; said = rw named said }
 
 -- ---- read
 
@@ -127,12 +136,13 @@ shares_read : (done : List Deed) (conn fid next : ℕ) (s : Shared) → Shares d
 shares_read done conn fid next s h = record {
   ring = h.ring;
   holders = record { confirm = h.holders.confirm; needkey = h.holders.needkey; log = h.holders.log };
-  mail = record { mails = λ q live. let m = h.mail.mails q live in record { replies = m.replies; waits = m.waits }; settled = h.mail.settled };
+  mail = mail_browsed conn fid next s.mailboxes done h.mail;
+  talks = browsed_speak done s.talks conn fid next h.talks;
 }
 
-dir_served : (done : List Deed) (call : Call) (fid offset count : ℕ) (state : FidState) (c : Connection) (s : Shared) (reply : Reply) → fid_of done call.conn fid ≡ Some state → IsDirectory state.node
+dir_served : (done : List Deed) (call : Call) (fid offset count : ℕ) (state : FidState) (c : Connection) (s : Shared) (reply : Option Reply) → fid_of done call.conn fid ≡ Some state → IsDirectory state.node
     → Keeps (OfFids call.conn (Browsed fid (dir_end state.node offset (effective count (msize_of done call.conn)))) ∷ done) call.conn c → Shares done s
-    → reply_bytes reply ≡ r_frame (under call.tag (r.Read (dir_bytes state.node offset (effective count (msize_of done call.conn))))) → Served done call (t.Read fid offset count) c s reply
+    → Says call.tag (Some (r.Read (dir_bytes state.node offset (effective count (msize_of done call.conn))))) reply → Served done call (t.Read fid offset count) c s reply
 unfolding after reply_of
 dir_served done call fid offset count state c s reply held (inl is) k h said = record { keeps = rw (held, is) (rw (← is) k); shares = rw (held, is) (shares_read done call.conn fid _ s h); said = rw (held, is) (rw (← is) said) }
 dir_served done call fid offset count state c s reply held (inr is) k h said = record { keeps = rw (held, is) (rw (← is) k); shares = rw (held, is) (shares_read done call.conn fid _ s h); said = rw (held, is) (rw (← is) said) }
@@ -140,9 +150,9 @@ dir_served done call fid offset count state c s reply held (inr is) k h said = r
 next_kept : (f : Option FidState) (state : FidState) (next : ℕ) → f ≡ Some state → table.next_of (kept_fid f next) ≡ next
 next_kept f state next held = rw held refl
 
-pub dir_told : (done : List Deed) (call : Call) (fid offset count most : ℕ) (state : FidState) (c d : Connection) (s : Shared) (result : Result Reply Refused) → Keeps done call.conn c → Shares done s
+pub dir_told : (done : List Deed) (call : Call) (fid offset count most : ℕ) (state : FidState) (c d : Connection) (s : Shared) (result : Result (Option Reply) Refused) → Keeps done call.conn c → Shares done s
     → fid_of done call.conn fid ≡ Some state → is_some state.mode ≡ true → lets_read state.mode ≡ true → most ≡ effective count (msize_in c.phase) → IsDirectory state.node
-    → Told (option_map fault_text (dir_fault (next_at c.fids fid) offset)) (λ reply. reply_bytes reply ≡ r_frame (under call.tag (r.Read (dir_bytes (node_of (state_at c.fids fid)) offset most)))) result
+    → Told (option_map fault_text (dir_fault (next_at c.fids fid) offset)) (Says call.tag (Some (r.Read (dir_bytes (node_of (state_at c.fids fid)) offset most)))) result
     → OnOk result ((done : List Deed) (conn : ℕ) → Keeps done conn c → Keeps (OfFids conn (Browsed fid (dir_end (node_of (state_at c.fids fid)) offset most)) ∷ done) conn d)
     → Told (refusal done call (t.Read fid offset count)) (Served done call (t.Read fid offset count) d s) result
 dir_told done call fid offset count most state c d s result k h held opened lets m is told ok =
@@ -152,25 +162,69 @@ dir_told done call fid offset count most state c d s result k h held opened lets
     told_maps _ _ _ _ result (ap (λ (n : ℕ). option_map fault_text (dir_fault n offset)) next ∙ sym (dir_refusal done call fid offset count state held opened lets is))
     (λ reply e said. dir_served done call fid offset count state d s reply held is (rw (← node, ← size) (on_ok_at result reply e ok done call.conn k)) h (rw (← node, ← size) said)) told
 
--- ---- write
+-- ---- read of rpc
 
-pub write_allowed : (done : List Deed) (call : Call) (fid offset : ℕ) (content : List ℕ) (state : FidState) → fid_of done call.conn fid ≡ Some state → is_some state.mode ≡ true → lets_write state.mode ≡ true → opens_later state.node ≡ false
+rpc_refusal : (done : List Deed) (call : Call) (fid offset count : ℕ) (state : FidState) → fid_of done call.conn fid ≡ Some state → is_some state.mode ≡ true → lets_read state.mode ≡ true → state.node ≡ Rpc
+    → refusal done call (t.Read fid offset count) ≡ read_refusal done call.conn fid
+unfolding refusal fid_fault
+rpc_refusal done call fid offset count state held opened lets is = rw (held, opened, lets, is) refl
+
+rpc_served : (done : List Deed) (call : Call) (fid offset count : ℕ) (state : FidState) (c : Connection) (s : Shared) (reply : Option Reply) → fid_of done call.conn fid ≡ Some state → state.node ≡ Rpc → Keeps done call.conn c
+    → ReadServed done call fid (effective count (msize_of done call.conn)) s reply → Served done call (t.Read fid offset count) c s reply
+unfolding after reply_of
+rpc_served done call fid offset count state c s reply held is k h = record {
+  keeps = rw (held, is) (talk_all (λ now. Keeps now call.conn c) (keeps_all call.conn c) call fid (effective count (msize_of done call.conn)) (conv_of done call.conn fid) done k);
+  shares = rw (held, is) h.shares;
+  said = rw (held, is) h.said;
+}
+
+pub rpc_told : (done : List Deed) (call : Call) (fid offset count most : ℕ) (state : FidState) (c : Connection) (s : Shared) (result : Result (Option Reply) Refused) → Keeps done call.conn c
+    → fid_of done call.conn fid ≡ Some state → is_some state.mode ≡ true → lets_read state.mode ≡ true → most ≡ effective count (msize_in c.phase) → state.node ≡ Rpc
+    → ReadTold done call fid most s result → Told (refusal done call (t.Read fid offset count)) (Served done call (t.Read fid offset count) c s) result
+rpc_told done call fid offset count most state c s result k held opened lets m is told =
+    let size : most ≡ effective count (msize_of done call.conn) = m ∙ ap (effective count) k.msize in
+    told_maps _ _ _ _ result (sym (rpc_refusal done call fid offset count state held opened lets is))
+    (λ reply e served. rpc_served done call fid offset count state c s reply held is k (subst (λ (n : ℕ). ReadServed done call fid n s reply) size served)) told
+
+-- ---- write of rpc
+
+rpc_write_refusal : (done : List Deed) (call : Call) (fid offset : ℕ) (content : List ℕ) (state : FidState) → fid_of done call.conn fid ≡ Some state → is_some state.mode ≡ true → lets_write state.mode ≡ true → is_rpc state.node ≡ true → opens_later state.node ≡ false
+    → refusal done call (t.Write fid offset content) ≡ write_refusal done call.conn fid content
+unfolding refusal fid_fault
+rpc_write_refusal done call fid offset content state held opened lets is later = rw (held, opened, lets, is, later) refl
+
+rpc_write_served : (done : List Deed) (call : Call) (fid offset : ℕ) (content : List ℕ) (state : FidState) (c : Connection) (s : Shared) (reply : Option Reply) → fid_of done call.conn fid ≡ Some state → is_rpc state.node ≡ true → Keeps done call.conn c
+    → WriteServed done call fid content s reply → Served done call (t.Write fid offset content) c s reply
+unfolding after reply_of
+rpc_write_served done call fid offset content state c s reply held is k h = record {
+  keeps = rw (held, is) (stored_talks (λ now. Keeps now call.conn c) (keeps_all call.conn c).talks (conv_of done call.conn fid) (rpc.request_of content) done k);
+  shares = rw (held, is) h.shares;
+  said = rw (held, is) h.said;
+}
+
+opens_rpc : (node : Node) → is_rpc node ≡ true → opens_later node ≡ false
+opens_rpc Rpc e = refl
+opens_rpc n.Root e = absurd cc
+opens_rpc n.Factotum e = absurd cc
+opens_rpc n.Ctl e = absurd cc
+opens_rpc n.Confirm e = absurd cc
+opens_rpc n.Needkey e = absurd cc
+opens_rpc n.Proto e = absurd cc
+opens_rpc n.Log e = absurd cc
+
+pub rpc_write_told : (done : List Deed) (call : Call) (fid offset : ℕ) (content : List ℕ) (state : FidState) (c : Connection) (s : Shared) (result : Result (Option Reply) Refused) → Keeps done call.conn c
+    → fid_of done call.conn fid ≡ Some state → is_some state.mode ≡ true → lets_write state.mode ≡ true → is_rpc state.node ≡ true
+    → WriteTold done call fid content s result → Told (refusal done call (t.Write fid offset content)) (Served done call (t.Write fid offset content) c s) result
+rpc_write_told done call fid offset content state c s result k held opened lets is told =
+    told_maps _ _ _ _ result (sym (rpc_write_refusal done call fid offset content state held opened lets is (opens_rpc state.node is)))
+    (λ reply e served. rpc_write_served done call fid offset content state c s reply held is k served) told
+
+-- ---- write of ctl
+
+pub write_allowed : (done : List Deed) (call : Call) (fid offset : ℕ) (content : List ℕ) (state : FidState) → fid_of done call.conn fid ≡ Some state → is_some state.mode ≡ true → lets_write state.mode ≡ true → is_rpc state.node ≡ false → opens_later state.node ≡ false
     → refusal done call (t.Write fid offset content) ≡ None
 unfolding refusal fid_fault
-write_allowed done call fid offset content state held opened lets later = rw (held, opened, lets, later) refl
-
--- lines of ctl change nothing that is kept of a connection, no holder, no reply and no read that waits
-keeps_lines : (conn : ℕ) (c : Connection) (said : List CtlLine) (done : List Deed) → Keeps done conn c → Keeps (lines_done conn said done) conn c
-keeps_lines conn c [] done k = k
-keeps_lines conn c (said ∷ more) done k = keeps_lines conn c more (OfKeys conn (line_deed said) ∷ done) (record { live = k.live; msize = k.msize; fids = k.fids; held = k.held; texts = k.texts })
-
-holds_lines : (conn : ℕ) (h : Holders) (said : List CtlLine) (done : List Deed) → Holds done h → Holds (lines_done conn said done) h
-holds_lines conn h [] done k = k
-holds_lines conn h (said ∷ more) done k = holds_lines conn h more (OfKeys conn (line_deed said) ∷ done) (record { confirm = k.confirm; needkey = k.needkey; log = k.log })
-
-delivers_lines : (conn : ℕ) (m : Mailboxes) (said : List CtlLine) (done : List Deed) → Delivers done m → Delivers (lines_done conn said done) m
-delivers_lines conn m [] done d = d
-delivers_lines conn m (said ∷ more) done d = delivers_lines conn m more (OfKeys conn (line_deed said) ∷ done) (record { mails = λ q live. let k = d.mails q live in record { replies = k.replies; waits = k.waits }; settled = d.settled })
+write_allowed done call fid offset content state held opened lets rpc later = rw (held, opened, lets, rpc, later) refl
 
 -- the keys of the deeds are those after the lines
 keys_line : (conn : ℕ) (said : CtlLine) (done : List Deed) → keys_of (OfKeys conn (line_deed said) ∷ done) ≡ keys_with said (keys_of done)
@@ -182,19 +236,21 @@ keys_lines : (conn : ℕ) (said : List CtlLine) (done : List Deed) → keys_of (
 keys_lines conn [] done = refl
 keys_lines conn (said ∷ more) done = keys_lines conn more (OfKeys conn (line_deed said) ∷ done) ∙ ap (keys_with_all more) (keys_line conn said done)
 
-pub write_served : (done : List Deed) (call : Call) (fid offset : ℕ) (content : List ℕ) (c : Connection) (s u : Shared) (reply : Reply) → Keeps done call.conn c → Shares done s → u.holders ≡ s.holders → u.mailboxes ≡ s.mailboxes → u.ring ≡ after_lines s.ring (lines_of content)
-    → reply_bytes reply ≡ r_frame (under call.tag (written content (lines_fault s.ring (lines_of content)))) → Served done call (t.Write fid offset content) c u reply
+pub write_served : (done : List Deed) (call : Call) (fid offset : ℕ) (content : List ℕ) (state : FidState) (c : Connection) (s u : Shared) (reply : Reply) → fid_of done call.conn fid ≡ Some state → is_rpc state.node ≡ false → Keeps done call.conn c → Shares done s
+    → u.holders ≡ s.holders → u.mailboxes ≡ s.mailboxes → u.talks ≡ s.talks → u.ring ≡ after_lines s.ring (lines_of content)
+    → reply_bytes reply ≡ r_frame (under call.tag (written content (lines_fault s.ring (lines_of content)))) → Served done call (t.Write fid offset content) c u (Some reply)
 unfolding after reply_of
-write_served done call fid offset content c s u reply k h holders mail ring said =
+write_served done call fid offset content state c s u reply held other k h holders mail talks ring said =
     let lines : List CtlLine = carried_out (keys_of done) (lines_of content) in
     record {
-      keeps = keeps_lines call.conn c lines done k;
-      shares = record {
+      keeps = rw (held, other) (lines_own call.conn (λ now. Keeps now call.conn c) (keeps_keys call.conn c) lines done k);
+      shares = rw (held, other) (record {
         ring = ring ∙ (ap (λ (keys : KeyList). after_lines keys (lines_of content)) h.ring ∙ sym (keys_lines call.conn lines done));
-        holders = subst (λ (now : Holders). Holds (lines_done call.conn lines done) now) (sym holders) (holds_lines call.conn s.holders lines done h.holders);
-        mail = subst (λ (now : Mailboxes). Delivers (lines_done call.conn lines done) now) (sym mail) (delivers_lines call.conn s.mailboxes lines done h.mail);
-      };
-      said = said ∙ ap (λ (keys : KeyList). r_frame (under call.tag (written content (lines_fault keys (lines_of content))))) h.ring;
+        holders = subst (λ (now : Holders). Holds (lines_done call.conn lines done) now) (sym holders) (lines_own call.conn (λ now. Holds now s.holders) (holds_keys call.conn s.holders) lines done h.holders);
+        mail = subst (λ (now : Mailboxes). Delivers (lines_done call.conn lines done) now) (sym mail) (lines_own call.conn (λ now. Delivers now s.mailboxes) (mail_keys call.conn s.mailboxes) lines done h.mail);
+        talks = subst (λ (now : Talks). Speak (lines_done call.conn lines done) now) (sym talks) (lines_speak lines done s.talks call.conn h.talks);
+      });
+      said = rw (held, other) (said ∙ ap (λ (keys : KeyList). r_frame (under call.tag (written content (lines_fault keys (lines_of content))))) h.ring);
     }
 
 -- ---- auth

@@ -3,12 +3,23 @@ use Rattle.std.specs.Prelude.{◌≡◌, ℕ, ◌≤◌, List, [], Bool, true, f
 use Rattle.std.specs.List.{list_any}
 use Rattle.talks.specs.Calls.{Call}
 use Rattle.talks.specs.Standings.{OnServer}
-use Rattle.agent_history.specs.Deeds.{Deed}
+use Rattle.key_lists.specs.Lists.{KeyList}
+use Rattle.talks.specs.declared.said.Asking.{Asking}
+use Rattle.std.specs.Prelude.{length}
+use Rattle.agent_history.specs.Deeds.{Deed, keys_of}
 use Rattle.agent_history.specs.Conversations as told
 use Rattle.agent_history.specs.Conversations.{Question, Speaker, met, opened_talks, standing_of, talk}
 use Rattle.conversations.specs.declared.conversation.Conversation.{Conversation}
 use Rattle.conversations.specs.Fits.{Holds}
 use Rattle.agent_talks.specs.declared.held.Talks.{Talks}
+use Rattle.agent_talks.specs.declared.told.Told.{Told}
+use Rattle.agent_talks.specs.declared.told.Told.TheVariants as y
+use Rattle.nine_messages.specs.declared.message.RBody.{RBody}
+use Rattle.nine_messages.specs.declared.message.RBody.TheVariants as r
+use Rattle.rpc_file.specs.Answers.{answer_text}
+use Rattle.rpc_file.specs.declared.answer.RpcAnswer.{RpcAnswer}
+use Rattle.std.specs.Prelude.{codes}
+use Rattle.talks.specs.Standings.{Phase, Kept}
 use Rattle.agent_talks.specs.Kept.{kept_at, questions_in, speakers_in}
 
 -- the conversation of a number is one of those that stand
@@ -57,3 +68,29 @@ pub record SameTalks (old new : Talks) : Type 0 where
   pub table : (conv : ℕ) → kept_at new conv ≡ kept_at old conv
   pub raised : new.raised ≡ old.raised
   pub questions : questions_in new ≡ questions_in old
+
+abbrev pub told_body : Told → RBody
+told_body (y.Answer answer) = r.Read (answer_text answer)
+told_body y.TooSmall = r.Error (codes "read too small")
+
+pub record Tells (done : List Deed) (conv count : ℕ) (answer : RpcAnswer) (new : Talks) (t : Told) : Type 0 where
+  pub body : told_body t ≡ told.told count answer
+  pub speak : Speak (told.then_took conv count answer done) new
+
+abbrev pub TellingOf : Phase → List Deed → ℕ → ℕ → Talks → Option Told → Type 0
+TellingOf (Kept answer) done conv count new (Some t) = Tells done conv count answer new t
+TellingOf (Kept answer) done conv count new None = ⊥
+TellingOf phase done conv count new (Some t) = ⊥
+TellingOf phase done conv count new None = Speak done new
+
+abbrev pub Telling : List Deed → ℕ → ℕ → Talks → Option Told → Type 0
+Telling done conv count new o = TellingOf (standing_of done conv).phase done conv count new o
+
+abbrev pub IsShort : ℕ → Told → Type 0
+IsShort count (y.Answer answer) = length (answer_text answer) ≤ count
+IsShort count y.TooSmall = Unit {0}
+
+pub record IsReady (done : List Deed) (conv : ℕ) (list : KeyList) (asking : Asking) : Type 0 where
+  pub stands : stands done conv ≡ true
+  pub keys : keys_of done ≡ list
+  pub files : told.asking done ≡ asking

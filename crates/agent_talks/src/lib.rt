@@ -5,7 +5,9 @@
 mod held;
 mod question;
 mod speaker;
+mod told;
 
 pub use held::Talks;
 pub use question::Question;
 pub use speaker::Speaker;
+pub use told::Told;

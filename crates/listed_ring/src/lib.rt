@@ -1,6 +1,10 @@
-//! The keys of an agent, and the text of their list, which all that read the same list share.
+//! A ring of keys with the text of its list, which is made once for all that read the same list.
 #![tactic(auto)]
 
 mod listed;
+mod shared_text;
+#[cfg(test)]
+mod tests;
 
-pub use listed::{ListedRing, SharedText};
+pub use listed::ListedRing;
+pub use shared_text::SharedText;

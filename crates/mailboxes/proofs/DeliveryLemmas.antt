@@ -7,7 +7,7 @@ use Rattle.std.proofs.lemmas.List.{drop_all, drop-drop, drop-append-le, length-r
 use Rattle.nine_messages.specs.declared.message.RMsg.{RMsg}
 use Rattle.nine_messages.specs.declared.message.RBody.{RBody}
 use Rattle.nine_messages.specs.Messages.{r_frame}
-use Rattle.agent_history.specs.Deeds.{Deed, OfFids, OfKeys, OfReplies, OfConnection, Swept, Halted, Versioned, Clunked, Answered, Awaited, Settled, Flushed, Taken, Hung, was_hung}
+use Rattle.agent_history.specs.Deeds.{Deed, OfTalk, Raised, HandedOut, OfFids, OfKeys, OfReplies, OfConnection, Swept, Halted, Versioned, Clunked, Answered, Awaited, Settled, Flushed, Taken, Hung, was_hung}
 use Rattle.agent_history.specs.Replies as told
 use Rattle.agent_history.specs.Replies.{Wait, waits, waits_under, waits_for, has_settled, replies, taken, untaken, fid_given_up, reply_in}
 use Rattle.mailboxes.specs.declared.mailboxes.Mailboxes.{Mailboxes}
@@ -69,6 +69,9 @@ taken_given (OfFids at d ∷ done) conn = taken_given done conn
 taken_given (OfKeys at d ∷ done) conn = taken_given done conn
 taken_given (OfConnection at d ∷ done) conn = taken_given done conn
 taken_given (Halted ∷ done) conn = taken_given done conn
+taken_given (OfTalk conv call ∷ done) conn = taken_given done conn
+taken_given (Raised conv ∷ done) conn = taken_given done conn
+taken_given (HandedOut ∷ done) conn = taken_given done conn
 taken_given (Swept ∷ done) conn = more_left (taken done conn) (reverse (filter_map reply_in (waits done conn))) (replies done conn) (taken_given done conn)
 taken_given (OfReplies at (Awaited tag fid count) ∷ done) conn = taken_given done conn
 taken_given (OfReplies at (Settled tag body) ∷ done) conn = taken_given done conn

@@ -5,8 +5,6 @@
 mod mailbox;
 mod mailboxes;
 mod reply;
-#[cfg(test)]
-mod tests;
 mod wait;
 
 pub use mailboxes::{Mailboxes, Read};

@@ -29,9 +29,10 @@ impl Mailboxes {
     ghost use Rattle.nine_messages.specs.declared.message.RBody.{RBody};
     ghost use Rattle.nine_messages.specs.Messages.{r_frame};
     ghost use Rattle.agent_history.specs.Deeds.{Deed, OfFids, OfReplies, OfConnection, Versioned, Clunked, Answered, Awaited, Settled, Flushed, Hung, Taken, was_hung};
-    ghost use Rattle.agent_history.specs.Replies.{swept, waits_under};
+    ghost use Rattle.agent_history.specs.Replies.{swept, waits, waits_for, waits_under};
     ghost use Rattle.mailboxes.specs.Kept.{reply_bytes};
-    ghost use Rattle.mailboxes.specs.Deliveries.{Becomes, Delivers, KeepsNone, SameMail, SameRoom, given_up, has_room, mail_at, replies_at, under};
+    ghost use Rattle.mailboxes.specs.Deliveries.{Becomes, Delivers, KeepsNone, SameMail, SameRoom, given_up, has_place, has_room, mail_at, read_of, reader_at, replies_at, under};
+    ghost use Rattle.std.specs.Prelude.{length, option_map};
     ghost use Rattle.mailboxes.specs.Mails as mails;
 
     /// No replies, and no reads that wait. It takes no memory.
@@ -126,28 +127,43 @@ impl Mailboxes {
         }
     }
 
-    fn wait_at(&mut self, alloc: Global, conn: u64, read: Read) -> Result<(), NoMemory>
-        ensures ok { OnOk result (Becomes self.old self.new conn
-            (mails.awaited read.tag read.fid read.count (mail_at self.old conn))) }
-        ensures settled { self.new.settled ≡ self.old.settled }
-        ensures same { OnErr result (SameMail self.old self.new) }
+    pub fn reserve_wait(&mut self, alloc: Global, conn: u64) -> Result<(), NoMemory>
+        ensures place { OnOk result (has_place self.new conn ≡ true) }
+        ensures same { SameMail self.old self.new }
+        ensures room { SameRoom self.old self.new }
+        ensures delivers { (done : List Deed) → Delivers done self.old → Delivers done self.new }
     {
-        if let Some(mailbox) = self.boxes.get_mut(&conn) {
-            return mailbox.wait(read.tag, read.fid, read.count);
-        }
-        let mut mailbox = Mailbox::new(alloc);
-        mailbox.wait(read.tag, read.fid, read.count)?;
-        self.boxes.insert(conn, mailbox)?;
-        Ok(())
+        unreachable!()
     }
 
-    /// A read of a connection waits from now on.
-    pub fn wait(&mut self, alloc: Global, conn: u64, read: Read) -> Result<(), NoMemory>
-        ensures ok { OnOk result ((done : List Deed) → Delivers done self.old
-            → Delivers (OfReplies conn (Awaited read.tag read.fid read.count) ∷ done) self.new) }
-        ensures same { OnErr result (SameMail self.old self.new) }
+    pub fn wait(&mut self, conn: u64, read: Read)
+        requires { has_place self.old conn ≡ true }
+        ensures delivers { (done : List Deed) → Delivers done self.old
+            → Delivers (OfReplies conn (Awaited read.tag read.fid read.count) ∷ done) self.new }
+        ensures room { SameRoom self.old self.new }
     {
-        self.wait_at(alloc, conn, read)
+        unreachable!()
+    }
+
+    pub fn reader(&self, conn: u64, fid: u32) -> Option<Read>
+        ensures { (done : List Deed) → was_hung done conn ≡ false → Delivers done self.now
+            → result ≡ option_map read_of (reader_at done conn fid) }
+    {
+        unreachable!()
+    }
+
+    pub fn has_fid(&self, conn: u64, fid: u32) -> bool
+        ensures { (done : List Deed) → was_hung done conn ≡ false → Delivers done self.now
+            → result ≡ waits_for done conn fid }
+    {
+        unreachable!()
+    }
+
+    pub fn count_waits(&self, conn: u64) -> usize
+        ensures { (done : List Deed) → was_hung done conn ≡ false → Delivers done self.now
+            → result ≡ length (waits done conn) }
+    {
+        unreachable!()
     }
 
     fn settle_at(&mut self, conn: u64, tag: u16, reply: Reply)

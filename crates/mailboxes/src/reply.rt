@@ -1,5 +1,6 @@
 // A reply that wasn't taken yet.
 use nine_codec::put_error;
+use rpc_file::RpcAnswer;
 use std::marker::Model;
 use wire_base::{Bytes, NoMemory};
 
@@ -42,6 +43,7 @@ impl ErrorText {
 pub enum Reply {
     Spelled(Bytes),
     Refused { tag: u16, text: ErrorText },
+    Answer { tag: u16, answer: RpcAnswer },
 }
 
 impl Reply {
@@ -56,6 +58,7 @@ impl Reply {
         match self {
             Reply::Spelled(bytes) => out.append(bytes.as_slice()),
             Reply::Refused { tag, text } => put_error(*tag, text.bytes(), out),
+            Reply::Answer { .. } => unreachable!(),
         }
     }
 }

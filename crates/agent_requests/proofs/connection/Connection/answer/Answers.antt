@@ -1,6 +1,5 @@
-use Rattle.std.proofs.Common.{sym, subst}
-use Rattle.agent_requests.specs.declared.shared.Shared.{Shared}
-use Rattle.agent_requests.specs.Connections.{Shares, FrameServed, asked}
+use Rattle.agent_requests.specs.Connections.{FrameServed, asked}
+use Rattle.agent_requests.proofs.ShareLemmas.{shares_still}
 use Rattle.agent_requests.proofs.FrameSteps.{answered_frame, keeps_still}
 use Rattle.agent_requests.proofs.connection.Connection.answer.Goals as goal
 
@@ -12,7 +11,7 @@ returns-in-Err-For c =
       served = λ done keeps shares.
           answered_frame done (asked a.call) a.frame.now c.try_frame.new.self c.try_frame.new.shared (FrameServed done (asked a.call) a.frame.now c.try_frame.new.self c.try_frame.new.shared) c.in-Err-For.why
           (keeps_still done a.call.conn a.self.now c.try_frame.new.self c.in-Err-For.ensures.kept keeps)
-          (subst (λ (s : Shared). Shares done s) (sym c.in-Err-For.ensures.shared) shares)
+          (shares_still done a.shared.now c.try_frame.new.shared c.in-Err-For.ensures.shared shares)
           (rw (← c.in-Err-For.field-0-is) (c.in-Err-For.ensures.told done keeps shares)) c.reply.result c.reply.ensures;
       hung = h.hung;
       few = h.few;

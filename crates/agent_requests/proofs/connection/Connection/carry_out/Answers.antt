@@ -2,6 +2,7 @@ use Rattle.std.proofs.Common.{Err, refl, sym, subst, arith}
 use Rattle.nine_messages.specs.declared.message.TBody.{TBody}
 use Rattle.agent_requests.specs.Connections.{Tried, asked}
 use Rattle.agent_requests.proofs.RequestSteps.{auth_told}
+use Rattle.agent_requests.proofs.ShareLemmas.{same_shared}
 use Rattle.agent_requests.proofs.connection.Connection.carry_out.Goals as goal
 
 pub returns-in-Auth : goal.returns-in-Auth
@@ -11,7 +12,7 @@ returns-in-Auth c = record {
   few = omega arith;
   room = refl;
   kept = record { phase = refl; fids = refl; texts = λ fid. refl };
-  shared = refl;
+  shared = same_shared c.args.shared.now;
 }
 
 pub returns-in-Attach : goal.returns-in-Attach

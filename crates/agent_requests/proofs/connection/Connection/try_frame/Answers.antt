@@ -2,6 +2,7 @@ use Rattle.std.proofs.Common.{refl, sym, ◌∙◌, arith}
 use Rattle.std.proofs.lemmas.Result.{err_from_is_err_and}
 use Rattle.agent_requests.specs.Connections.{asked}
 use Rattle.agent_requests.proofs.FrameSteps.{frame_over, frame_none, frame_unversioned, frame_repeats, frame_told, refused_told, unread_told, writes_few}
+use Rattle.agent_requests.proofs.ShareLemmas.{same_shared}
 use Rattle.agent_requests.proofs.connection.Connection.try_frame.Goals as goal
 
 pub returns-then-is_over : goal.returns-then-is_over
@@ -11,7 +12,7 @@ returns-then-is_over c = record {
   few = omega arith;
   room = refl;
   kept = record { phase = refl; fids = refl; texts = λ fid. refl };
-  shared = refl;
+  shared = same_shared c.args.shared.now;
 }
 
 pub returns-in_err-request : goal.returns-in_err-request
@@ -24,7 +25,7 @@ returns-in_err-request c =
       few = omega arith;
       room = refl;
       kept = record { phase = refl; fids = refl; texts = λ fid. refl };
-      shared = refl;
+      shared = same_shared c.args.shared.now;
     })
 
 pub returns-then-lacks_version : goal.returns-then-lacks_version
@@ -36,7 +37,7 @@ returns-then-lacks_version c = record {
   few = omega arith;
   room = refl;
   kept = record { phase = refl; fids = refl; texts = λ fid. refl };
-  shared = refl;
+  shared = same_shared c.args.shared.now;
 }
 
 pub returns-then-repeats_tag : goal.returns-then-repeats_tag
@@ -48,7 +49,7 @@ returns-then-repeats_tag c = record {
   few = omega arith;
   room = refl;
   kept = record { phase = refl; fids = refl; texts = λ fid. refl };
-  shared = refl;
+  shared = same_shared c.args.shared.now;
 }
 
 pub carry_out-requires-clause-small : goal.carry_out-requires-clause-small

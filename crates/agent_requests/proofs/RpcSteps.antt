@@ -1,0 +1,162 @@
+-- From what the calls on conversations and on mailboxes do to what the history says of a read or a write of rpc, and of
+-- what is delivered.
+use Rattle.std.proofs.Common.{◌≡◌, ℕ, List, [], ◌∷◌, Bool, true, false, cond, eqb, not, ◌&&◌, Option, Some, None, Result, Ok, Err, refl, sym, ap, subst, ◌∙◌, inl, inr}
+use Rattle.std.specs.Prelude.{codes, is_some, length, option_map}
+use Rattle.std.proofs.lemmas.Bool.{cases_Bool, false≢true}
+use Rattle.nine_messages.specs.declared.message.RBody.{RBody}
+use Rattle.nine_messages.specs.declared.message.RBody.TheVariants as r
+use Rattle.nine_messages.specs.Messages.{r_frame}
+use Rattle.file_tree.specs.declared.tree.FidState.{FidState}
+use Rattle.file_tree.specs.declared.tree.Node.TheVariants.{Rpc}
+use Rattle.rpc_file.specs.Requests.{RpcRequest}
+use Rattle.rpc_file.specs.Requests as rpc
+use Rattle.rpc_file.specs.declared.answer.RpcAnswer.{RpcAnswer}
+use Rattle.rpc_file.specs.declared.request.RpcFault.{RpcFault}
+use Rattle.rpc_file.specs.declared.request.RpcFault.TheVariants.{TooLong, UnknownVerb}
+use Rattle.talks.specs.Standings.{Phase, Resting, Waiting, Seeking, OnConfirm, OnNeedkey, OnServer, Kept}
+use Rattle.agent_history.specs.Deeds.{Deed, OfReplies, OfTalk, Awaited, Settled, fid_of, keys_of, was_hung}
+use Rattle.agent_history.specs.Replies.{Wait}
+use Rattle.agent_history.specs.Conversations.{Speaker, conv_of, deliver_to, delivered, give_to, reader_of, speaker_of, standing_of, then_took, told}
+use Rattle.agent_history.specs.Requests.{Call, answer_read, carried, has_answer, is_resting, phase_in, phase_of, reading_answer, reading_talk, stored, talk_read, waits_enough}
+use Rattle.agent_history.specs.Replies.{waits_for}
+use Rattle.agent_talks.specs.declared.held.Talks.{Talks}
+use Rattle.agent_talks.specs.declared.told.Told.{Told as Telling}
+use Rattle.agent_talks.specs.Speaks.{Speak, Tells, TellingOf, stands, told_body}
+use Rattle.agent_talks.proofs.OtherLemmas.{replies_speak}
+use Rattle.mailboxes.specs.declared.reply.Reply.{Reply}
+use Rattle.mailboxes.specs.Kept.{reply_bytes}
+use Rattle.mailboxes.specs.Deliveries.{Delivers, under}
+use Rattle.agent_requests.specs.declared.refused.Refused.{Refused}
+use Rattle.agent_requests.specs.declared.refused.Refused.TheVariants as e
+use Rattle.agent_requests.specs.declared.refused.Refusal.{Refusal}
+use Rattle.agent_requests.specs.declared.refused.Refusal.TheVariants as f
+use Rattle.agent_requests.specs.declared.shared.Shared.{Shared}
+use Rattle.agent_requests.specs.Connections.{Holds, Says, Shares, Told, refusal_text}
+use Rattle.agent_requests.specs.RpcRequests.{Answered, ReadServed, ReadTold, Requests, WriteServed, WriteTold, delivered_by, read_refusal, write_refusal}
+use Rattle.agent_requests.proofs.OwnDeeds.{took_talks}
+use Rattle.agent_requests.proofs.ShareLemmas.{Rest, holds_all, hung_all, mail_talks, rest_talks}
+use Rattle.agent_requests.proofs.RequestSteps.{told_served}
+use Rattle.mailboxes.specs.declared.mailboxes.Mailboxes.{Mailboxes}
+
+-- ---- a read is told an answer, or waits for it
+
+told_reply : (tag : ℕ) (told : Telling) (body : RBody) (reply : Reply) → told_body told ≡ body → reply_bytes reply ≡ r_frame (under tag (told_body told)) → reply_bytes reply ≡ r_frame (under tag body)
+told_reply tag told body reply e said = said ∙ ap (λ (b : RBody). r_frame (under tag b)) e
+
+pub told_some : (done : List Deed) (call : Call) (fid count conv : ℕ) (phase : Phase) (u : Shared) (t : Telling) (reply : Reply) → TellingOf phase done conv count u.talks (Some t) → Rest done u → reply_bytes reply ≡ r_frame (under call.tag (told_body t))
+    → Shares (reading_answer call conv fid count phase done) u × Says call.tag (answer_read count phase) (Some reply)
+told_some done call fid count conv (Kept answer) u t reply tells rest said =
+    let kept : Rest (then_took conv count answer done) u = took_talks (λ now. Rest now u) (rest_talks u) conv count answer done rest in
+    (record { ring = kept.ring; holders = kept.holders; mail = kept.mail; talks = tells.speak }, told_reply call.tag t (told count answer) reply tells.body said)
+told_some done call fid count conv Resting u t reply tells rest said = absurd tells
+told_some done call fid count conv (Waiting request) u t reply tells rest said = absurd tells
+told_some done call fid count conv Seeking u t reply tells rest said = absurd tells
+told_some done call fid count conv (OnConfirm serial) u t reply tells rest said = absurd tells
+told_some done call fid count conv OnNeedkey u t reply tells rest said = absurd tells
+told_some done call fid count conv OnServer u t reply tells rest said = absurd tells
+
+waits_on : (done : List Deed) (call : Call) (fid count : ℕ) (u : Shared) → Speak done u.talks → Rest (OfReplies call.conn (Awaited call.tag fid count) ∷ done) u → Shares (OfReplies call.conn (Awaited call.tag fid count) ∷ done) u
+waits_on done call fid count u speak rest = record { ring = rest.ring; holders = rest.holders; mail = rest.mail; talks = replies_speak done u.talks call.conn (Awaited call.tag fid count) speak }
+
+pub told_none : (done : List Deed) (call : Call) (fid count conv : ℕ) (phase : Phase) (u : Shared) → TellingOf phase done conv count u.talks None → Rest (OfReplies call.conn (Awaited call.tag fid count) ∷ done) u
+    → Shares (reading_answer call conv fid count phase done) u × Says call.tag (answer_read count phase) None
+told_none done call fid count conv (Kept answer) u tells rest = absurd tells
+told_none done call fid count conv Resting u tells rest = (waits_on done call fid count u tells rest, tt)
+told_none done call fid count conv (Waiting request) u tells rest = (waits_on done call fid count u tells rest, tt)
+told_none done call fid count conv Seeking u tells rest = (waits_on done call fid count u tells rest, tt)
+told_none done call fid count conv (OnConfirm serial) u tells rest = (waits_on done call fid count u tells rest, tt)
+told_none done call fid count conv OnNeedkey u tells rest = (waits_on done call fid count u tells rest, tt)
+told_none done call fid count conv OnServer u tells rest = (waits_on done call fid count u tells rest, tt)
+
+-- ---- a read
+
+refused : (o : Option (List ℕ)) (S : Option Reply → Type 0) (why : Refusal) → o ≡ Some (refusal_text why) → Told o S (Err (e.For why))
+refused o S why is = subst (λ (p : Option (List ℕ)). Told p S (Err (e.For why))) (sym is) refl
+
+pub read_busy : (done : List Deed) (call : Call) (fid count : ℕ) (s : Shared) → waits_for done call.conn fid ≡ true → ReadTold done call fid count s (Err (e.For f.RpcBusy))
+read_busy done call fid count s busy = refused _ _ f.RpcBusy (rw busy refl)
+
+pub read_resting : (done : List Deed) (call : Call) (fid count : ℕ) (s : Shared) → waits_for done call.conn fid ≡ false → is_resting (phase_of done call.conn fid) ≡ true → ReadTold done call fid count s (Err (e.For f.NoRpcPending))
+read_resting done call fid count s busy resting = refused _ _ f.NoRpcPending (rw (busy, resting) refl)
+
+pub read_crowded : (done : List Deed) (call : Call) (fid count : ℕ) (s : Shared) → waits_for done call.conn fid ≡ false → is_resting (phase_of done call.conn fid) ≡ false → has_answer (phase_of done call.conn fid) ≡ false → waits_enough done call.conn ≡ true
+    → ReadTold done call fid count s (Err (e.For f.TooManyWaiting))
+read_crowded done call fid count s busy resting answer enough = refused _ _ f.TooManyWaiting (rw (busy, resting, answer, enough) refl)
+
+-- a fid without a conversation rests
+pub resting_none : (done : List Deed) (conn fid : ℕ) → conv_of done conn fid ≡ None → is_resting (phase_of done conn fid) ≡ true
+resting_none done conn fid none = rw none refl
+
+pub read_through : (done : List Deed) (call : Call) (fid count conv : ℕ) (s : Shared) (reply : Option Reply) → waits_for done call.conn fid ≡ false → is_resting (phase_of done call.conn fid) ≡ false → (not (has_answer (phase_of done call.conn fid)) && waits_enough done call.conn) ≡ false
+    → conv_of done call.conn fid ≡ Some conv → Answered done call fid count conv s reply → ReadTold done call fid count s (Ok reply)
+read_through done call fid count conv s reply busy resting crowded found answered =
+    told_served (read_refusal done call.conn fid) (ReadServed done call fid count s) reply (rw (busy, resting, crowded) refl)
+    (record { shares = rw found answered.shares; said = rw found answered.said })
+
+-- ---- a write
+
+pub write_busy : (done : List Deed) (call : Call) (fid : ℕ) (content : List ℕ) (s : Shared) → is_resting (phase_of done call.conn fid) ≡ false → WriteTold done call fid content s (Err (e.For f.RpcBusy))
+write_busy done call fid content s busy = refused _ _ f.RpcBusy (rw busy refl)
+
+pub write_refused : (done : List Deed) (call : Call) (fid : ℕ) (content : List ℕ) (s : Shared) (why : Refused) → is_resting (phase_of done call.conn fid) ≡ true → Requests (Err why) content → WriteTold done call fid content s (Err why)
+write_refused done call fid content s (e.For f.RpcTooLong) resting is = refused _ _ f.RpcTooLong (rw (resting, is) refl)
+write_refused done call fid content s (e.For f.UnknownRpcVerb) resting is = refused _ _ f.UnknownRpcVerb (rw (resting, is) refl)
+
+pub write_through : (done : List Deed) (call : Call) (fid : ℕ) (content : List ℕ) (request : RpcRequest) (s : Shared) (reply : Reply) → is_resting (phase_of done call.conn fid) ≡ true → rpc.request_of content ≡ Ok request
+    → Shares (stored (conv_of done call.conn fid) (Ok request) done) s → reply_bytes reply ≡ r_frame (under call.tag (r.Write (length content))) → WriteTold done call fid content s (Ok (Some reply))
+write_through done call fid content request s reply resting is shares said =
+    told_served (write_refusal done call.conn fid content) (WriteServed done call fid content s) (Some reply) (rw (resting, is) refl) (record { shares = rw is shares; said = said })
+
+-- ---- what is delivered
+
+-- nobody waits for the answer, or none is there
+pub given_none : (done : List Deed) (conv : ℕ) (phase : Phase) (u : Shared) → Shares done u → Shares (deliver_to conv phase None done) u
+given_none done conv (Kept answer) u h = h
+given_none done conv Resting u h = h
+given_none done conv (Waiting request) u h = h
+given_none done conv Seeking u h = h
+given_none done conv (OnConfirm serial) u h = h
+given_none done conv OnNeedkey u h = h
+given_none done conv OnServer u h = h
+
+pub given_nobody : (done : List Deed) (conv : ℕ) (phase : Phase) (s : Speaker) (u : Shared) → reader_of done s ≡ None → Shares done u → Shares (deliver_to conv phase (Some s) done) u
+given_nobody done conv (Kept answer) s u none h = rw none h
+given_nobody done conv Resting s u none h = h
+given_nobody done conv (Waiting request) s u none h = h
+given_nobody done conv Seeking s u none h = h
+given_nobody done conv (OnConfirm serial) s u none h = h
+given_nobody done conv OnNeedkey s u none h = h
+given_nobody done conv OnServer s u none h = h
+
+pub given_nothing : (done : List Deed) (conv : ℕ) (phase : Phase) (s : Speaker) (wait : Wait) (count : ℕ) (u : Shared) → reader_of done s ≡ Some wait → TellingOf phase done conv count u.talks None → Rest done u → Shares (deliver_to conv phase (Some s) done) u
+given_nothing done conv (Kept answer) s wait count u some tells h = absurd tells
+given_nothing done conv Resting s wait count u some tells h = record { ring = h.ring; holders = h.holders; mail = h.mail; talks = tells }
+given_nothing done conv (Waiting request) s wait count u some tells h = record { ring = h.ring; holders = h.holders; mail = h.mail; talks = tells }
+given_nothing done conv Seeking s wait count u some tells h = record { ring = h.ring; holders = h.holders; mail = h.mail; talks = tells }
+given_nothing done conv (OnConfirm serial) s wait count u some tells h = record { ring = h.ring; holders = h.holders; mail = h.mail; talks = tells }
+given_nothing done conv OnNeedkey s wait count u some tells h = record { ring = h.ring; holders = h.holders; mail = h.mail; talks = tells }
+given_nothing done conv OnServer s wait count u some tells h = record { ring = h.ring; holders = h.holders; mail = h.mail; talks = tells }
+
+-- what settling the read that waits does to mailboxes
+abbrev pub Settles : Mailboxes → Mailboxes → ℕ → ℕ → Reply → Type 0
+Settles old new conn tag reply = (done : List Deed) (body : RBody) → was_hung done conn ≡ false → reply_bytes reply ≡ r_frame (under tag body) → Delivers done old → Delivers (OfReplies conn (Settled tag body) ∷ done) new
+
+pub given_some : (done : List Deed) (conv : ℕ) (phase : Phase) (s : Speaker) (wait : Wait) (old : Mailboxes) (u : Shared) (t : Telling) (reply : Reply) → was_hung done s.conn ≡ false → reader_of done s ≡ Some wait → TellingOf phase done conv wait.count u.talks (Some t)
+    → u.ring ≡ keys_of done → Holds done u.holders → Delivers done old → Settles old u.mailboxes s.conn wait.tag reply → reply_bytes reply ≡ r_frame (under wait.tag (told_body t)) → Shares (deliver_to conv phase (Some s) done) u
+given_some done conv (Kept answer) s wait old u t reply live some tells ring holders mail settles said =
+    let body : RBody = told wait.count answer in
+    let took : List Deed = then_took conv wait.count answer done in
+    let delivers = settles took body (took_talks (λ now. was_hung now s.conn ≡ false) (hung_all s.conn).talks conv wait.count answer done live) (told_reply wait.tag t body reply tells.body said) (took_talks (λ now. Delivers now old) (mail_talks old) conv wait.count answer done mail) in
+    let held = (holds_all u.holders).replies s.conn (Settled wait.tag body) took (took_talks (λ now. Holds now u.holders) (holds_all u.holders).talks conv wait.count answer done holders) in
+    rw some (record {
+      ring = took_talks (λ now. u.ring ≡ keys_of now) (record { talk = λ c call now h. h; raised = λ c now h. h }) conv wait.count answer done ring;
+      holders = held;
+      mail = delivers;
+      talks = replies_speak took u.talks s.conn (Settled wait.tag body) tells.speak;
+    })
+given_some done conv Resting s wait old u t reply live some tells ring holders mail settles said = absurd tells
+given_some done conv (Waiting request) s wait old u t reply live some tells ring holders mail settles said = absurd tells
+given_some done conv Seeking s wait old u t reply live some tells ring holders mail settles said = absurd tells
+given_some done conv (OnConfirm serial) s wait old u t reply live some tells ring holders mail settles said = absurd tells
+given_some done conv OnNeedkey s wait old u t reply live some tells ring holders mail settles said = absurd tells
+given_some done conv OnServer s wait old u t reply live some tells ring holders mail settles said = absurd tells

@@ -1,0 +1,146 @@
+-- What is shared, after deeds that don't concern all of it.
+use Rattle.std.proofs.Common.{◌≡◌, ℕ, List, [], ◌∷◌, ◌++◌, filter, Bool, true, false, cond, eqb, not, ◌&&◌, ◌||◌, Option, Some, None, refl, sym, ap, subst, ◌∙◌, inl, inr}
+use Rattle.std.specs.Prelude.{find, is_some, option_map}
+use Rattle.std.specs.List.{list_any}
+use Rattle.std.proofs.lemmas.Bool.{cases_Bool, eq-eqb, false≢true}
+use Rattle.file_tree.specs.declared.tree.Node.{Node}
+use Rattle.file_tree.specs.declared.tree.Node.TheVariants as n
+use Rattle.file_tree.specs.declared.tree.FidState.{FidState}
+use Rattle.file_tree.specs.Calls.{node_of}
+use Rattle.key_lists.specs.CtlLines.{CtlLine}
+use Rattle.talks.specs.Calls as calls
+use Rattle.agent_history.specs.Deeds.{Deed, FidDeed, KeyDeed, ReplyDeed, OfFids, OfKeys, OfReplies, OfConnection, OfTalk, Raised, Swept, Versioned, Attached, Walked, Opened, Listed, Browsed, Clunked, Entered, Hung, fid_of, keys_of, names, was_hung}
+use Rattle.agent_history.specs.Replies.{has_settled, swept}
+use Rattle.agent_history.specs.Conversations.{Speaker, conv_of, speaker_of, speakers}
+use Rattle.agent_history.specs.Histories.{entered}
+use Rattle.agent_history.specs.Requests.{is_rpc, lines_done}
+use Rattle.agent_talks.specs.declared.held.Talks.{Talks}
+use Rattle.agent_talks.specs.Speaks.{Speak, is_among, stands}
+use Rattle.mailboxes.specs.declared.mailboxes.Mailboxes.{Mailboxes}
+use Rattle.mailboxes.specs.Deliveries.{Delivers, SameMail}
+use Rattle.agent_requests.specs.declared.connection.Connection.{Connection}
+use Rattle.agent_requests.specs.declared.shared.Holders.{Holders}
+use Rattle.agent_requests.specs.declared.shared.Shared.{Shared}
+use Rattle.agent_requests.specs.Connections.{AllLive, AreLive, Holds, Keeps, SameShared, Shares}
+use Rattle.agent_requests.proofs.OwnDeeds.{IsOwn, OfAll, OfTalks, entered_by, lines_own, swept_by}
+
+-- ---- holders, keys and fids, which conversations and replies leave alone
+
+pub holds_all : (h : Holders) → OfAll (λ done. Holds done h)
+holds_all h = record {
+  talks = record { talk = λ conv call done k. record { confirm = k.confirm; needkey = k.needkey; log = k.log }; raised = λ conv done k. record { confirm = k.confirm; needkey = k.needkey; log = k.log } };
+  replies = λ at deed done k. record { confirm = k.confirm; needkey = k.needkey; log = k.log };
+  swept = λ done k. record { confirm = k.confirm; needkey = k.needkey; log = k.log };
+}
+
+
+pub keeps_all : (conn : ℕ) (c : Connection) → OfAll (λ done. Keeps done conn c)
+keeps_all conn c = record {
+  talks = record { talk = λ conv call done k. record { live = k.live; msize = k.msize; fids = k.fids; held = k.held; texts = k.texts }; raised = λ conv done k. record { live = k.live; msize = k.msize; fids = k.fids; held = k.held; texts = k.texts } };
+  replies = λ at deed done k. record { live = k.live; msize = k.msize; fids = k.fids; held = k.held; texts = k.texts };
+  swept = λ done k. record { live = k.live; msize = k.msize; fids = k.fids; held = k.held; texts = k.texts };
+}
+
+pub holds_keys : (conn : ℕ) (h : Holders) (deed : KeyDeed) (done : List Deed) → Holds done h → Holds (OfKeys conn deed ∷ done) h
+holds_keys conn h deed done k = record { confirm = k.confirm; needkey = k.needkey; log = k.log }
+
+pub keeps_keys : (conn : ℕ) (c : Connection) (deed : KeyDeed) (done : List Deed) → Keeps done conn c → Keeps (OfKeys conn deed ∷ done) conn c
+keeps_keys conn c deed done k = record { live = k.live; msize = k.msize; fids = k.fids; held = k.held; texts = k.texts }
+
+pub live_all : OfAll AreLive
+live_all = record { talks = record { talk = λ conv call done h. h; raised = λ conv done h. h }; replies = λ at deed done h. h; swept = λ done h. h }
+
+pub stands_all : (conv : ℕ) → OfAll (λ done. stands done conv ≡ true)
+stands_all conv = record { talks = record { talk = λ c call done h. h; raised = λ c done h. h }; replies = λ at deed done h. h; swept = λ done h. h }
+
+pub hung_all : (conn : ℕ) → OfAll (λ done. was_hung done conn ≡ false)
+hung_all conn = record { talks = record { talk = λ c call done h. h; raised = λ c done h. h }; replies = λ at deed done h. h; swept = λ done h. h }
+
+-- ---- replies, which conversations and keys leave alone
+
+pub mail_talk : (m : Mailboxes) (conv : ℕ) (call : calls.Call) (done : List Deed) → Delivers done m → Delivers (OfTalk conv call ∷ done) m
+mail_talk m conv call done d = record { mails = λ q live. let k = d.mails q live in record { replies = k.replies; waits = k.waits }; settled = d.settled }
+
+pub mail_raised : (m : Mailboxes) (conv : ℕ) (done : List Deed) → Delivers done m → Delivers (Raised conv ∷ done) m
+mail_raised m conv done d = record { mails = λ q live. let k = d.mails q live in record { replies = k.replies; waits = k.waits }; settled = d.settled }
+
+pub mail_keys : (conn : ℕ) (m : Mailboxes) (deed : KeyDeed) (done : List Deed) → Delivers done m → Delivers (OfKeys conn deed ∷ done) m
+mail_keys conn m deed done d = record { mails = λ q live. let k = d.mails q live in record { replies = k.replies; waits = k.waits }; settled = d.settled }
+
+pub mail_browsed : (conn fid next : ℕ) (m : Mailboxes) (done : List Deed) → Delivers done m → Delivers (OfFids conn (Browsed fid next) ∷ done) m
+mail_browsed conn fid next m done d = record { mails = λ q live. let k = d.mails q live in record { replies = k.replies; waits = k.waits }; settled = d.settled }
+
+pub mail_opened : (conn fid mode : ℕ) (m : Mailboxes) (done : List Deed) → Delivers done m → Delivers (OfFids conn (Opened fid mode) ∷ done) m
+mail_opened conn fid mode m done d = record { mails = λ q live. let k = d.mails q live in record { replies = k.replies; waits = k.waits }; settled = d.settled }
+
+pub mail_entered : (conn : ℕ) (m : Mailboxes) (done : List Deed) → Delivers done m → Delivers (OfConnection conn Entered ∷ done) m
+mail_entered conn m done d = record { mails = λ q live. let k = d.mails q live in record { replies = k.replies; waits = k.waits }; settled = d.settled }
+
+-- ---- conversations that stand
+
+some_is : (a b : ℕ) → Some a ≡ Some b → a ≡ b
+some_is a b e = cc
+
+-- the conversation that a fid has open stands
+pub found_stands : (done : List Deed) (conn fid conv : ℕ) → conv_of done conn fid ≡ Some conv → stands done conv ≡ true
+found_stands done conn fid conv e = here (speakers done) e
+  where
+    here : (xs : List Speaker) → option_map (λ (s : Speaker). s.conv) (find (λ s. eqb s.conn conn && eqb s.fid fid) xs) ≡ Some conv → is_among xs conv ≡ true
+    here [] e = absurd cc
+    here (x ∷ xs) e = elim (cases_Bool (eqb x.conn conn && eqb x.fid fid)) [
+      | inl is ↦ let same : x.conv ≡ conv = some_is x.conv conv (rw is at e) in rw (eq-eqb x.conv conv same) refl
+      | inr is ↦ elim (cases_Bool (eqb x.conv conv)) [
+          | inl found ↦ rw found refl
+          | inr other ↦ rw other (here xs (rw is at e))
+        ]
+    ]
+
+-- a conversation of which it is known who has it open stands
+pub speaker_stands : (done : List Deed) (conv : ℕ) (s : Speaker) → speaker_of done conv ≡ Some s → stands done conv ≡ true
+speaker_stands done conv s e = here (speakers done) e
+  where
+    here : (xs : List Speaker) → find (λ x. eqb x.conv conv) xs ≡ Some s → is_among xs conv ≡ true
+    here [] e = absurd cc
+    here (x ∷ xs) e = elim (cases_Bool (eqb x.conv conv)) [
+      | inl is ↦ rw is refl
+      | inr is ↦ rw is (here xs (rw is at e))
+    ]
+
+pub mail_talks : (m : Mailboxes) → OfTalks (λ done. Delivers done m)
+mail_talks m = record { talk = mail_talk m; raised = mail_raised m }
+
+-- ---- what is shared, part by part
+
+-- all but the conversations
+pub record Rest (done : List Deed) (s : Shared) : Type 0 where
+  pub ring : s.ring ≡ keys_of done
+  pub holders : Holds done s.holders
+  pub mail : Delivers done s.mailboxes
+
+pub rest_talks : (s : Shared) → OfTalks (λ done. Rest done s)
+rest_talks s = record {
+  talk = λ conv call done h. record { ring = h.ring; holders = (holds_all s.holders).talks.talk conv call done h.holders; mail = mail_talk s.mailboxes conv call done h.mail };
+  raised = λ conv done h. record { ring = h.ring; holders = (holds_all s.holders).talks.raised conv done h.holders; mail = mail_raised s.mailboxes conv done h.mail };
+}
+
+-- ---- what stays the same
+
+pub same_mail : (m : Mailboxes) → SameMail m m
+same_mail m = record { replies = λ conn. refl; waits = λ conn. refl; settled = refl }
+
+pub same_shared : (s : Shared) → SameShared s s
+same_shared s = record { ring = refl; holders = refl; mail = same_mail s.mailboxes; talks = λ done h. h }
+
+mail_still : (done : List Deed) (m n : Mailboxes) → SameMail m n → Delivers done m → Delivers done n
+mail_still done m n same d = record {
+  mails = λ q live. let k = d.mails q live in record { replies = same.replies q ∙ k.replies; waits = same.waits q ∙ k.waits };
+  settled = same.settled ∙ d.settled;
+}
+
+pub shares_still : (done : List Deed) (s u : Shared) → SameShared s u → Shares done s → Shares done u
+shares_still done s u same h = record {
+  ring = same.ring ∙ h.ring;
+  holders = subst (λ (now : Holders). Holds done now) (sym same.holders) h.holders;
+  mail = mail_still done s.mailboxes u.mailboxes same.mail h.mail;
+  talks = same.talks done h.talks;
+}

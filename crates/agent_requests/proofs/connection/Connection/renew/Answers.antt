@@ -1,5 +1,0 @@
-use Rattle.std.proofs.Common.{◌∙◌}
-use Rattle.agent_requests.proofs.connection.Connection.renew.Goals as goal
-
-pub returns-clause-shares : goal.returns-clause-shares
-returns-clause-shares c = λ done msize h. record { ring = c.forget.ensures ∙ h.ring; holders = c.leave.ensures.version done msize h.holders; mail = c.drop_waits.ensures.delivers done msize h.mail }

@@ -1,0 +1,4 @@
+use Rattle.agent_talks.proofs.held.Talks.roomless.Goals as goal
+
+pub unreachable-requires : goal.unreachable-requires
+unreachable-requires c = ?
