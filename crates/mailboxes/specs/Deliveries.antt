@@ -8,9 +8,7 @@ use Rattle.nine_messages.specs.Messages.{r_frame}
 use Rattle.agent_history.specs.Deeds.{Deed, was_hung}
 use Rattle.agent_history.specs.Replies.{Wait, fid_given_up, waits, untaken, has_settled}
 use Rattle.mailboxes.specs.declared.mailboxes.Mailboxes.{Mailboxes}
-use Rattle.mailboxes.specs.declared.mailboxes.Read.{Read}
-use Rattle.std.specs.Prelude.{◌&&◌, ◌==◌, find}
-use Rattle.agent_history.specs.Replies.{is_unsettled}
+use Rattle.mailboxes.specs.declared.wait.Read.{Read}
 use Rattle.mailboxes.specs.Mails.{Pending, Mail, no_mail}
 
 -- what is kept for a connection
@@ -35,6 +33,10 @@ under tag body = record { tag = tag; body = body }
 -- a read that waits, with the frame of its reply
 abbrev pub pending : Wait → Pending
 pending wait = record { tag = wait.tag; fid = wait.fid; count = wait.count; reply = option_map (λ body. r_frame (under wait.tag body)) wait.reply }
+
+-- a read that waits, as it came
+abbrev pub read_of : Wait → Read
+read_of wait = record { tag = wait.tag; fid = wait.fid; count = wait.count }
 
 -- the frame that a read is told whose fid is given up, by its tag
 abbrev pub given_up : ℕ → List ℕ
@@ -68,12 +70,3 @@ KeepsNone m conn = get nat_cmp m.boxes conn ≡ None
 pub record Becomes (old new : Mailboxes) (conn : ℕ) (now : Mail) : Type 0 where
   pub this : mail_at new conn ≡ now
   pub others : (other : ℕ) → (conn ≡ other → ⊥) → mail_at new other ≡ mail_at old other
-
-abbrev pub has_place : Mailboxes → ℕ → Bool
-has_place m conn = false
-
-abbrev pub read_of : Wait → Read
-read_of wait = record { tag = wait.tag; fid = wait.fid; count = wait.count }
-
-abbrev pub reader_at : List Deed → ℕ → ℕ → Option Wait
-reader_at done conn fid = find (λ wait. wait.fid == fid && is_unsettled wait) (waits done conn)

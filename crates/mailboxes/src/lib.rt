@@ -5,7 +5,10 @@
 mod mailbox;
 mod mailboxes;
 mod reply;
+#[cfg(test)]
+mod tests;
 mod wait;
 
-pub use mailboxes::{Mailboxes, Read};
-pub use reply::{ErrorText, Reply};
+pub use mailboxes::Mailboxes;
+pub use reply::{ErrorText, Reply, ToldAnswer};
+pub use wait::Read;

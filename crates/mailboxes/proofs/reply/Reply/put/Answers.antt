@@ -1,4 +1,0 @@
-use Rattle.mailboxes.proofs.reply.Reply.put.Goals as goal
-
-pub unreachable-requires : goal.unreachable-requires
-unreachable-requires c = ?
