@@ -26,6 +26,9 @@ replies_at m conn = (mail_at m conn).replies
 abbrev pub has_room : Mailboxes → ℕ → Bool
 has_room m conn = (mail_at m conn).has_room
 
+abbrev pub has_place : Mailboxes → ℕ → Bool
+has_place m conn = (mail_at m conn).has_place
+
 -- a reply
 abbrev pub under : ℕ → RBody → RMsg
 under tag body = record { tag = tag; body = body }

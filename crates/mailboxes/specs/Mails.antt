@@ -11,15 +11,16 @@ pub record Pending : Type 0 where
   pub count : ℕ
   pub reply : Option (List ℕ)
 
--- the frames, the oldest first; the reads that wait, in the order in which they came; and whether there is room for one
--- more frame, beside that for the replies to the reads that wait
+-- the frames, the oldest first; the reads that wait, in the order in which they came; whether there is room for one more
+-- frame, beside that for the replies to the reads that wait; and whether there is for one more read that waits
 pub record Mail : Type 0 where
   pub replies : List (List ℕ)
   pub waits : List Pending
   pub has_room : Bool
+  pub has_place : Bool
 
 abbrev pub no_mail : Mail
-no_mail = record { replies = []; waits = []; has_room = false }
+no_mail = record { replies = []; waits = []; has_room = false; has_place = false }
 
 -- ---- reads that wait
 
@@ -69,16 +70,19 @@ first_reader fid (wait ∷ more) = if is_reader fid wait then Some (read_of wait
 abbrev pub with_room : Mail → Mail
 with_room mail = record mail { has_room = true }
 
+abbrev pub with_place : Mail → Mail
+with_place mail = record mail { has_place = true }
+
 -- a frame stands last
 abbrev pub pushed : List ℕ → Mail → Mail
-pushed frame mail = record { replies = mail.replies ++ frame ∷ []; waits = mail.waits; has_room = false }
+pushed frame mail = record { replies = mail.replies ++ frame ∷ []; waits = mail.waits; has_room = false; has_place = mail.has_place }
 
 -- the oldest frame is gone
 abbrev pub popped : Mail → Mail
 popped mail = record mail { replies = drop 1 mail.replies }
 
 abbrev pub awaited : ℕ → ℕ → ℕ → Mail → Mail
-awaited tag fid count mail = record mail { waits = mail.waits ++ record { tag = tag; fid = fid; count = count; reply = None } ∷ [] }
+awaited tag fid count mail = record mail { waits = mail.waits ++ record { tag = tag; fid = fid; count = count; reply = None } ∷ []; has_place = false }
 
 abbrev pub with_settled : ℕ → List ℕ → Mail → Mail
 with_settled tag frame mail = record mail { waits = settle_tag tag frame mail.waits }
@@ -94,4 +98,4 @@ without_waits mail = record mail { waits = [] }
 
 -- the frames to the reads that are settled stand last, in the order in which the reads came
 abbrev pub swept : Mail → Mail
-swept mail = record { replies = mail.replies ++ filter_map (λ wait. wait.reply) mail.waits; waits = filter is_unsettled mail.waits; has_room = mail.has_room }
+swept mail = record { replies = mail.replies ++ filter_map (λ wait. wait.reply) mail.waits; waits = filter is_unsettled mail.waits; has_room = mail.has_room; has_place = mail.has_place }

@@ -1,4 +1,7 @@
 // The replies and the waiting reads of one connection.
+ghost use Rattle.std.specs.Prelude.{◌≡◌};
+ghost use Rattle.mailboxes.specs.Kept.{places};
+
 use crate::reply::Reply;
 use crate::wait::{
     Read, Wait, find_reader, flush_tag, has_fid, has_tag, settle_fid, settle_tag, sweep,
@@ -15,11 +18,12 @@ pub struct Mailbox {
     replies: VecDeque<Reply>,
     waits: Vec<Wait>,
     has_room: bool,
+    has_place: bool,
 }
 
 impl Model for Mailbox {
     ghost use Rattle.std.specs.Prelude.{◌+◌, ◌≤◌, map};
-    ghost use Rattle.std.specs.Vec.{vec_len};
+    ghost use Rattle.std.specs.Vec.{vec_capacity, vec_len};
     ghost use Rattle.std.specs.VecDeque.{deque_len, deque_capacity};
     ghost use Rattle.mailboxes.specs.Mails.{Mail};
 
@@ -31,15 +35,17 @@ impl Model for Mailbox {
       replies = map reply_bytes m.replies.items;
       waits = map pending_of m.waits.items;
       has_room = m.has_room;
+      has_place = m.has_place;
     } };
 
-    ghost invariant = { λ m. deque_len m.replies + vec_len m.waits + places m.has_room
-        ≤ deque_capacity m.replies };
+    ghost invariant = { λ m. (deque_len m.replies + vec_len m.waits + places m.has_room
+        + places m.has_place ≤ deque_capacity m.replies)
+        × (vec_len m.waits + places m.has_place ≤ vec_capacity m.waits) };
 }
 
 impl Mailbox {
     ghost use Rattle.std.specs.Prelude.{◌≡◌, ◌++◌, [], ◌∷◌, drop, filter, map, not, true, OnOk, OnErr, IfSome, IfNone, ◌<◌, length};
-    ghost use Rattle.mailboxes.specs.Mails.{Mail, no_mail, with_room, pushed, popped, awaited, with_settled, with_fid_settled, flushed, without_waits, swept, first_reader, has_fid, has_tag};
+    ghost use Rattle.mailboxes.specs.Mails.{Mail, no_mail, with_place, with_room, pushed, popped, awaited, with_settled, with_fid_settled, flushed, without_waits, swept, first_reader, has_fid, has_tag};
     ghost use Rattle.mailboxes.specs.Kept.{error_frame, reply_bytes};
 
     /// No replies, and no reads that wait. It takes no memory.
@@ -50,6 +56,7 @@ impl Mailbox {
             replies: VecDeque::new(alloc),
             waits: Vec::new(alloc),
             has_room: false,
+            has_place: false,
         }
     }
 
@@ -59,7 +66,8 @@ impl Mailbox {
         ensures err { OnErr result (self.new ≡ self.old) }
     {
         if !self.has_room {
-            self.replies.reserve(self.waits.len() + 1)?;
+            self.replies
+                .reserve(self.waits.len() + count_places(self.has_place) + 1)?;
             self.has_room = true;
         }
         Ok(())
@@ -90,19 +98,34 @@ impl Mailbox {
         self.replies.pop_front();
     }
 
-    /// A read of the fid waits from now on, whose reply may hold so many bytes.
-    pub fn wait(&mut self, tag: u16, fid: u32, count: u16) -> Result<(), NoMemory>
-        ensures ok { OnOk result (self.new ≡ awaited tag fid count self.old) }
+    /// Makes room for one more read that waits, its reply included.
+    pub fn reserve_wait(&mut self) -> Result<(), NoMemory>
+        ensures ok { OnOk result (self.new ≡ with_place self.old) }
         ensures err { OnErr result (self.new ≡ self.old) }
     {
-        self.replies.reserve(self.waits.len() + 2)?;
-        self.waits.push(Wait {
-            tag,
-            fid,
-            count,
-            reply: None,
-        })?;
+        if !self.has_place {
+            self.replies
+                .reserve(self.waits.len() + count_places(self.has_room) + 1)?;
+            self.waits.reserve(1)?;
+            self.has_place = true;
+        }
         Ok(())
+    }
+
+    /// A read of the fid waits from now on, whose reply may hold so many bytes. It takes no memory.
+    pub fn wait(&mut self, tag: u16, fid: u32, count: u16)
+        requires { self.old.has_place ≡ true }
+        ensures { self.new ≡ awaited tag fid count self.old }
+    {
+        self.has_place = false;
+        self.waits
+            .push(Wait {
+                tag,
+                fid,
+                count,
+                reply: None,
+            })
+            .unwrap();
     }
 
     /// Some read waits under the tag.
@@ -169,4 +192,10 @@ impl Mailbox {
     {
         sweep(&mut self.waits, &mut self.replies);
     }
+}
+
+fn count_places(has: bool) -> usize
+    ensures { result ≡ places has }
+{
+    if has { 1 } else { 0 }
 }

@@ -24,7 +24,7 @@ impl Mailboxes {
     ghost use Rattle.agent_history.specs.Deeds.{Deed, OfFids, OfReplies, OfConnection, Versioned, Clunked, Answered, Awaited, Settled, Flushed, Hung, Taken, was_hung};
     ghost use Rattle.agent_history.specs.Replies.{is_unsettled, swept, waits, waits_for, waits_under};
     ghost use Rattle.mailboxes.specs.Kept.{reply_bytes};
-    ghost use Rattle.mailboxes.specs.Deliveries.{Becomes, Delivers, KeepsNone, SameMail, SameRoom, given_up, has_room, mail_at, read_of, replies_at, under};
+    ghost use Rattle.mailboxes.specs.Deliveries.{Becomes, Delivers, KeepsNone, SameMail, SameRoom, given_up, has_place, has_room, mail_at, read_of, replies_at, under};
     ghost use Rattle.mailboxes.specs.Mails as mails;
 
     /// No replies, and no reads that wait. It takes no memory.
@@ -171,30 +171,42 @@ impl Mailboxes {
         self.boxes.get(&conn)?.reader(fid)
     }
 
-    fn wait_at(&mut self, alloc: Global, conn: u64, read: Read) -> Result<(), NoMemory>
-        ensures ok { OnOk result (Becomes self.old self.new conn
-            (mails.awaited read.tag read.fid read.count (mail_at self.old conn))) }
-        ensures settled { self.new.settled ≡ self.old.settled }
-        ensures same { OnErr result (SameMail self.old self.new) }
+    /// Makes room for one more read of a connection that waits, its reply included.
+    pub fn reserve_wait(&mut self, alloc: Global, conn: u64) -> Result<(), NoMemory>
+        ensures place { OnOk result (has_place self.new conn ≡ true) }
+        ensures same { SameMail self.old self.new }
         ensures room { SameRoom self.old self.new }
+        ensures delivers { (done : List Deed) → Delivers done self.old → Delivers done self.new }
     {
         if let Some(mailbox) = self.boxes.get_mut(&conn) {
-            return mailbox.wait(read.tag, read.fid, read.count);
+            return mailbox.reserve_wait();
         }
         let mut mailbox = Mailbox::new(alloc);
-        mailbox.wait(read.tag, read.fid, read.count)?;
+        mailbox.reserve_wait()?;
         self.boxes.insert(conn, mailbox)?;
         Ok(())
     }
 
-    /// A read of a connection waits from now on.
-    pub fn wait(&mut self, alloc: Global, conn: u64, read: Read) -> Result<(), NoMemory>
-        ensures ok { OnOk result ((done : List Deed) → Delivers done self.old
-            → Delivers (OfReplies conn (Awaited read.tag read.fid read.count) ∷ done) self.new) }
-        ensures same { OnErr result (SameMail self.old self.new) }
+    fn wait_at(&mut self, conn: u64, read: Read)
+        requires { has_place self.old conn ≡ true }
+        ensures becomes { Becomes self.old self.new conn
+            (mails.awaited read.tag read.fid read.count (mail_at self.old conn)) }
+        ensures settled { self.new.settled ≡ self.old.settled }
+    {
+        let Some(mailbox) = self.boxes.get_mut(&conn) else {
+            unreachable!()
+        };
+        mailbox.wait(read.tag, read.fid, read.count);
+    }
+
+    /// A read of a connection waits from now on. It takes no memory.
+    pub fn wait(&mut self, conn: u64, read: Read)
+        requires { has_place self.old conn ≡ true }
+        ensures delivers { (done : List Deed) → Delivers done self.old
+            → Delivers (OfReplies conn (Awaited read.tag read.fid read.count) ∷ done) self.new }
         ensures room { SameRoom self.old self.new }
     {
-        self.wait_at(alloc, conn, read)
+        self.wait_at(conn, read);
     }
 
     fn settle_at(&mut self, conn: u64, tag: u16, reply: Reply)

@@ -42,16 +42,18 @@ fn replies_to_reads_stand_in_the_order_in_which_the_reads_came(
 ) -> Result<(), Fail> {
     let alloc = rt.alloc();
     let mut mailboxes = Mailboxes::new(alloc);
-    mailboxes.wait(alloc, 1, WAITED_FOR)?;
+    mailboxes.reserve_wait(alloc, 1)?;
+    mailboxes.wait(1, WAITED_FOR);
+    mailboxes.reserve_wait(alloc, 1)?;
     mailboxes.wait(
-        alloc,
         1,
         Read {
             tag: 6,
             ..WAITED_FOR
         },
-    )?;
-    mailboxes.wait(alloc, 2, WAITED_FOR)?;
+    );
+    mailboxes.reserve_wait(alloc, 2)?;
+    mailboxes.wait(2, WAITED_FOR);
     assert!(rt; mailboxes.has_tag(1, 5));
     assert!(rt; !mailboxes.has_tag(1, 8));
     let late = flush_reply(alloc, 6)?;
@@ -78,25 +80,28 @@ fn replies_to_reads_stand_in_the_order_in_which_the_reads_came(
 fn reads_are_given_up(rt: HostRuntime) -> Result<(), Fail> {
     let alloc = rt.alloc();
     let mut mailboxes = Mailboxes::new(alloc);
-    mailboxes.wait(alloc, 1, WAITED_FOR)?;
+    mailboxes.reserve_wait(alloc, 1)?;
+    mailboxes.wait(1, WAITED_FOR);
+    mailboxes.reserve_wait(alloc, 1)?;
     mailboxes.wait(
-        alloc,
         1,
         Read {
             tag: 6,
             fid: 9,
             count: 100,
         },
-    )?;
+    );
     mailboxes.flush(1, 5);
     assert!(rt; !mailboxes.has_tag(1, 5));
     mailboxes.give_up(1, 9);
     mailboxes.sweep();
     assert_eq!(rt; take_tag(&rt, alloc, &mut mailboxes, 1)?, Some(6));
-    mailboxes.wait(alloc, 1, WAITED_FOR)?;
+    mailboxes.reserve_wait(alloc, 1)?;
+    mailboxes.wait(1, WAITED_FOR);
     mailboxes.drop_waits(1);
     assert!(rt; !mailboxes.has_tag(1, 5));
-    mailboxes.wait(alloc, 1, WAITED_FOR)?;
+    mailboxes.reserve_wait(alloc, 1)?;
+    mailboxes.wait(1, WAITED_FOR);
     mailboxes.leave(1);
     assert!(rt; !mailboxes.has_tag(1, 5));
     Ok(())
@@ -111,8 +116,10 @@ fn the_reader_of_a_fid_is_the_first_read_that_is_not_settled(rt: HostRuntime) ->
         count: 50,
     };
     let mut mailboxes = Mailboxes::new(alloc);
-    mailboxes.wait(alloc, 1, WAITED_FOR)?;
-    mailboxes.wait(alloc, 1, second)?;
+    mailboxes.reserve_wait(alloc, 1)?;
+    mailboxes.wait(1, WAITED_FOR);
+    mailboxes.reserve_wait(alloc, 1)?;
+    mailboxes.wait(1, second);
     assert_eq!(rt; mailboxes.reader(1, 7), Some(WAITED_FOR));
     assert_eq!(rt; mailboxes.reader(1, 8), None);
     assert_eq!(rt; mailboxes.reader(2, 7), None);
@@ -139,7 +146,8 @@ fn told(alloc: Global, answer: RpcAnswer) -> Result<ToldAnswer, Fail> {
 fn an_answer_is_printed_when_it_is_taken(rt: HostRuntime) -> Result<(), Fail> {
     let alloc = rt.alloc();
     let mut mailboxes = Mailboxes::new(alloc);
-    mailboxes.wait(alloc, 1, WAITED_FOR)?;
+    mailboxes.reserve_wait(alloc, 1)?;
+    mailboxes.wait(1, WAITED_FOR);
     let answer = told(alloc, RpcAnswer::TooSmall(141))?;
     mailboxes.settle(1, 5, Reply::Answer { tag: 5, answer });
     mailboxes.sweep();

@@ -2,7 +2,7 @@
 ghost use Rattle.std.specs.Prelude.{◌≡◌, ◌+◌, ◌≤◌, ◌<◌, ◌++◌, ◌==◌, not, map, filter, length, get_or, position};
 ghost use Rattle.std.specs.List.{filter_map, list_any, remove};
 ghost use Rattle.std.specs.Option.{option_to_list};
-ghost use Rattle.std.specs.Vec.{vec_len};
+ghost use Rattle.std.specs.Vec.{vec_capacity, vec_len};
 ghost use Rattle.std.specs.VecDeque.{deque_len, deque_capacity};
 ghost use Rattle.mailboxes.specs.Mails.{no_wait, is_unsettled, settled_by, settle_tag, settle_fid, has_tag, has_fid, is_reader, first_reader};
 ghost use Rattle.mailboxes.specs.Kept.{reply_bytes, pending_of, error_frame, reader_in};
@@ -150,6 +150,7 @@ pub(crate) fn flush_tag(waits: &mut Vec<Wait>, tag: u16)
     ensures flushed { map pending_of waits.new.items
         ≡ filter (λ wait. not (wait.tag == tag)) (map pending_of waits.old.items) }
     ensures fewer { vec_len waits.new ≤ vec_len waits.old }
+    ensures room { vec_capacity waits.new ≡ vec_capacity waits.old }
 {
     drop_tag(waits, tag);
 }
@@ -157,6 +158,7 @@ pub(crate) fn flush_tag(waits: &mut Vec<Wait>, tag: u16)
 fn drop_tag(waits: &mut Vec<Wait>, tag: u16)
     ensures flushed { waits.new.items ≡ filter (λ wait. not (wait.tag == tag)) waits.old.items }
     ensures fewer { vec_len waits.new ≤ vec_len waits.old }
+    ensures room { vec_capacity waits.new ≡ vec_capacity waits.old }
 {
     waits.retain(|wait| wait.tag != tag);
 }
@@ -173,6 +175,7 @@ fn deliver(waits: &mut Vec<Wait>, at: usize, replies: &mut VecDeque<Reply>)
     ensures room { deque_len replies.new + vec_len waits.new ≤ deque_len replies.old + vec_len
         waits.old }
     ensures same { deque_capacity replies.new ≡ deque_capacity replies.old }
+    ensures places { vec_capacity waits.new ≡ vec_capacity waits.old }
 {
     let wait = waits.remove(at);
     if let Some(reply) = wait.reply {
@@ -191,6 +194,7 @@ pub(crate) fn sweep(waits: &mut Vec<Wait>, replies: &mut VecDeque<Reply>)
     ensures room { deque_len replies.new + vec_len waits.new ≤ deque_len replies.old + vec_len
         waits.old }
     ensures same { deque_capacity replies.new ≡ deque_capacity replies.old }
+    ensures places { vec_capacity waits.new ≡ vec_capacity waits.old }
 {
     let mut at = 0;
     while at < waits.len() {

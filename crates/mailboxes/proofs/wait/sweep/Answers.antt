@@ -24,6 +24,7 @@ loop-at-preserved-then-is_some c =
       replies = ap (λ (rs : List (List ℕ)). rs ++ rest) c.deliver.ensures.replies ∙ (append_assoc first given rest ∙ (ap (λ (rs : List (List ℕ)). first ++ rs) left ∙ l.invariant.replies));
       room = omega (arith, c.deliver.ensures.room, l.invariant.room);
       same = c.deliver.ensures.same ∙ l.invariant.same;
+      places = c.deliver.ensures.places ∙ l.invariant.places;
     }
 
 pub loop-at-preserved : goal.loop-at-preserved
@@ -37,6 +38,7 @@ loop-at-preserved c =
       replies = rw add-one (ap (λ (rs : List (List ℕ)). map reply_bytes l.replies.items ++ rs) (replies_kept l.waits.items l.at c.index.result.now inside at) ∙ l.invariant.replies);
       room = l.invariant.room;
       same = l.invariant.same;
+      places = l.invariant.places;
     }
 
 pub returns-clause-waits : goal.returns-clause-waits
