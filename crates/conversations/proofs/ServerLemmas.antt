@@ -1,5 +1,5 @@
 -- A conversation whose authentication server wasn't reached, or whose answer found no memory.
-use Rattle.std.proofs.Common.{◌≡◌, List, ◌∷◌, Bool, true, false, Option, Some, None, refl, sym, ap, subst, ◌∙◌}
+use Rattle.std.proofs.Common.{◌≡◌, List, ◌∷◌, true, false, Option, Some, None, refl, sym, ap, subst, ◌∙◌}
 use Rattle.roles.specs.Talks.{Call as Move}
 use Rattle.rpc_file.specs.declared.answer.RpcAnswer.{RpcAnswer}
 use Rattle.talks.specs.Calls.{Call}

@@ -1,6 +1,6 @@
 -- When a conversation holds for a talk: what was begun is what the definitions say was begun, and so are the phase, the
 -- start and what the user said.
-use Rattle.std.specs.Prelude.{◌≡◌, ℕ, List, [], ◌∷◌, Bool, false, Option, Some, None, if◌then◌else◌}
+use Rattle.std.specs.Prelude.{◌≡◌, ℕ, List, ◌∷◌, false, Option, Some, None, if◌then◌else◌}
 use Rattle.attr_tuples.specs.declared.attr.Attr.{Attr}
 use Rattle.key_lists.specs.Lists.{KeyList}
 use Rattle.roles.specs.declared.answer.Gave.{Gave}

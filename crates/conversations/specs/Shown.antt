@@ -1,5 +1,5 @@
 -- What is shown of a conversation.
-use Rattle.std.specs.Prelude.{ℕ, List, [], Bool, true, false, Option, Some, None}
+use Rattle.std.specs.Prelude.{ℕ, List, Bool, true, false, Option, Some, None}
 use Rattle.wire_base.specs.declared.shape.Shape.{Shape}
 use Rattle.attr_tuples.specs.declared.attr.Attr.{Attr}
 use Rattle.roles.specs.declared.need.Need.{Need}

@@ -1,7 +1,7 @@
 // What a conversation answers by what its role answers.
 ghost use Rattle.std.specs.Prelude.{◌≡◌, Option};
 ghost use Rattle.key_lists.specs.Lists.{KeyEntry};
-ghost use Rattle.talks.specs.Answers.{cause_answer, done_answer, info_answer, key_attrs, move_answer, phase_answer};
+ghost use Rattle.talks.specs.Answers.{cause_answer, info_answer, key_attrs, move_answer};
 
 use attr_tuples::Tuple;
 use roles::{Cause, Gave, Outcome, PhaseWord};
@@ -15,33 +15,16 @@ pub fn answer_move(done: RpcAnswer, gave: Gave, shown: Tuple) -> RpcAnswer
     match gave {
         Gave::Ok => done,
         Gave::Wait => done,
-        Gave::Phase(word) => answer_phase(word),
+        Gave::Phase(PhaseWord::AwaitsRead) => RpcAnswer::AwaitsRead,
+        Gave::Phase(PhaseWord::AwaitsWrite) => RpcAnswer::AwaitsWrite,
+        Gave::Phase(PhaseWord::Broken) => RpcAnswer::Broken,
         Gave::TooSmall(size) => RpcAnswer::TooSmall(size),
         Gave::TooLong => RpcAnswer::TooLong,
-        Gave::Done { haveai } => answer_done(haveai),
+        Gave::Done { haveai: true } => RpcAnswer::DoneHaveai,
+        Gave::Done { haveai: false } => RpcAnswer::Done,
         Gave::BadKey => RpcAnswer::BadKey(shown),
         Gave::Refused(cause) => answer_cause(cause, shown),
         Gave::NoMemory => RpcAnswer::NoRoom,
-    }
-}
-
-fn answer_phase(word: PhaseWord) -> RpcAnswer
-    ensures { result ≡ phase_answer word }
-{
-    match word {
-        PhaseWord::AwaitsRead => RpcAnswer::AwaitsRead,
-        PhaseWord::AwaitsWrite => RpcAnswer::AwaitsWrite,
-        PhaseWord::Broken => RpcAnswer::Broken,
-    }
-}
-
-fn answer_done(haveai: bool) -> RpcAnswer
-    ensures { result ≡ done_answer haveai }
-{
-    if haveai {
-        RpcAnswer::DoneHaveai
-    } else {
-        RpcAnswer::Done
     }
 }
 
