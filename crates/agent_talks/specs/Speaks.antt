@@ -1,25 +1,17 @@
 -- When the conversations that are kept are those that a list of deeds tells of.
 use Rattle.std.specs.Prelude.{◌≡◌, ℕ, ◌≤◌, List, [], Bool, true, false, ◌==◌, Option, Some, None}
 use Rattle.std.specs.List.{list_any}
+use Rattle.key_lists.specs.Lists.{KeyList}
 use Rattle.talks.specs.Calls.{Call}
 use Rattle.talks.specs.Standings.{OnServer}
-use Rattle.key_lists.specs.Lists.{KeyList}
 use Rattle.talks.specs.declared.said.Asking.{Asking}
-use Rattle.std.specs.Prelude.{length}
 use Rattle.agent_history.specs.Deeds.{Deed, keys_of}
 use Rattle.agent_history.specs.Conversations as told
 use Rattle.agent_history.specs.Conversations.{Question, Speaker, met, opened_talks, standing_of, talk}
 use Rattle.conversations.specs.declared.conversation.Conversation.{Conversation}
 use Rattle.conversations.specs.Fits.{Holds}
+use Rattle.conversations.specs.Shown.{has_request}
 use Rattle.agent_talks.specs.declared.held.Talks.{Talks}
-use Rattle.agent_talks.specs.declared.told.Told.{Told}
-use Rattle.agent_talks.specs.declared.told.Told.TheVariants as y
-use Rattle.nine_messages.specs.declared.message.RBody.{RBody}
-use Rattle.nine_messages.specs.declared.message.RBody.TheVariants as r
-use Rattle.rpc_file.specs.Answers.{answer_text}
-use Rattle.rpc_file.specs.declared.answer.RpcAnswer.{RpcAnswer}
-use Rattle.std.specs.Prelude.{codes}
-use Rattle.talks.specs.Standings.{Phase, Kept}
 use Rattle.agent_talks.specs.Kept.{kept_at, questions_in, speakers_in}
 
 -- the conversation of a number is one of those that stand
@@ -69,28 +61,19 @@ pub record SameTalks (old new : Talks) : Type 0 where
   pub raised : new.raised ≡ old.raised
   pub questions : questions_in new ≡ questions_in old
 
-abbrev pub told_body : Told → RBody
-told_body (y.Answer answer) = r.Read (answer_text answer)
-told_body y.TooSmall = r.Error (codes "read too small")
+-- the conversation that is kept for a fid, where the fid has this one open
+abbrev pub IsOpenAt : List Deed → Option ℕ → Option Conversation → Type 0
+IsOpenAt done None None = Unit {0}
+IsOpenAt done None (Some c) = ⊥
+IsOpenAt done (Some conv) None = ⊥
+IsOpenAt done (Some conv) (Some c) = Holds c (talk done conv)
 
-pub record Tells (done : List Deed) (conv count : ℕ) (answer : RpcAnswer) (new : Talks) (t : Told) : Type 0 where
-  pub body : told_body t ≡ told.told count answer
-  pub speak : Speak (told.then_took conv count answer done) new
-
-abbrev pub TellingOf : Phase → List Deed → ℕ → ℕ → Talks → Option Told → Type 0
-TellingOf (Kept answer) done conv count new (Some t) = Tells done conv count answer new t
-TellingOf (Kept answer) done conv count new None = ⊥
-TellingOf phase done conv count new (Some t) = ⊥
-TellingOf phase done conv count new None = Speak done new
-
-abbrev pub Telling : List Deed → ℕ → ℕ → Talks → Option Told → Type 0
-Telling done conv count new o = TellingOf (standing_of done conv).phase done conv count new o
-
-abbrev pub IsShort : ℕ → Told → Type 0
-IsShort count (y.Answer answer) = length (answer_text answer) ≤ count
-IsShort count y.TooSmall = Unit {0}
-
+-- a conversation stands, among these keys, and these files are open
 pub record IsReady (done : List Deed) (conv : ℕ) (list : KeyList) (asking : Asking) : Type 0 where
   pub stands : stands done conv ≡ true
   pub keys : keys_of done ≡ list
   pub files : told.asking done ≡ asking
+
+-- the conversation of a number, where it has a request, whatever deeds the conversations are those of
+abbrev pub ShowsRequest : Talks → ℕ → Bool → Type 0
+ShowsRequest t conv has = (done : List Deed) → stands done conv ≡ true → Speak done t → has ≡ has_request (standing_of done conv).phase

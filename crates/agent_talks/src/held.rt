@@ -9,20 +9,9 @@ ghost use Rattle.agent_history.specs.Deeds.{Deed, OfConnection, OfFids, OfTalk, 
 ghost use Rattle.agent_history.specs.Conversations.{conv_of, speaker_of, speakers, talk};
 ghost use Rattle.agent_talks.specs.Kept as kept;
 ghost use Rattle.agent_talks.specs.Changes.{Leaves, Meets, Opens, left_at, left_one};
-ghost use Rattle.agent_talks.specs.Speaks.{IsKept, SameTalks, Speak, IsReady, IsShort, Telling, met_by, stands};
-ghost use Rattle.agent_history.specs.Deeds.{keys_of};
-ghost use Rattle.agent_history.specs.Conversations.{asking, asker, next_question, outcome_at, chosen_at};
-ghost use Rattle.agent_history.specs.Requests.{carried, phase_of, is_resting, has_answer};
-ghost use Rattle.agent_history.specs.Histories.{handing};
-ghost use Rattle.std.specs.Prelude.{false, IsOk, None, IfSome};
-
+ghost use Rattle.agent_talks.specs.Speaks.{IsKept, SameTalks, Speak, stands};
 
 use crate::question::Question;
-use crate::told::Told;
-use key_ring::{Key, KeyRing};
-use roles::Outcome;
-use talks::Asking;
-
 use crate::speaker::{Leaving, Speaker, find_conv, find_number, keep_others, leaves};
 use conversations::Conversation;
 use rpc_file::Request;
@@ -34,11 +23,11 @@ use wire_base::NoMemory;
 /// authentication server. It has no Debug, which would print secrets.
 #[derive(Drop)]
 pub struct Talks {
-    speakers: Vec<Speaker>,
-    table: BTreeMap<u64, Conversation>,
-    opened: u64,
-    questions: Vec<Question>,
-    raised: u64,
+    pub(crate) speakers: Vec<Speaker>,
+    pub(crate) table: BTreeMap<u64, Conversation>,
+    pub(crate) opened: u64,
+    pub(crate) questions: Vec<Question>,
+    pub(crate) raised: u64,
 }
 
 // ---- what stands
@@ -215,98 +204,5 @@ impl Talks {
         ensures same { OnErr result (SameTalks self.old self.new) }
     {
         self.store_at(alloc, conv, request)
-    }
-
-    pub fn carry_out(
-        &mut self,
-        alloc: Global,
-        conv: u64,
-        word: [u8; 8],
-        ring: &KeyRing,
-        asking: Asking,
-    ) -> Result<(), NoMemory>
-        ensures kept { OnOk result ((done : List Deed) → IsReady done conv ring.now asking
-            → Speak done self.old → Speak (carried conv word done) self.new) }
-        ensures back { OnErr result ((done : List Deed) → Speak done self.old
-            → Speak done self.new) }
-    {
-        unreachable!()
-    }
-
-    pub fn asker(&self, call: u64) -> Option<u64>
-        ensures told { (done : List Deed) → Speak done self.now → result ≡ asker done call }
-    {
-        unreachable!()
-    }
-
-    pub fn heard(&mut self, alloc: Global, call: u64, bytes: &[u8]) -> Result<(), NoMemory>
-        ensures kept { OnOk result ((done : List Deed) → Speak done self.old
-            → Speak (met_by (asker done call) (c.Heard bytes.now) done) self.new) }
-        ensures same { OnErr result (SameTalks self.old self.new) }
-    {
-        unreachable!()
-    }
-
-    pub fn unheard(&mut self, call: u64)
-        ensures { (done : List Deed) → Speak done self.old
-            → Speak (met_by (asker done call) c.Unheard done) self.new }
-    {
-        unreachable!()
-    }
-
-    pub fn roomless(&mut self, call: u64)
-        ensures { (done : List Deed) → Speak done self.old
-            → Speak (met_by (asker done call) c.Roomless done) self.new }
-    {
-        unreachable!()
-    }
-
-    pub fn next_question(&self) -> Option<&Question>
-        ensures { (done : List Deed) → Speak done self.now
-            → option_map kept.question_of (option_copied result) ≡ next_question done }
-    {
-        unreachable!()
-    }
-
-    pub fn hand_out(&mut self)
-        ensures { (done : List Deed) → Speak done self.old
-            → Speak (handing (next_question done) done) self.new }
-    {
-        unreachable!()
-    }
-
-    pub fn tell(&mut self, conv: u64, count: u32) -> Option<Told>
-        ensures telling { (done : List Deed) → stands done conv ≡ true → Speak done self.old
-            → Telling done conv count self.new result }
-        ensures short { IfSome result (λ t. IsShort count t) }
-    {
-        unreachable!()
-    }
-
-    pub fn outcome_at(&self, conn: u64, fid: u32) -> Option<Outcome>
-        ensures { (done : List Deed) → Speak done self.now → result ≡ outcome_at done conn fid }
-    {
-        unreachable!()
-    }
-
-    pub fn chosen_at(&self, conn: u64, fid: u32) -> Option<&Key>
-        ensures { (done : List Deed) → Speak done self.now
-            → option_copied result ≡ chosen_at done conn fid }
-    {
-        unreachable!()
-    }
-
-    pub fn is_resting_at(&self, conn: u64, fid: u32) -> bool
-        ensures { (done : List Deed) → Speak done self.now
-            → result ≡ is_resting (phase_of done conn fid) }
-    {
-        unreachable!()
-    }
-
-    pub fn has_answer_at(&self, conn: u64, fid: u32) -> bool
-        ensures { (done : List Deed) → Speak done self.now
-            → result ≡ has_answer (phase_of done conn fid) }
-    {
-        unreachable!()
     }
 }

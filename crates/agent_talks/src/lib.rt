@@ -2,12 +2,17 @@
 //! are those that its deeds tell of.
 #![tactic(auto)]
 
+mod asks;
+mod carry;
 mod held;
 mod question;
+mod sights;
 mod speaker;
-mod told;
+mod tell;
+#[cfg(test)]
+mod tests;
 
 pub use held::Talks;
 pub use question::Question;
 pub use speaker::Speaker;
-pub use told::Told;
+pub use tell::Told;

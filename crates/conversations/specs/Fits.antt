@@ -25,7 +25,7 @@ use Rattle.conversations.specs.declared.opening.Opening.TheVariants as o
 use Rattle.conversations.specs.declared.phase.Phase.{Phase}
 use Rattle.conversations.specs.declared.phase.Phase.TheVariants as held
 use Rattle.conversations.specs.Meanings.{phase_of}
-use Rattle.conversations.specs.Shown.{is_seeking}
+use Rattle.conversations.specs.Shown.{answer_in, is_seeking}
 
 -- ---- what was begun
 
@@ -75,6 +75,10 @@ Keeps old new call = (talk : List Call) → Holds old talk → Holds new (call �
 -- what is shown of it is what its talk makes
 abbrev pub Shows : {A : Type 0} → Conversation → (Standing → A) → A → Type 0
 Shows c made shown = (talk : List Call) → Holds c talk → shown ≡ made (standing talk)
+
+-- the answer that it keeps
+abbrev pub answer_held : Conversation → Option RpcAnswer
+answer_held c = answer_in (phase_of c.phase)
 
 -- ---- a request and the search that it wants
 

@@ -11,7 +11,7 @@ ghost use Rattle.talks.specs.Meanings.{meant};
 ghost use Rattle.talks.specs.Roles.{needs, refuses};
 ghost use Rattle.talks.specs.Searches.{found_by};
 ghost use Rattle.talks.specs.Standings.{Begun as Beginning, Standing, Waiting, answered, begin_once, carried_out, finds, key_of, moved, nothing_said, outcome_of, question_of, refused, role_name, sought, start_by, started, taken_back, template_of, then_stands, told_of, with_key, with_move};
-ghost use Rattle.conversations.specs.Fits.{BothBegun, Carries, Fits, Holds, IsBegun, IsIdle, Keeps, Meets, Performs, PutsBack, Searches, Shows, Stays, Turns, searched};
+ghost use Rattle.conversations.specs.Fits.{answer_held, BothBegun, Carries, Fits, Holds, IsBegun, IsIdle, Keeps, Meets, Performs, PutsBack, Searches, Shows, Stays, Turns, searched};
 ghost use Rattle.conversations.specs.Meanings.{request_of};
 ghost use Rattle.conversations.specs.Shown.{answer_in, asked_in, exchange_in, has_answer, has_request, is_resting, is_seeking, waits_for_server};
 
@@ -140,7 +140,8 @@ impl Conversation {
 
     /// The answer that is there, which wasn't read yet. It takes no memory.
     pub fn answer(&self) -> Option<&RpcAnswer>
-        ensures { Shows self.now (λ s. answer_in s.phase) (option_copied result) }
+        ensures shown { Shows self.now (λ s. answer_in s.phase) (option_copied result) }
+        ensures held { option_copied result ≡ answer_held self.now }
     {
         phase::kept_answer(&self.phase)
     }
@@ -301,6 +302,7 @@ impl Conversation {
     pub fn take_answer(&mut self) -> Option<RpcAnswer>
         ensures kept { Keeps self.old self.new c.Took }
         ensures told { Shows self.old (λ s. answer_in s.phase) result }
+        ensures held { result ≡ answer_held self.old }
     {
         match mem::replace(&mut self.phase, Phase::Resting) {
             Phase::Kept(answer) => Some(answer),

@@ -1,4 +1,6 @@
+use Rattle.std.proofs.Common.{◌∙◌}
+use Rattle.agent_talks.proofs.AskLemmas.{found_asker}
 use Rattle.agent_talks.proofs.held.Talks.asker.Goals as goal
 
-pub unreachable-requires : goal.unreachable-requires
-unreachable-requires c = ?
+pub returns : goal.returns
+returns c = λ done h. c.find_asker.ensures ∙ found_asker done c.args.self.now c.args.call h
