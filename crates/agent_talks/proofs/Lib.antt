@@ -6,3 +6,5 @@ pub mod CarryLemmas
 pub mod OtherLemmas
 pub mod SightLemmas
 pub mod TellLemmas
+pub mod GrowLemmas
+pub mod UnaskedLemmas

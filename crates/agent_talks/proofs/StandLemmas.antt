@@ -1,12 +1,12 @@
 -- Lists of conversations that stand and of questions: whom they have, and what stays when some are left out.
-use Rattle.std.proofs.Common.{◌≡◌, ℕ, ◌+◌, ◌<◌, ◌≤◌, List, [], ◌∷◌, ◌++◌, length, map, filter, Bool, true, false, cond, eqb, not, ◌&&◌, ◌||◌, ◌==◌, Option, Some, None, refl, sym, ap, subst, ◌∙◌, inl, inr, arith}
-use Rattle.std.specs.Prelude.{find, is_some, option_map}
-use Rattle.std.specs.List.{list_any, list_all}
-use Rattle.std.proofs.lemmas.Bool.{cases_Bool, eq-eqb, eqb-true, and_parts, false≢true}
+use Rattle.std.proofs.Common.{◌≡◌, ℕ, ◌+◌, ◌<◌, List, [], ◌∷◌, ◌++◌, map, filter, Bool, true, false, cond, eqb, not, ◌&&◌, ◌||◌, ◌==◌, Some, None, refl, sym, ap, ◌∙◌, inl, inr, arith}
+use Rattle.std.specs.Prelude.{find, option_map}
+use Rattle.std.specs.List.{list_any}
+use Rattle.std.proofs.lemmas.Bool.{cases_Bool, eq-eqb, eqb-true, false≢true}
 use Rattle.agent_history.specs.Deeds.{Deed, OfFids, OfKeys, OfReplies, OfConnection, OfTalk, Raised, HandedOut, Swept, Halted, Versioned, Attached, Walked, Opened, Listed, Browsed, Clunked, Entered, Hung, fid_of, names}
 use Rattle.file_tree.specs.declared.tree.Node.TheVariants.{Rpc}
-use Rattle.agent_history.specs.Conversations.{Question, Speaker, hand_first, of_speakers, opened_talks, speakers}
-use Rattle.agent_talks.specs.Speaks.{asks_for, is_among, stands}
+use Rattle.agent_history.specs.Conversations.{Question, Speaker, hand_first, opened_talks, speakers}
+use Rattle.agent_talks.specs.Speaks.{asks_for, is_among}
 
 -- ---- small steps
 
@@ -228,6 +228,14 @@ opener_step s xs p conv false e more = rw (more e) (or_true (eqb s.conv conv))
 pub opener_stands : (xs : List Speaker) (p : Speaker → Bool) (conv : ℕ) → option_map (λ x. x.conv) (find p xs) ≡ Some conv → is_among xs conv ≡ true
 opener_stands [] p conv e = absurd cc
 opener_stands (s ∷ xs) p conv e = opener_step s xs p conv (p s) e (opener_stands xs p conv)
+
+pub speaker_is_among : (xs : List Speaker) (conv : ℕ) (s : Speaker) → find (λ (x : Speaker). x.conv == conv) xs ≡ Some s → is_among xs conv ≡ true
+speaker_is_among [] conv s e = absurd cc
+speaker_is_among (x ∷ xs) conv s e = step (eqb x.conv conv) e (speaker_is_among xs conv s)
+  where
+    step : (b : Bool) → cond b (Some x) (find (λ (y : Speaker). y.conv == conv) xs) ≡ Some s → (find (λ (y : Speaker). y.conv == conv) xs ≡ Some s → is_among xs conv ≡ true) → (b || is_among xs conv) ≡ true
+    step true e more = refl
+    step false e more = more e
 
 -- where all were handed out, handing one out changes nothing
 pub hands_none : (qs : List Question) → find (λ q. not q.handed) qs ≡ None → hand_first qs ≡ qs

@@ -1,5 +1,5 @@
 -- What is kept of conversations and of their questions, in the words of the definitions.
-use Rattle.std.specs.Prelude.{ℕ, List, map, Bool, Option}
+use Rattle.std.specs.Prelude.{ℕ, List, map, Option}
 use Rattle.std.specs.Ordering.{nat_cmp}
 use Rattle.std.specs.BTreeMap.{get}
 use Rattle.agent_history.specs.Conversations.{Question, Speaker}
@@ -23,3 +23,15 @@ questions_in t = map question_of t.questions.items
 -- the conversation of a number, if it is kept
 abbrev pub kept_at : Talks → ℕ → Option Conversation
 kept_at t conv = get nat_cmp t.table conv
+
+-- how many questions weren't handed out yet
+abbrev pub unasked : Talks → ℕ
+unasked t = length (filter (λ q. not q.handed) (questions_in t))
+
+-- a question of this number stands
+abbrev pub is_asked : ℕ → List Question → Bool
+is_asked call questions = list_any (λ q. q.call == call) questions
+
+-- the conversation of the first question of a number
+abbrev pub asker_of : ℕ → List HeldQuestion → Option ℕ
+asker_of call questions = option_map (λ q. q.conv) (find (λ q. q.call == call) questions)

@@ -1,5 +1,5 @@
 // The questions of conversations for the authentication server, and what comes of them.
-ghost use Rattle.std.specs.Prelude.{◌≡◌, ◌==◌, not, List, Option, OnOk, OnErr, find, option_copied, option_map};
+ghost use Rattle.std.specs.Prelude.{◌≡◌, ◌≤◌, ◌-◌, List, Option, IsOk, OnOk, OnErr, false, is_some, nat_lt, option_copied, option_map};
 ghost use Rattle.talks.specs.Calls as c;
 ghost use Rattle.agent_history.specs.Deeds.{Deed};
 ghost use Rattle.agent_history.specs.Conversations.{asker, next_question};
@@ -18,35 +18,25 @@ use wire_base::NoMemory;
 impl Talks {
     /// The conversation whose question has this number.
     pub fn asker(&self, call: u64) -> Option<u64>
-        ensures { (done : List Deed) → Speak done self.now → result ≡ asker done call }
-    {
-        self.find_asker(call)
-    }
-
-    /// The oldest question that wasn't handed out yet.
-    pub fn next_question(&self) -> Option<&Question>
-        ensures { (done : List Deed) → Speak done self.now
-            → option_map kept.question_of (option_copied result) ≡ next_question done }
-    {
-        self.find_next()
-    }
-
-    fn find_asker(&self, call: u64) -> Option<u64>
-        ensures { result ≡ option_map (λ q. q.conv)
-            (find (λ q. q.call == call) self.now.questions.items) }
+        ensures told { (done : List Deed) → Speak done self.now → result ≡ asker done call }
+        ensures found { result ≡ kept.asker_of call self.now.questions.items }
     {
         find_asker(&self.questions, call)
     }
 
-    fn find_next(&self) -> Option<&Question>
-        ensures { option_copied result ≡ find (λ q. not q.handed) self.now.questions.items }
+    /// The oldest question that wasn't handed out yet.
+    pub fn next_question(&self) -> Option<&Question>
+        ensures left { is_some (option_copied result) ≡ nat_lt 0 (kept.unasked self.now) }
+        ensures told { (done : List Deed) → Speak done self.now
+            → option_map kept.question_of (option_copied result) ≡ next_question done }
     {
         find_next(&self.questions)
     }
 
     /// The oldest question that wasn't handed out yet is handed out, where there is one. It takes no memory.
     pub fn hand_out(&mut self)
-        ensures { (done : List Deed) → Speak done self.old
+        ensures fewer { kept.unasked self.new ≡ kept.unasked self.old - 1 }
+        ensures handed { (done : List Deed) → Speak done self.old
             → Speak (handing (next_question done) done) self.new }
     {
         self.hand_one();
@@ -67,8 +57,10 @@ impl Talks {
         ensures kept { OnOk result ((done : List Deed) → Speak done self.old
             → Speak (met_by (asker done call) (c.Heard bytes.now) done) self.new) }
         ensures same { OnErr result (SameTalks self.old self.new) }
+        ensures fewer { kept.unasked self.new ≤ kept.unasked self.old }
+        ensures unknown { is_asked call (kept.questions_in self.old) ≡ false → IsOk result }
     {
-        match self.find_asker(call) {
+        match self.asker(call) {
             Some(conv) => self.end_heard(alloc, conv, bytes),
             None => Ok(()),
         }
@@ -76,20 +68,22 @@ impl Talks {
 
     /// The authentication server wasn't reached with the question of this number, where it stands. It takes no memory.
     pub fn unheard(&mut self, call: u64)
-        ensures { (done : List Deed) → Speak done self.old
+        ensures met { (done : List Deed) → Speak done self.old
             → Speak (met_by (asker done call) c.Unheard done) self.new }
+        ensures fewer { kept.unasked self.new ≤ kept.unasked self.old }
     {
-        if let Some(conv) = self.find_asker(call) {
+        if let Some(conv) = self.asker(call) {
             self.end_unheard(conv);
         }
     }
 
     /// There was no memory for the answer to the question of this number, where it stands. It takes none itself.
     pub fn roomless(&mut self, call: u64)
-        ensures { (done : List Deed) → Speak done self.old
+        ensures met { (done : List Deed) → Speak done self.old
             → Speak (met_by (asker done call) c.Roomless done) self.new }
+        ensures fewer { kept.unasked self.new ≤ kept.unasked self.old }
     {
-        if let Some(conv) = self.find_asker(call) {
+        if let Some(conv) = self.asker(call) {
             self.end_roomless(conv);
         }
     }

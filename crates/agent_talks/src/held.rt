@@ -1,5 +1,5 @@
 // The conversations of an agent.
-ghost use Rattle.std.specs.Prelude.{◌≡◌, ◌==◌, ◌&&◌, [], ◌∷◌, List, ℕ, Option, OnOk, OnErr, filter, find, is_some, length, option_copied, option_map, true};
+ghost use Rattle.std.specs.Prelude.{◌≡◌, [], ◌∷◌, List, ℕ, Option, OnOk, OnErr, filter, is_some, length, option_copied, option_map, true};
 ghost use Rattle.std.specs.BTreeMap.{get};
 ghost use Rattle.std.specs.Ordering.{nat_cmp};
 ghost use Rattle.file_tree.specs.declared.tree.Node.TheVariants.{Rpc};
@@ -57,26 +57,13 @@ impl Talks {
     pub fn conv_at(&self, conn: u64, fid: u32) -> Option<u64>
         ensures { (done : List Deed) → Speak done self.now → result ≡ conv_of done conn fid }
     {
-        self.find_conv(conn, fid)
+        find_conv(&self.speakers, conn, fid)
     }
 
     /// Who has the conversation of a number open.
     pub fn speaker_of(&self, conv: u64) -> Option<&Speaker>
         ensures { (done : List Deed) → Speak done self.now
             → option_map kept.speaker_of (option_copied result) ≡ speaker_of done conv }
-    {
-        self.find_speaker(conv)
-    }
-
-    fn find_conv(&self, conn: u64, fid: u32) -> Option<u64>
-        ensures { result ≡ option_map (λ s. s.conv)
-            (find (λ s. s.conn == conn && s.fid == fid) self.now.speakers.items) }
-    {
-        find_conv(&self.speakers, conn, fid)
-    }
-
-    fn find_speaker(&self, conv: u64) -> Option<&Speaker>
-        ensures { option_copied result ≡ find (λ s. s.conv == conv) self.now.speakers.items }
     {
         find_number(&self.speakers, conv)
     }

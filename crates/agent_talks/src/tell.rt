@@ -40,18 +40,11 @@ impl Talks {
             ≡ option_map (fits count) answer) }
         ensures held { result ≡ option_map (fits count) (answer_at self.now conv) }
     {
-        match self.answer_of(conv) {
-            Some(answer) => Some(answer_fits(answer, count)),
-            None => None,
-        }
-    }
-
-    fn answer_of(&self, conv: u64) -> Option<&RpcAnswer>
-        ensures shown { ShowsAnswer self.now conv (λ answer. option_copied result ≡ answer) }
-        ensures held { option_copied result ≡ answer_at self.now conv }
-    {
         match self.table.get(&conv) {
-            Some(conversation) => conversation.answer(),
+            Some(conversation) => match conversation.answer() {
+                Some(answer) => Some(answer_fits(answer, count)),
+                None => None,
+            },
             None => None,
         }
     }
@@ -62,20 +55,11 @@ impl Talks {
         ensures told { ShowsAnswer self.old conv (λ answer. result ≡ option_map t.Answer answer) }
         ensures held { result ≡ option_map t.Answer (answer_at self.old conv) }
     {
-        match self.take_answer(conv) {
-            Some(answer) => Some(Told::Answer(answer)),
-            None => None,
-        }
-    }
-
-    fn take_answer(&mut self, conv: u64) -> Option<RpcAnswer>
-        ensures meets { Meets self.old self.new conv c.Took }
-        ensures questions { self.new.questions ≡ self.old.questions }
-        ensures told { ShowsAnswer self.old conv (λ answer. result ≡ answer) }
-        ensures held { result ≡ answer_at self.old conv }
-    {
         match self.table.get_mut(&conv) {
-            Some(conversation) => conversation.take_answer(),
+            Some(conversation) => match conversation.take_answer() {
+                Some(answer) => Some(Told::Answer(answer)),
+                None => None,
+            },
             None => None,
         }
     }

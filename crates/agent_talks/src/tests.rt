@@ -107,12 +107,7 @@ fn hand_out(talks: &mut Talks) -> Option<(u64, u64)> {
     next
 }
 
-fn two_ask(
-    rt: &impl Abort,
-    alloc: Global,
-    talks: &mut Talks,
-    ring: &KeyRing,
-) -> Result<(), Fail> {
+fn two_ask(rt: &impl Abort, alloc: Global, talks: &mut Talks, ring: &KeyRing) -> Result<(), Fail> {
     ask(rt, alloc, talks, ring, 1, 0)?;
     ask(rt, alloc, talks, ring, 2, 1)?;
     assert_eq!(rt; talks.count(), 2);
@@ -124,9 +119,7 @@ fn two_ask(
 }
 
 #[test]
-fn the_server_answers_one_and_cannot_be_reached_for_another(
-    rt: HostRuntime,
-) -> Result<(), Fail> {
+fn the_server_answers_one_and_cannot_be_reached_for_another(rt: HostRuntime) -> Result<(), Fail> {
     let alloc = rt.alloc();
     let ring = ring_of(alloc, ANN)?;
     let mut talks = Talks::new(alloc);
