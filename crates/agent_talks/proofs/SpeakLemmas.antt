@@ -187,7 +187,7 @@ still_asked done conv call stays q o = record {
   ];
 }
 
-below_opened : (done : List Deed) (conv q : ℕ) → stands done conv ≡ true → opened_talks done ≤ q → eqb conv q ≡ false
+pub below_opened : (done : List Deed) (conv q : ℕ) → stands done conv ≡ true → opened_talks done ≤ q → eqb conv q ≡ false
 below_opened done conv q e le = elim (cases_Bool (eqb conv q)) [
   | inl is ↦ absurd (omega (arith, (are_numbered done).below conv e, eqb-true conv q is, le))
   | inr is ↦ is

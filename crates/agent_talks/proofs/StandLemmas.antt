@@ -114,7 +114,7 @@ apart_left keep (s ∷ xs) h = step (keep s) (apart_left keep xs h.1)
     step true more = (left_among keep xs s.conv h.0, more)
     step false more = more
 
-other_way : (a b : ℕ) → eqb a b ≡ false → eqb b a ≡ false
+pub other_way : (a b : ℕ) → eqb a b ≡ false → eqb b a ≡ false
 other_way a b e = elim (cases_Bool (eqb b a)) [
   | inl is ↦ absurd (false≢true (sym e ∙ eq-eqb a b (sym (eqb-true b a is))))
   | inr is ↦ is
@@ -210,6 +210,33 @@ pub all_stay : (test : ℕ → Bool) (qs : List Question) → ((n : ℕ) → ask
 all_stay test [] h = refl
 all_stay test (q ∷ qs) h =
     rw (h q.conv (rw (same q.conv) refl)) (ap (λ (more : List Question). q ∷ more) (all_stay test qs (λ n e. h n (rw e (or_true (eqb q.conv n))))))
+
+-- whose number is found asks
+asker_step : (q : Question) (qs : List Question) (p : Question → Bool) (conv : ℕ) (b : Bool) → option_map (λ x. x.conv) (cond b (Some q) (find p qs)) ≡ Some conv → (option_map (λ x. x.conv) (find p qs) ≡ Some conv → asks_for qs conv ≡ true) → asks_for (q ∷ qs) conv ≡ true
+asker_step q qs p conv true e more = let is : q.conv ≡ conv = cc in rw (eq-eqb q.conv conv is) refl
+asker_step q qs p conv false e more = rw (more e) (or_true (eqb q.conv conv))
+
+pub asker_asks : (qs : List Question) (p : Question → Bool) (conv : ℕ) → option_map (λ x. x.conv) (find p qs) ≡ Some conv → asks_for qs conv ≡ true
+asker_asks [] p conv e = absurd cc
+asker_asks (q ∷ qs) p conv e = asker_step q qs p conv (p q) e (asker_asks qs p conv)
+
+-- and so does whose fid is found stand
+opener_step : (s : Speaker) (xs : List Speaker) (p : Speaker → Bool) (conv : ℕ) (b : Bool) → option_map (λ x. x.conv) (cond b (Some s) (find p xs)) ≡ Some conv → (option_map (λ x. x.conv) (find p xs) ≡ Some conv → is_among xs conv ≡ true) → is_among (s ∷ xs) conv ≡ true
+opener_step s xs p conv true e more = let is : s.conv ≡ conv = cc in rw (eq-eqb s.conv conv is) refl
+opener_step s xs p conv false e more = rw (more e) (or_true (eqb s.conv conv))
+
+pub opener_stands : (xs : List Speaker) (p : Speaker → Bool) (conv : ℕ) → option_map (λ x. x.conv) (find p xs) ≡ Some conv → is_among xs conv ≡ true
+opener_stands [] p conv e = absurd cc
+opener_stands (s ∷ xs) p conv e = opener_step s xs p conv (p s) e (opener_stands xs p conv)
+
+-- where all were handed out, handing one out changes nothing
+pub hands_none : (qs : List Question) → find (λ q. not q.handed) qs ≡ None → hand_first qs ≡ qs
+hands_none [] e = refl
+hands_none (q ∷ qs) e = step q.handed e (hands_none qs)
+  where
+    step : (b : Bool) → cond (not b) (Some q) (find (λ x. not x.handed) qs) ≡ None → (find (λ x. not x.handed) qs ≡ None → hand_first qs ≡ qs) → cond b (q ∷ hand_first qs) (record { call = q.call; conv = q.conv; handed = true } ∷ qs) ≡ q ∷ qs
+    step true e more = ap (λ (xs : List Question). q ∷ xs) (more e)
+    step false e more = absurd cc
 
 -- handing one out changes no conversation of a question
 pub handed_asks : (qs : List Question) (n : ℕ) → asks_for (hand_first qs) n ≡ asks_for qs n

@@ -1,10 +1,13 @@
 -- Of the code alone: what a method does to what is kept. No public contract cites these words.
-use Rattle.std.specs.Prelude.{◌≡◌, ℕ, ◌+◌, List, [], ◌∷◌, ◌++◌, filter, Bool, not, ◌&&◌, ◌==◌, Option, Some, None, is_some, if◌then◌else◌}
+use Rattle.std.specs.Prelude.{◌≡◌, ℕ, ◌+◌, List, [], ◌∷◌, ◌++◌, filter, Bool, false, not, ◌&&◌, ◌==◌, Option, Some, None, is_some, if◌then◌else◌}
 use Rattle.std.specs.List.{list_any}
+use Rattle.key_lists.specs.Lists.{KeyList}
 use Rattle.talks.specs.Calls.{Call}
+use Rattle.talks.specs.declared.said.Asking.{Asking}
 use Rattle.conversations.specs.declared.conversation.Conversation.{Conversation}
-use Rattle.conversations.specs.Fits.{Holds, Keeps}
-use Rattle.agent_history.specs.Conversations.{Speaker}
+use Rattle.conversations.specs.Fits.{Holds, Keeps, Performs, Shows, Stays}
+use Rattle.conversations.specs.Shown.{waits_for_server}
+use Rattle.agent_history.specs.Conversations.{Question, Speaker, hand_first}
 use Rattle.agent_talks.specs.declared.speaker.Speaker.{Speaker as HeldSpeaker}
 use Rattle.agent_talks.specs.declared.speaker.Leaving.{Leaving}
 use Rattle.agent_talks.specs.declared.speaker.Leaving.TheVariants as l
@@ -62,3 +65,71 @@ pub record Leaves (old new : Talks) (leaving : Leaving) : Type 0 where
   pub table : (conv : ℕ) → kept_at new conv ≡ left_at leaving old.speakers.items conv (kept_at old conv)
   pub raised : new.raised ≡ old.raised
   pub questions : new.questions.items ≡ filter (λ q. is_some (kept_at new q.conv)) old.questions.items
+
+-- the first question that wasn't handed out is handed out, all else is as before
+pub record Hands (old new : Talks) : Type 0 where
+  pub opened : new.opened ≡ old.opened
+  pub speakers : speakers_in new ≡ speakers_in old
+  pub table : (other : ℕ) → kept_at new other ≡ kept_at old other
+  pub raised : new.raised ≡ old.raised
+  pub questions : questions_in new ≡ hand_first (questions_in old)
+
+-- the questions of a conversation are dropped, all else is as before
+pub record Drops (old new : Talks) (conv : ℕ) : Type 0 where
+  pub opened : new.opened ≡ old.opened
+  pub speakers : speakers_in new ≡ speakers_in old
+  pub table : (other : ℕ) → kept_at new other ≡ kept_at old other
+  pub raised : new.raised ≡ old.raised
+  pub questions : questions_in new ≡ filter (λ q. not (q.conv == conv)) (questions_in old)
+
+-- what was kept for a number met something, and its questions are dropped
+pub record Ended (old new : Talks) (conv : ℕ) (call : Call) : Type 0 where
+  pub meets : Meets old new conv call
+  pub questions : questions_in new ≡ filter (λ q. not (q.conv == conv)) (questions_in old)
+
+-- ---- a request is carried out
+
+-- what was kept for a number carried its request out, where something was
+abbrev pub BothPerformed : Option Conversation → Option Conversation → List ℕ → Asking → KeyList → Type 0
+BothPerformed None None word asking list = Unit {0}
+BothPerformed None (Some new) word asking list = ⊥
+BothPerformed (Some old) None word asking list = ⊥
+BothPerformed (Some old) (Some new) word asking list = Performs old new word asking list
+
+-- it holds for all that it held for
+abbrev pub BothStay : Option Conversation → Option Conversation → Type 0
+BothStay None None = Unit {0}
+BothStay None (Some new) = ⊥
+BothStay (Some old) None = ⊥
+BothStay (Some old) (Some new) = Stays old new
+
+-- whether the authentication server is asked for it
+abbrev pub IsAsking : Option Conversation → Bool → Type 0
+IsAsking None asks = asks ≡ false
+IsAsking (Some c) asks = Shows c (λ s. waits_for_server s.phase) asks
+
+-- a question is raised, if one is
+abbrev pub more_raised : Bool → ℕ → ℕ
+more_raised asks raised = if asks then raised + 1 else raised
+
+abbrev pub more_asked : Bool → ℕ → ℕ → List Question → List Question
+more_asked asks raised conv questions = if asks then questions ++ record { call = raised + 1; conv = conv; handed = false } ∷ [] else questions
+
+-- the request of a conversation is carried out, and a question is raised where this asks the authentication server
+pub record Carries (old new : Talks) (conv : ℕ) (word : List ℕ) (asking : Asking) (list : KeyList) (asks : Bool) : Type 0 where
+  pub opened : new.opened ≡ old.opened
+  pub speakers : speakers_in new ≡ speakers_in old
+  pub this : BothPerformed (kept_at old conv) (kept_at new conv) word asking list
+  pub asked : IsAsking (kept_at new conv) asks
+  pub others : (other : ℕ) → (conv ≡ other → ⊥) → kept_at new other ≡ kept_at old other
+  pub raised : new.raised ≡ more_raised asks old.raised
+  pub questions : questions_in new ≡ more_asked asks old.raised conv (questions_in old)
+
+-- a conversation holds for all that it held for, all else is as before
+pub record Back (old new : Talks) (conv : ℕ) : Type 0 where
+  pub opened : new.opened ≡ old.opened
+  pub speakers : speakers_in new ≡ speakers_in old
+  pub this : BothStay (kept_at old conv) (kept_at new conv)
+  pub others : (other : ℕ) → (conv ≡ other → ⊥) → kept_at new other ≡ kept_at old other
+  pub raised : new.raised ≡ old.raised
+  pub questions : questions_in new ≡ questions_in old

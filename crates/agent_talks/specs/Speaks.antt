@@ -1,13 +1,16 @@
 -- When the conversations that are kept are those that a list of deeds tells of.
 use Rattle.std.specs.Prelude.{◌≡◌, ℕ, ◌≤◌, List, [], Bool, true, false, ◌==◌, Option, Some, None}
 use Rattle.std.specs.List.{list_any}
+use Rattle.key_lists.specs.Lists.{KeyList}
 use Rattle.talks.specs.Calls.{Call}
 use Rattle.talks.specs.Standings.{OnServer}
-use Rattle.agent_history.specs.Deeds.{Deed}
+use Rattle.talks.specs.declared.said.Asking.{Asking}
+use Rattle.agent_history.specs.Deeds.{Deed, keys_of}
 use Rattle.agent_history.specs.Conversations as told
 use Rattle.agent_history.specs.Conversations.{Question, Speaker, met, opened_talks, standing_of, talk}
 use Rattle.conversations.specs.declared.conversation.Conversation.{Conversation}
 use Rattle.conversations.specs.Fits.{Holds}
+use Rattle.conversations.specs.Shown.{has_request}
 use Rattle.agent_talks.specs.declared.held.Talks.{Talks}
 use Rattle.agent_talks.specs.Kept.{kept_at, questions_in, speakers_in}
 
@@ -57,3 +60,20 @@ pub record SameTalks (old new : Talks) : Type 0 where
   pub table : (conv : ℕ) → kept_at new conv ≡ kept_at old conv
   pub raised : new.raised ≡ old.raised
   pub questions : questions_in new ≡ questions_in old
+
+-- the conversation that is kept for a fid, where the fid has this one open
+abbrev pub IsOpenAt : List Deed → Option ℕ → Option Conversation → Type 0
+IsOpenAt done None None = Unit {0}
+IsOpenAt done None (Some c) = ⊥
+IsOpenAt done (Some conv) None = ⊥
+IsOpenAt done (Some conv) (Some c) = Holds c (talk done conv)
+
+-- a conversation stands, among these keys, and these files are open
+pub record IsReady (done : List Deed) (conv : ℕ) (list : KeyList) (asking : Asking) : Type 0 where
+  pub stands : stands done conv ≡ true
+  pub keys : keys_of done ≡ list
+  pub files : told.asking done ≡ asking
+
+-- the conversation of a number, where it has a request, whatever deeds the conversations are those of
+abbrev pub ShowsRequest : Talks → ℕ → Bool → Type 0
+ShowsRequest t conv has = (done : List Deed) → stands done conv ≡ true → Speak done t → has ≡ has_request (standing_of done conv).phase

@@ -23,11 +23,11 @@ use wire_base::NoMemory;
 /// authentication server. It has no Debug, which would print secrets.
 #[derive(Drop)]
 pub struct Talks {
-    speakers: Vec<Speaker>,
-    table: BTreeMap<u64, Conversation>,
-    opened: u64,
-    questions: Vec<Question>,
-    raised: u64,
+    pub(crate) speakers: Vec<Speaker>,
+    pub(crate) table: BTreeMap<u64, Conversation>,
+    pub(crate) opened: u64,
+    pub(crate) questions: Vec<Question>,
+    pub(crate) raised: u64,
 }
 
 // ---- what stands

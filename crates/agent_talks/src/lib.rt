@@ -2,8 +2,11 @@
 //! are those that its deeds tell of.
 #![tactic(auto)]
 
+mod asks;
+mod carry;
 mod held;
 mod question;
+mod sights;
 mod speaker;
 
 pub use held::Talks;

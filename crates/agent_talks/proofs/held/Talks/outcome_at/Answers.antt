@@ -1,0 +1,16 @@
+use Rattle.std.proofs.Common.{ap, Option, Some, None, subst}
+use Rattle.std.specs.Prelude.{option_copied}
+use Rattle.conversations.specs.declared.conversation.Conversation.{Conversation}
+use Rattle.agent_history.specs.Conversations.{conv_of}
+use Rattle.agent_talks.specs.Speaks.{IsOpenAt}
+use Rattle.agent_talks.proofs.SightLemmas.{ends_in, ends_none}
+use Rattle.agent_talks.proofs.held.Talks.outcome_at.Goals as goal
+
+pub returns-in-Some : goal.returns-in-Some
+returns-in-Some c = λ done h.
+    ends_in done (conv_of done c.args.conn c.args.fid) c.in-Some.conversation.now c.outcome.result c.outcome.ensures
+    (subst (λ (o : Option Conversation). IsOpenAt done (conv_of done c.args.conn c.args.fid) o) (ap option_copied c.in-Some.is) (c.conversation_at.ensures done h))
+
+pub returns-in-None : goal.returns-in-None
+returns-in-None c = λ done h.
+    ends_none done (conv_of done c.args.conn c.args.fid) (subst (λ (o : Option Conversation). IsOpenAt done (conv_of done c.args.conn c.args.fid) o) (ap option_copied c.in-None.is) (c.conversation_at.ensures done h))
