@@ -1,5 +1,5 @@
 -- What a search finds for what was begun, and for nothing.
-use Rattle.std.proofs.Common.{◌≡◌, ℕ, List, [], Option, Some, None, sym, subst}
+use Rattle.std.proofs.Common.{◌≡◌, [], Option, Some, None, subst}
 use Rattle.key_lists.specs.Lists.{KeyList}
 use Rattle.talks.specs.Calls.{Found}
 use Rattle.talks.specs.Searches.{found_by}

@@ -5,3 +5,4 @@ pub mod FindLemmas
 pub mod WaitLaws
 pub mod PerformLemmas
 pub mod WaitingLemmas
+pub mod ServerLemmas

@@ -1,5 +1,5 @@
 -- From a call of the machine to the move of what was begun.
-use Rattle.std.proofs.Common.{◌≡◌, ℕ, List, ◌∷◌, Option, Some, codes, refl, subst, ◌∙◌}
+use Rattle.std.proofs.Common.{◌≡◌, ℕ, List, Option, Some, codes, subst, ◌∙◌}
 use Rattle.attr_tuples.specs.Matching.{value_of}
 use Rattle.key_lists.specs.Lists.{KeyEntry}
 use Rattle.roles.specs.declared.answer.Gave.{Gave}

@@ -16,7 +16,7 @@ use Rattle.talks.specs.Answers.{attributes, move_answer}
 use Rattle.talks.specs.Calls.{Call, CarriedOut, Found, Sought}
 use Rattle.talks.specs.declared.said.Asking.{Asking}
 use Rattle.talks.specs.Roles.{answers, needs, puts, refuses}
-use Rattle.talks.specs.Standings.{Begun, Phase, Waiting, Kept, Standing, begin, begin_once, carried_out, finds, if_begun, key_of, make_move, moved, phase_after, standing, start_by, started, taken_back, then_stands, with_move}
+use Rattle.talks.specs.Standings.{Begun, Phase, Waiting, Kept, Standing, begin, begin_once, carried_out, finds, if_begun, make_move, moved, phase_after, standing, start_by, started, taken_back, then_stands, with_move}
 use Rattle.conversations.specs.declared.conversation.Conversation.{Conversation}
 use Rattle.conversations.specs.Fits.{BothBegun, Carries, Fits, Holds, IsIdle, Meets, PutsBack, searched, with_search}
 use Rattle.conversations.specs.Meanings.{phase_of}
@@ -44,7 +44,7 @@ searched_so c asking list s came seeks is fits =
     (subst (λ (f : Found). Fits c (then_stands s s.phase (Sought f))) is fits)
 
 -- whether a key is sought
-pub seeks_so : (c : Conversation) (s : Standing) (test : Bool) → Fits c s → test ≡ is_seeking (phase_of (key_of s) c.phase) → is_seeking s.phase ≡ test
+pub seeks_so : (c : Conversation) (s : Standing) (test : Bool) → Fits c s → test ≡ is_seeking (phase_of c.phase) → is_seeking s.phase ≡ test
 seeks_so c s test fits e = ap (λ (phase : Phase). is_seeking phase) (sym fits.phase) ∙ sym e
 
 -- no search was wanted
@@ -122,7 +122,7 @@ unmakes old new u s word asks_attributes fits seeks idle = absurd (shows_no_need
 
 -- ---- a request waits
 
-pub waiting_idle : (old : Conversation) (talk : List Call) (request : RpcRequest) → Holds old talk → phase_of (key_of (standing talk)) old.phase ≡ Waiting request → IsIdle (standing talk)
+pub waiting_idle : (old : Conversation) (talk : List Call) (request : RpcRequest) → Holds old talk → phase_of old.phase ≡ Waiting request → IsIdle (standing talk)
 waiting_idle old talk request holds waits = waits_idle talk request (sym holds.phase ∙ waits)
 
 pub both_on_err : {T E A B C : Type 0} (r : Result T E) → (A → B → C) → OnErr r A → OnErr r B → OnErr r C

@@ -1,5 +1,5 @@
 -- A template of few attributes has room for what a role asks beside it.
-use Rattle.std.proofs.Common.{◌≡◌, ℕ, ◌≤◌, List, Bool, true, not, length, refl, arith}
+use Rattle.std.proofs.Common.{◌≡◌, ◌≤◌, List, Bool, true, not, length, refl, arith}
 use Rattle.std.specs.Prelude.{codes}
 use Rattle.std.proofs.lemmas.Bool.{le-leb}
 use Rattle.std.proofs.lemmas.List.Filters.{length-filter_both}

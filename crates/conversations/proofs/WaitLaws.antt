@@ -5,19 +5,24 @@ use Rattle.attr_tuples.specs.declared.attr.Attr.{Attr}
 use Rattle.attr_tuples.specs.Matching.{value_of}
 use Rattle.key_lists.specs.Lists.{KeyEntry}
 use Rattle.key_lists.specs.CtlLines.{few_of}
+use Rattle.roles.specs.declared.answer.Cause.{Cause}
+use Rattle.roles.specs.declared.answer.Cause.TheVariants as cause
+use Rattle.roles.specs.declared.answer.Gave.{Gave}
+use Rattle.roles.specs.declared.answer.Gave.TheVariants as g
 use Rattle.roles.specs.declared.answer.StartFault.{StartFault}
 use Rattle.roles.specs.declared.need.Need.{Need}
 use Rattle.roles.specs.declared.need.Need.TheVariants.{Nothing, Key, Exchange}
-use Rattle.roles.specs.Answers.{IsKey}
+use Rattle.roles.specs.Answers.{IsExchange, IsKey}
 use Rattle.roles.specs.Starts.{Start}
 use Rattle.roles.specs.Talks.{Progress, found, get, give, heard, roomless, undone, unheard}
 use Rattle.roles.specs.Talks.{Call as Move}
 use Rattle.roles.specs.Courses.{course, need_at, then_course, verdict}
 use Rattle.roles.proofs.UndoLaws.{undone_call, wanted_by}
+use Rattle.roles.proofs.ExchangeLaws.{heard_needs, roomless_needs, roomless_tells, unheard_needs, unheard_tells}
 use Rattle.rpc_file.specs.Requests.{RpcRequest, starts, reads, writes, asks_info, asks_attributes}
 use Rattle.rpc_file.specs.declared.answer.RpcAnswer.{RpcAnswer}
 use Rattle.rpc_file.specs.declared.answer.RpcAnswer.TheVariants as a
-use Rattle.talks.specs.Answers.{attributes, move_answer, told_key}
+use Rattle.talks.specs.Answers.{attributes, cause_answer, move_answer, told_key}
 use Rattle.talks.specs.Calls.{Call, Found, Chosen, AsksConsent, AsksKey, Denied, NoneServes, Stored, CarriedOut, Sought, Consented, KeyTold, Shut, Heard, Unheard, Roomless, Took}
 use Rattle.talks.specs.Roles.{answers, needs, puts, refuses}
 use Rattle.talks.specs.Standings.{Begun, Phase, Resting, Waiting, Seeking, OnConfirm, OnNeedkey, OnServer, Kept, Standing, begin, begin_once, carried_out, chosen_for, exchanged, if_begun, make_move, phase_after, sought, standing, start_by, started, taken_back, then_stands, with_key, with_move}
@@ -26,11 +31,6 @@ use Rattle.conversations.specs.Fits.{IsIdle}
 -- what is needed of what was begun
 abbrev pub need_in : Option Begun → Need
 need_in begun = elim begun [ None ↦ Nothing | Some b ↦ needs b.start b.moves ]
-
-abbrev IsExchange : Need → Type 0
-IsExchange Nothing = ⊥
-IsExchange (Key template) = ⊥
-IsExchange (Exchange request shape) = Unit {0}
 
 -- while a key is sought, nothing is needed once the request is taken back
 abbrev Awaits : Option Begun → Bool → Phase → Type 0
@@ -218,3 +218,48 @@ idle s phase request waits is = let both : Awaits s.begun s.starting (Waiting re
 
 pub waits_idle : (talk : List Call) (request : RpcRequest) → (standing talk).phase ≡ Waiting request → IsIdle (standing talk)
 waits_idle talk request waits = idle (standing talk) (standing talk).phase request waits (awaits talk)
+
+-- ---- the authentication server is done with
+
+-- while it is asked, its answer is needed
+asked_in : (s : Standing) (phase : Phase) → phase ≡ OnServer → Awaits s.begun s.starting phase → IsExchange (need_in s.begun)
+asked_in s phase asks is = subst (λ (p : Phase). Awaits s.begun s.starting p) asks is
+
+is_asked : (talk : List Call) → (standing talk).phase ≡ OnServer → IsExchange (need_in (standing talk).begun)
+is_asked talk asks = asked_in (standing talk) (standing talk).phase asks (awaits talk)
+
+-- nothing is needed then
+abbrev Frees : Move → Type 0
+Frees move = (b : Begun) → IsExchange (needs b.start b.moves) → needs b.start (move ∷ b.moves) ≡ Nothing
+
+-- and this is told
+abbrev Tells : Move → Cause → Type 0
+Tells move why = (b : Begun) → IsExchange (needs b.start b.moves) → answers b.start b.moves move ≡ g.Refused why
+
+rests : (s : Standing) (move : Move) (begun : Option Begun) → Frees move → IsExchange (need_in begun) → (answer : RpcAnswer) × ((exchanged s move begun).phase ≡ Kept answer)
+rests s move None frees exchange = absurd exchange
+rests s move (Some b) frees exchange =
+    (move_answer a.Ok b.key (answers b.start b.moves move), ap (λ (need : Need). phase_after need (move_answer a.Ok b.key (answers b.start b.moves move))) (frees b exchange))
+
+tells : (s : Standing) (move : Move) (why : Cause) (answer : RpcAnswer) (begun : Option Begun) → Frees move → Tells move why → ((key : Option KeyEntry) → cause_answer key why ≡ answer) → IsExchange (need_in begun) → (exchanged s move begun).phase ≡ Kept answer
+tells s move why answer None frees told is exchange = absurd exchange
+tells s move why answer (Some b) frees told is exchange =
+    ap (λ (need : Need). phase_after need (move_answer a.Ok b.key (answers b.start b.moves move))) (frees b exchange)
+    ∙ (ap (λ (gave : Gave). Kept (move_answer a.Ok b.key gave)) (told b exchange) ∙ ap (λ (answer : RpcAnswer). Kept answer) (is b.key))
+
+-- whatever it answered, there is an answer to the request
+pub heard_rests : (talk : List Call) (bytes : List ℕ) → (standing talk).phase ≡ OnServer → (answer : RpcAnswer) × ((standing (Heard bytes ∷ talk)).phase ≡ Kept answer)
+heard_rests talk bytes asks =
+    subst (λ (phase : Phase). (answer : RpcAnswer) × ((then_stands (standing talk) phase (Heard bytes)).phase ≡ Kept answer)) (sym asks)
+    (rests (standing talk) (heard bytes) (standing talk).begun (λ b exchange. heard_needs b.start b.moves bytes exchange) (is_asked talk asks))
+
+-- it wasn't reached, or there was no memory for its answer
+pub unheard_rests : (talk : List Call) → (standing talk).phase ≡ OnServer → (standing (Unheard ∷ talk)).phase ≡ Kept a.NoServer
+unheard_rests talk asks =
+    subst (λ (phase : Phase). (then_stands (standing talk) phase Unheard).phase ≡ Kept a.NoServer) (sym asks)
+    (tells (standing talk) unheard cause.NoServer a.NoServer (standing talk).begun (λ b exchange. unheard_needs b.start b.moves exchange) (λ b exchange. unheard_tells b.start b.moves exchange) (λ key. refl) (is_asked talk asks))
+
+pub roomless_rests : (talk : List Call) → (standing talk).phase ≡ OnServer → (standing (Roomless ∷ talk)).phase ≡ Kept a.NoRoom
+roomless_rests talk asks =
+    subst (λ (phase : Phase). (then_stands (standing talk) phase Roomless).phase ≡ Kept a.NoRoom) (sym asks)
+    (tells (standing talk) roomless cause.NoRoom a.NoRoom (standing talk).begun (λ b exchange. roomless_needs b.start b.moves exchange) (λ b exchange. roomless_tells b.start b.moves exchange) (λ key. refl) (is_asked talk asks))

@@ -1,6 +1,6 @@
 -- A conversation whose request waits.
 use Rattle.std.proofs.Common.{◌≡◌, sym, ap, ◌∙◌}
-use Rattle.talks.specs.Standings.{Standing, Waiting, key_of}
+use Rattle.talks.specs.Standings.{Standing, Waiting}
 use Rattle.conversations.specs.declared.conversation.Conversation.{Conversation}
 use Rattle.conversations.specs.declared.phase.Phase.{Phase}
 use Rattle.conversations.specs.declared.phase.Phase.TheVariants as held
@@ -13,4 +13,4 @@ pub carries_so : (c : Conversation) (phase : Phase) (s : Standing) → Carries c
 carries_so c phase s carries = record { begun = carries.begun; starting = carries.starting; said = carries.said }
 
 pub waits_so : (c : Conversation) (s : Standing) (request : Stored) → Fits c s → c.phase ≡ held.Waiting request → s.phase ≡ Waiting (request_of request)
-waits_so c s request fits e = sym fits.phase ∙ ap (λ (phase : Phase). phase_of (key_of s) phase) e
+waits_so c s request fits e = sym fits.phase ∙ ap phase_of e

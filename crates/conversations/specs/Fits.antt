@@ -1,6 +1,6 @@
 -- When a conversation holds for a talk: what was begun is what the definitions say was begun, and so are the phase, the
 -- start and what the user said.
-use Rattle.std.specs.Prelude.{◌≡◌, ℕ, List, [], ◌∷◌, Bool, false, Option, Some, None, if◌then◌else◌}
+use Rattle.std.specs.Prelude.{◌≡◌, ℕ, List, ◌∷◌, false, Option, Some, None, if◌then◌else◌}
 use Rattle.attr_tuples.specs.declared.attr.Attr.{Attr}
 use Rattle.key_lists.specs.Lists.{KeyList}
 use Rattle.roles.specs.declared.answer.Gave.{Gave}
@@ -17,7 +17,7 @@ use Rattle.talks.specs.Answers.{move_answer, start_answer}
 use Rattle.talks.specs.Calls.{Call, CarriedOut, Sought}
 use Rattle.talks.specs.declared.said.Asking.{Asking}
 use Rattle.talks.specs.Roles.{answers, needs, puts, refuses}
-use Rattle.talks.specs.Standings.{Begun, Standing, begin, finds, key_of, phase_after, question_of, standing, template_of, then_stands, with_move}
+use Rattle.talks.specs.Standings.{Begun, Standing, begin, finds, phase_after, question_of, standing, template_of, then_stands, with_move}
 use Rattle.conversations.specs.declared.begun.Begun.{Begun as Held}
 use Rattle.conversations.specs.declared.conversation.Conversation.{Conversation}
 use Rattle.conversations.specs.declared.opening.Opening.{Opening}
@@ -61,7 +61,7 @@ pub record Carries (c : Conversation) (s : Standing) : Type 0 where
 
 pub record Fits (c : Conversation) (s : Standing) : Type 0 where
   pub carries : Carries c s
-  pub phase : phase_of (key_of s) c.phase ≡ s.phase
+  pub phase : phase_of c.phase ≡ s.phase
   pub asked : IsAsked c.phase (template_of s.begun)
 
 -- it holds for a talk
@@ -127,7 +127,7 @@ Got old bytes = (start : Start) (moves : List Move) → Stands old start moves �
 
 -- the phase that follows where this was begun, and this is the answer where nothing is needed
 abbrev pub MoveTo : Phase → Begun → RpcAnswer → Type 0
-MoveTo phase b answer = phase_of b.key phase ≡ phase_after (needs b.start b.moves) answer
+MoveTo phase b answer = phase_of phase ≡ phase_after (needs b.start b.moves) answer
 
 pub record Becomes (new : Held) (phase : Phase) (b : Begun) (answer : RpcAnswer) : Type 0 where
   pub begun : IsBegun new b

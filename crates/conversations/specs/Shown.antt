@@ -1,10 +1,10 @@
 -- What is shown of a conversation.
-use Rattle.std.specs.Prelude.{ℕ, List, [], Bool, true, false, Option, Some, None}
+use Rattle.std.specs.Prelude.{ℕ, List, Bool, true, false, Option, Some, None}
 use Rattle.wire_base.specs.declared.shape.Shape.{Shape}
 use Rattle.attr_tuples.specs.declared.attr.Attr.{Attr}
 use Rattle.roles.specs.declared.need.Need.{Need}
 use Rattle.roles.specs.declared.need.Need.TheVariants as n
-use Rattle.rpc_file.specs.Answers.{answer_text}
+use Rattle.rpc_file.specs.declared.answer.RpcAnswer.{RpcAnswer}
 use Rattle.talks.specs.Standings.{Phase, Resting, Waiting, Seeking, OnConfirm, OnNeedkey, OnServer, Kept}
 
 -- it has no request and no answer
@@ -57,15 +57,15 @@ has_answer OnNeedkey = false
 has_answer OnServer = false
 has_answer (Kept answer) = true
 
--- the text of that answer
-abbrev pub answer_text_of : Phase → List ℕ
-answer_text_of (Kept answer) = answer_text answer
-answer_text_of Resting = []
-answer_text_of (Waiting request) = []
-answer_text_of Seeking = []
-answer_text_of (OnConfirm serial) = []
-answer_text_of OnNeedkey = []
-answer_text_of OnServer = []
+-- that answer
+abbrev pub answer_in : Phase → Option RpcAnswer
+answer_in (Kept answer) = Some answer
+answer_in Resting = None
+answer_in (Waiting request) = None
+answer_in Seeking = None
+answer_in (OnConfirm serial) = None
+answer_in OnNeedkey = None
+answer_in OnServer = None
 
 -- the template that is asked of a key, if a key is needed
 abbrev pub asked_in : Need → Option (List Attr)

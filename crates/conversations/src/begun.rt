@@ -7,13 +7,13 @@ ghost use Rattle.roles.specs.declared.need.Need.TheVariants.{Nothing};
 ghost use Rattle.roles.specs.Answers.{IsKey};
 ghost use Rattle.roles.specs.Talks.{Call as Move};
 ghost use Rattle.roles.specs.Talks.{found, get, give, heard, roomless, undone, unheard};
-ghost use Rattle.talks.specs.Answers.{attributes, info_answer, move_answer, text_or_none, told_key};
+ghost use Rattle.talks.specs.Answers.{attributes, info_answer, key_attrs, move_answer, text_or_none, told_key};
 ghost use Rattle.talks.specs.Roles.{answers, ends, has_ended, needs, puts};
 ghost use Rattle.talks.specs.Standings.{Begun as Beginning, chosen_for, role_in, template_in, with_move};
 ghost use Rattle.conversations.specs.Fits.{Becomes, IsBegun, MoveTo, Moves};
 ghost use Rattle.conversations.specs.Shown.{asked_in, exchange_in};
 
-use crate::answer::{Answer, answer_info, answer_move};
+use crate::answer::{answer_info, answer_move};
 use crate::machine::{get_message, give_answer, give_key, give_message};
 use crate::phase::{Phase, choose_phase};
 use attr_tuples::{MergeFault, Tuple, merge, value_of};
@@ -34,19 +34,30 @@ pub struct Begun {
 }
 
 impl Begun {
-    // The phase behind a move that was answered so.
-    fn phase_behind(&self, done: RpcAnswer, gave: Gave) -> Phase
+    // The phase behind a move that was answered so. A key that opens nothing is shown so.
+    fn phase_behind(&self, done: RpcAnswer, gave: Gave, shown: Tuple) -> Phase
+        requires { shown ≡ key_attrs self.now.key }
         ensures { (b : Beginning) → IsBegun self.now b
             → MoveTo result b (move_answer done b.key gave) }
     {
-        choose_phase(self.machine.need(), answer_move(done, gave))
+        choose_phase(self.machine.need(), answer_move(done, gave, shown))
+    }
+
+    // A copy of the attributes of the key that was chosen, which are shown where it opens nothing.
+    fn copy_shown(&self, alloc: Global) -> Result<Tuple, NoMemory>
+        ensures { IfOk result (λ shown. shown ≡ key_attrs self.now.key) }
+    {
+        match &self.key {
+            Some(key) => key.tuple().copy(),
+            None => Ok(Tuple::new(alloc)),
+        }
     }
 
     /// The phase behind a start.
     pub fn begin(&self) -> Phase
         ensures { (b : Beginning) → IsBegun self.now b → MoveTo result b RpcAnswer.Ok }
     {
-        choose_phase(self.machine.need(), Answer::Told(RpcAnswer::Ok))
+        choose_phase(self.machine.need(), RpcAnswer::Ok)
     }
 
     /// A message is given.
@@ -54,8 +65,9 @@ impl Begun {
         ensures moves { IfOk result (λ phase. Moves self.old self.new phase (give message.now)) }
         ensures unchanged { OnErr result (self.new ≡ self.old) }
     {
+        let shown = self.copy_shown(alloc)?;
         let gave = give_message(&mut self.machine, alloc, message)?;
-        Ok(self.phase_behind(RpcAnswer::Ok, gave))
+        Ok(self.phase_behind(RpcAnswer::Ok, gave, shown))
     }
 
     /// A message is got.
@@ -66,9 +78,10 @@ impl Begun {
             (answers b.start b.moves get))) }
         ensures unchanged { OnErr result (self.new ≡ self.old) }
     {
+        let shown = self.copy_shown(alloc)?;
         let mut out = Bytes::new(alloc);
         let gave = get_message(&mut self.machine, &mut out)?;
-        Ok(self.phase_behind(RpcAnswer::Got(out), gave))
+        Ok(self.phase_behind(RpcAnswer::Got(out), gave, shown))
     }
 
     /// The key that is needed was found.
@@ -80,10 +93,11 @@ impl Begun {
         ensures unchanged { OnErr result (self.new ≡ self.old) }
     {
         let copy = key.copy()?;
+        let shown = key.tuple().copy()?;
         let told = tell_key(key);
         let gave = give_key(&mut self.machine, alloc, &told, key.password())?;
         self.key = Some(copy);
-        Ok(self.phase_behind(RpcAnswer::Ok, gave))
+        Ok(self.phase_behind(RpcAnswer::Ok, gave, shown))
     }
 
     /// The authentication server answered.
@@ -91,24 +105,23 @@ impl Begun {
         ensures moves { IfOk result (λ phase. Moves self.old self.new phase (heard bytes.now)) }
         ensures unchanged { OnErr result (self.new ≡ self.old) }
     {
+        let shown = self.copy_shown(alloc)?;
         let gave = give_answer(&mut self.machine, alloc, bytes)?;
-        Ok(self.phase_behind(RpcAnswer::Ok, gave))
+        Ok(self.phase_behind(RpcAnswer::Ok, gave, shown))
     }
 
     /// The authentication server wasn't reached. It takes no memory.
-    pub fn hear_nothing(&mut self) -> Phase
-        ensures { Moves self.old self.new result unheard }
+    pub fn hear_nothing(&mut self)
+        ensures { (b : Beginning) → IsBegun self.old b → IsBegun self.new (with_move b unheard) }
     {
-        let gave = self.machine.without_answer();
-        self.phase_behind(RpcAnswer::Ok, gave)
+        self.machine.without_answer();
     }
 
     /// There was no memory for the authentication server's answer. It takes no memory.
-    pub fn lack_room(&mut self) -> Phase
-        ensures { Moves self.old self.new result roomless }
+    pub fn lack_room(&mut self)
+        ensures { (b : Beginning) → IsBegun self.old b → IsBegun self.new (with_move b roomless) }
     {
-        let gave = self.machine.without_room();
-        self.phase_behind(RpcAnswer::Ok, gave)
+        self.machine.without_room();
     }
 
     /// The move that needed a key is taken back. It takes no memory.

@@ -7,27 +7,25 @@ ghost use Rattle.roles.specs.Starts.{fits_start};
 ghost use Rattle.roles.specs.Talks.{Call as Move};
 ghost use Rattle.rpc_file.specs.Requests.{RpcRequest, asks_attributes, asks_info, meant as request_meant, reads, writes};
 ghost use Rattle.talks.specs.Calls as c;
-ghost use Rattle.talks.specs.Calls.{Call};
 ghost use Rattle.talks.specs.Meanings.{meant};
 ghost use Rattle.talks.specs.Roles.{needs, refuses};
 ghost use Rattle.talks.specs.Searches.{found_by};
-ghost use Rattle.talks.specs.Standings.{Begun as Beginning, Standing, Waiting, answered, begin_once, carried_out, finds, key_of, moved, nothing_said, outcome_of, question_of, refused, role_name, sought, standing, start_by, started, taken_back, template_of, then_stands, told_of, with_key, with_move};
+ghost use Rattle.talks.specs.Standings.{Begun as Beginning, Standing, Waiting, answered, begin_once, carried_out, finds, key_of, moved, nothing_said, outcome_of, question_of, refused, role_name, sought, start_by, started, taken_back, template_of, then_stands, told_of, with_key, with_move};
 ghost use Rattle.conversations.specs.Fits.{BothBegun, Carries, Fits, Holds, IsBegun, IsIdle, Keeps, Meets, Performs, PutsBack, Searches, Shows, Stays, Turns, searched};
 ghost use Rattle.conversations.specs.Meanings.{request_of};
-ghost use Rattle.conversations.specs.Shown.{answer_text_of, asked_in, exchange_in, has_answer, has_request, is_resting, is_seeking, waits_for_server};
+ghost use Rattle.conversations.specs.Shown.{answer_in, asked_in, exchange_in, has_answer, has_request, is_resting, is_seeking, waits_for_server};
 
-use crate::answer::{Answer, put_answer};
 use crate::begun::Begun;
 use crate::opening::{Opening, open, read_template};
 use crate::phase::{self, Phase, Stored as Request, store_request};
 use attr_tuples::Tuple;
 use key_ring::{Key, KeyRing};
-use roles::{Machine, Need, Outcome};
+use roles::Outcome;
 use rpc_file::{Request as Written, RpcAnswer};
 use std::alloc::Global;
 use std::mem;
 use talks::{Asking, Found, Said, search_keys};
-use wire_base::{Bytes, List, NoMemory, Shape};
+use wire_base::{List, NoMemory, Shape};
 
 /// A conversation of rpc. It has no Debug, which would print secrets.
 #[derive(Drop)]
@@ -140,17 +138,11 @@ impl Conversation {
         }
     }
 
-    /// Appends the text of the answer that is there; where none is, nothing. After want of memory `out` is as before.
-    pub fn put_answer(&self, out: &mut Bytes) -> Result<(), NoMemory>
-        ensures ok { OnOk result ((talk : List Call) → Holds self.now talk
-            → out.new ≡ out.old ++ answer_text_of (standing talk).phase) }
-        ensures err { OnErr result (out.new ≡ out.old) }
+    /// The answer that is there, which wasn't read yet. It takes no memory.
+    pub fn answer(&self) -> Option<&RpcAnswer>
+        ensures { Shows self.now (λ s. answer_in s.phase) (option_copied result) }
     {
-        match &self.phase {
-            Phase::Kept(answer) => put_answer(answer, self.chosen(), out),
-            Phase::Resting | Phase::Waiting(_) | Phase::Seeking | Phase::OnConfirm(_) => Ok(()),
-            Phase::OnNeedkey(_) | Phase::OnServer => Ok(()),
-        }
+        phase::kept_answer(&self.phase)
     }
 }
 
@@ -287,7 +279,8 @@ impl Conversation {
     {
         if phase::waits_for_server(&self.phase) {
             if let Some(begun) = &mut self.begun {
-                self.phase = begun.hear_nothing();
+                begun.hear_nothing();
+                self.phase = Phase::Kept(RpcAnswer::NoServer);
             }
         }
     }
@@ -298,17 +291,23 @@ impl Conversation {
     {
         if phase::waits_for_server(&self.phase) {
             if let Some(begun) = &mut self.begun {
-                self.phase = begun.lack_room();
+                begun.lack_room();
+                self.phase = Phase::Kept(RpcAnswer::NoRoom);
             }
         }
     }
 
-    /// The answer to the request was read. It takes no memory.
-    pub fn took(&mut self)
-        ensures { Keeps self.old self.new c.Took }
+    /// The answer that is there was read: it is handed out, and there is none any more. It takes no memory.
+    pub fn take_answer(&mut self) -> Option<RpcAnswer>
+        ensures kept { Keeps self.old self.new c.Took }
+        ensures told { Shows self.old (λ s. answer_in s.phase) result }
     {
-        if phase::has_answer(&self.phase) {
-            self.phase = Phase::Resting;
+        match mem::replace(&mut self.phase, Phase::Resting) {
+            Phase::Kept(answer) => Some(answer),
+            other => {
+                self.phase = other;
+                None
+            }
         }
     }
 }
@@ -392,7 +391,7 @@ impl Conversation {
         ensures met { Meets self.old self.new (λ s. answered s answer) }
         ensures same { self.new.begun ≡ self.old.begun }
     {
-        self.phase = Phase::Kept(Answer::Told(answer));
+        self.phase = Phase::Kept(answer);
     }
 
     fn start(&mut self, alloc: Global, text: &[u8], word: [u8; 8]) -> Result<(), NoMemory>
@@ -451,7 +450,7 @@ impl Conversation {
     {
         match &mut self.begun {
             Some(begun) => self.phase = begun.read(alloc)?,
-            None => self.phase = Phase::Kept(Answer::Told(RpcAnswer::NotStarted)),
+            None => self.phase = Phase::Kept(RpcAnswer::NotStarted),
         }
         Ok(())
     }
@@ -463,7 +462,7 @@ impl Conversation {
     {
         match &mut self.begun {
             Some(begun) => self.phase = begun.write(alloc, message)?,
-            None => self.phase = Phase::Kept(Answer::Told(RpcAnswer::NotStarted)),
+            None => self.phase = Phase::Kept(RpcAnswer::NotStarted),
         }
         Ok(())
     }
@@ -476,7 +475,7 @@ impl Conversation {
             Some(begun) => begun.info(),
             None => RpcAnswer::NoInfo,
         };
-        self.phase = Phase::Kept(Answer::Told(answer));
+        self.phase = Phase::Kept(answer);
         Ok(())
     }
 
@@ -489,7 +488,7 @@ impl Conversation {
             Some(begun) => RpcAnswer::Attributes(begun.attributes()?),
             None => RpcAnswer::NotStarted,
         };
-        self.phase = Phase::Kept(Answer::Told(answer));
+        self.phase = Phase::Kept(answer);
         Ok(())
     }
 }
@@ -599,7 +598,7 @@ impl Conversation {
         ensures { Meets self.old self.new (λ s. refused s answer) }
     {
         take_back(self.starting, &mut self.begun);
-        self.phase = Phase::Kept(Answer::Told(answer));
+        self.phase = Phase::Kept(answer);
     }
 
     // The user agrees to the use of a key, or denies it.

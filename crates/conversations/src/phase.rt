@@ -1,15 +1,13 @@
 // What became of the latest request.
-ghost use Rattle.std.specs.Prelude.{◌≡◌, IfOk, Option};
-ghost use Rattle.key_lists.specs.Lists.{KeyEntry};
+ghost use Rattle.std.specs.Prelude.{◌≡◌, IfOk, option_copied};
 ghost use Rattle.rpc_file.specs.Requests.{meant};
 ghost use Rattle.talks.specs.Standings.{phase_after, waits_for_user};
-ghost use Rattle.conversations.specs.Meanings.{answer_of, phase_of, request_of};
-ghost use Rattle.conversations.specs.Shown.{has_answer, has_request, is_resting, is_seeking, waits_for_server};
+ghost use Rattle.conversations.specs.Meanings.{phase_of, request_of};
+ghost use Rattle.conversations.specs.Shown.{answer_in, has_answer, has_request, is_resting, is_seeking, waits_for_server};
 
-use crate::answer::Answer;
 use attr_tuples::Tuple;
 use roles::Need;
-use rpc_file::Request;
+use rpc_file::{Request, RpcAnswer};
 use std::alloc::Global;
 use wire_base::{Bytes, NoMemory};
 
@@ -39,7 +37,7 @@ pub enum Phase {
     /// The authentication server is asked.
     OnServer,
     /// It has this answer, which wasn't read yet.
-    Kept(Answer),
+    Kept(RpcAnswer),
 }
 
 /// A copy of a request.
@@ -56,9 +54,8 @@ pub fn store_request(alloc: Global, request: Request<'_>) -> Result<Stored, NoMe
 }
 
 /// The phase behind a move that is answered so, where nothing more is needed.
-pub fn choose_phase(need: &Need, answer: Answer) -> Phase
-    ensures { (key : Option KeyEntry) → phase_of key result
-        ≡ phase_after need.now (answer_of key answer) }
+pub fn choose_phase(need: &Need, answer: RpcAnswer) -> Phase
+    ensures { phase_of result ≡ phase_after need.now answer }
 {
     match need {
         Need::Nothing => Phase::Kept(answer),
@@ -70,7 +67,7 @@ pub fn choose_phase(need: &Need, answer: Answer) -> Phase
 // ---- tests
 
 pub fn is_resting(phase: &Phase) -> bool
-    ensures { (key : Option KeyEntry) → result ≡ is_resting (phase_of key phase.now) }
+    ensures { result ≡ is_resting (phase_of phase.now) }
 {
     match phase {
         Phase::Resting => true,
@@ -80,7 +77,7 @@ pub fn is_resting(phase: &Phase) -> bool
 }
 
 pub fn has_request(phase: &Phase) -> bool
-    ensures { (key : Option KeyEntry) → result ≡ has_request (phase_of key phase.now) }
+    ensures { result ≡ has_request (phase_of phase.now) }
 {
     match phase {
         Phase::Waiting(_) => true,
@@ -90,7 +87,7 @@ pub fn has_request(phase: &Phase) -> bool
 }
 
 pub fn is_seeking(phase: &Phase) -> bool
-    ensures { (key : Option KeyEntry) → result ≡ is_seeking (phase_of key phase.now) }
+    ensures { result ≡ is_seeking (phase_of phase.now) }
 {
     match phase {
         Phase::Seeking => true,
@@ -100,7 +97,7 @@ pub fn is_seeking(phase: &Phase) -> bool
 }
 
 pub fn waits_for_server(phase: &Phase) -> bool
-    ensures { (key : Option KeyEntry) → result ≡ waits_for_server (phase_of key phase.now) }
+    ensures { result ≡ waits_for_server (phase_of phase.now) }
 {
     match phase {
         Phase::OnServer => true,
@@ -110,7 +107,7 @@ pub fn waits_for_server(phase: &Phase) -> bool
 }
 
 pub fn has_answer(phase: &Phase) -> bool
-    ensures { (key : Option KeyEntry) → result ≡ has_answer (phase_of key phase.now) }
+    ensures { result ≡ has_answer (phase_of phase.now) }
 {
     match phase {
         Phase::Kept(_) => true,
@@ -120,10 +117,23 @@ pub fn has_answer(phase: &Phase) -> bool
 }
 
 pub fn waits_for_user(phase: &Phase) -> bool
-    ensures { (key : Option KeyEntry) → result ≡ waits_for_user (phase_of key phase.now) }
+    ensures { result ≡ waits_for_user (phase_of phase.now) }
 {
     match phase {
         Phase::Seeking | Phase::OnConfirm(_) | Phase::OnNeedkey(_) => true,
         Phase::Resting | Phase::Waiting(_) | Phase::OnServer | Phase::Kept(_) => false,
+    }
+}
+
+// ---- what stands in it
+
+/// The answer that is there.
+pub fn kept_answer(phase: &Phase) -> Option<&RpcAnswer>
+    ensures { option_copied result ≡ answer_in (phase_of phase.now) }
+{
+    match phase {
+        Phase::Kept(answer) => Some(answer),
+        Phase::Resting | Phase::Waiting(_) | Phase::Seeking => None,
+        Phase::OnConfirm(_) | Phase::OnNeedkey(_) | Phase::OnServer => None,
     }
 }

@@ -2,4 +2,5 @@ pub mod StartLemmas
 pub mod TemplateLemmas
 pub mod ValueLemmas
 pub mod UndoLaws
+pub mod ExchangeLaws
 mod Rows

@@ -51,6 +51,12 @@ IsKey Nothing = ⊥
 IsKey (Key template) = Unit {0}
 IsKey (Exchange request shape) = ⊥
 
+-- the authentication server is asked
+abbrev pub IsExchange : Need → Type 0
+IsExchange Nothing = ⊥
+IsExchange (Key template) = ⊥
+IsExchange (Exchange request shape) = Unit {0}
+
 -- where nothing was needed before the latest call, and a key since, the machine stands for the talk before that call
 abbrev pub TakesBack : {M : Type 0} → (M → Start → List Call → Type 0) → (Start → List Call → Need) → M → M → Type 0
 TakesBack stands needs old new = (start : Start) (talk : List Call) (call : Call) → stands old start (call ∷ talk) → needs start talk ≡ Nothing → IsKey (needs start (call ∷ talk)) → stands new start talk

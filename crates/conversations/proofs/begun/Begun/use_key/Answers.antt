@@ -1,6 +1,5 @@
 use Rattle.std.proofs.Common.{Some, option_map, refl, ap}
 use Rattle.std.specs.Borrow.{Bor}
-use Rattle.std.specs.Prelude.{Option}
 use Rattle.wire_base.specs.declared.text.Text.{Text}
 use Rattle.key_lists.specs.Lists.{KeyEntry}
 use Rattle.conversations.proofs.MoveLemmas.{chooses}

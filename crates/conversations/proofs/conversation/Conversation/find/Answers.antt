@@ -1,4 +1,4 @@
-use Rattle.std.proofs.Common.{◌≡◌, ◌∙◌, ap}
+use Rattle.std.proofs.Common.{◌∙◌, ap}
 use Rattle.talks.specs.declared.said.Said.{Said}
 use Rattle.talks.specs.Meanings.{meant}
 use Rattle.talks.specs.Searches.{found_by}

@@ -1,4 +1,4 @@
-use Rattle.std.proofs.Common.{◌≡◌, sym, subst}
+use Rattle.std.proofs.Common.{sym, subst}
 use Rattle.std.specs.Prelude.{Option}
 use Rattle.roles.specs.declared.answer.StartFault.{StartFault}
 use Rattle.talks.specs.Standings.{begin, started}
