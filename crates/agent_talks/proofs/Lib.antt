@@ -5,4 +5,4 @@ pub mod AskLemmas
 pub mod CarryLemmas
 pub mod OtherLemmas
 pub mod SightLemmas
-pub mod Stubs
+pub mod TellLemmas

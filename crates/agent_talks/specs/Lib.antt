@@ -1,3 +1,4 @@
 pub mod Kept
 pub mod Speaks
 pub mod Changes
+pub mod Tells

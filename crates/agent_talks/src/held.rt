@@ -205,21 +205,4 @@ impl Talks {
     {
         self.store_at(alloc, conv, request)
     }
-
-    fn took_at(&mut self, conv: u64)
-        ensures meets { Meets self.old self.new conv c.Took }
-        ensures questions { self.new.questions ≡ self.old.questions }
-    {
-        if let Some(conversation) = self.table.get_mut(&conv) {
-            conversation.took();
-        }
-    }
-
-    /// The answer of a conversation that stands was read. It takes no memory.
-    pub fn took(&mut self, conv: u64)
-        ensures { (done : List Deed) → stands done conv ≡ true → Speak done self.old
-            → Speak (OfTalk conv c.Took ∷ done) self.new }
-    {
-        self.took_at(conv);
-    }
 }

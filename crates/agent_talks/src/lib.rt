@@ -8,7 +8,9 @@ mod held;
 mod question;
 mod sights;
 mod speaker;
+mod tell;
 
 pub use held::Talks;
 pub use question::Question;
 pub use speaker::Speaker;
+pub use tell::Told;

@@ -1,18 +1,20 @@
 -- From what is kept for connections to what deeds say of their replies and of the reads that wait.
-use Rattle.std.proofs.Common.{◌≡◌, ℕ, ◌+◌, ◌≤◌, List, [], ◌∷◌, ◌++◌, length, drop, map, filter, reverse, Bool, true, false, not, cond, eqb, ltb, ◌||◌, ◌==◌, Option, Some, None, refl, sym, ap, subst, ◌∙◌, inl, inr, arith, length-append}
-use Rattle.std.specs.Prelude.{option_map}
+use Rattle.std.proofs.Common.{◌≡◌, ℕ, ◌+◌, ◌≤◌, List, [], ◌∷◌, ◌++◌, length, drop, map, filter, reverse, Bool, true, false, not, cond, eqb, ltb, ◌||◌, ◌&&◌, ◌==◌, Option, Some, None, refl, sym, ap, subst, ◌∙◌, inl, inr, arith, length-append}
+use Rattle.std.specs.Prelude.{find, is_some, option_map}
 use Rattle.std.specs.List.{list_any, filter_map}
 use Rattle.std.proofs.lemmas.Bool.{cases_Bool, eq-eqb, eqb-true, ltb-true, ltb-false, false≢true}
-use Rattle.std.proofs.lemmas.List.{drop_all, drop-drop, drop-append-le, length-reverse, reverse-append, reverse-reverse, map-append}
+use Rattle.std.proofs.lemmas.List.{length-map, drop_all, drop-drop, drop-append-le, length-reverse, reverse-append, reverse-reverse, map-append}
+use Rattle.file_tree.specs.declared.tree.Node.{Node}
 use Rattle.nine_messages.specs.declared.message.RMsg.{RMsg}
 use Rattle.nine_messages.specs.declared.message.RBody.{RBody}
 use Rattle.nine_messages.specs.Messages.{r_frame}
-use Rattle.agent_history.specs.Deeds.{Deed, OfFids, OfKeys, OfReplies, OfConnection, Swept, Halted, Versioned, Clunked, Answered, Awaited, Settled, Flushed, Taken, Hung, was_hung}
+use Rattle.agent_history.specs.Deeds.{Deed, OfFids, OfKeys, OfReplies, OfConnection, OfTalk, Raised, HandedOut, Swept, Halted, Entered, Versioned, Attached, Walked, Opened, Listed, Browsed, KeyDeed, Clunked, Answered, Awaited, Settled, Flushed, Taken, Hung, was_hung}
+use Rattle.talks.specs.Calls.{Call}
 use Rattle.agent_history.specs.Replies as told
 use Rattle.agent_history.specs.Replies.{Wait, waits, waits_under, waits_for, has_settled, replies, taken, untaken, fid_given_up, reply_in}
 use Rattle.mailboxes.specs.declared.mailboxes.Mailboxes.{Mailboxes}
-use Rattle.mailboxes.specs.Mails.{Pending, Mail, is_unsettled, first_of, settled_by, settle_tag, settle_fid, has_tag, has_fid, pushed, popped, awaited, with_settled, with_fid_settled, flushed, without_waits, swept, no_mail}
-use Rattle.mailboxes.specs.Deliveries.{mail_in, mail_at, under, pending, given_up, Keeps, Delivers, Becomes}
+use Rattle.mailboxes.specs.Mails.{Pending, Mail, is_unsettled, first_of, settled_by, settle_tag, settle_fid, has_tag, has_fid, is_reader, first_reader, pushed, popped, awaited, with_settled, with_fid_settled, flushed, without_waits, swept, no_mail}
+use Rattle.mailboxes.specs.Deliveries.{mail_in, mail_at, under, pending, read_of, given_up, Keeps, Delivers, Becomes}
 
 same : (n : ℕ) → eqb n n ≡ true
 same n = eq-eqb n n refl
@@ -68,6 +70,9 @@ taken_given [] conn = omega arith
 taken_given (OfFids at d ∷ done) conn = taken_given done conn
 taken_given (OfKeys at d ∷ done) conn = taken_given done conn
 taken_given (OfConnection at d ∷ done) conn = taken_given done conn
+taken_given (OfTalk conv call ∷ done) conn = taken_given done conn
+taken_given (Raised conv ∷ done) conn = taken_given done conn
+taken_given (HandedOut ∷ done) conn = taken_given done conn
 taken_given (Halted ∷ done) conn = taken_given done conn
 taken_given (Swept ∷ done) conn = more_left (taken done conn) (reverse (filter_map reply_in (waits done conn))) (replies done conn) (taken_given done conn)
 taken_given (OfReplies at (Awaited tag fid count) ∷ done) conn = taken_given done conn
@@ -249,3 +254,69 @@ swept_in (Some mail) = refl
 
 pub tag_waits : (done : List Deed) (m : Mailboxes) (conn tag : ℕ) → was_hung done conn ≡ false → Delivers done m → has_tag tag (mail_at m conn).waits ≡ waits_under done conn tag
 tag_waits done m conn tag live h = ap (has_tag tag) (h.mails conn live).waits ∙ tags_pending tag (waits done conn)
+
+-- ---- reads of a fid
+
+pub fid_waits : (done : List Deed) (m : Mailboxes) (conn fid : ℕ) → was_hung done conn ≡ false → Delivers done m → has_fid fid (mail_at m conn).waits ≡ waits_for done conn fid
+fid_waits done m conn fid live h = ap (has_fid fid) (h.mails conn live).waits ∙ fids_pending fid (waits done conn)
+
+pub waits_counted : (done : List Deed) (m : Mailboxes) (conn : ℕ) → was_hung done conn ≡ false → Delivers done m → length (mail_at m conn).waits ≡ length (waits done conn)
+waits_counted done m conn live h = ap (λ (ps : List Pending). length ps) (h.mails conn live).waits ∙ length-map (waits done conn) pending
+
+unsettled_pending : (tag : ℕ) (o : Option RBody) → is_some (option_map (λ body. r_frame (under tag body)) o) ≡ is_some o
+unsettled_pending tag None = refl
+unsettled_pending tag (Some body) = refl
+
+abbrev is_reader_of : ℕ → Wait → Bool
+is_reader_of fid wait = wait.fid == fid && told.is_unsettled wait
+
+reader_more : (fid : ℕ) (w : Wait) (ws : List Wait) (b : Bool) → is_reader_of fid w ≡ b → option_map read_of (find (is_reader_of fid) ws) ≡ first_reader fid (map pending ws)
+    → option_map read_of (find (is_reader_of fid) (w ∷ ws)) ≡ first_reader fid (map pending (w ∷ ws))
+reader_more fid w ws b e more = here b e
+  where
+    same_test : is_reader fid (pending w) ≡ is_reader_of fid w
+    same_test = ap (λ (s : Bool). (w.fid == fid) && not s) (unsettled_pending w.tag w.reply)
+
+    here : (b : Bool) → is_reader_of fid w ≡ b → option_map read_of (find (is_reader_of fid) (w ∷ ws)) ≡ first_reader fid (map pending (w ∷ ws))
+    here true e = rw (same_test, e) refl
+    here false e = rw (same_test, e) more
+
+reader_pending : (fid : ℕ) (ws : List Wait) → option_map read_of (find (is_reader_of fid) ws) ≡ first_reader fid (map pending ws)
+reader_pending fid [] = refl
+reader_pending fid (w ∷ ws) = reader_more fid w ws (is_reader_of fid w) refl (reader_pending fid ws)
+
+pub reader_waits : (done : List Deed) (m : Mailboxes) (conn fid : ℕ) → was_hung done conn ≡ false → Delivers done m
+    → option_map read_of (find (λ wait. wait.fid == fid && told.is_unsettled wait) (waits done conn)) ≡ first_reader fid (mail_at m conn).waits
+reader_waits done m conn fid live h = reader_pending fid (waits done conn) ∙ sym (ap (first_reader fid) (h.mails conn live).waits)
+
+-- ---- deeds that concern no reply and no read that waits
+
+pub talk_delivers : (done : List Deed) (m : Mailboxes) (conv : ℕ) (call : Call) → Delivers done m → Delivers (OfTalk conv call ∷ done) m
+talk_delivers done m conv call h = record { mails = λ conn live. record { replies = (h.mails conn live).replies; waits = (h.mails conn live).waits }; settled = h.settled }
+
+pub raised_delivers : (done : List Deed) (m : Mailboxes) (conv : ℕ) → Delivers done m → Delivers (Raised conv ∷ done) m
+raised_delivers done m conv h = record { mails = λ conn live. record { replies = (h.mails conn live).replies; waits = (h.mails conn live).waits }; settled = h.settled }
+
+pub handed_delivers : (done : List Deed) (m : Mailboxes) → Delivers done m → Delivers (HandedOut ∷ done) m
+handed_delivers done m h = record { mails = λ conn live. record { replies = (h.mails conn live).replies; waits = (h.mails conn live).waits }; settled = h.settled }
+
+pub keys_delivers : (done : List Deed) (m : Mailboxes) (conn : ℕ) (deed : KeyDeed) → Delivers done m → Delivers (OfKeys conn deed ∷ done) m
+keys_delivers done m conn deed h = record { mails = λ q live. record { replies = (h.mails q live).replies; waits = (h.mails q live).waits }; settled = h.settled }
+
+pub entered_delivers : (done : List Deed) (m : Mailboxes) (conn : ℕ) → Delivers done m → Delivers (OfConnection conn Entered ∷ done) m
+entered_delivers done m conn h = record { mails = λ q live. record { replies = (h.mails q live).replies; waits = (h.mails q live).waits }; settled = h.settled }
+
+pub attached_delivers : (done : List Deed) (m : Mailboxes) (conn fid : ℕ) → Delivers done m → Delivers (OfFids conn (Attached fid) ∷ done) m
+attached_delivers done m conn fid h = record { mails = λ q live. record { replies = (h.mails q live).replies; waits = (h.mails q live).waits }; settled = h.settled }
+
+pub walked_delivers : (done : List Deed) (m : Mailboxes) (conn fid : ℕ) (node : Node) → Delivers done m → Delivers (OfFids conn (Walked fid node) ∷ done) m
+walked_delivers done m conn fid node h = record { mails = λ q live. record { replies = (h.mails q live).replies; waits = (h.mails q live).waits }; settled = h.settled }
+
+pub opened_delivers : (done : List Deed) (m : Mailboxes) (conn fid mode : ℕ) → Delivers done m → Delivers (OfFids conn (Opened fid mode) ∷ done) m
+opened_delivers done m conn fid mode h = record { mails = λ q live. record { replies = (h.mails q live).replies; waits = (h.mails q live).waits }; settled = h.settled }
+
+pub listed_delivers : (done : List Deed) (m : Mailboxes) (conn fid : ℕ) → Delivers done m → Delivers (OfFids conn (Listed fid) ∷ done) m
+listed_delivers done m conn fid h = record { mails = λ q live. record { replies = (h.mails q live).replies; waits = (h.mails q live).waits }; settled = h.settled }
+
+pub browsed_delivers : (done : List Deed) (m : Mailboxes) (conn fid next : ℕ) → Delivers done m → Delivers (OfFids conn (Browsed fid next) ∷ done) m
+browsed_delivers done m conn fid next h = record { mails = λ q live. record { replies = (h.mails q live).replies; waits = (h.mails q live).waits }; settled = h.settled }

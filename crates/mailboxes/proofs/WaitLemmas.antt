@@ -1,13 +1,14 @@
 -- Lists of reads that wait, as the code keeps them and as what they stand for.
-use Rattle.std.proofs.Common.{◌≡◌, ℕ, suc, zero, ◌+◌, ◌<◌, ◌≤◌, List, [], ◌∷◌, ◌++◌, length, get_or, map, filter, Bool, true, false, not, eqb, ◌||◌, ◌==◌, Option, Some, None, refl, sym, ap, ◌∙◌, inl, inr, arith}
+use Rattle.std.proofs.Common.{◌≡◌, ℕ, suc, zero, ◌+◌, ◌<◌, ◌≤◌, List, [], ◌∷◌, ◌++◌, length, get_or, map, filter, Bool, true, false, cond, not, eqb, ◌||◌, ◌==◌, Option, Some, None, refl, sym, ap, ◌∙◌, inl, inr, arith}
 use Rattle.std.specs.Prelude.{is_some, option_map, position, slice_set}
 use Rattle.std.specs.List.{list_any, filter_map, position_or_len, remove}
 use Rattle.std.specs.Option.{option_to_list}
 use Rattle.std.proofs.lemmas.Bool.{cases_Bool, cases_lt, le-ltb, lt-ltb}
 use Rattle.mailboxes.specs.declared.wait.Wait.{Wait}
-use Rattle.mailboxes.specs.Mails.{Pending, is_unsettled, settled_by, settle_tag, has_tag, has_fid}
+use Rattle.mailboxes.specs.Mails.{Pending, is_unsettled, is_reader, first_reader, read_of, settled_by, settle_tag, has_tag, has_fid}
+use Rattle.mailboxes.specs.declared.wait.Read.{Read}
 use Rattle.mailboxes.specs.declared.reply.Reply.{Reply}
-use Rattle.mailboxes.specs.Kept.{pending_of, reply_bytes}
+use Rattle.mailboxes.specs.Kept.{pending_of, reader_in, reply_bytes}
 
 pub tags_of : (tag : ℕ) (waits : List Wait) → has_tag tag (map pending_of waits) ≡ list_any (λ wait. wait.tag == tag) waits
 tags_of tag [] = refl
@@ -16,6 +17,10 @@ tags_of tag (wait ∷ waits) = ap (λ (b : Bool). (wait.tag == tag) || b) (tags_
 pub fids_of : (fid : ℕ) (waits : List Wait) → has_fid fid (map pending_of waits) ≡ list_any (λ wait. wait.fid == fid) waits
 fids_of fid [] = refl
 fids_of fid (wait ∷ waits) = ap (λ (b : Bool). (wait.fid == fid) || b) (fids_of fid waits)
+
+pub reader_of : (fid : ℕ) (waits : List Wait) → first_reader fid (map pending_of waits) ≡ reader_in fid waits
+reader_of fid [] = refl
+reader_of fid (wait ∷ waits) = ap (λ (o : Option Read). cond (is_reader fid (pending_of wait)) (Some (read_of (pending_of wait))) o) (reader_of fid waits)
 
 pub flushed_of : (tag : ℕ) (waits : List Wait) → map pending_of (filter (λ wait. not (wait.tag == tag)) waits) ≡ filter (λ wait. not (wait.tag == tag)) (map pending_of waits)
 flushed_of tag [] = refl

@@ -8,6 +8,7 @@ use Rattle.nine_messages.specs.Messages.{r_frame}
 use Rattle.agent_history.specs.Deeds.{Deed, was_hung}
 use Rattle.agent_history.specs.Replies.{Wait, fid_given_up, waits, untaken, has_settled}
 use Rattle.mailboxes.specs.declared.mailboxes.Mailboxes.{Mailboxes}
+use Rattle.mailboxes.specs.declared.wait.Read.{Read}
 use Rattle.mailboxes.specs.Mails.{Pending, Mail, no_mail}
 
 -- what is kept for a connection
@@ -32,6 +33,10 @@ under tag body = record { tag = tag; body = body }
 -- a read that waits, with the frame of its reply
 abbrev pub pending : Wait → Pending
 pending wait = record { tag = wait.tag; fid = wait.fid; count = wait.count; reply = option_map (λ body. r_frame (under wait.tag body)) wait.reply }
+
+-- a read that waits, as it came
+abbrev pub read_of : Wait → Read
+read_of wait = record { tag = wait.tag; fid = wait.fid; count = wait.count }
 
 -- the frame that a read is told whose fid is given up, by its tag
 abbrev pub given_up : ℕ → List ℕ

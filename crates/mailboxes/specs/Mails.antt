@@ -1,7 +1,8 @@
 -- What is kept of the replies of one connection, and how it changes: the frames that weren't taken yet, and the reads that
 -- wait for one. After section 5 of the Plan 9 manual (intro, read, flush, clunk).
-use Rattle.std.specs.Prelude.{ℕ, List, [], ◌∷◌, ◌++◌, map, filter, drop, Bool, true, false, not, ◌==◌, Option, Some, None, is_some, if◌then◌else◌}
+use Rattle.std.specs.Prelude.{ℕ, List, [], ◌∷◌, ◌++◌, map, filter, drop, Bool, true, false, not, ◌&&◌, ◌==◌, Option, Some, None, is_some, if◌then◌else◌}
 use Rattle.std.specs.List.{list_any, filter_map}
+use Rattle.mailboxes.specs.declared.wait.Read.{Read}
 
 -- a read that waits: its tag, its fid, how many bytes its reply may hold, and the frame of its reply once it is settled
 pub record Pending : Type 0 where
@@ -51,6 +52,17 @@ has_tag tag waits = list_any (λ wait. wait.tag == tag) waits
 
 abbrev pub has_fid : ℕ → List Pending → Bool
 has_fid fid waits = list_any (λ wait. wait.fid == fid) waits
+
+-- the first that is one of a fid and isn't settled
+abbrev pub is_reader : ℕ → Pending → Bool
+is_reader fid wait = wait.fid == fid && is_unsettled wait
+
+abbrev pub read_of : Pending → Read
+read_of wait = record { tag = wait.tag; fid = wait.fid; count = wait.count }
+
+abbrev pub first_reader : ℕ → List Pending → Option Read
+first_reader fid [] = None
+first_reader fid (wait ∷ more) = if is_reader fid wait then Some (read_of wait) else first_reader fid more
 
 -- ---- changes
 

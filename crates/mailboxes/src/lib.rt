@@ -9,5 +9,6 @@ mod reply;
 mod tests;
 mod wait;
 
-pub use mailboxes::{Mailboxes, Read};
-pub use reply::{ErrorText, Reply};
+pub use mailboxes::Mailboxes;
+pub use reply::{ErrorText, Reply, ToldAnswer};
+pub use wait::Read;

@@ -1,6 +1,8 @@
 // The replies and the waiting reads of one connection.
 use crate::reply::Reply;
-use crate::wait::{Wait, flush_tag, has_fid, has_tag, settle_fid, settle_tag, sweep};
+use crate::wait::{
+    Read, Wait, find_reader, flush_tag, has_fid, has_tag, settle_fid, settle_tag, sweep,
+};
 use std::alloc::Global;
 use std::collections::VecDeque;
 use std::marker::Model;
@@ -37,7 +39,7 @@ impl Model for Mailbox {
 
 impl Mailbox {
     ghost use Rattle.std.specs.Prelude.{◌≡◌, ◌++◌, [], ◌∷◌, drop, filter, map, not, true, OnOk, OnErr, IfSome, IfNone, ◌<◌, length};
-    ghost use Rattle.mailboxes.specs.Mails.{Mail, no_mail, with_room, pushed, popped, awaited, with_settled, with_fid_settled, flushed, without_waits, swept, has_fid, has_tag};
+    ghost use Rattle.mailboxes.specs.Mails.{Mail, no_mail, with_room, pushed, popped, awaited, with_settled, with_fid_settled, flushed, without_waits, swept, first_reader, has_fid, has_tag};
     ghost use Rattle.mailboxes.specs.Kept.{error_frame, reply_bytes};
 
     /// No replies, and no reads that wait. It takes no memory.
@@ -89,7 +91,7 @@ impl Mailbox {
     }
 
     /// A read of the fid waits from now on, whose reply may hold so many bytes.
-    pub fn wait(&mut self, tag: u16, fid: u32, count: u32) -> Result<(), NoMemory>
+    pub fn wait(&mut self, tag: u16, fid: u32, count: u16) -> Result<(), NoMemory>
         ensures ok { OnOk result (self.new ≡ awaited tag fid count self.old) }
         ensures err { OnErr result (self.new ≡ self.old) }
     {
@@ -115,6 +117,20 @@ impl Mailbox {
         ensures { result ≡ has_fid fid self.now.waits }
     {
         has_fid(&self.waits, fid)
+    }
+
+    /// The read that waits for the fid and isn't settled, if one does: the first.
+    pub fn reader(&self, fid: u32) -> Option<Read>
+        ensures { result ≡ first_reader fid self.now.waits }
+    {
+        find_reader(&self.waits, fid)
+    }
+
+    /// How many reads wait.
+    pub fn count_waits(&self) -> usize
+        ensures { result ≡ length self.now.waits }
+    {
+        self.waits.len()
     }
 
     /// The first read that waits under the tag has this reply; whether there is one. It takes no memory.

@@ -1,20 +1,13 @@
 // The mailboxes of all connections, by their numbers.
 use crate::mailbox::Mailbox;
 use crate::reply::Reply;
+use crate::wait::Read;
 use std::alloc::Global;
 use std::collections::BTreeMap;
 use wire_base::NoMemory;
 
 /// What a read is told whose fid is given up while it waits.
 const FID_GIVEN_UP: &[u8; 11] = b"unknown fid";
-
-/// A read that comes to wait: its tag, its fid, and how many bytes its reply may hold.
-#[derive(Clone, Copy, Debug, PartialEq, Eq)]
-pub struct Read {
-    pub tag: u16,
-    pub fid: u32,
-    pub count: u32,
-}
 
 /// The replies that weren't taken yet and the reads that wait, of each connection. A connection that nothing is kept for
 /// has none.
@@ -25,13 +18,13 @@ pub struct Mailboxes {
 }
 
 impl Mailboxes {
-    ghost use Rattle.std.specs.Prelude.{◌≡◌, ◌∷◌, ◌||◌, [], ℕ, List, Option, false, true, drop, map, IsOk, IfNone, IfSome, OnErr, OnOk};
+    ghost use Rattle.std.specs.Prelude.{◌≡◌, ◌∷◌, ◌||◌, ◌==◌, ◌&&◌, [], ℕ, List, Option, false, true, drop, find, length, map, option_map, IsOk, IfNone, IfSome, OnErr, OnOk};
     ghost use Rattle.nine_messages.specs.declared.message.RBody.{RBody};
     ghost use Rattle.nine_messages.specs.Messages.{r_frame};
     ghost use Rattle.agent_history.specs.Deeds.{Deed, OfFids, OfReplies, OfConnection, Versioned, Clunked, Answered, Awaited, Settled, Flushed, Hung, Taken, was_hung};
-    ghost use Rattle.agent_history.specs.Replies.{swept, waits_under};
+    ghost use Rattle.agent_history.specs.Replies.{is_unsettled, swept, waits, waits_for, waits_under};
     ghost use Rattle.mailboxes.specs.Kept.{reply_bytes};
-    ghost use Rattle.mailboxes.specs.Deliveries.{Becomes, Delivers, KeepsNone, SameMail, SameRoom, given_up, has_room, mail_at, replies_at, under};
+    ghost use Rattle.mailboxes.specs.Deliveries.{Becomes, Delivers, KeepsNone, SameMail, SameRoom, given_up, has_room, mail_at, read_of, replies_at, under};
     ghost use Rattle.mailboxes.specs.Mails as mails;
 
     /// No replies, and no reads that wait. It takes no memory.
@@ -75,9 +68,12 @@ impl Mailboxes {
     /// Puts the reply to a request of a connection last. It takes no memory.
     pub fn push(&mut self, conn: u64, reply: Reply)
         requires { has_room self.old conn ≡ true }
-        ensures { (done : List Deed) (tag : ℕ) (body : RBody)
+        ensures delivers { (done : List Deed) (tag : ℕ) (body : RBody)
             → reply_bytes reply ≡ r_frame (under tag body) → Delivers done self.old
             → Delivers (OfReplies conn (Answered tag body) ∷ done) self.new }
+        ensures spent { has_room self.new conn ≡ false }
+        ensures room { (other : ℕ) → (conn ≡ other → ⊥)
+            → has_room self.new other ≡ has_room self.old other }
     {
         self.push_at(conn, reply);
     }
@@ -126,11 +122,61 @@ impl Mailboxes {
         }
     }
 
+    /// Some read of the connection waits for the fid.
+    pub fn has_fid(&self, conn: u64, fid: u32) -> bool
+        ensures { (done : List Deed) → was_hung done conn ≡ false → Delivers done self.now
+            → result ≡ waits_for done conn fid }
+    {
+        self.has_fid_at(conn, fid)
+    }
+
+    fn has_fid_at(&self, conn: u64, fid: u32) -> bool
+        ensures { result ≡ mails.has_fid fid (mail_at self.now conn).waits }
+    {
+        match self.boxes.get(&conn) {
+            Some(mailbox) => mailbox.has_fid(fid),
+            None => false,
+        }
+    }
+
+    /// How many reads of the connection wait.
+    pub fn count_waits(&self, conn: u64) -> usize
+        ensures { (done : List Deed) → was_hung done conn ≡ false → Delivers done self.now
+            → result ≡ length (waits done conn) }
+    {
+        self.count_waits_at(conn)
+    }
+
+    fn count_waits_at(&self, conn: u64) -> usize
+        ensures { result ≡ length (mail_at self.now conn).waits }
+    {
+        match self.boxes.get(&conn) {
+            Some(mailbox) => mailbox.count_waits(),
+            None => 0,
+        }
+    }
+
+    /// The read that waits for a fid of a connection and isn't settled, if one does: the first.
+    pub fn reader(&self, conn: u64, fid: u32) -> Option<Read>
+        ensures { (done : List Deed) → was_hung done conn ≡ false → Delivers done self.now
+            → option_map read_of (find (λ wait. wait.fid == fid && is_unsettled wait)
+            (waits done conn)) ≡ result }
+    {
+        self.reader_at(conn, fid)
+    }
+
+    fn reader_at(&self, conn: u64, fid: u32) -> Option<Read>
+        ensures { result ≡ mails.first_reader fid (mail_at self.now conn).waits }
+    {
+        self.boxes.get(&conn)?.reader(fid)
+    }
+
     fn wait_at(&mut self, alloc: Global, conn: u64, read: Read) -> Result<(), NoMemory>
         ensures ok { OnOk result (Becomes self.old self.new conn
             (mails.awaited read.tag read.fid read.count (mail_at self.old conn))) }
         ensures settled { self.new.settled ≡ self.old.settled }
         ensures same { OnErr result (SameMail self.old self.new) }
+        ensures room { SameRoom self.old self.new }
     {
         if let Some(mailbox) = self.boxes.get_mut(&conn) {
             return mailbox.wait(read.tag, read.fid, read.count);
@@ -146,6 +192,7 @@ impl Mailboxes {
         ensures ok { OnOk result ((done : List Deed) → Delivers done self.old
             → Delivers (OfReplies conn (Awaited read.tag read.fid read.count) ∷ done) self.new) }
         ensures same { OnErr result (SameMail self.old self.new) }
+        ensures room { SameRoom self.old self.new }
     {
         self.wait_at(alloc, conn, read)
     }
@@ -164,9 +211,10 @@ impl Mailboxes {
 
     /// The read of a connection that waits under the tag has this reply. It takes no memory.
     pub fn settle(&mut self, conn: u64, tag: u16, reply: Reply)
-        ensures { (done : List Deed) (body : RBody) → was_hung done conn ≡ false
+        ensures delivers { (done : List Deed) (body : RBody) → was_hung done conn ≡ false
             → reply_bytes reply ≡ r_frame (under tag body) → Delivers done self.old
             → Delivers (OfReplies conn (Settled tag body) ∷ done) self.new }
+        ensures room { SameRoom self.old self.new }
     {
         self.settle_at(conn, tag, reply);
     }
@@ -261,7 +309,9 @@ impl Mailboxes {
     /// The last of an event: the replies to the reads that it settled stand behind the others of their connections, in the
     /// order in which the reads came. It takes no memory.
     pub fn sweep(&mut self)
-        ensures { (done : List Deed) → Delivers done self.old → Delivers (swept done) self.new }
+        ensures delivers { (done : List Deed) → Delivers done self.old
+            → Delivers (swept done) self.new }
+        ensures room { SameRoom self.old self.new }
     {
         if self.settled {
             self.sweep_boxes();

@@ -1,5 +1,7 @@
 // A reply that wasn't taken yet.
-use nine_codec::put_error;
+use nine_codec::{put_error, put_read};
+use rpc_file::{RpcAnswer, print_answer};
+use std::alloc::Global;
 use std::marker::Model;
 use wire_base::{Bytes, NoMemory};
 
@@ -37,11 +39,56 @@ impl ErrorText {
     }
 }
 
-/// A reply that wasn't taken yet. A refusal takes no memory before it is taken.
+/// An answer of a conversation, whose text a reply holds: it has fewer than 65536 bytes, and is printed when the reply is
+/// taken. It has no Debug, which would print secrets.
+#[derive(Drop)]
+pub struct ToldAnswer {
+    answer: RpcAnswer,
+    alloc: Global,
+}
+
+impl Model for ToldAnswer {
+    ghost use Rattle.std.specs.Prelude.{◌<◌, ◌^◌, length};
+    ghost use Rattle.rpc_file.specs.Answers.{answer_text};
+    ghost use Rattle.rpc_file.specs.declared.answer.RpcAnswer.{RpcAnswer};
+
+    ghost Value = { RpcAnswer };
+
+    ghost view = { λ t. t.answer };
+
+    ghost invariant = { λ t. length (answer_text t.answer) < 2 ^ 16 };
+}
+
+impl ToldAnswer {
+    ghost use Rattle.std.specs.Prelude.{◌≡◌, ◌<◌, ◌^◌, ◌++◌, length, OnOk, OnErr};
+    ghost use Rattle.rpc_file.specs.Answers.{answer_text};
+    ghost use Rattle.mailboxes.specs.Kept.{answer_frame};
+
+    /// It takes no memory; what printing takes later comes from this allocator.
+    pub fn new(alloc: Global, answer: RpcAnswer) -> ToldAnswer
+        requires { length (answer_text answer) < 2 ^ 16 }
+        ensures { result ≡ answer }
+    {
+        ToldAnswer { answer, alloc }
+    }
+
+    // Appends the frame that tells it under the tag.
+    fn put(&self, tag: u16, out: &mut Bytes) -> Result<(), NoMemory>
+        ensures ok { OnOk result (out.new ≡ out.old ++ answer_frame self.now tag) }
+        ensures err { OnErr result (out.new ≡ out.old) }
+    {
+        let mut text = Bytes::new(self.alloc);
+        print_answer(&self.answer, &mut text)?;
+        put_read(tag, text.as_slice(), out)
+    }
+}
+
+/// A reply that wasn't taken yet. A refusal and an answer take no memory before they are taken.
 #[derive(Drop)]
 pub enum Reply {
     Spelled(Bytes),
     Refused { tag: u16, text: ErrorText },
+    Answer { tag: u16, answer: ToldAnswer },
 }
 
 impl Reply {
@@ -56,6 +103,7 @@ impl Reply {
         match self {
             Reply::Spelled(bytes) => out.append(bytes.as_slice()),
             Reply::Refused { tag, text } => put_error(*tag, text.bytes(), out),
+            Reply::Answer { tag, answer } => answer.put(*tag, out),
         }
     }
 }

@@ -1,6 +1,7 @@
 // The few calls that no request of the agent makes yet, and the order of replies.
-use crate::{ErrorText, Mailboxes, Read, Reply};
+use crate::{ErrorText, Mailboxes, Read, Reply, ToldAnswer};
 use nine_codec::put_flush;
+use rpc_file::{RpcAnswer, answer_fits};
 use std::alloc::Global;
 use std::process::Abort;
 use std::test::Fail;
@@ -98,5 +99,56 @@ fn reads_are_given_up(rt: HostRuntime) -> Result<(), Fail> {
     mailboxes.wait(alloc, 1, WAITED_FOR)?;
     mailboxes.leave(1);
     assert!(rt; !mailboxes.has_tag(1, 5));
+    Ok(())
+}
+
+#[test]
+fn the_reader_of_a_fid_is_the_first_read_that_is_not_settled(rt: HostRuntime) -> Result<(), Fail> {
+    let alloc = rt.alloc();
+    let second = Read {
+        tag: 6,
+        fid: 7,
+        count: 50,
+    };
+    let mut mailboxes = Mailboxes::new(alloc);
+    mailboxes.wait(alloc, 1, WAITED_FOR)?;
+    mailboxes.wait(alloc, 1, second)?;
+    assert_eq!(rt; mailboxes.reader(1, 7), Some(WAITED_FOR));
+    assert_eq!(rt; mailboxes.reader(1, 8), None);
+    assert_eq!(rt; mailboxes.reader(2, 7), None);
+    mailboxes.settle(1, 5, flush_reply(alloc, 5)?);
+    assert_eq!(rt; mailboxes.reader(1, 7), Some(second));
+    assert!(rt; mailboxes.has_fid(1, 7));
+    assert!(rt; !mailboxes.has_fid(1, 8));
+    assert!(rt; !mailboxes.has_fid(2, 7));
+    assert_eq!(rt; mailboxes.count_waits(1), 2);
+    assert_eq!(rt; mailboxes.count_waits(2), 0);
+    mailboxes.sweep();
+    assert_eq!(rt; mailboxes.count_waits(1), 1);
+    Ok(())
+}
+
+fn told(alloc: Global, answer: RpcAnswer) -> Result<ToldAnswer, Fail> {
+    if !answer_fits(&answer, 100) {
+        return Err("too long".into());
+    }
+    Ok(ToldAnswer::new(alloc, answer))
+}
+
+#[test]
+fn an_answer_is_printed_when_it_is_taken(rt: HostRuntime) -> Result<(), Fail> {
+    let alloc = rt.alloc();
+    let mut mailboxes = Mailboxes::new(alloc);
+    mailboxes.wait(alloc, 1, WAITED_FOR)?;
+    let answer = told(alloc, RpcAnswer::TooSmall(141))?;
+    mailboxes.settle(1, 5, Reply::Answer { tag: 5, answer });
+    mailboxes.sweep();
+    let mut frame = Bytes::new(alloc);
+    match mailboxes.front(1) {
+        Some(reply) => reply.put(&mut frame)?,
+        None => return Err("no reply".into()),
+    }
+    let wanted = b"\x17\x00\x00\x00\x75\x05\x00\x0c\x00\x00\x00toosmall 141".as_slice();
+    assert_eq!(rt; frame.as_slice(), wanted);
     Ok(())
 }

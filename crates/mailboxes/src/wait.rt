@@ -4,18 +4,26 @@ ghost use Rattle.std.specs.List.{filter_map, list_any, remove};
 ghost use Rattle.std.specs.Option.{option_to_list};
 ghost use Rattle.std.specs.Vec.{vec_len};
 ghost use Rattle.std.specs.VecDeque.{deque_len, deque_capacity};
-ghost use Rattle.mailboxes.specs.Mails.{no_wait, is_unsettled, settled_by, settle_tag, settle_fid, has_tag, has_fid};
-ghost use Rattle.mailboxes.specs.Kept.{reply_bytes, pending_of, error_frame};
+ghost use Rattle.mailboxes.specs.Mails.{no_wait, is_unsettled, settled_by, settle_tag, settle_fid, has_tag, has_fid, is_reader, first_reader};
+ghost use Rattle.mailboxes.specs.Kept.{reply_bytes, pending_of, error_frame, reader_in};
 
 use crate::reply::{ErrorText, Reply};
 use std::collections::VecDeque;
+
+/// A read that comes to wait: its tag, its fid, and how many bytes its reply may hold, which no message exceeds.
+#[derive(Clone, Copy, Debug, PartialEq, Eq)]
+pub struct Read {
+    pub tag: u16,
+    pub fid: u32,
+    pub count: u16,
+}
 
 /// A read that waits, and its reply once it is settled.
 #[derive(Drop)]
 pub struct Wait {
     pub tag: u16,
     pub fid: u32,
-    pub count: u32,
+    pub count: u16,
     pub reply: Option<Reply>,
 }
 
@@ -27,6 +35,14 @@ impl Wait {
         if self.reply.is_none() {
             self.reply = Some(reply);
         }
+    }
+
+    // It waits for the fid and isn't settled.
+    #[tactic(auto, using(crate::proofs::WaitLemmas::reply_some))]
+    fn is_reader(&self, fid: u32) -> bool
+        ensures { result ≡ is_reader fid (pending_of self.now) }
+    {
+        self.fid == fid && self.reply.is_none()
     }
 
     // It is refused by the text, where it waits for the fid.
@@ -103,6 +119,29 @@ fn any_has_fid(waits: &[Wait], fid: u32) -> bool
     ensures { result ≡ list_any (λ wait. wait.fid == fid) waits.now }
 {
     waits.iter().any(|wait| wait.fid == fid)
+}
+
+/// The read that waits for the fid and isn't settled, if one does: the first.
+#[tactic(auto, using(crate::proofs::WaitLemmas::reader_of))]
+pub(crate) fn find_reader(waits: &[Wait], fid: u32) -> Option<Read>
+    ensures { result ≡ first_reader fid (map pending_of waits.now) }
+{
+    find_reader_in(waits, fid)
+}
+
+fn find_reader_in(waits: &[Wait], fid: u32) -> Option<Read>
+    ensures { result ≡ reader_in fid waits.now }
+{
+    for wait in waits {
+        if wait.is_reader(fid) {
+            return Some(Read {
+                tag: wait.tag,
+                fid: wait.fid,
+                count: wait.count,
+            });
+        }
+    }
+    None
 }
 
 /// The reads that wait under the tag are dropped.

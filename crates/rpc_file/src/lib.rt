@@ -5,9 +5,11 @@
 mod answer;
 mod print;
 mod request;
+mod size;
 #[cfg(test)]
 mod tests;
 
 pub use answer::RpcAnswer;
 pub use print::print_answer;
 pub use request::{MOST_REQUEST, Request, RpcFault, parse_request};
+pub use size::answer_fits;

@@ -75,7 +75,7 @@ fn append_shown(template: &Tuple, out: &mut Bytes) -> Result<(), NoMemory>
 }
 
 // How the text of an answer begins; of most answers it is the whole text.
-fn title_of(answer: &RpcAnswer) -> &'static [u8]
+pub(crate) fn title_of(answer: &RpcAnswer) -> &'static [u8]
     ensures { result.now ≡ title_of answer.now }
 {
     match answer {

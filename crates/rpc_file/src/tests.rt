@@ -1,5 +1,5 @@
 // The texts of rpc.
-use super::{MOST_REQUEST, Request, RpcAnswer, RpcFault, parse_request, print_answer};
+use super::{MOST_REQUEST, Request, RpcAnswer, RpcFault, answer_fits, parse_request, print_answer};
 use attr_tuples::parse_tuple;
 use std::alloc::Global;
 use std::process::Abort;
@@ -177,4 +177,69 @@ fn an_authinfo_is_told(rt: HostRuntime) -> Result<(), Fail> {
     };
     let told = b"ok \x03\x00ann\x03\x00ann\x00\x00\x08\x00\x01\x01\x01\x01\x01\x01\x01\x01";
     check(&rt, rt.alloc(), RpcAnswer::Info(info), told)
+}
+
+// An answer fits its own length, and not one less.
+fn check_size(rt: &impl Abort, answer: RpcAnswer, size: u32) {
+    assert!(rt; answer_fits(&answer, size));
+    assert!(rt; answer_fits(&answer, u32::MAX));
+    if size > 0 {
+        assert!(rt; !answer_fits(&answer, size - 1));
+    }
+}
+
+#[test]
+fn short_answers_fit_their_lengths(rt: HostRuntime) {
+    check_size(&rt, RpcAnswer::Ok, 2);
+    check_size(&rt, RpcAnswer::DoneHaveai, 11);
+    check_size(&rt, RpcAnswer::Done, 4);
+    check_size(&rt, RpcAnswer::SecretInTemplate, 24);
+    check_size(&rt, RpcAnswer::UnknownProto, 19);
+    check_size(&rt, RpcAnswer::UnknownRole, 18);
+    check_size(&rt, RpcAnswer::BadUser, 14);
+    check_size(&rt, RpcAnswer::BadTemplate, 18);
+    check_size(&rt, RpcAnswer::WrongKind, 16);
+    check_size(&rt, RpcAnswer::WrongChallenge, 21);
+    check_size(&rt, RpcAnswer::WrongUser, 16);
+    check_size(&rt, RpcAnswer::NotOffered, 17);
+    check_size(&rt, RpcAnswer::ServerSaidNo, 20);
+}
+
+#[test]
+fn further_answers_fit_their_lengths(rt: HostRuntime) {
+    check_size(&rt, RpcAnswer::NoServer, 15);
+    check_size(&rt, RpcAnswer::TooLong, 22);
+    check_size(&rt, RpcAnswer::TooSmall(0), 10);
+    check_size(&rt, RpcAnswer::TooSmall(141), 12);
+    check_size(&rt, RpcAnswer::TooSmall(u32::MAX), 19);
+    check_size(&rt, RpcAnswer::Denied, 25);
+    check_size(&rt, RpcAnswer::NoRoom, 19);
+    check_size(&rt, RpcAnswer::AwaitsRead, 17);
+    check_size(&rt, RpcAnswer::AwaitsWrite, 18);
+    check_size(&rt, RpcAnswer::Broken, 12);
+    check_size(&rt, RpcAnswer::NotStarted, 20);
+    check_size(&rt, RpcAnswer::AlreadyStarted, 21);
+    check_size(&rt, RpcAnswer::NoInfo, 27);
+}
+
+#[test]
+fn answers_with_details_fit_their_lengths(rt: HostRuntime) -> Result<(), Fail> {
+    let alloc = rt.alloc();
+    let got = Bytes::from_slice(alloc, b"\x01\x00\xff")?;
+    check_size(&rt, RpcAnswer::Got(got), 6);
+    let key = parse_tuple(alloc, b"proto=p9sk1 dom=x user=ann !password=secret")?;
+    check_size(&rt, RpcAnswer::BadKey(key), 44);
+    let template = parse_tuple(alloc, b"proto=p9sk1 dom=x user?")?;
+    check_size(&rt, RpcAnswer::NeedKey(template), 42);
+    let attributes = parse_tuple(alloc, b"a='b c' d='it''s' e='' f !x=y")?;
+    check_size(&rt, RpcAnswer::Attributes(attributes), 31);
+    check_size(&rt, RpcAnswer::Attributes(parse_tuple(alloc, b"")?), 3);
+    let ann = Name::from_text(b"ann").ok_or("no name")?;
+    let info = AuthInfo {
+        cuid: ann,
+        suid: ann,
+        secret: [1; 8],
+    };
+    check_size(&rt, RpcAnswer::Info(info), 25);
+    Ok(())
 }

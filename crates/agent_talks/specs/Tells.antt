@@ -1,0 +1,37 @@
+-- What a read is told, and what this does.
+use Rattle.std.specs.Prelude.{◌≡◌, ℕ, List, Bool, true, Option, Some, None, codes, option_map}
+use Rattle.nine_messages.specs.declared.message.RBody.{RBody}
+use Rattle.nine_messages.specs.declared.message.RBody.TheVariants as r
+use Rattle.rpc_file.specs.Answers.{answer_text}
+use Rattle.rpc_file.specs.declared.answer.RpcAnswer.{RpcAnswer}
+use Rattle.talks.specs.Standings.{Phase, Resting, Waiting, Seeking, OnConfirm, OnNeedkey, OnServer, Kept}
+use Rattle.conversations.specs.Shown.{answer_in}
+use Rattle.agent_history.specs.Deeds.{Deed}
+use Rattle.agent_history.specs.Conversations.{standing_of, then_took, told}
+use Rattle.agent_talks.specs.declared.tell.Told.{Told}
+use Rattle.agent_talks.specs.declared.tell.Told.TheVariants as t
+use Rattle.agent_talks.specs.declared.held.Talks.{Talks}
+use Rattle.agent_talks.specs.Speaks.{Speak, stands}
+
+-- the reply that tells it
+abbrev pub told_body : Told → RBody
+told_body (t.Answer answer) = r.Read (answer_text answer)
+told_body t.TooSmall = r.Error (codes "read too small")
+
+-- nothing is told, and nothing has changed
+abbrev pub TellsNothing : List Deed → Talks → Option Told → Type 0
+TellsNothing done new result = (result ≡ None) × Speak done new
+
+-- in this phase a read that may hold so many bytes is told the answer, if one is there
+abbrev pub Tells : Phase → List Deed → Talks → ℕ → ℕ → Option Told → Type 0
+Tells (Kept answer) done new conv count result = (option_map told_body result ≡ Some (told count answer)) × Speak (then_took conv count answer done) new
+Tells Resting done new conv count result = TellsNothing done new result
+Tells (Waiting request) done new conv count result = TellsNothing done new result
+Tells Seeking done new conv count result = TellsNothing done new result
+Tells (OnConfirm serial) done new conv count result = TellsNothing done new result
+Tells OnNeedkey done new conv count result = TellsNothing done new result
+Tells OnServer done new conv count result = TellsNothing done new result
+
+-- of the code alone: whatever deeds the conversations are those of, this holds of the answer of one that stands
+abbrev pub ShowsAnswer : Talks → ℕ → (Option RpcAnswer → Type 0) → Type 0
+ShowsAnswer t conv P = (done : List Deed) → stands done conv ≡ true → Speak done t → P (answer_in (standing_of done conv).phase)
