@@ -1,20 +1,20 @@
 -- From what is kept to what deeds say of the questions for the authentication server.
-use Rattle.std.proofs.Common.{◌≡◌, ℕ, suc, zero, ◌+◌, ◌<◌, ◌≤◌, List, [], ◌∷◌, length, get_or, map, filter, Bool, true, false, cond, eqb, not, ◌==◌, Option, Some, None, refl, sym, ap, subst, ◌∙◌, inl, inr, arith}
+use Rattle.std.proofs.Common.{◌≡◌, ℕ, suc, ◌+◌, ◌<◌, ◌≤◌, List, [], ◌∷◌, length, get_or, map, filter, Bool, true, false, eqb, not, ◌==◌, Option, Some, None, refl, sym, ap, subst, ◌∙◌, inl, inr, arith}
 use Rattle.std.specs.Prelude.{find, option_map, position, slice_set}
 use Rattle.std.specs.List.{position_or_len}
-use Rattle.std.proofs.lemmas.Bool.{cases_Bool, cases_lt, eq-eqb, le-ltb, lt-ltb}
+use Rattle.std.proofs.lemmas.Bool.{cases_Bool, cases_lt, le-ltb, lt-ltb}
 use Rattle.rpc_file.specs.declared.answer.RpcAnswer.{RpcAnswer}
 use Rattle.rpc_file.specs.declared.answer.RpcAnswer.TheVariants as a
 use Rattle.talks.specs.Calls as calls
 use Rattle.talks.specs.Calls.{Call}
-use Rattle.talks.specs.Standings.{Kept, OnServer, Phase, standing}
-use Rattle.agent_history.specs.Deeds.{Deed, OfTalk, HandedOut}
-use Rattle.agent_history.specs.Conversations.{Question, asker, hand_first, met, next_question, questions, raising, seeking, standing_of, talk, then_raised, then_sought}
+use Rattle.talks.specs.Standings.{Kept, Phase, standing}
+use Rattle.agent_history.specs.Deeds.{Deed, OfTalk}
+use Rattle.agent_history.specs.Conversations.{Question, asker, hand_first, met, next_question, questions, raising, seeking, standing_of, talk, then_raised}
 use Rattle.agent_history.specs.Histories.{handing}
 use Rattle.agent_talks.specs.declared.question.Question.{Question as HeldQuestion}
 use Rattle.agent_talks.specs.declared.held.Talks.{Talks}
 use Rattle.agent_talks.specs.Kept.{question_of}
-use Rattle.agent_talks.specs.Speaks.{IsKept, OnServerNow, Speak, asks_for, met_by}
+use Rattle.agent_talks.specs.Speaks.{OnServerNow, Speak, asks_for, met_by}
 use Rattle.agent_talks.specs.Changes.{Ended, Hands}
 use Rattle.conversations.proofs.WaitLaws.{heard_rests, unheard_rests, roomless_rests}
 use Rattle.agent_talks.proofs.StandLemmas.{asker_asks, filter_map_same, find_map, handed_asks, hands_none, left_asks, other_way, same}

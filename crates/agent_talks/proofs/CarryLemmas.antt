@@ -1,13 +1,11 @@
 -- From what is kept to what deeds say of a conversation whose request was carried out.
-use Rattle.std.proofs.Common.{◌≡◌, ℕ, ◌+◌, ◌≤◌, List, [], ◌∷◌, ◌++◌, Bool, true, false, cond, eqb, ◌||◌, ◌==◌, Option, Some, None, refl, sym, ap, subst, ◌∙◌, inl, inr, arith}
+use Rattle.std.proofs.Common.{◌≡◌, ℕ, ◌+◌, ◌≤◌, List, [], ◌∷◌, ◌++◌, Bool, true, false, cond, eqb, Option, Some, None, refl, sym, ap, subst, ◌∙◌, inl, inr}
 use Rattle.std.proofs.lemmas.Bool.{cases_Bool, eq-eqb, eqb-true, false≢true}
 use Rattle.key_lists.specs.Lists.{KeyList}
 use Rattle.rpc_file.specs.Requests.{RpcRequest}
-use Rattle.rpc_file.specs.declared.answer.RpcAnswer.{RpcAnswer}
-use Rattle.talks.specs.Calls as calls
 use Rattle.talks.specs.Calls.{Call, CarriedOut, Sought}
 use Rattle.talks.specs.declared.said.Asking.{Asking}
-use Rattle.talks.specs.Standings.{Phase, Resting, Waiting, Seeking, OnConfirm, OnNeedkey, OnServer, Kept, Standing, finds, standing}
+use Rattle.talks.specs.Standings.{Phase, Resting, Waiting, Seeking, OnConfirm, OnNeedkey, OnServer, Kept, finds, standing}
 use Rattle.conversations.specs.declared.conversation.Conversation.{Conversation}
 use Rattle.conversations.specs.Fits.{with_search}
 use Rattle.conversations.specs.Shown.{has_request, is_seeking, waits_for_server}
@@ -18,7 +16,7 @@ use Rattle.agent_history.specs.Requests.{carried, carrying_out}
 use Rattle.agent_talks.specs.declared.held.Talks.{Talks}
 use Rattle.agent_talks.specs.Kept.{kept_at, questions_in, speakers_in}
 use Rattle.agent_talks.specs.Speaks.{IsKept, IsReady, OnServerNow, Speak, asks_for, is_among, stands}
-use Rattle.agent_talks.specs.Changes.{Back, BothPerformed, BothStay, Carries, IsAsking, more_asked, more_raised}
+use Rattle.agent_talks.specs.Changes.{BothPerformed, Carries, IsAsking, more_asked, more_raised}
 use Rattle.agent_talks.proofs.StandLemmas.{asks_last, or_cases, same}
 use Rattle.agent_talks.proofs.SpeakLemmas.{AllAsked, below_opened}
 
@@ -177,47 +175,3 @@ pub carried_speak : (done : List Deed) (old new : Talks) (conv : ℕ) (word : Li
 carried_speak done old new conv word asking list asks has ready c h =
     by_phase done old new conv word asks (standing_of done conv).phase refl has
     (subst (λ (a : Asking). Carries old new conv word a (keys_of done) asks) (sym ready.files) (subst (λ (l : KeyList). Carries old new conv word asking l asks) (sym ready.keys) c)) ready.stands h
-
--- where there is none nothing is done
-idle_phase : (done : List Deed) (conv : ℕ) (word : List ℕ) (p : Phase) → has_request p ≡ false → carrying_out conv word p done ≡ done
-idle_phase done conv word (Waiting request) e = absurd (false≢true (sym e))
-idle_phase done conv word Resting e = refl
-idle_phase done conv word Seeking e = refl
-idle_phase done conv word (OnConfirm serial) e = refl
-idle_phase done conv word OnNeedkey e = refl
-idle_phase done conv word OnServer e = refl
-idle_phase done conv word (Kept answer) e = refl
-
-pub idle_speak : (done : List Deed) (t : Talks) (conv : ℕ) (word : List ℕ) → has_request (standing_of done conv).phase ≡ false → Speak done t → Speak (carried conv word done) t
-idle_speak done t conv word e h = subst (λ (d : List Deed). Speak d t) (sym (idle_phase done conv word (standing_of done conv).phase e)) h
-
--- whether one is there
-pub request_at : (done : List Deed) (t : Talks) (conv : ℕ) (c : Conversation) (has : Bool) → kept_at t conv ≡ Some c → ((talk : List Call) → IsKept true talk (Some c) → has ≡ has_request (standing talk).phase) → stands done conv ≡ true → Speak done t → has ≡ has_request (standing_of done conv).phase
-request_at done t conv c has e shows there h = shows (talk done conv) (subst (λ (b : Bool). IsKept b (talk done conv) (Some c)) there (subst (λ (o : Option Conversation). IsKept (stands done conv) (talk done conv) o) e (h.table conv)))
-
-pub no_request : (done : List Deed) (t : Talks) (conv : ℕ) → kept_at t conv ≡ None → stands done conv ≡ true → Speak done t → ⊥
-no_request done t conv e there h = subst (λ (b : Bool). IsKept b (talk done conv) None) there (subst (λ (o : Option Conversation). IsKept (stands done conv) (talk done conv) o) e (h.table conv))
-
--- ---- there was no memory
-
-stay_kept : (b : Bool) (talk : List Call) (old new : Option Conversation) → BothStay old new → IsKept b talk old → IsKept b talk new
-stay_kept true talk (Some c) (Some d) s h = s talk h
-stay_kept true talk (Some c) None s h = absurd s
-stay_kept true talk None new s h = absurd h
-stay_kept false talk None None s h = tt
-stay_kept false talk None (Some d) s h = absurd s
-stay_kept false talk (Some c) new s h = absurd h
-
-pub back_speak : (done : List Deed) (old new : Talks) (conv : ℕ) → Back old new conv → Speak done old → Speak done new
-back_speak done old new conv back h = record {
-  opened = back.opened ∙ h.opened;
-  speakers = back.speakers ∙ h.speakers;
-  table = λ q. elim (cases_Bool (eqb conv q)) [
-    | inl is ↦ subst (λ (n : ℕ). IsKept (stands done n) (talk done n) (kept_at new n)) (eqb-true conv q is) (stay_kept (stands done conv) (talk done conv) (kept_at old conv) (kept_at new conv) back.this (h.table conv))
-    | inr is ↦ rw (back.others q (λ e. false≢true (sym is ∙ eq-eqb conv q e))) (h.table q)
-  ];
-  raised = back.raised ∙ h.raised;
-  questions = back.questions ∙ h.questions;
-  fresh = h.fresh;
-  asked = h.asked;
-}

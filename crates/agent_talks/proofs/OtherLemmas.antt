@@ -1,9 +1,9 @@
 -- Deeds that are none of a conversation leave the conversations and their questions as they are.
-use Rattle.std.proofs.Common.{◌≡◌, ℕ, ◌≤◌, List, [], ◌∷◌, Bool, true, false, cond, refl, sym, ◌∙◌}
+use Rattle.std.proofs.Common.{◌≡◌, ℕ, List, [], ◌∷◌, Bool, true, false, cond, refl, sym, ◌∙◌}
 use Rattle.file_tree.specs.declared.tree.Node.{Node}
 use Rattle.file_tree.specs.declared.tree.Node.TheVariants.{Rpc}
 use Rattle.key_lists.specs.CtlLines.{CtlLine}
-use Rattle.agent_history.specs.Deeds.{Deed, FidDeed, KeyDeed, ReplyDeed, OfFids, OfKeys, OfReplies, OfConnection, Swept, Attached, Walked, Opened, Listed, Browsed, Entered, fid_of, names, was_opened}
+use Rattle.agent_history.specs.Deeds.{Deed, KeyDeed, ReplyDeed, OfFids, OfKeys, OfReplies, OfConnection, Swept, Attached, Walked, Opened, Listed, Browsed, Entered, fid_of, names, was_opened}
 use Rattle.agent_history.specs.Conversations.{questions, speakers}
 use Rattle.agent_history.specs.Histories.{entered}
 use Rattle.agent_history.specs.Replies.{has_settled, swept}

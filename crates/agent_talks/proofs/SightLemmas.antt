@@ -4,7 +4,6 @@ use Rattle.std.proofs.lemmas.Bool.{false≢true}
 use Rattle.key_lists.specs.Lists.{KeyEntry}
 use Rattle.roles.specs.declared.need.Outcome.{Outcome}
 use Rattle.talks.specs.Standings.{Phase, Resting, Waiting, Seeking, OnConfirm, OnNeedkey, OnServer, Kept, key_of, outcome_of}
-use Rattle.talks.specs.Calls.{Call}
 use Rattle.conversations.specs.declared.conversation.Conversation.{Conversation}
 use Rattle.conversations.specs.Fits.{Shows}
 use Rattle.conversations.specs.Shown as shown
@@ -27,9 +26,6 @@ pub open_at : (done : List Deed) (t : Talks) (conn fid conv : ℕ) → Some conv
 open_at done t conn fid conv e h =
     subst (λ (o : Option ℕ). IsOpenAt done o (kept_at t conv)) e
     (open_kept done conv (stands done conv) (kept_at t conv) (opener_stands (speakers done) (λ s. s.conn == conn && s.fid == fid) conv (sym e)) (h.table conv))
-
-pub none_open : (done : List Deed) (conn fid : ℕ) → None ≡ conv_of done conn fid → IsOpenAt done (conv_of done conn fid) None
-none_open done conn fid e = subst (λ (o : Option ℕ). IsOpenAt done o None) e tt
 
 -- ---- its phase
 

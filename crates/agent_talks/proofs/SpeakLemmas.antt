@@ -1,5 +1,5 @@
 -- From what is kept to what deeds say of conversations and of their questions.
-use Rattle.std.proofs.Common.{◌≡◌, ℕ, ◌+◌, ◌<◌, ◌≤◌, List, [], ◌∷◌, ◌++◌, length, map, filter, Bool, true, false, cond, eqb, not, ◌&&◌, ◌||◌, ◌==◌, Option, Some, None, refl, sym, ap, subst, ◌∙◌, inl, inr, arith}
+use Rattle.std.proofs.Common.{◌≡◌, ℕ, ◌+◌, ◌≤◌, List, [], ◌∷◌, ◌++◌, length, map, filter, Bool, true, false, cond, eqb, not, ◌&&◌, ◌||◌, ◌==◌, Option, Some, None, refl, sym, ap, subst, ◌∙◌, inl, inr, arith}
 use Rattle.std.specs.Prelude.{find, is_some, option_map}
 use Rattle.std.specs.List.{list_any}
 use Rattle.std.proofs.lemmas.Bool.{cases_Bool, eq-eqb, eqb-true, false≢true}
@@ -10,19 +10,18 @@ use Rattle.talks.specs.Calls.{Call}
 use Rattle.talks.specs.Standings.{OnServer, Phase, Standing, standing, then_stands}
 use Rattle.file_tree.specs.declared.tree.Node.TheVariants.{Rpc}
 use Rattle.conversations.specs.declared.conversation.Conversation.{Conversation}
-use Rattle.conversations.specs.Fits.{Holds, Keeps}
-use Rattle.agent_history.specs.Deeds.{Deed, FidDeed, ConnectionDeed, OfFids, OfKeys, OfReplies, OfConnection, OfTalk, Raised, HandedOut, Swept, Halted, Versioned, Attached, Walked, Opened, Listed, Browsed, Clunked, Entered, Hung, fid_of, names}
+use Rattle.conversations.specs.Fits.{Holds}
+use Rattle.agent_history.specs.Deeds.{Deed, FidDeed, OfFids, OfConnection, OfTalk, Versioned, Opened, Clunked, Hung, fid_of, names}
 use Rattle.agent_history.specs.Conversations.{Question, Speaker, conv_of, of_speakers, opened_talks, questions, raised, speakers, standing_of, talk}
 use Rattle.agent_history.specs.Conversations as told
-use Rattle.agent_talks.specs.declared.question.Question.{Question as HeldQuestion}
 use Rattle.agent_talks.specs.declared.speaker.Speaker.{Speaker as HeldSpeaker}
 use Rattle.agent_talks.specs.declared.speaker.Leaving.{Leaving}
 use Rattle.agent_talks.specs.declared.speaker.Leaving.TheVariants as l
 use Rattle.agent_talks.specs.declared.held.Talks.{Talks}
-use Rattle.agent_talks.specs.Kept.{kept_at, question_of, questions_in, speaker_of, speakers_in}
+use Rattle.agent_talks.specs.Kept.{kept_at, question_of, questions_in, speaker_of}
 use Rattle.agent_talks.specs.Speaks.{IsKept, OnServerNow, SameTalks, Speak, asks_for, is_among, stands}
 use Rattle.agent_talks.specs.Changes.{BothMet, IsNew, Leaves, Meets, Opens, leaves, leaving_at}
-use Rattle.agent_talks.proofs.StandLemmas.{all_stay, among_last, are_numbered, filter_map_same, find_map, handed_asks, leaving, left_asks, left_gone, left_stays, same}
+use Rattle.agent_talks.proofs.StandLemmas.{all_stay, among_last, are_numbered, filter_map_same, find_map, leaving, left_asks, left_gone, left_stays}
 
 -- ---- what stands
 

@@ -7,7 +7,7 @@ use Rattle.talks.specs.declared.said.Asking.{Asking}
 use Rattle.conversations.specs.declared.conversation.Conversation.{Conversation}
 use Rattle.conversations.specs.Fits.{Holds, Keeps, Performs, Shows, Stays}
 use Rattle.conversations.specs.Shown.{waits_for_server}
-use Rattle.agent_history.specs.Conversations.{Question, Speaker, hand_first}
+use Rattle.agent_history.specs.Conversations.{Question, hand_first}
 use Rattle.agent_talks.specs.declared.speaker.Speaker.{Speaker as HeldSpeaker}
 use Rattle.agent_talks.specs.declared.speaker.Leaving.{Leaving}
 use Rattle.agent_talks.specs.declared.speaker.Leaving.TheVariants as l

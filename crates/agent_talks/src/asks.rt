@@ -20,26 +20,13 @@ impl Talks {
     pub fn asker(&self, call: u64) -> Option<u64>
         ensures { (done : List Deed) → Speak done self.now → result ≡ asker done call }
     {
-        self.find_asker(call)
+        find_asker(&self.questions, call)
     }
 
     /// The oldest question that wasn't handed out yet.
     pub fn next_question(&self) -> Option<&Question>
         ensures { (done : List Deed) → Speak done self.now
             → option_map kept.question_of (option_copied result) ≡ next_question done }
-    {
-        self.find_next()
-    }
-
-    fn find_asker(&self, call: u64) -> Option<u64>
-        ensures { result ≡ option_map (λ q. q.conv)
-            (find (λ q. q.call == call) self.now.questions.items) }
-    {
-        find_asker(&self.questions, call)
-    }
-
-    fn find_next(&self) -> Option<&Question>
-        ensures { option_copied result ≡ find (λ q. not q.handed) self.now.questions.items }
     {
         find_next(&self.questions)
     }
@@ -68,7 +55,7 @@ impl Talks {
             → Speak (met_by (asker done call) (c.Heard bytes.now) done) self.new) }
         ensures same { OnErr result (SameTalks self.old self.new) }
     {
-        match self.find_asker(call) {
+        match self.asker(call) {
             Some(conv) => self.end_heard(alloc, conv, bytes),
             None => Ok(()),
         }
@@ -79,7 +66,7 @@ impl Talks {
         ensures { (done : List Deed) → Speak done self.old
             → Speak (met_by (asker done call) c.Unheard done) self.new }
     {
-        if let Some(conv) = self.find_asker(call) {
+        if let Some(conv) = self.asker(call) {
             self.end_unheard(conv);
         }
     }
@@ -89,7 +76,7 @@ impl Talks {
         ensures { (done : List Deed) → Speak done self.old
             → Speak (met_by (asker done call) c.Roomless done) self.new }
     {
-        if let Some(conv) = self.find_asker(call) {
+        if let Some(conv) = self.asker(call) {
             self.end_roomless(conv);
         }
     }

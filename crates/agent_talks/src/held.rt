@@ -57,26 +57,13 @@ impl Talks {
     pub fn conv_at(&self, conn: u64, fid: u32) -> Option<u64>
         ensures { (done : List Deed) → Speak done self.now → result ≡ conv_of done conn fid }
     {
-        self.find_conv(conn, fid)
+        find_conv(&self.speakers, conn, fid)
     }
 
     /// Who has the conversation of a number open.
     pub fn speaker_of(&self, conv: u64) -> Option<&Speaker>
         ensures { (done : List Deed) → Speak done self.now
             → option_map kept.speaker_of (option_copied result) ≡ speaker_of done conv }
-    {
-        self.find_speaker(conv)
-    }
-
-    fn find_conv(&self, conn: u64, fid: u32) -> Option<u64>
-        ensures { result ≡ option_map (λ s. s.conv)
-            (find (λ s. s.conn == conn && s.fid == fid) self.now.speakers.items) }
-    {
-        find_conv(&self.speakers, conn, fid)
-    }
-
-    fn find_speaker(&self, conv: u64) -> Option<&Speaker>
-        ensures { option_copied result ≡ find (λ s. s.conv == conv) self.now.speakers.items }
     {
         find_number(&self.speakers, conv)
     }

@@ -9,6 +9,8 @@ mod question;
 mod sights;
 mod speaker;
 mod tell;
+#[cfg(test)]
+mod tests;
 
 pub use held::Talks;
 pub use question::Question;

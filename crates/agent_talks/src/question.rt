@@ -4,7 +4,7 @@ ghost use Rattle.agent_history.specs.Conversations.{hand_first};
 ghost use Rattle.agent_talks.specs.Kept.{question_of};
 
 /// A question that stands: its number, its conversation, and whether it was handed out.
-#[derive(Clone, Copy, Debug, PartialEq, Eq)]
+#[derive(Clone, Copy, Debug)]
 pub struct Question {
     pub call: u64,
     pub conv: u64,

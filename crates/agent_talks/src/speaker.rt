@@ -3,7 +3,7 @@ ghost use Rattle.std.specs.Prelude.{◌≡◌, ◌==◌, ◌&&◌, not, filter, 
 ghost use Rattle.agent_talks.specs.Changes.{leaves};
 
 /// A conversation that stands, and the fid of a connection that has it open.
-#[derive(Clone, Copy, Debug, PartialEq, Eq)]
+#[derive(Clone, Copy, Debug)]
 pub struct Speaker {
     pub conv: u64,
     pub conn: u64,
@@ -11,7 +11,7 @@ pub struct Speaker {
 }
 
 /// Whose conversations end.
-#[derive(Clone, Copy, Debug, PartialEq, Eq)]
+#[derive(Clone, Copy)]
 pub enum Leaving {
     Fid(u64, u32),
     Connection(u64),

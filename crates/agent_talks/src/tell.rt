@@ -1,11 +1,11 @@
 // What a read is told.
-ghost use Rattle.std.specs.Prelude.{◌≡◌, List, OnOk, OnErr, Option, option_copied, option_map, true};
+ghost use Rattle.std.specs.Prelude.{◌≡◌, List, option_copied, option_map, true};
 ghost use Rattle.talks.specs.Calls as c;
 ghost use Rattle.agent_history.specs.Deeds.{Deed};
 ghost use Rattle.agent_history.specs.Conversations.{fits, standing_of};
-ghost use Rattle.conversations.specs.Shown.{answer_in};
 ghost use Rattle.agent_talks.specs.Changes.{Meets};
 ghost use Rattle.agent_talks.specs.Speaks.{Speak, stands};
+ghost use Rattle.agent_talks.specs.declared.tell.Told.TheVariants as t;
 ghost use Rattle.agent_talks.specs.Tells.{ShowsAnswer, Tells};
 
 use crate::held::Talks;
@@ -37,17 +37,11 @@ impl Talks {
     fn fits(&self, conv: u64, count: u32) -> Option<bool>
         ensures { ShowsAnswer self.now conv (λ answer. result ≡ option_map (fits count) answer) }
     {
-        match self.answer_of(conv) {
-            Some(answer) => Some(answer_fits(answer, count)),
-            None => None,
-        }
-    }
-
-    fn answer_of(&self, conv: u64) -> Option<&RpcAnswer>
-        ensures { ShowsAnswer self.now conv (λ answer. option_copied result ≡ answer) }
-    {
         match self.table.get(&conv) {
-            Some(conversation) => conversation.answer(),
+            Some(conversation) => match conversation.answer() {
+                Some(answer) => Some(answer_fits(answer, count)),
+                None => None,
+            },
             None => None,
         }
     }
@@ -57,19 +51,11 @@ impl Talks {
         ensures questions { self.new.questions ≡ self.old.questions }
         ensures told { ShowsAnswer self.old conv (λ answer. result ≡ option_map t.Answer answer) }
     {
-        match self.take_answer(conv) {
-            Some(answer) => Some(Told::Answer(answer)),
-            None => None,
-        }
-    }
-
-    fn take_answer(&mut self, conv: u64) -> Option<RpcAnswer>
-        ensures meets { Meets self.old self.new conv c.Took }
-        ensures questions { self.new.questions ≡ self.old.questions }
-        ensures told { ShowsAnswer self.old conv (λ answer. result ≡ answer) }
-    {
         match self.table.get_mut(&conv) {
-            Some(conversation) => conversation.take_answer(),
+            Some(conversation) => match conversation.take_answer() {
+                Some(answer) => Some(Told::Answer(answer)),
+                None => None,
+            },
             None => None,
         }
     }

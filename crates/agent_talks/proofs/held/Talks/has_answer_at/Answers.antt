@@ -1,4 +1,4 @@
-use Rattle.std.proofs.Common.{ap, Option, Some, None, subst}
+use Rattle.std.proofs.Common.{ap, Option, subst}
 use Rattle.std.specs.Prelude.{option_copied}
 use Rattle.conversations.specs.declared.conversation.Conversation.{Conversation}
 use Rattle.agent_history.specs.Conversations.{conv_of}

@@ -1,11 +1,11 @@
 use Rattle.std.proofs.Common.{sym, ◌∙◌}
 use Rattle.std.proofs.lemmas.Result.{on_ok_weaker}
 use Rattle.talks.specs.Calls as calls
-use Rattle.agent_talks.proofs.AskLemmas.{found_asker, heard_speak, unasked_speak}
+use Rattle.agent_talks.proofs.AskLemmas.{heard_speak, unasked_speak}
 use Rattle.agent_talks.proofs.held.Talks.heard.Goals as goal
 
 pub returns-in-Some-clause-kept : goal.returns-in-Some-clause-kept
-returns-in-Some-clause-kept c = on_ok_weaker c.end_heard.result (λ ended done h. heard_speak done c.args.self.now c.end_heard.new.self c.args.call c.in-Some.conv c.args.bytes.now (sym c.in-Some.is ∙ (c.find_asker.ensures ∙ found_asker done c.args.self.now c.args.call h)) ended h) c.end_heard.ensures.ended
+returns-in-Some-clause-kept c = on_ok_weaker c.end_heard.result (λ ended done h. heard_speak done c.args.self.now c.end_heard.new.self c.args.call c.in-Some.conv c.args.bytes.now (sym c.in-Some.is ∙ c.asker.ensures done h) ended h) c.end_heard.ensures.ended
 
 pub returns-in-None-clause-kept : goal.returns-in-None-clause-kept
-returns-in-None-clause-kept c = λ done h. unasked_speak done c.args.self.now c.args.call (calls.Heard c.args.bytes.now) (sym c.in-None.is ∙ (c.find_asker.ensures ∙ found_asker done c.args.self.now c.args.call h)) h
+returns-in-None-clause-kept c = λ done h. unasked_speak done c.args.self.now c.args.call (calls.Heard c.args.bytes.now) (sym c.in-None.is ∙ c.asker.ensures done h) h

@@ -1,0 +1,155 @@
+// Conversations of one agent whose questions for the authentication server come to each of their ends. The messages are
+// those of a login of ann at srv in the domain x, made by bench/vectors over OpenSSL's DES.
+use crate::{Talks, Told};
+use attr_tuples::parse_tuple;
+use key_ring::KeyRing;
+use rpc_file::{Request, print_answer};
+use std::alloc::Global;
+use std::process::Abort;
+use std::test::Fail;
+use talks::Asking;
+use wire_base::Bytes;
+
+const WORD: [u8; 8] = *b"\x01#Eg\x89\xab\xcd\xef";
+
+const REQUEST: &[u8] = b"\x01srv\0\0\0\0\0\0\0\0\0\0\0\0\0\0\0\0\0\0\0\0\
+    \0\0\0\0\0x\0\0\0\0\0\0\0\0\0\0\0\0\0\0\0\0\0\0\
+    \0\0\0\0\0\0\0\0\0\0\0\0\0\0\0\0\0\0\0\0\0\0\0\0\
+    \0\0\0\0\0\x10\x11\x12\x13\x14\x15\x16\x17\0\0\0\0\0\0\0\0\0\0\0\
+    \0\0\0\0\0\0\0\0\0\0\0\0\0\0\0\0\0\0\0\0\0\0\0\0\
+    \0\0\0\0\0\0\0\0\0\0\0\0\0\0\0\0\0\0\0\0\0";
+
+const ANSWER: &[u8] = b"\x04q\x82\xe8[4L\x132\xe4/\xcd\xdbU\xe78\xe1|F\xe1\xec#4\xfa\
+    \xc9X\xc7\xc1@\x0f\xdc\x01\xd1=\xf6\xf9\xb9Hc\x9ec\x0c\x1dZ\x85\x97m=\
+    \x0b\xc5#'\x0eOdw4bu\xa1\x07\xbf\xc2\x8ai\xd8\xf3S\x90s(\xf9\
+    2\xe24\x17\xa9\xbbi\xf5\xf6F\xba\x03OO\x9b\xd2oJ\xd9(\xf4\x98\xe4\x95\
+    Y\x9c:<n-\x04\xbeD\x86fHw\xae\x0c\x14T\xf9s\x8e~\xc4\xbe\xe7\
+    \xd5\xd5\xb3V\xbbL\x10=\xb7Zu\x1f\xcb\xe0u\xb1\xc2\xf6.8J\xac\xbe\x1c\
+    \xc7";
+
+const ANN: &[u8] = b"proto=p9sk1 dom=x user=ann !hex=31323334353637";
+
+const CLOSED: Asking = Asking {
+    confirm: false,
+    needkey: false,
+};
+
+// The bytes that a read may hold.
+const WIDE: u32 = 8000;
+
+fn ring_of(alloc: Global, key: &[u8]) -> Result<KeyRing, Fail> {
+    let mut ring = KeyRing::new(alloc);
+    match ring.add(parse_tuple(alloc, key)?) {
+        Ok(_) => Ok(ring),
+        Err(_) => Err("no key".into()),
+    }
+}
+
+fn check_told(
+    rt: &impl Abort,
+    alloc: Global,
+    talks: &mut Talks,
+    conv: u64,
+    wanted: &[u8],
+) -> Result<(), Fail> {
+    let mut out = Bytes::new(alloc);
+    match talks.tell(conv, WIDE) {
+        Some(Told::Answer(answer)) => print_answer(&answer, &mut out)?,
+        Some(Told::TooSmall) => panic!(rt; "too small"),
+        None => panic!(rt; "no answer"),
+    }
+    assert_eq!(rt; out.as_slice(), wanted);
+    Ok(())
+}
+
+fn carry(
+    alloc: Global,
+    talks: &mut Talks,
+    ring: &KeyRing,
+    conv: u64,
+    request: Request<'_>,
+) -> Result<(), Fail> {
+    talks.store(alloc, conv, request)?;
+    talks.carry_out(alloc, conv, WORD, ring, CLOSED)?;
+    Ok(())
+}
+
+// A fid of a connection opens a conversation of this number, which comes to ask the authentication server.
+fn ask(
+    rt: &impl Abort,
+    alloc: Global,
+    talks: &mut Talks,
+    ring: &KeyRing,
+    conn: u64,
+    conv: u64,
+) -> Result<(), Fail> {
+    talks.open(alloc, conn, 7)?;
+    assert_eq!(rt; talks.conv_at(conn, 7), Some(conv));
+    assert!(rt; talks.is_resting_at(conn, 7));
+    let start = Request::Start(b"proto=p9sk1 role=client");
+    carry(alloc, talks, ring, conv, start)?;
+    check_told(rt, alloc, talks, conv, b"ok")?;
+    carry(alloc, talks, ring, conv, Request::Read)?;
+    check_told(rt, alloc, talks, conv, b"ok \x01#Eg\x89\xab\xcd\xef")?;
+    carry(alloc, talks, ring, conv, Request::Write(REQUEST))?;
+    assert!(rt; talks.tell(conv, WIDE).is_none());
+    assert!(rt; !talks.is_resting_at(conn, 7));
+    Ok(())
+}
+
+// The question that is next, which is handed out.
+fn hand_out(talks: &mut Talks) -> Option<(u64, u64)> {
+    let next = match talks.next_question() {
+        Some(question) => Some((question.call, question.conv)),
+        None => None,
+    };
+    talks.hand_out();
+    next
+}
+
+fn two_ask(rt: &impl Abort, alloc: Global, talks: &mut Talks, ring: &KeyRing) -> Result<(), Fail> {
+    ask(rt, alloc, talks, ring, 1, 0)?;
+    ask(rt, alloc, talks, ring, 2, 1)?;
+    assert_eq!(rt; talks.count(), 2);
+    assert_eq!(rt; hand_out(talks), Some((1, 0)));
+    assert_eq!(rt; hand_out(talks), Some((2, 1)));
+    assert_eq!(rt; hand_out(talks), None);
+    assert_eq!(rt; talks.asker(2), Some(1));
+    Ok(())
+}
+
+#[test]
+fn the_server_answers_one_and_cannot_be_reached_for_another(rt: HostRuntime) -> Result<(), Fail> {
+    let alloc = rt.alloc();
+    let ring = ring_of(alloc, ANN)?;
+    let mut talks = Talks::new(alloc);
+    two_ask(&rt, alloc, &mut talks, &ring)?;
+    talks.unheard(2);
+    assert_eq!(rt; talks.asker(2), None);
+    talks.heard(alloc, 1, ANSWER)?;
+    assert_eq!(rt; talks.asker(1), None);
+    assert!(rt; talks.has_answer_at(1, 7));
+    assert!(rt; matches!(talks.tell(0, 1), Some(Told::TooSmall)));
+    check_told(&rt, alloc, &mut talks, 0, b"ok")?;
+    check_told(&rt, alloc, &mut talks, 1, b"error no server")?;
+    assert!(rt; matches!(talks.chosen_at(1, 7), Some(key) if key.serial() == 1));
+    Ok(())
+}
+
+#[test]
+fn a_question_ends_with_its_conversation(rt: HostRuntime) -> Result<(), Fail> {
+    let alloc = rt.alloc();
+    let ring = ring_of(alloc, ANN)?;
+    let mut talks = Talks::new(alloc);
+    two_ask(&rt, alloc, &mut talks, &ring)?;
+    talks.clunk(1, 7);
+    assert_eq!(rt; talks.asker(1), None);
+    assert_eq!(rt; talks.asker(2), Some(1));
+    talks.roomless(2);
+    check_told(&rt, alloc, &mut talks, 1, b"error out of memory")?;
+    talks.version(2);
+    talks.hang(3);
+    assert_eq!(rt; talks.count(), 0);
+    assert!(rt; talks.outcome_at(2, 7).is_none());
+    Ok(())
+}
