@@ -38,7 +38,7 @@ impl Model for Mailbox {
 }
 
 impl Mailbox {
-    ghost use Rattle.std.specs.Prelude.{◌≡◌, ◌++◌, [], ◌∷◌, drop, filter, map, not, true, OnOk, OnErr, IfSome, IfNone, ◌<◌, length};
+    ghost use Rattle.std.specs.Prelude.{◌≡◌, [], ◌∷◌, drop, true, OnOk, OnErr, IfSome, IfNone, ◌<◌, length};
     ghost use Rattle.mailboxes.specs.Mails.{Mail, no_mail, with_room, pushed, popped, awaited, with_settled, with_fid_settled, flushed, without_waits, swept, first_reader, has_fid, has_tag};
     ghost use Rattle.mailboxes.specs.Kept.{error_frame, reply_bytes};
 
