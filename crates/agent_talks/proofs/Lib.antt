@@ -6,3 +6,4 @@ pub mod CarryLemmas
 pub mod OtherLemmas
 pub mod SightLemmas
 pub mod TellLemmas
+pub mod GrowLemmas

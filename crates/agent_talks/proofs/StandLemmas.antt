@@ -229,6 +229,14 @@ pub opener_stands : (xs : List Speaker) (p : Speaker → Bool) (conv : ℕ) → 
 opener_stands [] p conv e = absurd cc
 opener_stands (s ∷ xs) p conv e = opener_step s xs p conv (p s) e (opener_stands xs p conv)
 
+pub speaker_is_among : (xs : List Speaker) (conv : ℕ) (s : Speaker) → find (λ (x : Speaker). x.conv == conv) xs ≡ Some s → is_among xs conv ≡ true
+speaker_is_among [] conv s e = absurd cc
+speaker_is_among (x ∷ xs) conv s e = step (eqb x.conv conv) e (speaker_is_among xs conv s)
+  where
+    step : (b : Bool) → cond b (Some x) (find (λ (y : Speaker). y.conv == conv) xs) ≡ Some s → (find (λ (y : Speaker). y.conv == conv) xs ≡ Some s → is_among xs conv ≡ true) → (b || is_among xs conv) ≡ true
+    step true e more = refl
+    step false e more = more e
+
 -- where all were handed out, handing one out changes nothing
 pub hands_none : (qs : List Question) → find (λ q. not q.handed) qs ≡ None → hand_first qs ≡ qs
 hands_none [] e = refl

@@ -3,7 +3,6 @@ use Rattle.std.proofs.Common.{◌≡◌, ℕ, List, ◌∷◌, true, Option, Som
 use Rattle.std.specs.Prelude.{option_map}
 use Rattle.rpc_file.specs.declared.answer.RpcAnswer.{RpcAnswer}
 use Rattle.talks.specs.Calls as calls
-use Rattle.talks.specs.Calls.{Call}
 use Rattle.talks.specs.Standings.{Phase, Resting, Waiting, Seeking, OnConfirm, OnNeedkey, OnServer, Kept}
 use Rattle.conversations.specs.Shown.{answer_in}
 use Rattle.agent_history.specs.Deeds.{Deed, OfTalk}

@@ -1,5 +1,5 @@
 // The questions of conversations for the authentication server, and what comes of them.
-ghost use Rattle.std.specs.Prelude.{◌≡◌, ◌==◌, not, List, Option, OnOk, OnErr, find, option_copied, option_map};
+ghost use Rattle.std.specs.Prelude.{◌≡◌, List, Option, OnOk, OnErr, option_copied, option_map};
 ghost use Rattle.talks.specs.Calls as c;
 ghost use Rattle.agent_history.specs.Deeds.{Deed};
 ghost use Rattle.agent_history.specs.Conversations.{asker, next_question};

@@ -1,5 +1,5 @@
 // The conversations of an agent.
-ghost use Rattle.std.specs.Prelude.{◌≡◌, ◌==◌, ◌&&◌, [], ◌∷◌, List, ℕ, Option, OnOk, OnErr, filter, find, is_some, length, option_copied, option_map, true};
+ghost use Rattle.std.specs.Prelude.{◌≡◌, [], ◌∷◌, List, ℕ, Option, OnOk, OnErr, filter, is_some, length, option_copied, option_map, true};
 ghost use Rattle.std.specs.BTreeMap.{get};
 ghost use Rattle.std.specs.Ordering.{nat_cmp};
 ghost use Rattle.file_tree.specs.declared.tree.Node.TheVariants.{Rpc};

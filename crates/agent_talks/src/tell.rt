@@ -1,5 +1,5 @@
 // What a read is told.
-ghost use Rattle.std.specs.Prelude.{◌≡◌, List, option_copied, option_map, true};
+ghost use Rattle.std.specs.Prelude.{◌≡◌, List, option_map, true};
 ghost use Rattle.talks.specs.Calls as c;
 ghost use Rattle.agent_history.specs.Deeds.{Deed};
 ghost use Rattle.agent_history.specs.Conversations.{fits, standing_of};
