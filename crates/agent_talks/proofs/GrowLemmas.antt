@@ -9,7 +9,7 @@ use Rattle.agent_history.specs.Deeds.{Deed, OfTalk, Raised}
 use Rattle.agent_history.specs.Conversations.{Speaker, asker, conv_of, fits, met, raising, seeking, speaker_of, speakers, standing_of, then_sought, then_took}
 use Rattle.agent_history.specs.Requests.{carried, carrying_out}
 use Rattle.agent_talks.specs.declared.held.Talks.{Talks}
-use Rattle.agent_talks.specs.Speaks.{Speak, is_among, met_by, stands}
+use Rattle.agent_talks.specs.Speaks.{Speak, met_by, stands}
 use Rattle.agent_talks.proofs.StandLemmas.{opener_stands, speaker_is_among}
 use Rattle.agent_talks.proofs.AskLemmas.{is_asked}
 
