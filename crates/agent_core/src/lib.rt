@@ -7,7 +7,6 @@ mod connection;
 mod events;
 mod fid_requests;
 mod file_requests;
-mod listed;
 mod msize;
 mod refused;
 mod serve;

@@ -6,8 +6,8 @@ ghost use Rattle.agent_history.specs.Deeds.{Deed, OfFids, OfConnection, Opened, 
 ghost use Rattle.mailboxes.specs.Deliveries.{KeepsNone};
 ghost use Rattle.agent_core.specs.Connections.{Holds, Shares};
 
-use crate::listed::ListedRing;
 use file_tree::Node;
+use listed_ring::ListedRing;
 use mailboxes::Mailboxes;
 use std::alloc::Global;
 

@@ -1,0 +1,10 @@
+//! A ring of keys with the text of its list, which is made once for all that read the same list.
+#![tactic(auto)]
+
+mod listed;
+mod shared_text;
+#[cfg(test)]
+mod tests;
+
+pub use listed::ListedRing;
+pub use shared_text::SharedText;

@@ -1,0 +1,27 @@
+// A list is kept while it is read, and a write of ctl leaves it to those that read it.
+use crate::ListedRing;
+use std::alloc::Global;
+use std::process::Abort;
+use std::test::Fail;
+
+const ANN: &[u8] = b"key proto=apop user=ann !password=one";
+
+const ANN_SHOWN: &[u8] = b"key proto=apop user=ann !password?\n";
+
+#[test]
+fn a_write_leaves_the_list_that_is_read(rt: &impl Abort, alloc: Global) -> Result<(), Fail> {
+    let mut ring = ListedRing::new(alloc);
+    let empty = ring.text(alloc)?;
+    let fault = ring.write(alloc, ANN)?;
+    assert!(rt; fault.is_none());
+    assert_eq!(rt; empty.as_slice(), b"");
+    let text = ring.text(alloc)?;
+    let again = ring.text(alloc)?;
+    assert_eq!(rt; text.as_slice(), ANN_SHOWN);
+    assert_eq!(rt; again.as_slice(), ANN_SHOWN);
+    ring.forget();
+    let kept = text.share()?;
+    assert_eq!(rt; kept.as_slice(), ANN_SHOWN);
+    assert_eq!(rt; ring.keys().len(), 1);
+    Ok(())
+}
