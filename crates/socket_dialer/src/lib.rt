@@ -3,5 +3,7 @@
 #![tactic(auto)]
 
 mod ending;
+mod hearing;
 
 pub use ending::answer_length;
+pub use hearing::read_answer;
