@@ -4,6 +4,9 @@
 
 mod ending;
 mod hearing;
+mod line;
+mod socket;
 
 pub use ending::answer_length;
 pub use hearing::read_answer;
+pub use socket::TcpDialer;
