@@ -1,6 +1,6 @@
 -- The connections that a dialer keeps, by the numbers of the conversations, and which it keeps after an exchange. The
 -- definitions are the project's own.
-use Rattle.std.specs.Prelude.{◌≡◌, ◌≢◌, ℕ, Bool, true, false, Option, is_some}
+use Rattle.std.specs.Prelude.{◌≡◌, ◌≢◌, ℕ, Bool, true, false, Option, Some, None, Result, Ok, Err, is_some}
 use Rattle.std.specs.BTreeMap.{BTreeMap, get}
 use Rattle.std.specs.Ordering.{nat_cmp}
 use Rattle.wire_base.specs.declared.shape.Shape.{Shape}
@@ -28,3 +28,9 @@ kept_after Vouch NoMemory before = before
 -- all other numbers have the connections that they had
 abbrev pub KeepsOthers : {L : Type 0} → ℕ → BTreeMap ℕ L → BTreeMap ℕ L → Type 0
 KeepsOthers conv old new = (other : ℕ) → other ≢ conv → line_of new other ≡ line_of old other
+
+-- what an attempt at an exchange comes to
+abbrev pub dial_of : {E : Type 0} → Result (Option ℕ) E → Dial
+dial_of (Ok (Some count)) = Heard
+dial_of (Ok None) = Failed
+dial_of (Err fault) = NoMemory
