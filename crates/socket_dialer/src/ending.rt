@@ -121,3 +121,59 @@ pub fn answer_length(shape: Shape, heard: &[u8]) -> usize
         _ => 1,
     }
 }
+
+#[cfg(test)]
+mod tests {
+    use super::*;
+
+    // By authsrv(6): an error's text has 64 bytes, a ticket 72, an authenticator 13, a challenge's length 5.
+    #[test]
+    fn answers_end_where_they_tell(rt: HostRuntime) {
+        for (shape, heard, want) in [
+            (Shape::Tickets, b"".as_slice(), 1),
+            (Shape::Tickets, b"\x04".as_slice(), 145),
+            (Shape::Tickets, b"\x05".as_slice(), 65),
+            (Shape::Tickets, b"\x0938   ".as_slice(), 1),
+            (Shape::Tickets, b"\x01".as_slice(), 1),
+            (Shape::Vouch, b"".as_slice(), 1),
+            (Shape::Vouch, b"\x04".as_slice(), 86),
+            (Shape::Vouch, b"\x04@".as_slice(), 86),
+            (Shape::Vouch, b"\x05bad".as_slice(), 65),
+            (Shape::Vouch, b"\x0938   ".as_slice(), 1),
+            (Shape::Vouch, b"\x00".as_slice(), 1),
+            (Shape::Challenge, b"".as_slice(), 1),
+            (Shape::Challenge, b"\x04".as_slice(), 1),
+            (Shape::Challenge, b"\x05".as_slice(), 65),
+            (Shape::Challenge, b"\xff".as_slice(), 1),
+            (Shape::Challenge, b"\x09".as_slice(), 6),
+            (Shape::Challenge, b"\x0938  ".as_slice(), 6),
+        ] {
+            assert_eq!(rt; answer_length(shape, heard), want, "{heard:?}");
+        }
+    }
+
+    #[test]
+    fn challenges_have_the_length_that_is_spelled(rt: HostRuntime) {
+        for (field, want) in [
+            ("38   ", 38),
+            ("   38", 38),
+            (" 38  ", 38),
+            ("00038", 38),
+            ("0    ", 0),
+            ("1    ", 1),
+            ("128  ", 128),
+            ("129  ", 0),
+            ("00129", 0),
+            ("99999", 0),
+            ("12x45", 0),
+            ("1 2  ", 0),
+            ("     ", 0),
+            ("+38  ", 0),
+            ("-1   ", 0),
+            ("\t38  ", 0),
+            ("38\0\0\0", 0),
+        ] {
+            assert_eq!(rt; challenge_length(field.as_bytes()), want, "{field}");
+        }
+    }
+}

@@ -202,3 +202,118 @@ impl<N: Net + Clock> Dialer for TcpDialer<N> {
         self.kept.remove(&conv);
     }
 }
+
+#[cfg(test)]
+mod tests {
+    use super::*;
+    use std::io::{self, ErrorKind, Read, Write};
+    use std::net::{TcpListener, TcpStream};
+    use std::os::unix::net::UnixListener;
+    use std::test::Fail;
+    use std::{env, fs, process, thread};
+
+    const CHALLENGE: &[u8] = b"\x0918   <0123456789@a.dom>";
+
+    // A connection of a server: each request has three bytes, and is given the next of these answers.
+    fn serve<S: Read + Write>(stream: &mut S, answers: &[&[u8]]) -> io::Result<()> {
+        for answer in answers {
+            stream.read_exact(&mut [0; 3])?;
+            stream.write_all(answer)?;
+        }
+        Ok(())
+    }
+
+    // A challenge and a vouch over one connection, tickets over one of their own, one that ends early, and one that
+    // ends with nothing.
+    fn serve_tcp(listener: &TcpListener) -> io::Result<()> {
+        let mut vouch = [b'v'; 86];
+        vouch[0] = 4;
+        let mut tickets = [b't'; 145];
+        tickets[0] = 4;
+        serve(&mut listener.accept()?.0, &[CHALLENGE, vouch.as_slice()])?;
+        serve(&mut listener.accept()?.0, &[tickets.as_slice()])?;
+        serve(&mut listener.accept()?.0, &[b"\x05no"])?;
+        serve(&mut listener.accept()?.0, &[b""])
+    }
+
+    fn listen(rt: &HostRuntime) -> Result<(TcpListener, Text), Fail> {
+        let listener = TcpListener::bind(rt, "127.0.0.1:0")?;
+        let address = format!(in rt.alloc(); "{}", listener.local_addr()?)?;
+        let text = Text::from_slice(rt.alloc(), address.as_bytes())?.ok_or("address")?;
+        Ok((listener, text))
+    }
+
+    #[test]
+    fn asks_a_server(rt: HostRuntime) -> Result<(), Fail> {
+        let (listener, address) = listen(&rt)?;
+        let server = thread::spawn(&rt, move || serve_tcp(&listener))?;
+        let mut dialer = TcpDialer::new(rt, rt.alloc(), address, Duration::from_secs(10));
+        let mut out = Bytes::new(rt.alloc());
+        for (conv, shape, want, length, faults) in [
+            (7, Shape::Vouch, Dial::Failed, 0, 1),
+            (7, Shape::Challenge, Dial::Heard, 24, 1),
+            (8, Shape::Vouch, Dial::Failed, 24, 2),
+            (7, Shape::Vouch, Dial::Heard, 86, 2),
+            (7, Shape::Vouch, Dial::Failed, 86, 3),
+            (7, Shape::Tickets, Dial::Heard, 145, 3),
+            (7, Shape::Tickets, Dial::Heard, 3, 3),
+            (7, Shape::Challenge, Dial::Heard, 0, 3),
+        ] {
+            let dial = dialer.exchange(conv, b"who", shape, &mut out);
+            assert_eq!(rt; dial, want, "{shape:?} {length}");
+            assert_eq!(rt; out.len(), length, "{shape:?}");
+            assert_eq!(rt; dialer.faults, faults, "{shape:?} {length}");
+        }
+        assert!(rt; dialer.kept.contains_key(&7));
+        dialer.close(7);
+        dialer.close(7);
+        assert_eq!(rt; dialer.kept.len(), 0);
+        server.join(&rt)?;
+        Ok(())
+    }
+
+    #[test]
+    fn fails_where_nobody_answers(rt: HostRuntime) -> Result<(), Fail> {
+        let (gone, nobody) = listen(&rt)?;
+        drop(gone);
+        let (_silent, never) = listen(&rt)?;
+        let mut out = Bytes::from_slice(rt.alloc(), b"-")?;
+        for address in [
+            nobody.as_slice(),
+            never.as_slice(),
+            b"127.0.0.1",
+            b"127.0.0.1:x",
+            b"/no/such/socket",
+            b"",
+        ] {
+            let text = Text::from_slice(rt.alloc(), address)?.ok_or("address")?;
+            let mut dialer = TcpDialer::new(rt, rt.alloc(), text, Duration::from_millis(50));
+            for (shape, faults) in [(Shape::Tickets, 1), (Shape::Challenge, 2)] {
+                let dial = dialer.exchange(1, b"who", shape, &mut out);
+                assert_eq!(rt; dial, Dial::Failed, "{address:?}");
+                assert_eq!(rt; out.as_slice(), b"-".as_slice(), "{address:?}");
+                assert_eq!(rt; dialer.faults, faults, "{address:?}");
+                assert_eq!(rt; dialer.kept.len(), 0, "{address:?}");
+            }
+        }
+        Ok(())
+    }
+
+    #[test]
+    fn asks_over_a_unix_socket(rt: HostRuntime) -> Result<(), Fail> {
+        let name = format!(in rt.alloc(); "socket-dialer-{}", process::id(rt.process()))?;
+        let path = env::temp_dir(&rt)?.join(rt.alloc(), name.as_str())?;
+        let address = path.to_str().ok_or("path")?;
+        let text = Text::from_slice(rt.alloc(), address.as_bytes())?.ok_or("address")?;
+        let listener = UnixListener::bind(&rt, address)?;
+        let server = thread::spawn(&rt, move || serve(&mut listener.accept()?.0, &[CHALLENGE]))?;
+        let mut dialer = TcpDialer::new(rt, rt.alloc(), text, Duration::from_secs(10));
+        let mut out = Bytes::new(rt.alloc());
+        let dial = dialer.exchange(3, b"who", Shape::Challenge, &mut out);
+        fs::remove_file(&rt, address)?;
+        assert_eq!(rt; dial, Dial::Heard);
+        assert_eq!(rt; out.as_slice(), CHALLENGE);
+        server.join(&rt)?;
+        Ok(())
+    }
+}
