@@ -1,3 +1,4 @@
 pub mod Endings
 pub mod Hearing
 pub mod Kept
+pub mod Numbers

@@ -1,5 +1,6 @@
 // Where an answer of the authentication server ends.
 ghost use Rattle.std.specs.Prelude.{◌≡◌, ◌≤◌, ◌+◌, length};
+ghost use Rattle.socket_dialer.specs.Numbers.{TellsLength};
 ghost use Rattle.socket_dialer.specs.Endings.{after_byte, after_bytes, answer_length, challenge_length, counted_length, granted_length, is_digit, length_behind, number_read, with_digit};
 
 use wire_base::Shape;
@@ -75,6 +76,10 @@ fn with_digit(number: u8, digit: u8) -> Counted
 fn challenge_length(field: &[u8]) -> usize
     ensures exact { result ≡ challenge_length field.now }
     ensures most { result ≤ MOST_CHALLENGE }
+
+    // It is the number that the field spells in decimal digits with blanks before or behind them, and none where there
+    // is no such number from 1 to the most.
+    ensures spelled { TellsLength field.now result }
 {
     let mut counted = Counted::Before;
     for byte in field {
