@@ -1,5 +1,5 @@
 -- An answer that goes on within the length that was told has no shorter length told by more of its bytes.
-use Rattle.std.proofs.Common.{◌≡◌, ℕ, suc, ◌+◌, ◌-◌, ◌<◌, ◌≤◌, ◌⊎◌, inl, inr, List, [], ◌∷◌, ◌++◌, Bool, true, false, ltb, ◌==◌, length, take, if◌then◌else◌, refl, sym, ap, ◌∙◌, arith, length-append, lt-ltb, le-ltb}
+use Rattle.std.proofs.Common.{◌≡◌, ℕ, ◌+◌, ◌<◌, ◌≤◌, ◌⊎◌, inl, inr, List, [], ◌∷◌, ◌++◌, Bool, true, false, length, take, if◌then◌else◌, refl, sym, ap, ◌∙◌, arith, length-append, lt-ltb, le-ltb}
 use Rattle.std.proofs.lemmas.Bool.{cases_lt}
 use Rattle.std.proofs.lemmas.List.{take-append-le, length-take-le}
 use Rattle.std.proofs.lemmas.List.Edits.{length-paste}

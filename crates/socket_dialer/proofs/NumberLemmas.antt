@@ -1,12 +1,12 @@
 -- What is read byte by byte is the number that the field spells.
-use Rattle.std.proofs.Common.{◌≡◌, ℕ, zero, suc, ◌+◌, ◌-◌, ◌*◌, ◌<◌, ◌≤◌, ◌↔◌, List, [], ◌∷◌, ◌++◌, Bool, true, false, ◌==◌, leb, length, drop, replicate, if◌then◌else◌, refl, sym, ap, subst, ◌∙◌, arith, eqb-true, ne_eqb, leb-true, le-leb}
+use Rattle.std.proofs.Common.{◌≡◌, ℕ, zero, suc, ◌+◌, ◌-◌, ◌*◌, ◌<◌, ◌≤◌, List, [], ◌∷◌, ◌++◌, Bool, true, false, ◌==◌, leb, length, drop, replicate, if◌then◌else◌, refl, sym, ap, subst, ◌∙◌, arith, eqb-true, ne_eqb, leb-true, le-leb}
 use Rattle.std.proofs.lemmas.Bool.{and_parts}
 use Rattle.std.proofs.lemmas.List.{drop_all}
 use Rattle.std.specs.List.{list_all}
 use Rattle.socket_dialer.specs.declared.ending.Counted.{Counted}
 use Rattle.socket_dialer.specs.declared.ending.Counted.TheVariants.{Before, Number, Behind, Faulty}
 use Rattle.socket_dialer.specs.declared.ending.TheConstants.{MOST_CHALLENGE}
-use Rattle.socket_dialer.specs.Endings.{after_byte, after_bytes, challenge_length, is_digit, number_read}
+use Rattle.socket_dialer.specs.Endings.{after_byte, after_bytes, is_digit, number_read}
 use Rattle.socket_dialer.specs.Numbers.{SpellsNumber, TellsLength, behind}
 
 grows : (n : ℕ) (digits : List ℕ) → n ≤ behind n digits
@@ -93,11 +93,11 @@ blank_step true v b field n is some later read = one_blank v b field n (eqb-true
 blank_step false v b field n is some later read = absurd (omega (arith, faulty_is_none field, read, some))
 
 read_blanks : (v : ℕ) (field : List ℕ) (n : ℕ) → 0 < n → number_read (after_bytes (Behind v) field) ≡ n → Blanks v field n
-read_blanks v [] n some read = record { count = 0; parts = refl; same = read; }
+read_blanks v [] n some read = record { count = 0; parts = refl; same = read }
 read_blanks v (b ∷ field) n some read = blank_step (b == 32) v b field n refl some (λ later. read_blanks v field n some later) read
 
 blanks_rest : (v b : ℕ) (field : List ℕ) (n : ℕ) → Blanks v (b ∷ field) n → Rest v (b ∷ field) n
-blanks_rest v b field n blanks = record { digits = []; back = blanks.count; parts = blanks.parts; only = refl; value = blanks.same; }
+blanks_rest v b field n blanks = record { digits = []; back = blanks.count; parts = blanks.parts; only = refl; value = blanks.same }
 
 one_more : (v b : ℕ) (field : List ℕ) (n : ℕ) → is_digit b ≡ true → Rest (10 * v + (b - 48)) field n → Rest v (b ∷ field) n
 one_more v b field n digit rest = record {
@@ -117,7 +117,7 @@ digit_step false true false v b field n blank is some later read = absurd (omega
 digit_step false false fits v b field n blank is some later read = absurd (omega (arith, faulty_is_none field, read, some))
 
 read_rest : (v : ℕ) (field : List ℕ) (n : ℕ) → 0 < n → number_read (after_bytes (Number v) field) ≡ n → Rest v field n
-read_rest v [] n some read = record { digits = []; back = 0; parts = refl; only = refl; value = read; }
+read_rest v [] n some read = record { digits = []; back = 0; parts = refl; only = refl; value = read }
 read_rest v (b ∷ field) n some read = digit_step (b == 32) (is_digit b) (leb (10 * v + (b - 48)) MOST_CHALLENGE) v b field n refl refl some (λ later. read_rest (10 * v + (b - 48)) field n some later) read
 
 blank_first : (b : ℕ) (field : List ℕ) (n : ℕ) → b ≡ 32 → SpellsNumber field n → SpellsNumber (b ∷ field) n

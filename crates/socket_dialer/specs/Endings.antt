@@ -1,7 +1,7 @@
 -- Where an answer of the authentication server ends, after authsrv(6) of the Plan 9 manual: the length of an answer is
 -- told by its kind, by what was asked, and where it is a challenge by a number in front of it. The most bytes that a
 -- challenge may have are this project's.
-use Rattle.std.specs.Prelude.{◌≡◌, ℕ, ◌+◌, ◌-◌, ◌*◌, ◌<◌, ◌≤◌, List, [], ◌∷◌, Bool, ◌&&◌, ◌==◌, nat_le, nat_lt, length, take, if◌then◌else◌}
+use Rattle.std.specs.Prelude.{ℕ, ◌+◌, ◌-◌, ◌*◌, List, [], ◌∷◌, Bool, ◌&&◌, ◌==◌, nat_le, nat_lt, length, take, if◌then◌else◌}
 use Rattle.wire_base.specs.Kinds.{answer_ok, answer_error, answer_counted}
 use Rattle.wire_base.specs.declared.shape.Shape.{Shape}
 use Rattle.wire_base.specs.declared.shape.Shape.TheVariants.{Tickets, Challenge, Vouch}

@@ -7,7 +7,7 @@ use wire_base::Shape;
 use wire_streams::MOST_ANSWER;
 
 /// How many bytes a challenge may have.
-pub const MOST_CHALLENGE: usize = 128;
+pub(crate) const MOST_CHALLENGE: usize = 128;
 
 /// How many bytes the number in front of a challenge takes.
 const FIELD: usize = 5;

@@ -299,6 +299,29 @@ mod tests {
         Ok(())
     }
 
+    // A refusal that comes a byte at a time, and would take over a second in all.
+    fn serve_slowly(rt: &HostRuntime, listener: &TcpListener) -> io::Result<()> {
+        let (mut stream, _) = listener.accept()?;
+        for _ in 0..65 {
+            stream.write_all(b"\x05")?;
+            thread::sleep(rt, Duration::from_millis(20));
+        }
+        Ok(())
+    }
+
+    #[test]
+    fn fails_where_the_whole_answer_is_too_late(rt: HostRuntime) -> Result<(), Fail> {
+        let (listener, address) = listen(&rt)?;
+        let server = thread::spawn(&rt, move || serve_slowly(&rt, &listener).is_err())?;
+        let mut dialer = TcpDialer::new(rt, rt.alloc(), address, Duration::from_millis(200));
+        let mut out = Bytes::from_slice(rt.alloc(), b"-")?;
+        let dial = dialer.exchange(1, b"who", Shape::Tickets, &mut out);
+        assert_eq!(rt; dial, Dial::Failed);
+        assert_eq!(rt; out.as_slice(), b"-".as_slice());
+        assert!(rt; server.join(&rt));
+        Ok(())
+    }
+
     #[test]
     fn asks_over_a_unix_socket(rt: HostRuntime) -> Result<(), Fail> {
         let name = format!(in rt.alloc(); "socket-dialer-{}", process::id(rt.process()))?;

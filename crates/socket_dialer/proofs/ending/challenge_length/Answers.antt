@@ -1,4 +1,4 @@
-use Rattle.std.proofs.Common.{◌≤◌, arith}
+use Rattle.std.proofs.Common.{arith}
 use Rattle.socket_dialer.proofs.NumberLemmas.{tells_at_end}
 use Rattle.socket_dialer.proofs.ending.challenge_length.Goals as goal
 
