@@ -1,0 +1,4 @@
+pub mod Endings
+pub mod Hearing
+pub mod Kept
+pub mod Numbers
