@@ -1,5 +1,5 @@
 -- What is answered where a question for the authentication server is asked for.
-use Rattle.std.proofs.Common.{◌≡◌, ℕ, List, [], ◌∷◌, ◌++◌, Bool, true, false, cond, eqb, not, ◌||◌, Option, Some, None, refl, sym, subst, ◌∙◌, append-nil}
+use Rattle.std.proofs.Common.{◌≡◌, ℕ, List, [], ◌∷◌, ◌++◌, Bool, true, false, cond, eqb, not, ◌||◌, Some, None, refl, sym, subst, ◌∙◌, append-nil}
 use Rattle.std.specs.Prelude.{find}
 use Rattle.std.proofs.lemmas.Bool.{eq-eqb}
 use Rattle.wire_base.specs.declared.shape.Shape.{Shape}

@@ -1,7 +1,6 @@
 -- How many questions weren't handed out yet, after each of the things that befall questions.
 use Rattle.std.proofs.Common.{◌≡◌, ℕ, ◌-◌, ◌≤◌, List, [], ◌∷◌, length, map, filter, Bool, true, false, cond, eqb, not, ◌||◌, Option, Some, None, Result, Ok, Err, refl, sym, ap, ◌∙◌, arith}
 use Rattle.std.specs.Prelude.{find, is_some, nat_lt, option_map, OnOk, OnErr}
-use Rattle.std.specs.List.{list_any}
 use Rattle.std.proofs.lemmas.Bool.{lt-ltb}
 use Rattle.talks.specs.Calls.{Call}
 use Rattle.agent_history.specs.Conversations.{Question, hand_first}
