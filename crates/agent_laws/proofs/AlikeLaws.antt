@@ -17,8 +17,10 @@ use Rattle.agent_history.specs.Replies.{has_settled, replies, swept, taken, unta
 use Rattle.agent_history.specs.Requests.{Call, after_frame, answered, body_to, call_of, is_rpc, replied}
 use Rattle.agent_history.specs.Histories.{History, Answer as IsAnswer, answer, asks, deeds, does, entered, handing, most_events, question_put, taking}
 use Rattle.agent_laws.specs.Laws.{SameButSecrets, all_asked, all_open, asks_server, has_conversed, hidden_deed, stands}
-use Rattle.agent_laws.proofs.GrowLaws.{KeepsOf, all_are_asked, conn_of, event_grows, is_done, on_its_own}
-use Rattle.agent_laws.proofs.SecretLaws.{body_to_alike, deeds_open, frame_alike, none_speaks, sight}
+use Rattle.agent_laws.proofs.KindLaws.{KeepsOf, is_done}
+use Rattle.agent_laws.proofs.GrowLaws.{all_are_asked, conn_of, event_grows, on_its_own}
+use Rattle.agent_laws.proofs.SightLaws.{none_speaks, sight}
+use Rattle.agent_laws.proofs.SecretLaws.{body_to_alike, deeds_open, frame_alike}
 
 -- ---- what an event does to both
 

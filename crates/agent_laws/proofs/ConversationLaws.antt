@@ -16,7 +16,8 @@ use Rattle.agent_history.specs.Conversations.{Question, Speaker, chosen_at, conv
 use Rattle.agent_history.specs.Requests.{is_rpc, most_talks}
 use Rattle.agent_history.specs.Histories.{History, deeds}
 use Rattle.agent_laws.specs.Laws.{AllSearched, has_open, rise_below, is_same_place}
-use Rattle.agent_laws.proofs.GrowLaws.{KeepsOf, history_grows, is_done, Fits}
+use Rattle.agent_laws.proofs.KindLaws.{KeepsOf, is_done, Fits}
+use Rattle.agent_laws.proofs.GrowLaws.{history_grows}
 
 -- ---- small steps
 

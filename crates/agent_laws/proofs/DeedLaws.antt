@@ -9,7 +9,8 @@ use Rattle.agent_history.specs.Requests.{Call, after_frame}
 use Rattle.agent_history.specs.Conversations.{Question, next_question}
 use Rattle.agent_history.specs.Histories.{History, deeds, does, handing, has_stopped}
 use Rattle.agent_laws.specs.Laws.{Adds, all_asked, has_connection, is_of, is_of_talks, is_on}
-use Rattle.agent_laws.proofs.GrowLaws.{KeepsIf, KeepsOf, answer_does, done_by_asked, event_grows, event_on, frame_grows, is_asked, is_done, is_told_so, last_or_not, no_answer_does, no_room_does}
+use Rattle.agent_laws.proofs.KindLaws.{KeepsIf, KeepsOf, done_by_asked, is_asked, is_done, is_told_so}
+use Rattle.agent_laws.proofs.GrowLaws.{answer_does, event_grows, event_on, frame_grows, last_or_not, no_answer_does, no_room_does}
 
 -- ---- deeds of one connection
 

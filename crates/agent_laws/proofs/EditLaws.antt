@@ -28,7 +28,8 @@ use Rattle.agent_history.specs.Conversations.{Question, asking, conv_of, next_qu
 use Rattle.agent_history.specs.Requests.{Call, after, after_frame, after_granted, agreed, answered, body_to, call_of, comes_first, granted, is_rpc, reading, refusal, replied, walking}
 use Rattle.agent_history.specs.Histories.{History, deeds, does, entered, handing, taking}
 use Rattle.agent_laws.specs.Laws.{Adds, AllSearched, all_asked, is_edit, is_talk}
-use Rattle.agent_laws.proofs.GrowLaws.{KeepsIf, KeepsOf, Passed, answer_does, is_line, is_spoken, is_told_so, last_or_not, lines_grow, no_answer_does, no_room_does, none_refuses, not_first, read_count, read_waits, stored_grows, talk_grows}
+use Rattle.agent_laws.proofs.KindLaws.{KeepsIf, KeepsOf, is_line, is_spoken, is_told_so}
+use Rattle.agent_laws.proofs.GrowLaws.{Passed, answer_does, last_or_not, lines_grow, no_answer_does, no_room_does, none_refuses, not_first, read_count, read_waits, stored_grows, talk_grows}
 use Rattle.agent_laws.proofs.ConversationLaws.{all_searched}
 
 -- ---- deeds of one kind

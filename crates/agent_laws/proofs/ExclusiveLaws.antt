@@ -11,7 +11,8 @@ use Rattle.file_tree.proofs.WalkLaws.{one_path}
 use Rattle.agent_history.specs.Deeds.{Deed, OfFids, OfKeys, OfReplies, OfConnection, OfTalk, Raised, HandedOut, Swept, Halted, Versioned, Attached, Walked, Opened, Listed, Browsed, Clunked, Edited, Switched, Entered, Hung, fid_of, holder_of, names, without}
 use Rattle.agent_history.specs.Histories.{History, deeds}
 use Rattle.agent_laws.specs.Laws.{has_open}
-use Rattle.agent_laws.proofs.GrowLaws.{KeepsOf, history_grows, is_done}
+use Rattle.agent_laws.proofs.KindLaws.{KeepsOf, is_done}
+use Rattle.agent_laws.proofs.GrowLaws.{history_grows}
 
 -- ---- small steps
 

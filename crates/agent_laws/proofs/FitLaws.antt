@@ -1,13 +1,13 @@
--- Every reply fits what was agreed on its connection, and has a spelling.
-use Rattle.std.proofs.Common.{◌≡◌, ℕ, zero, suc, ◌+◌, ◌-◌, ◌*◌, min, ◌<◌, ◌≤◌, ◌^◌, List, [], ◌∷◌, length, take, drop, map, reverse, ◌++◌, Bool, true, false, cond, eqb, leb, ltb, ◌&&◌, not, Option, Some, None, refl, sym, ap, subst, ◌∙◌, inl, inr, arith, codes, length-append}
+-- Every reply fits what was agreed on its connection.
+use Rattle.std.proofs.Common.{◌≡◌, ℕ, zero, suc, ◌+◌, ◌-◌, ◌*◌, ◌≤◌, List, [], ◌∷◌, length, drop, map, reverse, ◌++◌, Bool, true, false, cond, eqb, leb, ltb, ◌&&◌, not, Option, Some, None, refl, sym, ap, subst, ◌∙◌, inl, inr, arith, codes, length-append}
 use Rattle.std.specs.Prelude.{Result, Ok, Err, All, find, option_map}
 use Rattle.std.specs.List.{filter, filter_map, flat_map, cons_option, AllByRecursion}
 use Rattle.std.specs.Int.{Width, w8, w16, w32, w64}
-use Rattle.std.proofs.lemmas.Bool.{cases_Bool, cases_lt, eq-eqb, eqb-true, leb-true, ltb-false}
-use Rattle.std.proofs.lemmas.List.{length-take, length-map, reverse-append, get_or_past}
-use Rattle.std.proofs.lemmas.List.Elements.{All-nil, All-cons, All-take, All-map, All-get_or}
+use Rattle.std.proofs.lemmas.Bool.{cases_Bool, eq-eqb, eqb-true, leb-true, ltb-false}
+use Rattle.std.proofs.lemmas.List.{length-take, length-map, reverse-append}
+use Rattle.std.proofs.lemmas.List.Elements.{All-nil, All-cons, All-take, All-map}
 use Rattle.wire_base.specs.Readers.{Reader, ◌>>=◌, number, block, string, times, listed, both, no_more}
-use Rattle.wire_base.proofs.ReaderLaws.{AreBytes, AreBytes-drop, AreBytes-take, bind_ok, no_more_taken, wide16}
+use Rattle.wire_base.proofs.ReaderLaws.{AreBytes, bind_ok, no_more_taken}
 use Rattle.nine_messages.specs.declared.qid.Qid.{Qid}
 use Rattle.nine_messages.specs.declared.message.TMsg.{TMsg}
 use Rattle.nine_messages.specs.declared.message.TBody.{TBody}
@@ -15,10 +15,9 @@ use Rattle.nine_messages.specs.declared.message.TBody.TheVariants as t
 use Rattle.nine_messages.specs.declared.message.RMsg.{RMsg}
 use Rattle.nine_messages.specs.declared.message.RBody.{RBody}
 use Rattle.nine_messages.specs.declared.message.RBody.TheVariants as r
-use Rattle.nine_messages.specs.Messages.{frame, qid_text, IsQid, t_fits, r_kind, r_fields, r_fits, r_frame, IsReply}
-use Rattle.nine_messages.specs.Decoding.{version_at, auth_at, attach_at, flush_at, walk_at, open_at, create_at, read_at, write_at, clunk_at, remove_at, stat_at, wstat_at, t_body_at, t_reading, request_of, r_reading}
+use Rattle.nine_messages.specs.Messages.{frame, qid_text, t_fits, r_kind, r_fields, r_frame}
+use Rattle.nine_messages.specs.Decoding.{version_at, auth_at, attach_at, flush_at, walk_at, open_at, create_at, read_at, write_at, clunk_at, remove_at, stat_at, wstat_at, t_body_at, t_reading, request_of}
 use Rattle.nine_messages.proofs.RequestLaws.{t_body_reads}
-use Rattle.nine_messages.proofs.ReplyLaws.{reply_again}
 use Rattle.file_tree.specs.declared.tree.Node.{Node}
 use Rattle.file_tree.specs.declared.tree.Node.TheVariants.{Root, Factotum, Rpc, Ctl, Confirm, Needkey, Proto, Log}
 use Rattle.file_tree.specs.Tree.{files_in, qid_of, visited}
@@ -36,12 +35,13 @@ use Rattle.agent_history.specs.Deeds.{Deed, OfFids, OfKeys, OfReplies, OfConnect
 use Rattle.key_lists.specs.CtlLines.{lines_of, lines_fault}
 use Rattle.agent_history.specs.Replies.{Wait, fid_given_up, first_of, is_unsettled, replies, reply_in, settle_fid, settle_tag, settled_by, taken, untaken, waits}
 use Rattle.agent_history.specs.Conversations.{Question, conv_of, fits, next_question, standing_of, told}
-use Rattle.agent_history.specs.Requests.{Call, after, after_frame, after_granted, answer_read, answered, body_for, body_to, call_of, carried, content_of, ctl_text, effective, granted, is_known, is_rpc, least_msize, most_msize, piece, proto_text, read_reply, replied, reply_of, tag_of, talk_read, write_reply, written}
+use Rattle.agent_history.specs.Requests.{Call, after_frame, answer_read, answered, body_for, body_to, call_of, carried, content_of, ctl_text, effective, granted, is_known, is_rpc, least_msize, most_msize, piece, proto_text, read_reply, replied, reply_of, tag_of, talk_read, write_reply, written}
 use Rattle.agent_history.specs.Histories.{History, deeds, does, entered, handing, taking}
 use Rattle.agent_laws.specs.Laws.{all_asked, gives_content, given, longest_reply, most_read, put_out, reply_to}
-use Rattle.agent_laws.proofs.GrowLaws.{Fits, KeepsOf, SizeFits, all_are_asked, answer_does, either_way, entered_known, frame_grows, history_grows, is_asked, is_done, is_told_so, last_or_not, no_answer_does, no_room_does, swept_grows}
+use Rattle.agent_laws.proofs.KindLaws.{Fits, KeepsOf, SizeFits, is_asked, is_done, is_told_so}
+use Rattle.agent_laws.proofs.GrowLaws.{all_are_asked, answer_does, either_way, entered_known, frame_grows, history_grows, last_or_not, no_answer_does, no_room_does, swept_grows}
 use Rattle.agent_laws.proofs.ReplyLaws.{given_in_order, frames_put_out}
-use Rattle.agent_laws.proofs.ToldLaws.{is_told, told_short, told_string, Tells, Gives, lines_tell, frame_gives}
+use Rattle.agent_laws.proofs.ToldLaws.{is_told, told_short, Tells, Gives, lines_tell, frame_gives}
 
 -- ---- what is agreed
 
@@ -205,7 +205,7 @@ request_read bytes m e = body_read bytes m (read_where (t_reading bytes) e)
 request_few : (bytes : List ℕ) (m : TMsg) → request_of bytes ≡ Some m → IsFew m.body
 request_few bytes m e = let b = request_read bytes m e in subst FewRead b.2 (body_few b.0 bytes 7)
 
-request_fits : (bytes : List ℕ) → AreBytes bytes → (m : TMsg) → request_of bytes ≡ Some m → t_fits m.body
+pub request_fits : (bytes : List ℕ) → AreBytes bytes → (m : TMsg) → request_of bytes ≡ Some m → t_fits m.body
 request_fits bytes are m e = let b = request_read bytes m e in (t_body_reads b.0 bytes 7 b.1 m.body are b.2).2
 
 -- ---- what a read gives
@@ -224,7 +224,7 @@ directory_fits node offset count = records_fit count (behind offset (files_in no
 piece_fits : (offset count : ℕ) (text : List ℕ) → length (piece offset count text) ≤ count
 piece_fits offset count text = omega (arith, length-take count (drop offset text))
 
-content_fits : (done : List Deed) (conn fid offset count : ℕ) (node : Node) → length (content_of done conn fid offset count node) ≤ count
+pub content_fits : (done : List Deed) (conn fid offset count : ℕ) (node : Node) → length (content_of done conn fid offset count node) ≤ count
 content_fits done conn fid offset count Root = directory_fits Root offset count
 content_fits done conn fid offset count Factotum = directory_fits Factotum offset count
 content_fits done conn fid offset count Ctl = piece_fits offset count (ctl_text done conn fid offset)
@@ -239,7 +239,7 @@ effective_fits : (count : ℕ) (o : Option ℕ) → SizeFits o → 11 + effectiv
 effective_fits count None h = omega arith
 effective_fits count (Some msize) h = omega (arith, h.0)
 
-effective_asked : (count : ℕ) (o : Option ℕ) → effective count o ≤ count
+pub effective_asked : (count : ℕ) (o : Option ℕ) → effective count o ≤ count
 effective_asked count None = omega arith
 effective_asked count (Some msize) = omega arith
 
@@ -260,15 +260,15 @@ written_fits content None h = omega arith
 written_fits content (Some text) h = error_fits text (h text refl)
 
 -- the version that is replied
-abbrev version_text : Bool → List ℕ
+abbrev pub version_text : Bool → List ℕ
 version_text known = cond known (codes "9P2000") (codes "unknown")
 
-version_told : (known : Bool) → is_told (version_text known) ≡ true
+pub version_told : (known : Bool) → is_told (version_text known) ≡ true
 version_told true = refl
 version_told false = refl
 
 -- the reply, if there is one, is so
-abbrev Each : (RBody → Type 0) → Option RBody → Type 0
+abbrev pub Each : (RBody → Type 0) → Option RBody → Type 0
 Each P None = Unit {0}
 Each P (Some body) = P body
 
@@ -277,7 +277,7 @@ either_each P true one other p q = p
 either_each P false one other p q = q
 
 -- an answer of rpc that is read
-told_each : (P : RBody → Type 0) (count : ℕ) (answer : RpcAnswer) → (length (answer_text answer) ≤ count → P (r.Read (answer_text answer))) → P (r.Error (codes "read too small")) → P (told count answer)
+pub told_each : (P : RBody → Type 0) (count : ℕ) (answer : RpcAnswer) → (length (answer_text answer) ≤ count → P (r.Read (answer_text answer))) → P (r.Error (codes "read too small")) → P (told count answer)
 told_each P count answer one other = by_size (fits count answer) refl
   where
     by_size : (b : Bool) → fits count answer ≡ b → P (cond b (r.Read (answer_text answer)) (r.Error (codes "read too small")))
@@ -298,13 +298,13 @@ talk_each P word count None done p = tt
 talk_each P word count (Some conv) done p = answer_each P count (standing_of (carried conv word done) conv).phase p
 
 -- a read is answered by what rpc answers, or by what the file gives
-read_each : (P : RBody → Type 0) (done : List Deed) (call : Call) (fid offset count : ℕ) (node : Node) → ((answer : RpcAnswer) → P (told count answer)) → P (r.Read (content_of done call.conn fid offset count node))
+pub read_each : (P : RBody → Type 0) (done : List Deed) (call : Call) (fid offset count : ℕ) (node : Node) → ((answer : RpcAnswer) → P (told count answer)) → P (r.Read (content_of done call.conn fid offset count node))
     → Each P (read_reply done call fid offset count node)
 read_each P done call fid offset count node p q =
     either_each P (is_rpc node) (talk_read call.word count (conv_of done call.conn fid) done) (Some (r.Read (content_of done call.conn fid offset count node))) (talk_each P call.word count (conv_of done call.conn fid) done p) q
 
 -- a write is answered by its count, or by a text
-write_each : (P : RBody → Type 0) (done : List Deed) (content : List ℕ) (node : Node) → P (r.Write (length content)) → ((o : Option (List ℕ)) → Tells o → P (written content o)) → P (write_reply done content node)
+pub write_each : (P : RBody → Type 0) (done : List Deed) (content : List ℕ) (node : Node) → P (r.Write (length content)) → ((o : Option (List ℕ)) → Tells o → P (written content o)) → P (write_reply done content node)
 write_each P done content node p q = by_file (is_rpc node)
   where
     by_file : (b : Bool) → P (cond b (r.Write (length content)) (written content (lines_fault (keys_of done) (lines_of content))))
@@ -385,7 +385,7 @@ frame_fits : (room tag : ℕ) (body : RBody) → FitsIn room body → length (fr
 frame_fits room tag body h = omega (arith, frame_len (r_kind body) tag (r_fields body), h)
 
 -- of a reply holds what holds of its body, and it has the tag of its request
-each_reply : (P : RBody → Type 0) (o : Option RBody) (tag : ℕ) (reply : RMsg) → Each P o → option_map (λ (body : RBody). record { tag = tag; body = body }) o ≡ Some reply → (tag ≡ reply.tag) × P reply.body
+pub each_reply : (P : RBody → Type 0) (o : Option RBody) (tag : ℕ) (reply : RMsg) → Each P o → option_map (λ (body : RBody). record { tag = tag; body = body }) o ≡ Some reply → (tag ≡ reply.tag) × P reply.body
 each_reply P None tag reply p e = absurd cc
 each_reply P (Some body) tag reply p e =
     let same : record { tag = tag; body = body } ≡ reply = cc in
@@ -687,134 +687,3 @@ frames_no_longer H conn =
     let all = All-take IsShort (taken (deeds H) conn) (reverse rs) (to_all (reverse rs) (reversed_short rs ((all_short H).given conn))) in
     let got = subst (All IsShort) (sym (given_in_order H conn)) all in
     subst (All (λ (bytes : List ℕ). length bytes ≤ most_msize)) (sym (frames_put_out H conn)) (All-map (λ (bytes : List ℕ). length bytes ≤ most_msize) r_frame (given H conn) got)
-
--- ---- what the reply to a version tells
-
-abbrev TellsVersion : ℕ → RBody → Type 0
-TellsVersion msize body = body ≡ r.Version msize (codes "9P2000")
-
-abbrev SaysVersion : ℕ → Option RBody → Type 0
-SaysVersion msize o = o ≡ Some (r.Version msize (codes "9P2000"))
-
-known_is_told : (known : Bool) (size msize : ℕ) → TellsVersion msize (r.Version size (version_text known)) → cond known (Some size) None ≡ Some msize
-known_is_told true size msize e = let same : size ≡ msize = cc in ap Some same
-known_is_told false size msize e = let same : codes "unknown" ≡ codes "9P2000" = cc in absurd (omega (arith, ap length same))
-
-not_version : (content : List ℕ) (o : Option (List ℕ)) (msize : ℕ) → TellsVersion msize (written content o) → ⊥
-not_version content None msize e = cc
-not_version content (Some text) msize e = cc
-
-abbrev NoVersion : ℕ → RBody → Type 0
-NoVersion msize body = TellsVersion msize body → ⊥
-
-says_it : (body : RBody) (msize : ℕ) → SaysVersion msize (Some body) → TellsVersion msize body
-says_it body msize e = let same : body ≡ r.Version msize (codes "9P2000") = cc in same
-
-not_each : (msize : ℕ) (o : Option RBody) → Each (NoVersion msize) o → SaysVersion msize o → ⊥
-not_each msize None h e = cc
-not_each msize (Some body) h e = h (says_it body msize e)
-
-answer_no_version : (count msize : ℕ) (answer : RpcAnswer) → NoVersion msize (told count answer)
-answer_no_version count msize answer = told_each (NoVersion msize) count answer (λ small e. cc) (λ e. cc)
-
-body_told : (done : List Deed) (call : Call) (body : TBody) (msize : ℕ) → SaysVersion msize (reply_of done call body) → msize_of (after done call body) call.conn ≡ Some msize
-unfolding reply_of after
-body_told done call (t.Version offered version) msize e = rw (eq-eqb call.conn call.conn refl) (known_is_told (is_known version) (min offered most_msize) msize (says_it _ msize e))
-body_told done call (t.Auth afid uname aname) msize e = absurd cc
-body_told done call (t.Attach fid afid uname aname) msize e = absurd cc
-body_told done call (t.Flush oldtag) msize e = absurd cc
-body_told done call (t.Walk fid newfid wname) msize e = absurd cc
-body_told done call (t.Open fid mode) msize e = absurd cc
-body_told done call (t.Create fid name perm mode) msize e = absurd cc
-body_told done call (t.Read fid offset count) msize e =
-    let most = effective count (msize_of done call.conn) in
-    let node = node_of (fid_of done call.conn fid) in
-    absurd (not_each msize _ (read_each (NoVersion msize) done call fid offset most node (λ answer. answer_no_version most msize answer) (λ f. cc)) e)
-body_told done call (t.Write fid offset content) msize e =
-    absurd (not_each msize _ (write_each (NoVersion msize) done content (node_of (fid_of done call.conn fid)) (λ f. cc) (λ o tells. not_version content o msize)) e)
-body_told done call (t.Clunk fid) msize e = absurd cc
-body_told done call (t.Remove fid) msize e = absurd cc
-body_told done call (t.Stat fid) msize e = absurd cc
-body_told done call (t.Wstat fid stat) msize e = absurd cc
-
-granted_told : (done : List Deed) (call : Call) (g : Result TBody (List ℕ)) (msize : ℕ) → SaysVersion msize (body_for done call g) → msize_of (after_granted done call g) call.conn ≡ Some msize
-granted_told done call (Err text) msize e = absurd cc
-granted_told done call (Ok body) msize e = body_told done call body msize e
-
-pub told_is_agreed : (done : List Deed) (call : Call) (msize : ℕ) (bytes : List ℕ) → body_to done call bytes ≡ Some (r.Version msize (codes "9P2000")) → msize_of (after_frame done call bytes) call.conn ≡ Some msize
-unfolding body_to after_frame
-told_is_agreed done call msize bytes e = granted_told done call (granted done call bytes) msize e
-
--- ---- a reply has a spelling
-
-qid_fits : (node : Node) → IsQid (qid_of node)
-qid_fits Root = ((omega arith, omega arith), omega arith)
-qid_fits Factotum = ((omega arith, omega arith), omega arith)
-qid_fits Rpc = ((omega arith, omega arith), omega arith)
-qid_fits Ctl = ((omega arith, omega arith), omega arith)
-qid_fits Confirm = ((omega arith, omega arith), omega arith)
-qid_fits Needkey = ((omega arith, omega arith), omega arith)
-qid_fits Proto = ((omega arith, omega arith), omega arith)
-qid_fits Log = ((omega arith, omega arith), omega arith)
-
-qids_fit : (nodes : List Node) → AllByRecursion IsQid (map qid_of nodes)
-qids_fit [] = tt
-qids_fit (node ∷ nodes) = (qid_fits node, qids_fit nodes)
-
-written_valid : (content : List ℕ) (o : Option (List ℕ)) → Tells o → length content < 2 ^ 32 → r_fits (written content o)
-written_valid content None h small = small
-written_valid content (Some text) h small = told_string text (h text refl)
-
--- an answer of rpc that is read has a spelling
-answer_valid : (count : ℕ) (answer : RpcAnswer) → count < 2 ^ 32 → r_fits (told count answer)
-answer_valid count answer small = told_each r_fits count answer (λ fitting. omega (arith, fitting, small)) (told_string _ refl)
-
-body_valid : (done : List Deed) (call : Call) (body : TBody) → t_fits body → Each r_fits (reply_of done call body)
-unfolding reply_of
-body_valid done call (t.Version msize version) fits = (omega arith, told_string (version_text (is_known version)) (version_told (is_known version)))
-body_valid done call (t.Auth afid uname aname) fits = told_string _ refl
-body_valid done call (t.Attach fid afid uname aname) fits = qid_fits Root
-body_valid done call (t.Flush oldtag) fits = tt
-body_valid done call (t.Walk fid newfid wname) fits =
-    let nodes = visited (node_of (fid_of done call.conn fid)) wname in
-    record { few = omega (arith, fits.1.few, length-map nodes qid_of, at_most (node_of (fid_of done call.conn fid)) wname); each = qids_fit nodes }
-body_valid done call (t.Open fid mode) fits = (qid_fits (node_of (fid_of done call.conn fid)), omega arith)
-body_valid done call (t.Create fid name perm mode) fits = told_string _ refl
-body_valid done call (t.Read fid offset count) fits =
-    let most = effective count (msize_of done call.conn) in
-    let node = node_of (fid_of done call.conn fid) in
-    read_each r_fits done call fid offset most node (λ answer. answer_valid most answer (omega (arith, fits.1, effective_asked count (msize_of done call.conn))))
-    (omega (arith, fits.1, content_fits done call.conn fid offset most node, effective_asked count (msize_of done call.conn)))
-body_valid done call (t.Write fid offset content) fits = write_each r_fits done content (node_of (fid_of done call.conn fid)) fits.1 (λ o tells. written_valid content o tells fits.1)
-body_valid done call (t.Clunk fid) fits = tt
-body_valid done call (t.Remove fid) fits = told_string _ refl
-body_valid done call (t.Stat fid) fits = omega (arith, size_small (node_of (fid_of done call.conn fid)))
-body_valid done call (t.Wstat fid stat) fits = told_string _ refl
-
-granted_valid : (done : List Deed) (call : Call) (g : Result TBody (List ℕ)) → Gives t_fits g → Each r_fits (body_for done call g)
-granted_valid done call (Err text) gives = told_string text (gives.told text refl)
-granted_valid done call (Ok body) gives = body_valid done call body (gives.holds body refl)
-
-tag_small : (bytes : List ℕ) → AreBytes bytes → tag_of bytes < 2 ^ 16
-tag_small bytes are = elim (cases_Bool (ltb (length (drop 5 bytes)) 2)) [
-  | inl e ↦ rw e (omega arith)
-  | inr e ↦ rw e (wide16.below (take 2 (drop 5 bytes)) (AreBytes-take 2 (drop 5 bytes) (AreBytes-drop 5 bytes are)))
-]
-
-each_byte : (bytes : List ℕ) → All (λ (b : ℕ). b < 256) bytes → AreBytes bytes
-each_byte bytes small i = elim (cases_lt i (length bytes)) [
-  | inl lt ↦ All-get_or (λ (b : ℕ). b < 256) bytes i 0 lt small
-  | inr le ↦ rw (get_or_past bytes i 0 le) (omega arith)
-]
-
-pub reply_valid : (done : List Deed) (conn : ℕ) (bytes word : List ℕ) (reply : RMsg) → All (λ (b : ℕ). b < 256) bytes → reply_to done conn bytes word ≡ Some reply → IsReply (r_frame reply) reply
-unfolding reply_to body_to
-reply_valid done conn bytes word reply small e =
-    let are = each_byte bytes small in
-    let call = call_of conn bytes word in
-    let valid = granted_valid done call (granted done call bytes) (frame_gives t_fits done call bytes (request_fits bytes are)) in
-    let parts = each_reply r_fits (body_for done call (granted done call bytes)) (tag_of bytes) reply valid e in
-    record { spelling = refl; tag = subst (λ (n : ℕ). n < 2 ^ 16) parts.0 (tag_small bytes are); fields = parts.1 }
-
-pub reply_read : (done : List Deed) (conn : ℕ) (bytes word : List ℕ) (reply : RMsg) → All (λ (b : ℕ). b < 256) bytes → reply_to done conn bytes word ≡ Some reply → r_reading (r_frame reply) ≡ Ok reply
-reply_read done conn bytes word reply small e = reply_again (r_frame reply) reply (reply_valid done conn bytes word reply small e)

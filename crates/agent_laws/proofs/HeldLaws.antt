@@ -12,7 +12,8 @@ use Rattle.agent_history.specs.Deeds.{Deed, FidDeed, OfFids, OfKeys, OfReplies, 
 use Rattle.agent_history.specs.Histories.{History, deeds}
 use Rattle.agent_laws.specs.Laws.{AreHeld}
 use Rattle.agent_laws.proofs.DeedLaws.{SameFor, fids_same_for}
-use Rattle.agent_laws.proofs.GrowLaws.{Fits, KeepsOf, history_grows, is_done}
+use Rattle.agent_laws.proofs.KindLaws.{Fits, KeepsOf, is_done}
+use Rattle.agent_laws.proofs.GrowLaws.{history_grows}
 
 -- ---- numbers without an equal two
 

@@ -1,4 +1,5 @@
 mod AskLaws
+mod KindLaws
 mod GrowLaws
 mod DeedLaws
 mod FidLaws
@@ -10,7 +11,9 @@ mod HistoryLaws
 mod ReplyLaws
 mod ToldLaws
 mod FitLaws
+mod SpellLaws
 mod HiddenLaws
+mod SightLaws
 mod SecretLaws
 mod AlikeLaws
 mod WriteLaws

@@ -13,7 +13,8 @@ use Rattle.agent_history.specs.Deeds.{Deed, OfFids, OfKeys, OfReplies, OfConnect
 use Rattle.agent_history.specs.Replies.{replies, reply_in, taken, untaken, waits}
 use Rattle.agent_history.specs.Histories.{History, answer, deeds, does, entered, first_reply, is_reply, most_events, taking}
 use Rattle.agent_laws.specs.Laws.{given, gives, put_out}
-use Rattle.agent_laws.proofs.GrowLaws.{KeepsOf, conn_of, event_says, is_said, is_take, on_its_own}
+use Rattle.agent_laws.proofs.KindLaws.{KeepsOf, is_said}
+use Rattle.agent_laws.proofs.GrowLaws.{conn_of, event_says, is_take, on_its_own}
 use Rattle.agent_laws.proofs.HistoryLaws.{taken_given}
 
 -- ---- what a take gives

@@ -27,7 +27,8 @@ use Rattle.agent_history.specs.Conversations.{Question, Speaker, asker, conv_of,
 use Rattle.agent_history.specs.Requests.{Call, after, after_frame, after_granted, answered, body_to, call_of, carried, carrying_out, ctl_text, effective, granted, is_rpc, lines_done, piece, read_reply, reading, reading_answer, reading_talk, replied, reply_of, stored, walking}
 use Rattle.agent_history.specs.Histories.{History, deeds, does, entered, handing, most_events, taking}
 use Rattle.agent_laws.specs.Laws.{StoodOnce, sets_text}
-use Rattle.agent_laws.proofs.GrowLaws.{KeepsOf, is_line, lines_grow}
+use Rattle.agent_laws.proofs.KindLaws.{KeepsOf, is_line}
+use Rattle.agent_laws.proofs.GrowLaws.{lines_grow}
 
 -- ---- what a request makes of a fid's text: it stays, or there is none, or it is the list of this moment
 

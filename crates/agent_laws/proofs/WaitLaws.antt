@@ -22,7 +22,8 @@ use Rattle.agent_history.specs.Conversations.{Question, asker, next_question, re
 use Rattle.agent_history.specs.Requests.{Call, answered, body_for, body_to, call_of, granted, is_rpc, reply_of, after, after_frame, after_granted, answer_read, carried, carrying_out, is_resting, phase_in, reading, reading_answer, reading_talk, refusal, talk_read}
 use Rattle.agent_history.specs.Histories.{History, deeds, does, entered, handing, taking}
 use Rattle.agent_laws.specs.Laws.{AreWaiting, has_open, reads_rpc, AllTold}
-use Rattle.agent_laws.proofs.GrowLaws.{KeepsOf, either_way, history_grows, is_done, last_or_not, Fits, Passed, is_pending, none_refuses, read_count}
+use Rattle.agent_laws.proofs.KindLaws.{KeepsOf, is_done, Fits}
+use Rattle.agent_laws.proofs.GrowLaws.{either_way, history_grows, last_or_not, Passed, is_pending, none_refuses, read_count}
 use Rattle.agent_laws.proofs.ExclusiveLaws.{another_rests, still_has}
 use Rattle.agent_laws.proofs.FitLaws.{counts_fit}
 

@@ -1,4 +1,5 @@
-use Rattle.agent_laws.proofs.SecretLaws.{deeds_open, frame_alike, reply_to_alike, sight}
+use Rattle.agent_laws.proofs.SightLaws.{sight}
+use Rattle.agent_laws.proofs.SecretLaws.{deeds_open, frame_alike, reply_to_alike}
 use Rattle.agent_laws.proofs.laws.ctl_shows_no_secret.Goals as goal
 
 pub returns : goal.returns
