@@ -1,21 +1,29 @@
 //! factotum: the agent that holds a user's keys and speaks authentication protocols, and the authentication server. All
-//! that they do is in the library; here the real input, output and files are opened, and the process ends with the
-//! status's number.
+//! that they do is in the library; here the real input, output and files are opened, an authentication server is dialed,
+//! and the process ends with the status's number.
 #![tactic(auto)]
 
 ghost use Rattle.std.specs.Prelude.{◌≡◌, IfErr, true};
 ghost use Rattle.factotum_program.specs.Statuses.{is_printable};
 
 use factotum_program::{Status, Task, print_status, read_words, run_command};
+use socket_dialer::TcpDialer;
 use std::env;
 use std::fs::File;
 use std::io::{self, ErrorKind, Read};
 use std::process::ExitCode;
+use std::time::Duration;
 use wire_base::{Bytes, Text, TextList};
 use wire_streams::{ReadSource, ReadWords, WriteSink, write_all};
 
 /// Where words are drawn from.
 const RANDOM: &[u8] = b"/dev/urandom";
+
+/// The authentication server that is asked where the words name none.
+const AUTH_SERVER: &[u8] = b"127.0.0.1:5670";
+
+/// How many seconds an exchange with it may take.
+const PATIENCE: u64 = 30;
 
 /// A file; each read of one that couldn't be opened fails.
 #[derive(Drop)]
@@ -70,17 +78,36 @@ fn command_words(rt: &HostRuntime) -> Result<TextList, Status>
     Ok(words)
 }
 
+// The address of the authentication server: the one that is given, if one is.
+fn address(rt: &HostRuntime, given: Option<Text>) -> Result<Text, Status>
+    ensures { IfErr result (λ status. is_printable status ≡ true) }
+{
+    if let Some(address) = given {
+        return Ok(address);
+    }
+    match Text::from_slice(rt.alloc(), AUTH_SERVER) {
+        Ok(Some(address)) => Ok(address),
+        _ => Err(Status::NoMemory),
+    }
+}
+
 // Opens what the words name, and carries out their command.
 fn run(rt: &HostRuntime, words: &[Text]) -> Status
     ensures { is_printable result ≡ true }
 {
-    let (keys, speaks, rand) = match read_words(rt.alloc(), words) {
+    let (keys, speaks, rand, auth) = match read_words(rt.alloc(), words) {
         Ok(Task::Authsrv(given)) => (
             open(rt, given.keys.as_slice()),
             open(rt, given.speaks.as_slice()),
             open(rt, RANDOM),
+            None,
         ),
-        _ => (Opened::Shut, Opened::Shut, Opened::Shut),
+        Ok(Task::Pipe { auth }) => (Opened::Shut, Opened::Shut, open(rt, RANDOM), auth),
+        Err(_) => (Opened::Shut, Opened::Shut, Opened::Shut, None),
+    };
+    let address = match address(rt, auth) {
+        Ok(address) => address,
+        Err(status) => return status,
     };
     run_command(
         rt.alloc(),
@@ -89,6 +116,7 @@ fn run(rt: &HostRuntime, words: &[Text]) -> Status
         &mut ReadSource::new(keys),
         &mut ReadSource::new(speaks),
         &mut WriteSink::new(rt.stdout()),
+        &mut TcpDialer::new(*rt, rt.alloc(), address, Duration::from_secs(PATIENCE)),
         &mut ReadWords::new(ReadSource::new(rand)),
     )
 }

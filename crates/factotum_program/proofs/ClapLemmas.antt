@@ -18,14 +18,14 @@ abbrev top : Shape
 top = (built authsrv_app).top
 
 -- the walk behind an option, and behind its value
-abbrev at_option : List Row → Text → Walk
+abbrev pub at_option : List Row → Text → Walk
 at_option rows id = record { held = record { rows = rows; pending = Some (id, []); skip = 0 }; waiting = option id; position = 1; is_trailing = false; stopped = None }
 
-abbrev behind : List Row → Text → Text → Walk
+abbrev pub behind : List Row → Text → Text → Walk
 behind rows id value = record { held = record { rows = rows; pending = Some (id, value ∷ []); skip = 0 }; waiting = idle; position = 1; is_trailing = false; stopped = None }
 
 -- what is found for an option
-abbrev row : Text → Text → Row
+abbrev pub row : Text → Text → Row
 row id value = record { id = id; values = value ∷ []; count = None; source = Some CommandLine; reading = reading_of vp.String }
 
 -- ---- a value behind an option
@@ -39,22 +39,22 @@ pub record IsPlainWord (word : Text) : Type 0 where
 pub plain : (x : ℕ) (t : Text) → (x == 45) ≡ false → IsPlainWord (x ∷ t)
 plain x t e = record { other = rw e refl; long = rw e refl; short = rw e refl }
 
-met_plain : (c : List Rule) (names : Names) (id word : Text) (h : Held) → IsPlainWord word → word_met c names false (option id) 1 word h ≡ plain_word c (option id) word h
+pub met_plain : (c : List Rule) (names : Names) (id word : Text) (h : Held) → IsPlainWord word → word_met c names false (option id) 1 word h ≡ plain_word c (option id) word h
 met_plain c names id word h p =
     subst (λ b. (if b then (h, trailing 1) else long_or_other c (option id) word (long_of word) h) ≡ plain_word c (option id) word h) (sym p.other)
     (subst (λ o. long_or_other c (option id) word o h ≡ plain_word c (option id) word h) (sym p.long)
     (subst (λ o. short_or_plain c (option id) word o h ≡ plain_word c (option id) word h) (sym p.short) refl))
 
-flag_passes : (c : List Rule) (again : Bool) (word : Text) (h : Held) → IsPlainWord word → flag_word_passes c again (long_of word) word h ≡ true
+pub flag_passes : (c : List Rule) (again : Bool) (word : Text) (h : Held) → IsPlainWord word → flag_word_passes c again (long_of word) word h ≡ true
 flag_passes c again word h p =
     subst (λ o. flag_word_passes c again o word h ≡ true) (sym p.long)
     (subst (λ o. option_map_or (λ flags. bundle_passes c again flags h) o true ≡ true) (sym p.short) refl)
 
-either_passes : (a b : Bool) → b ≡ true → (a || b) ≡ true
+pub either_passes : (a b : Bool) → b ≡ true → (a || b) ≡ true
 either_passes true b e = refl
 either_passes false b e = e
 
-both_pass : (a b : Bool) → a ≡ true → b ≡ true → (a && b) ≡ true
+pub both_pass : (a b : Bool) → a ≡ true → b ≡ true → (a && b) ≡ true
 both_pass a b e f = rw (e, f) refl
 
 dom_value : (rows : List Row) (word : Text) → IsPlainWord word → walked top.rules [] (at_option rows (codes "dom")) word ≡ behind rows (codes "dom") word
@@ -86,12 +86,12 @@ speaks_turn rows word p = both_pass _ _
 
 -- ---- the words one by one
 
-pass_on : (s : Shape) (names : Names) (w after : Walk) (word : Text) (rest : List Text) → turn_passes s names w word ≡ true → walked s.rules names w word ≡ after
+pub pass_on : (s : Shape) (names : Names) (w after : Walk) (word : Text) (rest : List Text) → turn_passes s names w word ≡ true → walked s.rules names w word ≡ after
     → walk_passes s names after rest ≡ true → walk_passes s names w (word ∷ rest) ≡ true
 unfolding walk_passes
 pass_on s names w after word rest p e h = rw (p, e) h
 
-pass_end : (s : Shape) (names : Names) (w : Walk) → walk_passes s names w [] ≡ true
+pub pass_end : (s : Shape) (names : Names) (w : Walk) → walk_passes s names w [] ≡ true
 unfolding walk_passes
 pass_end s names w = refl
 

@@ -7,6 +7,7 @@ use Rattle.factotum_program.specs.declared.words.AuthsrvWords.{AuthsrvWords}
 use Rattle.factotum_program.specs.Words.{HasValues, IsUnread, authsrv_value, has_authsrv_form, is_authsrv, is_command, is_pipe}
 use Rattle.factotum_program.specs.Commands.{EndsSo as Piped}
 use Rattle.factotum_program.specs.Serving.{Outside, ServesSo}
+use Rattle.factotum_program.specs.Sights.{Sight}
 use Rattle.factotum_program.specs.Statuses.{is_printable}
 use Rattle.factotum_program.proofs.ServeLemmas.{piped_printable, served_printable}
 use Rattle.factotum_program.proofs.WordLemmas.{and_right}
@@ -29,8 +30,8 @@ unread_printable : (words : List (List ℕ)) (status : Status) → IsUnread word
 unread_printable words status (inl u) = rw u.0 refl
 unread_printable words status (inr n) = rw n.0 refl
 
-pub any_printable : (words : List (List ℕ)) (status : Status) (left_old left_new held_old held_new : Option (List ℕ)) (dom : List ℕ) (before now : Outside)
-    → (is_command words ≡ false → IsUnread words status) → (is_pipe words ≡ true → Piped status left_old left_new held_old held_new)
+pub any_printable : (words : List (List ℕ)) (status : Status) (left_old left_new : Option (List ℕ)) (old new : Sight) (dom : List ℕ) (before now : Outside)
+    → (is_command words ≡ false → IsUnread words status) → (is_pipe words ≡ true → Piped status left_old left_new old new)
     → (is_authsrv words ≡ true → ServesSo dom status before now) → is_printable status ≡ true
 any_printable words status lo ln ho hn dom before now none piped served = go (is_pipe words) (is_authsrv words) refl refl
   where

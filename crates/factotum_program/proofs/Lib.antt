@@ -1,8 +1,12 @@
+pub mod MadeLemmas
+pub mod AskLemmas
 pub mod TakeLemmas
+pub mod TurnLemmas
 pub mod PartLemmas
 pub mod PipeLemmas
 pub mod CommandLemmas
 pub mod ClapLemmas
 pub mod WordLemmas
+pub mod AuthWords
 pub mod ServeLemmas
 pub mod CommandWords

@@ -5,7 +5,7 @@ use Rattle.wire_streams.proofs.StreamLemmas.{Gains-nil, Gains-trans}
 use Rattle.factotum_program.specs.declared.status.Status.{Status}
 use Rattle.factotum_program.specs.declared.status.Status.TheVariants.{NoMemory}
 use Rattle.factotum_program.specs.Commands.{GainsPart}
-use Rattle.factotum_program.specs.Sessions.{Gathers, GathersPart}
+use Rattle.factotum_program.specs.Gathers.{Gathers, GathersPart}
 
 -- ---- a text
 

@@ -1,5 +1,5 @@
 -- The frames of a stream, answered one by one, and what a pipe has written where it stops.
-use Rattle.std.proofs.Common.{◌≡◌, ℕ, ◌+◌, ◌<◌, ◌≤◌, List, [], ◌∷◌, ◌++◌, length, take, drop, take-append-drop, length-drop, Option, refl, sym, ap, subst, ◌∙◌, append_assoc, append-nil, length-append, inl, inr, arith}
+use Rattle.std.proofs.Common.{◌≡◌, ℕ, ◌+◌, ◌<◌, ◌≤◌, List, [], ◌∷◌, ◌++◌, length, take, drop, take-append-drop, length-drop, Option, true, refl, sym, ap, subst, ◌∙◌, append_assoc, append-nil, length-append, inl, inr, arith}
 use Rattle.std.specs.Prelude.{Result, Ok, Err, OnOk, IfErr}
 use Rattle.std.specs.Io.KnownBytes.{Consumes, IsAtEnd}
 use Rattle.std.proofs.KnownBytes.{Consumes-nil, Consumes-trans}
@@ -10,167 +10,269 @@ use Rattle.nine_frames.specs.Framed.{Framing}
 use Rattle.nine_frames.specs.Framing.{HasHandedOut, Answers as Gives}
 use Rattle.nine_frames.specs.declared.framer.Next.TheVariants.{Whole, NotYet, BadSize}
 use Rattle.nine_frames.proofs.StreamLaws.{continues, more_frames, front_none, handed_then, length_fed, no_frames, behind_frames, all_frames}
+use Rattle.auth_server.specs.Sessions.{DrawsAll}
 use Rattle.agent_history.specs.Histories.{History}
 use Rattle.agent_core.specs.declared.agent.Agent.{Agent}
 use Rattle.agent_core.specs.Agents.{StandsFor}
 use Rattle.factotum_program.specs.declared.status.Status.{Status}
 use Rattle.factotum_program.specs.declared.status.Status.TheVariants.{Fine, Usage, ReadFault, WriteFault, WordFault, BadFrame, Torn, BadTables, AsEnded, NoMemory, Flood}
 use Rattle.factotum_program.specs.declared.pipe.Session.{Session}
-use Rattle.factotum_program.specs.Pipe.{most_frame, after_frame, after_frames, text_of, replies_text, pipe_text}
-use Rattle.factotum_program.specs.Commands.{most_input, frames_in, Reads, Answers, EndsInside, Floods, GainsPart, EndsSo}
-use Rattle.factotum_program.specs.Sessions.{HasNoNext, Gathers, GathersPart, Handed, AllHanded, StopsAt, IsCut, Piped}
-use Rattle.factotum_program.proofs.TakeLemmas.{frames_grow}
-use Rattle.factotum_program.proofs.PartLemmas.{gathers_none, gathers_gone, gathers_failed, all_written, part_longer, part_memory, part_gone, part_failed, part_written}
+use Rattle.factotum_program.specs.Pipe.{Turn, after_turn, after_turns, frames_of, most_frame, replies_text, text_of, turn_of}
+use Rattle.factotum_program.specs.Sights.{Goes, Sight, sight}
+use Rattle.factotum_program.specs.Commands.{most_input, frames_in, Reads, Answers, EndsInside, Floods, GainsPart, EndsSo, Replies, RepliesPart}
+use Rattle.factotum_program.specs.Gathers.{Gathers, GathersPart}
+use Rattle.factotum_program.specs.Asks.{Turns, TurnsPart}
+use Rattle.factotum_program.specs.Sessions.{HasNoNext, Handed, AllHanded, StopsAt, IsCut, IsCutShort, MissesWord, Piped, Told, ToldPart}
+use Rattle.factotum_program.proofs.TurnLemmas.{after_one, all_met_one, frames_one, goes_none, goes_on, goes_one, goes_still}
+use Rattle.factotum_program.proofs.PartLemmas.{gathers_none, gathers_gone, gathers_failed, all_written, part_memory, part_gone, part_failed, part_written}
 
-after_append : (H : History) (some others : List (List ℕ)) → after_frames H (some ++ others) ≡ after_frames (after_frames H some) others
-after_append H [] others = refl
-after_append H (f ∷ some) others = after_append (after_frame H f) some others
-
--- the replies to some frames stand in front of those to these and others
-replies_grow : (some others : List (List ℕ)) → (more : List ℕ) × (replies_text (some ++ others) ≡ replies_text some ++ more)
-replies_grow some others = let rest = frames_grow (after_frames [] some) others in (rest.0, ap text_of (after_append [] some others) ∙ rest.1)
-
-replies_more : (stream more : List ℕ) → (rest : List ℕ) × (replies_text (frames_in (stream ++ more)) ≡ replies_text (frames_in stream) ++ rest)
-replies_more stream more =
-    let m = more_frames most_frame stream more in
-    let grown = replies_grow (frames_in stream) m.0 in
-    (grown.0, ap replies_text m.1 ∙ grown.1)
+-- a sight with these bytes written
+abbrev holding : Sight → Option (List ℕ) → Sight
+holding now holds = sight now.words now.dialed holds
 
 -- ---- one frame more
 
 -- the frames of the stream are those that were answered, this one, and others
-frames_then : (origin held : Option (List ℕ)) (gathered stream : List ℕ) (handed : List (List ℕ)) (old new : Framing) (agent : Agent) (frame : List ℕ) → Handed origin held gathered stream handed old agent → Gives old new (Whole frame)
-    → (others : List (List ℕ)) × (frames_in stream ≡ (handed ++ frame ∷ []) ++ others)
-frames_then origin held gathered stream handed old new agent frame h a =
-    let c = continues old new (Whole frame) a stream handed h.cut in
-    (frames old.limit new.held, ap (λ (limit : ℕ). frames limit stream) (sym h.limit) ∙ c.0 ∙ sym (append_assoc handed (frame ∷ []) (frames old.limit new.held)))
+frames_then : (origin now : Sight) (gathered stream : List ℕ) (turns : List Turn) (old new : Framing) (agent : Agent) (frame : List ℕ) → Handed origin now gathered stream turns old agent → Gives old new (Whole frame)
+    → (others : List (List ℕ)) × (frames_in stream ≡ frames_of turns ++ frame ∷ others)
+frames_then origin now gathered stream turns old new agent frame h a =
+    let c = continues old new (Whole frame) a stream (frames_of turns) h.cut in
+    (frames old.limit new.held, ap (λ (limit : ℕ). frames limit stream) (sym h.limit) ∙ c.0)
 
-pub handed_more : (origin before after : Option (List ℕ)) (some more stream : List ℕ) (handed : List (List ℕ)) (old new : Framing) (agent later : Agent) (frame : List ℕ) → Handed origin before some stream handed old agent → Gives old new (Whole frame)
-    → StandsFor (after_frame (after_frames [] handed) frame) later → Gathers origin after more (text_of (after_frame (after_frames [] handed) frame)) → Handed origin after more stream (handed ++ frame ∷ []) new later
-handed_more origin before after some more stream handed old new agent later frame h a stands told =
-    let is : after_frames [] (handed ++ frame ∷ []) ≡ after_frame (after_frames [] handed) frame = after_append [] handed (frame ∷ []) in
+pub handed_more : (origin before after : Sight) (some more stream : List ℕ) (turns : List Turn) (old new : Framing) (agent later : Agent) (frame word : List ℕ) → Handed origin before some stream turns old agent → Gives old new (Whole frame) → DrawsAll before.words after.words (word ∷ [])
+    → (t : Turns (after_turns [] turns) frame word before.dialed after.dialed origin.holds after.holds more later) → Handed origin after more stream (turns ++ turn_of frame word t.heard ∷ []) new later
+handed_more origin before after some more stream turns old new agent later frame word h a drew t =
+    let turn : Turn = turn_of frame word t.heard in
+    let is : after_turns [] (turns ++ turn ∷ []) ≡ after_turn (after_turns [] turns) turn = after_one [] turns turn in
     record {
-      cut = (continues old new (Whole frame) a stream handed h.cut).1;
+      cut = subst (HasHandedOut new stream) (sym (frames_one turns turn)) (continues old new (Whole frame) a stream (frames_of turns) h.cut).1;
       limit = a.2.limit ∙ h.limit;
-      stands = subst (λ (H : History). StandsFor H later) (sym is) stands;
-      told = subst (λ (H : History). Gathers origin after more (text_of H)) (sym is) told;
+      stands = subst (λ (H : History). StandsFor H later) (sym is) t.stands;
+      goes = goes_one origin before after turns frame word t.heard h.goes drew t.made;
+      met = all_met_one turns turn h.met t.met;
+      told = subst (λ (H : History). Gathers origin.holds after.holds more (text_of H)) (sym is) t.told;
     }
 
-stops_cut : (status : Status) (origin held : Option (List ℕ)) (gathered stream text more : List ℕ) → replies_text (frames_in stream) ≡ text ++ more → IsCut status → GathersPart status origin held gathered text → StopsAt origin held gathered stream status
-stops_cut status origin held gathered stream text more is (inl memory) p = subst (StopsAt origin held gathered stream) (sym memory) (part_longer NoMemory origin held gathered text (replies_text (frames_in stream)) more is (subst (λ (s : Status). GathersPart s origin held gathered text) memory p))
-stops_cut status origin held gathered stream text more is (inr write) p = subst (StopsAt origin held gathered stream) (sym write) (part_longer WriteFault origin held gathered text (replies_text (frames_in stream)) more is (subst (λ (s : Status). GathersPart s origin held gathered text) write p))
+stops_cut : (status : Status) (origin now : Sight) (gathered stream : List ℕ) → IsCut status → IsCutShort status origin now gathered stream → StopsAt origin now gathered stream status
+stops_cut status origin now gathered stream (inl memory) c = subst (StopsAt origin now gathered stream) (sym memory) (subst (λ (s : Status). IsCutShort s origin now gathered stream) memory c)
+stops_cut status origin now gathered stream (inr write) c = subst (StopsAt origin now gathered stream) (sym write) (subst (λ (s : Status). IsCutShort s origin now gathered stream) write c)
 
 -- the replies to a frame were told in part
-pub stops_in_frame : (status : Status) (origin before after : Option (List ℕ)) (some more stream : List ℕ) (handed : List (List ℕ)) (old new : Framing) (agent : Agent) (frame : List ℕ) → Handed origin before some stream handed old agent → Gives old new (Whole frame)
-    → IsCut status → GathersPart status origin after more (text_of (after_frame (after_frames [] handed) frame)) → StopsAt origin after more stream status
-stops_in_frame status origin before after some more stream handed old new agent frame h a cut p =
-    let others = frames_then origin before some stream handed old new agent frame h a in
-    let grown = replies_grow (handed ++ frame ∷ []) others.0 in
-    stops_cut status origin after more stream (text_of (after_frame (after_frames [] handed) frame)) grown.0
-    (ap replies_text others.1 ∙ grown.1 ∙ ap (λ (H : History). text_of H ++ grown.0) (after_append [] handed (frame ∷ []))) cut p
+pub stops_in_frame : (status : Status) (origin before after : Sight) (some more stream : List ℕ) (turns : List Turn) (old new : Framing) (agent : Agent) (frame word : List ℕ) → Handed origin before some stream turns old agent → Gives old new (Whole frame) → DrawsAll before.words after.words (word ∷ [])
+    → IsCut status → TurnsPart status (after_turns [] turns) frame word before.dialed after.dialed origin.holds after.holds more → StopsAt origin after more stream status
+stops_in_frame status origin before after some more stream turns old new agent frame word h a drew cut t =
+    let turn : Turn = turn_of frame word t.heard in
+    let others = frames_then origin before some stream turns old new agent frame h a in
+    stops_cut status origin after more stream cut (record {
+      front = frames_of turns ++ frame ∷ [];
+      others = others.0;
+      parts = others.1 ∙ sym (append_assoc (frames_of turns) (frame ∷ []) others.0);
+      told = record {
+        turns = turns;
+        last = turn ∷ [];
+        one = omega arith;
+        are = frames_one turns turn;
+        goes = goes_one origin before after turns frame word t.heard h.goes drew t.made;
+        met = h.met;
+        told = subst (λ (H : History). GathersPart status origin.holds after.holds more (text_of H)) (sym (after_one [] turns turn)) t.told;
+      };
+    })
+
+-- no word was drawn for a frame
+pub stops_wordless : (status : Status) (origin now : Sight) (words : Option (List (List ℕ))) (gathered stream : List ℕ) (turns : List Turn) (old new : Framing) (agent : Agent) (frame : List ℕ) → Handed origin now gathered stream turns old agent → Gives old new (Whole frame) → DrawsAll now.words words []
+    → status ≡ WordFault → StopsAt origin (sight words now.dialed now.holds) gathered stream status
+stops_wordless status origin now words gathered stream turns old new agent frame h a drew is =
+    let others = frames_then origin now gathered stream turns old new agent frame h a in
+    subst (StopsAt origin (sight words now.dialed now.holds) gathered stream) (sym is) (record {
+      front = frames_of turns;
+      frame = frame;
+      others = others.0;
+      parts = others.1;
+      told = record { turns = turns; are = refl; goes = goes_still origin now words now.holds turns h.goes drew; met = h.met; told = h.told };
+    })
 
 -- there is no frame more
-pub handed_all : (origin held : Option (List ℕ)) (gathered stream : List ℕ) (handed : List (List ℕ)) (old new : Framing) (agent : Agent) → Handed origin held gathered stream handed old agent → Gives old new NotYet → AllHanded origin held gathered stream new agent
-handed_all origin held gathered stream handed old new agent h a =
-    let all : frames_in stream ≡ handed = ap (λ (limit : ℕ). frames limit stream) (sym h.limit) ∙ continues old new NotYet a stream handed h.cut in
+pub handed_all : (origin now : Sight) (gathered stream : List ℕ) (turns : List Turn) (old new : Framing) (agent : Agent) → Handed origin now gathered stream turns old agent → Gives old new NotYet → AllHanded origin now gathered stream new agent
+handed_all origin now gathered stream turns old new agent h a =
+    let all : frames_in stream ≡ frames_of turns = ap (λ (limit : ℕ). frames limit stream) (sym h.limit) ∙ continues old new NotYet a stream (frames_of turns) h.cut in
     record {
-      all = subst (λ (f : Framing). Handed origin held gathered stream (frames_in stream) f agent) (sym a.1) (subst (λ (fs : List (List ℕ)). Handed origin held gathered stream fs old agent) (sym all) h);
+      turns = turns;
+      are = sym all;
+      handed = subst (λ (f : Framing). Handed origin now gathered stream turns f agent) (sym a.1) h;
       short = ap (λ (f : Framing). front most_frame f.held) a.1 ∙ ap (λ (limit : ℕ). front limit old.held) (sym h.limit) ∙ a.0;
     }
 
+-- what was answered and is told, was in part
+in_part : (frames : List (List ℕ)) (origin now : Sight) (gathered : List ℕ) → Told frames origin now gathered → ToldPart NoMemory frames origin now gathered
+in_part frames origin now gathered t =
+    let same : t.turns ++ [] ≡ t.turns = append-nil t.turns in
+    record {
+      turns = t.turns;
+      last = [];
+      one = omega arith;
+      are = ap frames_of same ∙ t.are;
+      goes = subst (λ (ts : List Turn). Goes origin now ts) (sym same) t.goes;
+      met = t.met;
+      told = subst (λ (ts : List Turn). GathersPart NoMemory origin.holds now.holds gathered (replies_text ts)) (sym same)
+          (part_memory origin.holds now.holds gathered (replies_text t.turns) (replies_text t.turns) [] (sym (append-nil (replies_text t.turns))) t.told);
+    }
+
+all_told : (origin now : Sight) (gathered stream : List ℕ) (f : Framing) (agent : Agent) → AllHanded origin now gathered stream f agent → Told (frames_in stream) origin now gathered
+all_told origin now gathered stream f agent h = record { turns = h.turns; are = h.are; goes = h.handed.goes; met = h.handed.met; told = h.handed.told }
+
 -- no next frame comes
-pub stops_between : (status : Status) (origin held : Option (List ℕ)) (gathered stream : List ℕ) (handed : List (List ℕ)) (f : Framing) (agent : Agent) → Handed origin held gathered stream handed f agent → HasNoNext f status → StopsAt origin held gathered stream status
-stops_between status origin held gathered stream handed f agent h (inl memory) =
-    let all : frames_in stream ≡ handed ++ frames most_frame f.held = ap (frames most_frame) h.cut.parts ∙ handed_then most_frame handed f.held (rw h.limit at h.cut.each) in
-    let grown = replies_grow handed (frames most_frame f.held) in
-    subst (StopsAt origin held gathered stream) (sym memory) (part_memory origin held gathered (replies_text handed) (replies_text (frames_in stream)) grown.0 (ap replies_text all ∙ grown.1) h.told)
-stops_between status origin held gathered stream handed f agent h (inr bad) =
+pub stops_between : (status : Status) (origin now : Sight) (gathered stream : List ℕ) (turns : List Turn) (f : Framing) (agent : Agent) → Handed origin now gathered stream turns f agent → HasNoNext f status → StopsAt origin now gathered stream status
+stops_between status origin now gathered stream turns f agent h (inl memory) =
+    let all : frames_in stream ≡ frames_of turns ++ frames most_frame f.held = ap (frames most_frame) h.cut.parts ∙ handed_then most_frame (frames_of turns) f.held (rw h.limit at h.cut.each) in
+    subst (StopsAt origin now gathered stream) (sym memory) (record {
+      front = frames_of turns;
+      others = frames most_frame f.held;
+      parts = all;
+      told = in_part (frames_of turns) origin now gathered (record { turns = turns; are = refl; goes = h.goes; met = h.met; told = h.told });
+    })
+stops_between status origin now gathered stream turns f agent h (inr bad) =
     let a : Gives f f (BadSize f.before bad.0) = (bad.2, refl, refl) in
-    let c = continues f f (BadSize f.before bad.0) a stream handed h.cut in
-    let all : frames_in stream ≡ handed = ap (λ (limit : ℕ). frames limit stream) (sym h.limit) ∙ c.0 in
+    let c = continues f f (BadSize f.before bad.0) a stream (frames_of turns) h.cut in
+    let all : frames_in stream ≡ frames_of turns = ap (λ (limit : ℕ). frames limit stream) (sym h.limit) ∙ c.0 in
     let cut : HasHandedOut f stream (frames_in stream) = subst (HasHandedOut f stream) (sym all) h.cut in
-    subst (StopsAt origin held gathered stream) (sym bad.1) (record {
+    subst (StopsAt origin now gathered stream) (sym bad.1) (record {
       place = cut.place;
       bad = behind_frames most_frame f stream (IsBad bad.0) cut (ap (λ (limit : ℕ). front limit f.held) (sym h.limit) ∙ bad.2);
-      told = subst (λ (fs : List (List ℕ)). Gathers origin held gathered (replies_text fs)) (sym all) h.told;
+      told = record { turns = turns; are = sym all; goes = h.goes; met = h.met; told = h.told };
     })
 
 -- ---- what was gathered is written
 
-pub handed_gone : (origin held later : Option (List ℕ)) (gathered stream : List ℕ) (f : Framing) (agent : Agent) → Gains held later gathered → AllHanded origin held gathered stream f agent → AllHanded origin later [] stream f agent
-handed_gone origin held later gathered stream f agent gone h = record {
-  all = record { cut = h.all.cut; limit = h.all.limit; stands = h.all.stands; told = gathers_gone origin held later gathered (replies_text (frames_in stream)) gone h.all.told };
+told_gone : (frames : List (List ℕ)) (origin now : Sight) (later : Option (List ℕ)) (gathered : List ℕ) → Gains now.holds later gathered → Told frames origin now gathered → Told frames origin (holding now later) []
+told_gone frames origin now later gathered gone t = record { turns = t.turns; are = t.are; goes = goes_on origin now later t.turns t.goes; met = t.met; told = gathers_gone origin.holds now.holds later gathered (replies_text t.turns) gone t.told }
+
+told_part_gone : (status : Status) (frames : List (List ℕ)) (origin now : Sight) (later : Option (List ℕ)) (gathered : List ℕ) → Gains now.holds later gathered → ToldPart status frames origin now gathered → ToldPart status frames origin (holding now later) []
+told_part_gone status frames origin now later gathered gone t = record {
+  turns = t.turns;
+  last = t.last;
+  one = t.one;
+  are = t.are;
+  goes = goes_on origin now later (t.turns ++ t.last) t.goes;
+  met = t.met;
+  told = part_gone status origin.holds now.holds later gathered (replies_text (t.turns ++ t.last)) gone t.told;
+}
+
+told_part_failed : (status other : Status) (frames : List (List ℕ)) (origin now : Sight) (later : Option (List ℕ)) (gathered : List ℕ) → GainsPart other now.holds later gathered → ToldPart status frames origin now gathered → ToldPart other frames origin (holding now later) []
+told_part_failed status other frames origin now later gathered failed t = record {
+  turns = t.turns;
+  last = t.last;
+  one = t.one;
+  are = t.are;
+  goes = goes_on origin now later (t.turns ++ t.last) t.goes;
+  met = t.met;
+  told = part_failed status other origin.holds now.holds later gathered (replies_text (t.turns ++ t.last)) failed t.told;
+}
+
+pub handed_gone : (origin now : Sight) (later : Option (List ℕ)) (gathered stream : List ℕ) (f : Framing) (agent : Agent) → Gains now.holds later gathered → AllHanded origin now gathered stream f agent → AllHanded origin (holding now later) [] stream f agent
+handed_gone origin now later gathered stream f agent gone h = record {
+  turns = h.turns;
+  are = h.are;
+  handed = record {
+    cut = h.handed.cut;
+    limit = h.handed.limit;
+    stands = h.handed.stands;
+    goes = goes_on origin now later h.turns h.handed.goes;
+    met = h.handed.met;
+    told = gathers_gone origin.holds now.holds later gathered (replies_text h.turns) gone h.handed.told;
+  };
   short = h.short;
 }
 
-pub handed_failed : (status : Status) (origin held later : Option (List ℕ)) (gathered stream : List ℕ) (f : Framing) (agent : Agent) → status ≡ WriteFault → GainsPart status held later gathered → AllHanded origin held gathered stream f agent → StopsAt origin later [] stream status
-handed_failed status origin held later gathered stream f agent is p h =
-    stops_cut status origin later [] stream (replies_text (frames_in stream)) [] (sym (append-nil (replies_text (frames_in stream)))) (inr is) (gathers_failed status origin held later gathered (replies_text (frames_in stream)) p h.all.told)
-
-pub stop_gone : (status : Status) (origin held later : Option (List ℕ)) (gathered stream : List ℕ) → Gains held later gathered → StopsAt origin held gathered stream status → StopsAt origin later [] stream status
-stop_gone Fine origin held later gathered stream gone s = absurd s
-stop_gone Usage origin held later gathered stream gone s = absurd s
-stop_gone ReadFault origin held later gathered stream gone s = absurd s
-stop_gone WriteFault origin held later gathered stream gone s = part_gone WriteFault origin held later gathered (replies_text (frames_in stream)) gone s
-stop_gone (BadFrame at size) origin held later gathered stream gone s = record { place = s.place; bad = s.bad; told = gathers_gone origin held later gathered (replies_text (frames_in stream)) gone s.told }
-stop_gone (Torn at) origin held later gathered stream gone s = absurd s
-stop_gone NoMemory origin held later gathered stream gone s = part_gone NoMemory origin held later gathered (replies_text (frames_in stream)) gone s
-stop_gone (Flood limit) origin held later gathered stream gone s = absurd s
-stop_gone WordFault origin held later gathered stream gone s = absurd s
-stop_gone (BadTables speaks line) origin held later gathered stream gone s = absurd s
-stop_gone (AsEnded end) origin held later gathered stream gone s = absurd s
+pub stop_gone : (status : Status) (origin now : Sight) (later : Option (List ℕ)) (gathered stream : List ℕ) → Gains now.holds later gathered → StopsAt origin now gathered stream status → StopsAt origin (holding now later) [] stream status
+stop_gone Fine origin now later gathered stream gone s = absurd s
+stop_gone Usage origin now later gathered stream gone s = absurd s
+stop_gone ReadFault origin now later gathered stream gone s = absurd s
+stop_gone WriteFault origin now later gathered stream gone s = record { front = s.front; others = s.others; parts = s.parts; told = told_part_gone WriteFault s.front origin now later gathered gone s.told }
+stop_gone (BadFrame at size) origin now later gathered stream gone s = record { place = s.place; bad = s.bad; told = told_gone (frames_in stream) origin now later gathered gone s.told }
+stop_gone (Torn at) origin now later gathered stream gone s = absurd s
+stop_gone NoMemory origin now later gathered stream gone s = record { front = s.front; others = s.others; parts = s.parts; told = told_part_gone NoMemory s.front origin now later gathered gone s.told }
+stop_gone (Flood limit) origin now later gathered stream gone s = absurd s
+stop_gone WordFault origin now later gathered stream gone s = record { front = s.front; frame = s.frame; others = s.others; parts = s.parts; told = told_gone s.front origin now later gathered gone s.told }
+stop_gone (BadTables speaks line) origin now later gathered stream gone s = absurd s
+stop_gone (AsEnded end) origin now later gathered stream gone s = absurd s
 
 -- a stop of the answers tells a part of all replies
-told_so : (status : Status) (origin held : Option (List ℕ)) (gathered stream : List ℕ) → StopsAt origin held gathered stream status → GathersPart NoMemory origin held gathered (replies_text (frames_in stream))
-told_so Fine origin held gathered stream s = absurd s
-told_so Usage origin held gathered stream s = absurd s
-told_so ReadFault origin held gathered stream s = absurd s
-told_so WriteFault origin held gathered stream s = record { told = s.told; rest = s.rest; parts = s.parts; gathers = s.gathers; missing = λ e. absurd (cc) }
-told_so (BadFrame at size) origin held gathered stream s = part_memory origin held gathered (replies_text (frames_in stream)) (replies_text (frames_in stream)) [] (sym (append-nil (replies_text (frames_in stream)))) s.told
-told_so (Torn at) origin held gathered stream s = absurd s
-told_so NoMemory origin held gathered stream s = s
-told_so (Flood limit) origin held gathered stream s = absurd s
-told_so WordFault origin held gathered stream s = absurd s
-told_so (BadTables speaks line) origin held gathered stream s = absurd s
-told_so (AsEnded end) origin held gathered stream s = absurd s
+told_so : (status : Status) (origin now : Sight) (gathered stream : List ℕ) → StopsAt origin now gathered stream status → IsCutShort NoMemory origin now gathered stream
+told_so Fine origin now gathered stream s = absurd s
+told_so Usage origin now gathered stream s = absurd s
+told_so ReadFault origin now gathered stream s = absurd s
+told_so WriteFault origin now gathered stream s = record {
+  front = s.front;
+  others = s.others;
+  parts = s.parts;
+  told = record {
+    turns = s.told.turns;
+    last = s.told.last;
+    one = s.told.one;
+    are = s.told.are;
+    goes = s.told.goes;
+    met = s.told.met;
+    told = record { told = s.told.told.told; rest = s.told.told.rest; parts = s.told.told.parts; gathers = s.told.told.gathers; missing = λ e. absurd (cc) };
+  };
+}
+told_so (BadFrame at size) origin now gathered stream s = record { front = frames_in stream; others = []; parts = sym (append-nil (frames_in stream)); told = in_part (frames_in stream) origin now gathered s.told }
+told_so (Torn at) origin now gathered stream s = absurd s
+told_so NoMemory origin now gathered stream s = s
+told_so (Flood limit) origin now gathered stream s = absurd s
+told_so WordFault origin now gathered stream s = record { front = s.front; others = s.frame ∷ s.others; parts = s.parts; told = in_part s.front origin now gathered s.told }
+told_so (BadTables speaks line) origin now gathered stream s = absurd s
+told_so (AsEnded end) origin now gathered stream s = absurd s
 
-pub stop_failed : (status other : Status) (origin held later : Option (List ℕ)) (gathered stream : List ℕ) → other ≡ WriteFault → GainsPart other held later gathered → StopsAt origin held gathered stream status → StopsAt origin later [] stream other
-stop_failed status other origin held later gathered stream is p s =
-    stops_cut other origin later [] stream (replies_text (frames_in stream)) [] (sym (append-nil (replies_text (frames_in stream)))) (inr is)
-    (part_failed NoMemory other origin held later gathered (replies_text (frames_in stream)) p (told_so status origin held gathered stream s))
+stop_failed : (other : Status) (origin now : Sight) (later : Option (List ℕ)) (gathered stream : List ℕ) → other ≡ WriteFault → GainsPart other now.holds later gathered → IsCutShort NoMemory origin now gathered stream → StopsAt origin (holding now later) [] stream other
+stop_failed other origin now later gathered stream is failed s =
+    stops_cut other origin (holding now later) [] stream (inr is) (record { front = s.front; others = s.others; parts = s.parts; told = told_part_failed NoMemory other s.front origin now later gathered failed s.told })
 
 -- the write failed, whatever stopped the answers
-pub stops_writing : {X : Type 0} (result : Result X Status) (status : Status) (origin held later : Option (List ℕ)) (gathered stream : List ℕ) (f : Framing) (agent : Agent) → OnOk result (AllHanded origin held gathered stream f agent) → IfErr result (λ stop. StopsAt origin held gathered stream stop)
-    → status ≡ WriteFault → GainsPart status held later gathered → StopsAt origin later [] stream status
-stops_writing (Ok x) status origin held later gathered stream f agent all stop is p = handed_failed status origin held later gathered stream f agent is p all
-stops_writing (Err stopped) status origin held later gathered stream f agent all stop is p = stop_failed stopped status origin held later gathered stream is p stop
+pub stops_writing : {X : Type 0} (result : Result X Status) (status : Status) (origin now : Sight) (later : Option (List ℕ)) (gathered stream : List ℕ) (f : Framing) (agent : Agent) → OnOk result (AllHanded origin now gathered stream f agent) → IfErr result (λ stop. StopsAt origin now gathered stream stop)
+    → status ≡ WriteFault → GainsPart status now.holds later gathered → StopsAt origin (holding now later) [] stream status
+stops_writing (Ok x) status origin now later gathered stream f agent all stop is failed =
+    stop_failed status origin now later gathered stream is failed (record { front = frames_in stream; others = []; parts = sym (append-nil (frames_in stream)); told = in_part (frames_in stream) origin now gathered (all_told origin now gathered stream f agent all) })
+stops_writing (Err stopped) status origin now later gathered stream f agent all stop is failed = stop_failed status origin now later gathered stream is failed (told_so stopped origin now gathered stream stop)
 
 -- nothing is gathered
-pub handed_left : (origin held : Option (List ℕ)) (left stream : List ℕ) (handed : List (List ℕ)) (f : Framing) (agent : Agent) → left ≡ [] → Handed origin held [] stream handed f agent → Handed origin held left stream handed f agent
-handed_left origin held left stream handed f agent none h = subst (λ (l : List ℕ). Handed origin held l stream handed f agent) (sym none) h
+pub handed_left : (origin now : Sight) (left stream : List ℕ) (turns : List Turn) (f : Framing) (agent : Agent) → left ≡ [] → Handed origin now [] stream turns f agent → Handed origin now left stream turns f agent
+handed_left origin now left stream turns f agent none h = subst (λ (l : List ℕ). Handed origin now l stream turns f agent) (sym none) h
 
 -- ---- a piece more
 
-pub stops_unfed : (origin held : Option (List ℕ)) (stream piece : List ℕ) (f : Framing) (agent : Agent) → AllHanded origin held [] stream f agent → StopsAt origin held [] (stream ++ piece) NoMemory
-stops_unfed origin held stream piece f agent h = let more = replies_more stream piece in part_memory origin held [] (replies_text (frames_in stream)) (replies_text (frames_in (stream ++ piece))) more.0 more.1 h.all.told
+pub stops_unfed : (origin now : Sight) (stream piece : List ℕ) (f : Framing) (agent : Agent) → AllHanded origin now [] stream f agent → StopsAt origin now [] (stream ++ piece) NoMemory
+stops_unfed origin now stream piece f agent h =
+    let more = more_frames most_frame stream piece in
+    record { front = frames_in stream; others = more.0; parts = more.1; told = in_part (frames_in stream) origin now [] (all_told origin now [] stream f agent h) }
 
-pub fed : (origin held : Option (List ℕ)) (stream piece : List ℕ) (old new : Framing) (agent : Agent) → AllHanded origin held [] stream old agent → new ≡ record { limit = old.limit; before = old.before; held = old.held ++ piece }
-    → HasHandedOut new (stream ++ piece) (frames_in stream) → Handed origin held [] (stream ++ piece) (frames_in stream) new agent
-fed origin held stream piece old new agent h is cut = record { cut = cut; limit = ap (λ (f : Framing). f.limit) is ∙ h.all.limit; stands = h.all.stands; told = h.all.told }
+pub fed : (origin now : Sight) (stream piece : List ℕ) (old new : Framing) (agent : Agent) → (h : AllHanded origin now [] stream old agent) → new ≡ record { limit = old.limit; before = old.before; held = old.held ++ piece }
+    → HasHandedOut new (stream ++ piece) (frames_of h.turns) → Handed origin now [] (stream ++ piece) h.turns new agent
+fed origin now stream piece old new agent h is cut = record { cut = cut; limit = ap (λ (f : Framing). f.limit) is ∙ h.handed.limit; stands = h.handed.stands; goes = h.handed.goes; met = h.handed.met; told = h.handed.told }
+
+-- ---- the end of the pipe
+
+replied : (frames : List (List ℕ)) (origin now : Sight) → Told frames origin now [] → Replies frames origin now
+replied frames origin now t = record { turns = t.turns; are = t.are; goes = t.goes; met = t.met; written = all_written origin.holds now.holds (replies_text t.turns) t.told }
+
+all_replied : (origin now : Sight) (stream : List ℕ) (f : Framing) (agent : Agent) → AllHanded origin now [] stream f agent → Replies (frames_in stream) origin now
+all_replied origin now stream f agent h = replied (frames_in stream) origin now (all_told origin now [] stream f agent h)
+
+replied_part : (status : Status) (frames : List (List ℕ)) (origin now : Sight) → ToldPart status frames origin now [] → RepliesPart status frames origin now
+replied_part status frames origin now t = record { turns = t.turns; last = t.last; one = t.one; are = t.are; goes = t.goes; met = t.met; written = part_written status origin.holds now.holds (replies_text (t.turns ++ t.last)) t.told }
 
 -- what stops an answer is the end of the pipe
-pub stop_ends : (status : Status) (first next origin held : Option (List ℕ)) (input behind : List ℕ) → Reads first next input behind → StopsAt origin held [] input status → EndsSo status first next origin held
-stop_ends Fine first next origin held input behind r s = absurd s
-stop_ends Usage first next origin held input behind r s = absurd s
-stop_ends ReadFault first next origin held input behind r s = absurd s
-stop_ends WriteFault first next origin held input behind r s = record { input = input; behind = behind; read = r; written = part_written WriteFault origin held (replies_text (frames_in input)) s }
-stop_ends WordFault first next origin held input behind r s = absurd s
-stop_ends (BadFrame at size) first next origin held input behind r s = record { input = input; behind = behind; read = r; place = s.place; bad = s.bad; written = all_written origin held (replies_text (frames_in input)) s.told }
-stop_ends (Torn at) first next origin held input behind r s = absurd s
-stop_ends (BadTables speaks line) first next origin held input behind r s = absurd s
-stop_ends (AsEnded end) first next origin held input behind r s = absurd s
-stop_ends NoMemory first next origin held input behind r s = record { input = input; behind = behind; read = r; written = part_written NoMemory origin held (replies_text (frames_in input)) s }
-stop_ends (Flood limit) first next origin held input behind r s = absurd s
+pub stop_ends : (status : Status) (first next : Option (List ℕ)) (origin now : Sight) (input behind : List ℕ) → Reads first next input behind → StopsAt origin now [] input status → EndsSo status first next origin now
+stop_ends Fine first next origin now input behind r s = absurd s
+stop_ends Usage first next origin now input behind r s = absurd s
+stop_ends ReadFault first next origin now input behind r s = absurd s
+stop_ends WriteFault first next origin now input behind r s = record { input = input; behind = behind; read = r; front = s.front; others = s.others; parts = s.parts; replies = replied_part WriteFault s.front origin now s.told }
+stop_ends WordFault first next origin now input behind r s = record { input = input; behind = behind; read = r; front = s.front; frame = s.frame; others = s.others; parts = s.parts; replies = replied s.front origin now s.told }
+stop_ends (BadFrame at size) first next origin now input behind r s = record { input = input; behind = behind; read = r; place = s.place; bad = s.bad; replies = replied (frames_in input) origin now s.told }
+stop_ends (Torn at) first next origin now input behind r s = absurd s
+stop_ends (BadTables speaks line) first next origin now input behind r s = absurd s
+stop_ends (AsEnded end) first next origin now input behind r s = absurd s
+stop_ends NoMemory first next origin now input behind r s = record { input = input; behind = behind; read = r; front = s.front; others = s.others; parts = s.parts; replies = replied_part NoMemory s.front origin now s.told }
+stop_ends (Flood limit) first next origin now input behind r s = absurd s
 
 -- nothing was read behind the input
 pub reads_all : (first now : Option (List ℕ)) (input : List ℕ) → Consumes first now input → length input ≤ most_input → Reads first now input []
@@ -184,41 +286,60 @@ reads_more first now next stream piece behind taken more few full = record {
   full = full;
 }
 
-pub taken_there : (first now origin held : Option (List ℕ)) (session : Session) → (p : Piped first now origin held session) → length p.stream ≡ session.framer.before + length session.framer.held
-taken_there first now origin held session p = length_fed session.framer p.stream (frames_in p.stream) p.handed.all.cut
+pub taken_there : (first next : Option (List ℕ)) (origin now : Sight) (session : Session) → (p : Piped first next origin now session) → length p.stream ≡ session.framer.before + length session.framer.held
+taken_there first next origin now session p = length_fed session.framer p.stream (frames_of p.handed.turns) p.handed.handed.cut
+
+-- all frames of the stream were cut off
+all_cut : (origin now : Sight) (gathered stream : List ℕ) (f : Framing) (agent : Agent) → AllHanded origin now gathered stream f agent → HasHandedOut f stream (frames_in stream)
+all_cut origin now gathered stream f agent h = subst (HasHandedOut f stream) h.are h.handed.cut
 
 -- ---- the end of the input
 
-pub torn : (first now origin held : Option (List ℕ)) (session : Session) → Piped first now origin held session → IsAtEnd now → 0 < length session.framer.held → EndsInside session.framer.before first now origin held
-torn first now origin held session p end some = record {
-  input = p.stream;
-  read = reads_all first now p.stream p.read p.few;
-  at_end = end;
-  place = p.handed.all.cut.place;
-  inside = omega (arith, some, taken_there first now origin held session p);
-  short = behind_frames most_frame session.framer p.stream IsShort p.handed.all.cut p.handed.short;
-  written = all_written origin held (replies_text (frames_in p.stream)) p.handed.all.told;
-}
+pub torn : (first next : Option (List ℕ)) (origin now : Sight) (session : Session) → Piped first next origin now session → IsAtEnd next → 0 < length session.framer.held → EndsInside session.framer.before first next origin now
+torn first next origin now session p end some =
+    let cut = all_cut origin now [] p.stream session.framer session.agent p.handed in
+    record {
+      input = p.stream;
+      read = reads_all first next p.stream p.read p.few;
+      at_end = end;
+      place = cut.place;
+      inside = omega (arith, some, taken_there first next origin now session p);
+      short = behind_frames most_frame session.framer p.stream IsShort cut p.handed.short;
+      replies = all_replied origin now p.stream session.framer session.agent p.handed;
+    }
 
-pub answered : (first now origin held : Option (List ℕ)) (session : Session) → Piped first now origin held session → IsAtEnd now → (0 < length session.framer.held → ⊥) → Answers first now origin held
-unfolding pipe_text
-answered first now origin held session p end none = record {
+pub answered : (first next : Option (List ℕ)) (origin now : Sight) (session : Session) → Piped first next origin now session → IsAtEnd next → (0 < length session.framer.held → ⊥) → Answers first next origin now
+answered first next origin now session p end none =
+    let replies = all_replied origin now p.stream session.framer session.agent p.handed in
+    record {
+      input = p.stream;
+      read = reads_all first next p.stream p.read p.few;
+      at_end = end;
+      whole = all_frames most_frame session.framer p.stream (all_cut origin now [] p.stream session.framer session.agent p.handed) none;
+      replies = replies;
+      piped = replies.written;
+    }
+
+-- the input may go on, where it has no bad size so far
+pub read_so_far : (first next : Option (List ℕ)) (origin now : Sight) (session : Session) → Piped first next origin now session → EndsSo ReadFault first next origin now
+read_so_far first next origin now session p = record {
   input = p.stream;
-  read = reads_all first now p.stream p.read p.few;
-  at_end = end;
-  whole = all_frames most_frame session.framer p.stream p.handed.all.cut none;
-  written = subst (Gains origin held) (sym (append-nil (replies_text (frames_in p.stream)))) (all_written origin held (replies_text (frames_in p.stream)) p.handed.all.told);
+  read = reads_all first next p.stream p.read p.few;
+  short = behind_frames most_frame session.framer p.stream IsShort (all_cut origin now [] p.stream session.framer session.agent p.handed) p.handed.short;
+  replies = all_replied origin now p.stream session.framer session.agent p.handed;
 }
 
 -- ---- before the first read
 
-pub begun : (first origin : Option (List ℕ)) (agent : Agent) (framer : Framing) (replies : List ℕ) → StandsFor [] agent → framer ≡ record { limit = most_frame; before = 0; held = [] } → HasHandedOut framer [] [] → Piped first first origin origin (record { agent = agent; framer = framer; replies = replies })
+pub begun : (first : Option (List ℕ)) (origin : Sight) (agent : Agent) (framer : Framing) (replies : List ℕ) → StandsFor [] agent → framer ≡ record { limit = most_frame; before = 0; held = [] } → HasHandedOut framer [] [] → Piped first first origin origin (record { agent = agent; framer = framer; replies = replies })
 begun first origin agent framer replies stands is cut = record {
   stream = [];
   read = Consumes-nil first;
   few = omega arith;
   handed = record {
-    all = subst (λ (fs : List (List ℕ)). Handed origin origin [] [] fs framer agent) (sym (no_frames most_frame)) (record { cut = cut; limit = ap (λ (f : Framing). f.limit) is; stands = stands; told = gathers_none origin });
+    turns = [];
+    are = sym (no_frames most_frame);
+    handed = record { cut = cut; limit = ap (λ (f : Framing). f.limit) is; stands = stands; goes = goes_none origin; met = refl; told = gathers_none origin.holds };
     short = ap (λ (f : Framing). front most_frame f.held) is ∙ front_none most_frame [] 0 refl;
   };
 }
@@ -229,9 +350,17 @@ pub cut_reads : (status : Status) → IsCut status → status ≡ ReadFault → 
 cut_reads status (inl memory) read = let e : NoMemory ≡ ReadFault = sym memory ∙ read in (cc)
 cut_reads status (inr write) read = let e : WriteFault ≡ ReadFault = sym write ∙ read in (cc)
 
+pub cut_draws : (status : Status) → IsCut status → status ≡ WordFault → ⊥
+cut_draws status (inl memory) drew = let e : NoMemory ≡ WordFault = sym memory ∙ drew in (cc)
+cut_draws status (inr write) drew = let e : WriteFault ≡ WordFault = sym write ∙ drew in (cc)
+
 pub next_reads : (f : Framing) (status : Status) → HasNoNext f status → status ≡ ReadFault → ⊥
 next_reads f status (inl memory) read = let e : NoMemory ≡ ReadFault = sym memory ∙ read in (cc)
 next_reads f status (inr bad) read = let e : BadFrame f.before bad.0 ≡ ReadFault = sym bad.1 ∙ read in (cc)
+
+pub next_draws : (f : Framing) (status : Status) → HasNoNext f status → status ≡ WordFault → ⊥
+next_draws f status (inl memory) drew = let e : NoMemory ≡ WordFault = sym memory ∙ drew in (cc)
+next_draws f status (inr bad) drew = let e : BadFrame f.before bad.0 ≡ WordFault = sym bad.1 ∙ drew in (cc)
 
 -- ---- what one read gave, of which so many bytes fit
 
@@ -248,23 +377,33 @@ pub behind_some : (chunk : List ℕ) (count fits : ℕ) → fits < count → cou
 behind_some chunk count fits few held = omega (arith, few, length-drop fits (take count chunk), length-take-le count chunk held)
 
 -- all that one read gave fits
-pub piped_more : (first now next origin before after : Option (List ℕ)) (old new : Session) (chunk : List ℕ) (count fits : ℕ) → (p : Piped first now origin before old) → Consumes now next (take count chunk) → fits ≡ count → count ≤ length chunk → length p.stream + fits ≤ most_input
-    → AllHanded origin after [] (p.stream ++ take fits chunk) new.framer new.agent → Piped first next origin after new
-piped_more first now next origin before after old new chunk count fits p more is held few h = record {
+pub piped_more : (first next later : Option (List ℕ)) (origin before after : Sight) (old new : Session) (chunk : List ℕ) (count fits : ℕ) → (p : Piped first next origin before old) → Consumes next later (take count chunk) → fits ≡ count → count ≤ length chunk → length p.stream + fits ≤ most_input
+    → AllHanded origin after [] (p.stream ++ take fits chunk) new.framer new.agent → Piped first later origin after new
+piped_more first next later origin before after old new chunk count fits p more is held few h = record {
   stream = p.stream ++ take fits chunk;
-  read = Consumes-trans first now next p.stream (take fits chunk) p.read (subst (λ (n : ℕ). Consumes now next (take n chunk)) (sym is) more);
+  read = Consumes-trans first next later p.stream (take fits chunk) p.read (subst (λ (n : ℕ). Consumes next later (take n chunk)) (sym is) more);
   few = omega (arith, few, length-append p.stream (take fits chunk), length-take-le fits chunk (omega (arith, is, held)));
   handed = h;
 }
 
-pub flooded : (first next origin held : Option (List ℕ)) (input behind : List ℕ) (f : Framing) (agent : Agent) → Reads first next input behind → 0 < length behind → AllHanded origin held [] input f agent → Floods first next origin held
-flooded first next origin held input behind f agent r some h = record { input = input; behind = behind; read = r; over = some; short = behind_frames most_frame f input IsShort h.all.cut h.short; written = all_written origin held (replies_text (frames_in input)) h.all.told }
+pub flooded : (first next : Option (List ℕ)) (origin now : Sight) (input behind : List ℕ) (f : Framing) (agent : Agent) → Reads first next input behind → 0 < length behind → AllHanded origin now [] input f agent → Floods first next origin now
+flooded first next origin now input behind f agent r some h = record {
+  input = input;
+  behind = behind;
+  read = r;
+  over = some;
+  short = behind_frames most_frame f input IsShort (all_cut origin now [] input f agent h) h.short;
+  replies = all_replied origin now input f agent h;
+}
 
 -- memory ran out before the first read
-pub memory_first : (first origin : Option (List ℕ)) → EndsSo NoMemory first first origin origin
+pub memory_first : (first : Option (List ℕ)) (origin : Sight) → EndsSo NoMemory first first origin origin
 memory_first first origin = record {
   input = [];
   behind = [];
   read = reads_all first first [] (Consumes-nil first) (omega arith);
-  written = part_written NoMemory origin origin (replies_text (frames_in [])) (part_memory origin origin [] [] (replies_text (frames_in [])) (replies_text (frames_in [])) refl (gathers_none origin));
+  front = [];
+  others = [];
+  parts = no_frames most_frame;
+  replies = replied_part NoMemory [] origin origin (in_part [] origin origin [] (record { turns = []; are = refl; goes = goes_none origin; met = refl; told = gathers_none origin.holds }));
 }

@@ -9,6 +9,7 @@ use Rattle.auth_server.specs.Standing.{knowledge}
 use Rattle.auth_server.specs.Serving.{EndsSo, IsServable}
 use Rattle.auth_server.proofs.CompleteLaws.{served_whole}
 use Rattle.factotum_program.specs.Commands.{EndsSo as Piped}
+use Rattle.factotum_program.specs.Sights.{Sight}
 use Rattle.factotum_program.specs.Statuses.{is_printable}
 use Rattle.auth_server.specs.declared.serve.AuthEnd.{AuthEnd}
 use Rattle.auth_server.specs.declared.serve.AuthEnd.TheVariants as ends
@@ -145,7 +146,7 @@ served_printable dom (AsEnded ends.NoMemory) before now v = absurd v
 served_printable dom NoMemory before now v = refl
 served_printable dom (Flood limit) before now v = refl
 
-pub piped_printable : (status : Status) (left_old left_new held_old held_new : Option (List ℕ)) → Piped status left_old left_new held_old held_new → is_printable status ≡ true
+pub piped_printable : (status : Status) (left_old left_new : Option (List ℕ)) (old new : Sight) → Piped status left_old left_new old new → is_printable status ≡ true
 piped_printable Fine lo ln ho hn v = refl
 piped_printable Usage lo ln ho hn v = refl
 piped_printable ReadFault lo ln ho hn v = refl

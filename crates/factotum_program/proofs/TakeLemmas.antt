@@ -1,5 +1,5 @@
 -- Taking until there is no reply.
-use Rattle.std.proofs.Common.{◌≡◌, ℕ, zero, suc, ◌+◌, ◌-◌, ◌<◌, ◌≤◌, List, [], ◌∷◌, ◌++◌, length, drop, Option, Some, None, append_assoc, append-nil, Bool, true, false, cond, ltb, refl, sym, ap, ◌∙◌, inl, inr, arith}
+use Rattle.std.proofs.Common.{◌≡◌, ℕ, zero, suc, ◌+◌, ◌-◌, ◌<◌, ◌≤◌, List, [], ◌∷◌, ◌++◌, length, drop, Option, Some, None, append_assoc, append-nil, Bool, true, false, cond, ltb, refl, sym, ap, subst, ◌∙◌, inl, inr, arith}
 use Rattle.std.proofs.lemmas.Bool.{cases_Bool}
 use Rattle.nine_messages.specs.declared.message.RMsg.{RMsg}
 use Rattle.agent_history.specs.declared.event.Event.TheVariants.{Request, Take}
@@ -15,8 +15,10 @@ use Rattle.agent_core.specs.declared.agent.State.TheVariants.{Runs, Stopped}
 use Rattle.agent_requests.specs.declared.connection.Connection.{Connection}
 use Rattle.agent_core.specs.Events.{SameAt, gives_reply, is_some_left}
 use Rattle.agent_core.specs.Agents.{StandsFor, SameState, SameAgent, connection_at, replies_in, gives_in, kept_replies}
-use Rattle.factotum_program.specs.Pipe.{zeros, take_while, after_frame, after_frames, text_of}
-use Rattle.factotum_program.specs.Sessions.{Gathers}
+use Rattle.wire_streams.specs.declared.dialer.Outcome.{Outcome}
+use Rattle.factotum_program.specs.Pipe.{Turn, take_while, after_turn, asked_in, text_of, turn_of}
+use Rattle.factotum_program.specs.Gathers.{Gathers}
+use Rattle.factotum_program.proofs.AskLemmas.{asks_text}
 
 -- where a loop of takes stands: some takes after the history, as many left to make as were said, and what was told
 pub record Going (H : History) (n : ℕ) (agent : Agent) (origin held : Option (List ℕ)) (gathered : List ℕ) : Type 0 where
@@ -99,17 +101,17 @@ until_grows (suc n) H = elim (cases_Bool (is_reply (answer H (Take 0)).0)) [
 ]
 
 -- a frame puts out behind what was put out
-pub frame_grows : (H : History) (frame : List ℕ) → (more : List ℕ) × (text_of (after_frame H frame) ≡ text_of H ++ more)
-unfolding after_frame
-frame_grows H frame = let asked : History = Request 0 frame zeros ∷ H in let rest = until_grows (length (untaken (deeds asked) 0)) asked in (rest.0, rest.1 ∙ ap (λ (t : List ℕ). t ++ rest.0) (append-nil (text_of H)))
+pub turn_grows : (H : History) (turn : Turn) → (more : List ℕ) × (text_of (after_turn H turn) ≡ text_of H ++ more)
+unfolding after_turn
+turn_grows H turn =
+    let asked : History = (asked_in H turn).history in
+    let rest = until_grows (length (untaken (deeds asked) 0)) asked in
+    (rest.0, rest.1 ∙ ap (λ (t : List ℕ). t ++ rest.0) (asks_text turn.heard (Request 0 turn.frame turn.word ∷ H)))
 
--- later frames put out behind what was put out
-pub frames_grow : (H : History) (frames : List (List ℕ)) → (more : List ℕ) × (text_of (after_frames H frames) ≡ text_of H ++ more)
-frames_grow H [] = ([], sym (append-nil (text_of H)))
-frames_grow H (frame ∷ frames) =
-    let here = frame_grows H frame in
-    let rest = frames_grow (after_frame H frame) frames in
-    (here.0 ++ rest.0, rest.1 ∙ ap (λ (t : List ℕ). t ++ rest.0) here.1 ∙ append_assoc (text_of H) here.0 rest.0)
+-- what is asked for a frame is no reply
+pub turn_told : (H : History) (frame word : List ℕ) (heard : List Outcome) (origin held : Option (List ℕ)) (gathered : List ℕ) → Gathers origin held gathered (text_of H)
+    → Gathers origin held gathered (text_of (asked_in H (turn_of frame word heard)).history)
+turn_told H frame word heard origin held gathered g = subst (λ (t : List ℕ). Gathers origin held gathered t) (sym (asks_text heard (Request 0 frame word ∷ H))) g
 
 -- what the first of the takes that are left puts out stands in front of what all of them do
 pub going_grows : (H : History) (n : ℕ) (agent : Agent) (origin held : Option (List ℕ)) (gathered : List ℕ) → (g : Going H n agent origin held gathered) → is_reply (answer g.history (Take 0)).0 ≡ true → (more : List ℕ) × (text_of (take_while n H) ≡ text_of (Take 0 ∷ g.history) ++ more)

@@ -26,7 +26,7 @@ pub and_right : (a b : Bool) → (a && b) ≡ true → b ≡ true
 and_right true b e = e
 and_right false b e = absurd (let f : false ≡ true = e in cc)
 
-plain_value : (word : Text) → is_value word ≡ true → IsPlainWord word
+pub plain_value : (word : Text) → is_value word ≡ true → IsPlainWord word
 plain_value [] e = absurd (let f : false ≡ true = e in cc)
 plain_value (x ∷ t) e = plain x t (hyphen (x == 45) e)
   where
@@ -172,7 +172,7 @@ text_is_utf8 bytes e = IsUtf8-from_is_utf8 bytes (and_right (not (list_any (λ b
 
 -- ---- the same of any words
 
-short_form : {X : Type 0} → false ≡ true → X
+pub short_form : {X : Type 0} → false ≡ true → X
 short_form e = absurd (let f : false ≡ true = e in cc)
 
 pub taken_by_clap : (words : List Text) → has_authsrv_form words ≡ true → takes authsrv_app words ≡ true

@@ -14,6 +14,10 @@ bytes_of texts = map (λ text. text.now) texts
 abbrev pub option_rule : List ℕ → Rule
 option_rule name = record (new_rule name) { long = Some name; action = Some Set; required = true }
 
+-- the command of `pipe`
+abbrev pub pipe_app : App
+pipe_app = with_rule (new_app (codes "pipe")) (option_rule (codes "auth"))
+
 -- the command of `authsrv`
 abbrev pub authsrv_app : App
 authsrv_app = with_rule (with_rule (with_rule (new_app (codes "authsrv")) (option_rule (codes "dom"))) (option_rule (codes "keys"))) (option_rule (codes "speaks"))

@@ -1,6 +1,6 @@
 -- The words of a command line behind the program's name, as lists of bytes: the command's name and then options, each with a
 -- value behind it. Options go by their long names (getopt_long(3), Argument Syntax), without `=` or `--` alone.
-use Rattle.std.specs.Prelude.{◌≡◌, ◌==◌, ◌&&◌, ◌||◌, ℕ, List, [], ◌∷◌, Bool, true, false, not, codes, if◌then◌else◌, ◌⊎◌}
+use Rattle.std.specs.Prelude.{◌≡◌, ◌==◌, ◌&&◌, ◌||◌, ℕ, List, [], ◌∷◌, Bool, true, false, not, codes, if◌then◌else◌, Option, Some, None, ◌⊎◌}
 use Rattle.std.specs.List.{list_all, list_any}
 use Rattle.std.specs.Str.{bytes_eq}
 use Rattle.attr_tuples.specs.Forms.{is_dom}
@@ -27,9 +27,23 @@ value_of option words = []
 -- ---- pipe
 
 -- the words are the one word `pipe`
+abbrev pub is_pipe_alone : List (List ℕ) → Bool
+is_pipe_alone (word ∷ []) = bytes_eq word (codes "pipe")
+is_pipe_alone words = false
+
+-- behind the word `pipe` stands its option, with a value: the address of the authentication server
+abbrev pub has_auth_form : List (List ℕ) → Bool
+has_auth_form (name ∷ option ∷ value ∷ []) = bytes_eq name (codes "pipe") && (bytes_eq option (codes "--auth") && is_value value)
+has_auth_form words = false
+
+-- the words are those of `pipe`
 abbrev pub is_pipe : List (List ℕ) → Bool
-is_pipe (word ∷ []) = bytes_eq word (codes "pipe")
-is_pipe words = false
+is_pipe words = is_pipe_alone words || has_auth_form words
+
+-- the address that they give, if they do
+abbrev pub auth_given : List (List ℕ) → Option (List ℕ)
+auth_given (name ∷ option ∷ value ∷ []) = Some value
+auth_given words = None
 
 -- ---- authsrv
 
@@ -66,9 +80,13 @@ pub record HasValues (words : List (List ℕ)) (given : AuthsrvWords) : Type 0 w
 
 -- the task of a command's words
 abbrev pub IsTask : List (List ℕ) → Task → Type 0
-IsTask words Pipe = is_pipe words ≡ true
+IsTask words (Pipe auth) = (is_pipe words ≡ true) × (auth ≡ auth_given words)
 IsTask words (Authsrv given) = (is_authsrv words ≡ true) × HasValues words given
 
--- why words have no task: they are no command's, or they have the form of `authsrv` and memory ran out
+-- words of which clap reads values
+abbrev pub has_options_form : List (List ℕ) → Bool
+has_options_form words = has_auth_form words || has_authsrv_form words
+
+-- why words have no task: they are no command's, or they have options and memory ran out
 abbrev pub IsUnread : List (List ℕ) → Status → Type 0
-IsUnread words status = ((status ≡ Usage) × (is_command words ≡ false)) ⊎ ((status ≡ NoMemory) × (has_authsrv_form words ≡ true))
+IsUnread words status = ((status ≡ Usage) × (is_command words ≡ false)) ⊎ ((status ≡ NoMemory) × (has_options_form words ≡ true))

@@ -6,7 +6,7 @@ use auth_server::AuthEnd;
 use std::alloc::Global;
 use std::process::Abort;
 use std::test::Fail;
-use wire_streams::{MemSink, MemSource, MemWords};
+use wire_streams::{MemDialer, MemSink, MemSource, MemWords};
 
 // The host h asks for a ticket to bootes for eve, and gets it.
 const REQUEST: &[u8; 141] = b"\x01\
@@ -86,6 +86,7 @@ fn expect_authsrv(
     let mut source = MemSource::new(input.to_vec(alloc)?, [failing.read].to_vec(alloc)?);
     let mut sink = MemSink::new(Vec::new(alloc), [failing.write].to_vec(alloc)?);
     let mut rand = MemWords::new(drawn(alloc)?, [failing.word].to_vec(alloc)?);
+    let mut dial = MemDialer::new(alloc, Vec::new(alloc), Vec::new(alloc));
     let ended = run_command(
         alloc,
         words.as_slice(),
@@ -93,6 +94,7 @@ fn expect_authsrv(
         &mut keys,
         &mut speaks,
         &mut sink,
+        &mut dial,
         &mut rand,
     );
     assert_eq!(rt; ended, status, "{name}");

@@ -4,6 +4,7 @@ ghost use Rattle.wire_streams.specs.Causes.{Rose};
 ghost use Rattle.nine_frames.specs.Streams.{IsFrames};
 ghost use Rattle.factotum_program.specs.Pipe.{most_frame};
 ghost use Rattle.factotum_program.specs.Commands.{EndsSo, most_input};
+ghost use Rattle.factotum_program.specs.Sights.{sight};
 ghost use Rattle.factotum_program.specs.Serving.{IsServableAll, ServesSo, outside};
 ghost use Rattle.factotum_program.specs.Statuses.{is_printable};
 ghost use Rattle.factotum_program.specs.Words.{IsUnread, authsrv_value, is_authsrv, is_command, is_pipe};
@@ -14,43 +15,56 @@ use crate::status::Status;
 use crate::words::{Task, read_words};
 use std::alloc::Global;
 use wire_base::Text;
-use wire_streams::{Sink, Source, Words};
+use wire_streams::{Dialer, Sink, Source, Words};
 
 // One connection of 9P.
-fn run_pipe<R: Source, W: Sink>(alloc: Global, input: &mut R, output: &mut W) -> Status
-    ensures ends { EndsSo result
-        (R.left input.old) (R.left input.new) (W.holds output.old) (W.holds output.new) }
+fn run_pipe<R: Source, W: Sink, D: Dialer, G: Words>(
+    alloc: Global,
+    input: &mut R,
+    output: &mut W,
+    dial: &mut D,
+    rand: &mut G,
+) -> Status
+    ensures ends { EndsSo result (R.left input.old) (R.left input.new)
+        (sight (G.to_come rand.old) (D.told dial.old) (W.holds output.old))
+        (sight (G.to_come rand.new) (D.told dial.new) (W.holds output.new)) }
     ensures read_fault { result ≡ Status.ReadFault
         → Rose (R.faults input.old) (R.faults input.new) }
     ensures write_fault { result ≡ Status.WriteFault
         → Rose (W.faults output.old) (W.faults output.new) }
+    ensures word_fault { result ≡ Status.WordFault → Rose (G.faults rand.old) (G.faults rand.new) }
     ensures counted_reads { R.faults input.old ≤ R.faults input.new }
     ensures counted_writes { W.faults output.old ≤ W.faults output.new }
+    ensures counted_dials { D.faults dial.old ≤ D.faults dial.new }
+    ensures counted_words { G.faults rand.old ≤ G.faults rand.new }
 {
-    match answer_input(alloc, input, output) {
+    match answer_input(alloc, input, output, dial, rand) {
         Ok(()) => Status::Fine,
         Err(status) => status,
     }
 }
 
 // The command; that it is complete follows from these clauses.
-fn run<R: Source, F: Source, W: Sink, G: Words>(
+fn run<R: Source, F: Source, W: Sink, D: Dialer, G: Words>(
     alloc: Global,
     words: &[Text],
     input: &mut R,
     keys: &mut F,
     speaks: &mut F,
     output: &mut W,
+    dial: &mut D,
     rand: &mut G,
 ) -> Status
     ensures usage { result ≡ Status.Usage → is_command words.now ≡ false }
     ensures no_command { is_command words.now ≡ false → IsUnread words.now result }
     ensures client { is_command words.now ≡ false
-        → (input.new ≡ input.old) × (output.new ≡ output.old) }
+        → (input.new ≡ input.old) × (output.new ≡ output.old) × (rand.new ≡ rand.old) }
     ensures tables { is_authsrv words.now ≡ false
-        → (keys.new ≡ keys.old) × (speaks.new ≡ speaks.old) × (rand.new ≡ rand.old) }
-    ensures piped { is_pipe words.now ≡ true → EndsSo result
-        (R.left input.old) (R.left input.new) (W.holds output.old) (W.holds output.new) }
+        → (keys.new ≡ keys.old) × (speaks.new ≡ speaks.old) }
+    ensures dialer { is_pipe words.now ≡ false → dial.new ≡ dial.old }
+    ensures piped { is_pipe words.now ≡ true → EndsSo result (R.left input.old) (R.left input.new)
+        (sight (G.to_come rand.old) (D.told dial.old) (W.holds output.old))
+        (sight (G.to_come rand.new) (D.told dial.new) (W.holds output.new)) }
     ensures served { is_authsrv words.now ≡ true
         → ServesSo (authsrv_value (codes "--dom") words.now) result
         (outside (F.left keys.old) (F.left speaks.old)
@@ -70,9 +84,10 @@ fn run<R: Source, F: Source, W: Sink, G: Words>(
     ensures counted_speaks { F.faults speaks.old ≤ F.faults speaks.new }
     ensures counted_writes { W.faults output.old ≤ W.faults output.new }
     ensures counted_words { G.faults rand.old ≤ G.faults rand.new }
+    ensures counted_dials { D.faults dial.old ≤ D.faults dial.new }
 {
     match read_words(alloc, words) {
-        Ok(Task::Pipe) => run_pipe(alloc, input, output),
+        Ok(Task::Pipe { .. }) => run_pipe(alloc, input, output, dial, rand),
         Ok(Task::Authsrv(given)) => serve(alloc, given.dom, input, keys, speaks, output, rand),
         Err(status) => status,
     }
@@ -80,35 +95,39 @@ fn run<R: Source, F: Source, W: Sink, G: Words>(
 
 /// Carries out the command that the words name, the words behind the program's name.
 ///
-/// `pipe` is one connection of 9P: each frame of the input, at most 2^40 bytes, is answered before more is read, and its
-/// replies are written.
+/// `pipe` is one connection of 9P, with or without `--auth ADDR`: each frame of the input, at most 2^40 bytes, is answered
+/// before more is read. A word is drawn for it, what it makes the agent ask is asked by the dialer, and its replies are
+/// written. The address is the caller's: it has the dialer.
 ///
 /// `authsrv --dom D --keys PATH --speaks PATH` is the authentication server of domain D for one client. The keys and who
 /// speaks for whom, at most 2^22 bytes each, are read whole and then parsed, each in this order; then the client's
 /// requests, at most 2^40 bytes, are answered, each before more is read, with three words drawn for each. The paths are
 /// the caller's: it opens both files.
 ///
-/// What was read, drawn and written by then is told for every status.
-pub fn run_command<R: Source, F: Source, W: Sink, G: Words>(
+/// What was read, drawn, asked and written by then is told for every status.
+pub fn run_command<R: Source, F: Source, W: Sink, D: Dialer, G: Words>(
     alloc: Global,
     words: &[Text],
     input: &mut R,
     keys: &mut F,
     speaks: &mut F,
     output: &mut W,
+    dial: &mut D,
     rand: &mut G,
 ) -> Status
-    // The words. Words of no command leave all as it was, and `pipe` the tables and the words that are drawn.
+    // The words. Words of no command leave all as it was, `pipe` leaves the tables, and `authsrv` the dialer.
     ensures usage { result ≡ Status.Usage → is_command words.now ≡ false }
     ensures no_command { is_command words.now ≡ false → IsUnread words.now result }
     ensures client { is_command words.now ≡ false
-        → (input.new ≡ input.old) × (output.new ≡ output.old) }
+        → (input.new ≡ input.old) × (output.new ≡ output.old) × (rand.new ≡ rand.old) }
     ensures tables { is_authsrv words.now ≡ false
-        → (keys.new ≡ keys.old) × (speaks.new ≡ speaks.old) × (rand.new ≡ rand.old) }
+        → (keys.new ≡ keys.old) × (speaks.new ≡ speaks.old) }
+    ensures dialer { is_pipe words.now ≡ false → dial.new ≡ dial.old }
 
-    // Each status of a command has its cause in what was read, and what was drawn and written by then is told.
-    ensures piped { is_pipe words.now ≡ true → EndsSo result
-        (R.left input.old) (R.left input.new) (W.holds output.old) (W.holds output.new) }
+    // Each status of a command has its cause in what was read, and what was drawn, asked and written by then is told.
+    ensures piped { is_pipe words.now ≡ true → EndsSo result (R.left input.old) (R.left input.new)
+        (sight (G.to_come rand.old) (D.told dial.old) (W.holds output.old))
+        (sight (G.to_come rand.new) (D.told dial.new) (W.holds output.new)) }
     ensures served { is_authsrv words.now ≡ true
         → ServesSo (authsrv_value (codes "--dom") words.now) result
         (outside (F.left keys.old) (F.left speaks.old)
@@ -130,6 +149,7 @@ pub fn run_command<R: Source, F: Source, W: Sink, G: Words>(
     ensures counted_speaks { F.faults speaks.old ≤ F.faults speaks.new }
     ensures counted_writes { W.faults output.old ≤ W.faults output.new }
     ensures counted_words { G.faults rand.old ≤ G.faults rand.new }
+    ensures counted_dials { D.faults dial.old ≤ D.faults dial.new }
 
     // Each status has a line.
     ensures printable { is_printable result ≡ true }
@@ -140,6 +160,7 @@ pub fn run_command<R: Source, F: Source, W: Sink, G: Words>(
         → IsFrames most_frame content → length content ≤ most_input
         → (Rose (R.faults input.old) (R.faults input.new) → ⊥)
         → (Rose (W.faults output.old) (W.faults output.new) → ⊥)
+        → (Rose (G.faults rand.old) (G.faults rand.new) → ⊥)
         → (result ≡ Status.Fine) ⊎ (result ≡ Status.NoMemory) }
     ensures authsrv_complete { is_authsrv words.now ≡ true
         → IsServableAll (authsrv_value (codes "--dom") words.now)
@@ -152,5 +173,5 @@ pub fn run_command<R: Source, F: Source, W: Sink, G: Words>(
         → (Rose (G.faults rand.old) (G.faults rand.new) → ⊥)
         → (result ≡ Status.Fine) ⊎ (result ≡ Status.NoMemory) }
 {
-    run(alloc, words, input, keys, speaks, output, rand)
+    run(alloc, words, input, keys, speaks, output, dial, rand)
 }

@@ -1,5 +1,6 @@
-// The frames of one connection, each answered before the next: a request, and then takes until there is no reply. The
-// replies are gathered, and written when there is no whole frame more, so that none waits for input that isn't there.
+// The frames of one connection, each answered before the next: a word is drawn for it, it goes to the agent as a request,
+// what the agent asks is asked, and then takes until there is no reply. The replies are gathered, and written when there is
+// no whole frame more, so that none waits for input that isn't there.
 ghost use Rattle.std.specs.Prelude.{◌≡◌, ◌∷◌, ◌+◌, ◌<◌, ◌≤◌, [], List, ℕ, Option, true, length, IfOk, IfErr, OnOk, OnErr};
 ghost use Rattle.wire_streams.specs.Causes.{Rose};
 ghost use Rattle.wire_streams.specs.Streams.{Gains};
@@ -10,15 +11,21 @@ ghost use Rattle.agent_history.specs.Replies.{untaken};
 ghost use Rattle.agent_history.specs.Histories.{History, deeds};
 ghost use Rattle.agent_core.specs.Agents.{SameAgent, StandsFor, TakesOne, gives_in, kept_replies};
 ghost use Rattle.factotum_program.specs.Commands.{GainsPart};
-ghost use Rattle.factotum_program.specs.Pipe.{zeros, take_while, after_frame, text_of};
+ghost use Rattle.auth_server.specs.Sessions.{DrawsAll};
+ghost use Rattle.factotum_program.specs.Pipe.{Turn, take_while, text_of};
+ghost use Rattle.factotum_program.specs.Sights.{Sight, sight};
+ghost use Rattle.factotum_program.specs.Asks.{Turns, TurnsPart};
+ghost use Rattle.factotum_program.specs.Gathers.{Gathers, GathersPart};
 ghost use Rattle.factotum_program.specs.declared.frames.TheConstants.{MOST_GATHERED};
-ghost use Rattle.factotum_program.specs.Sessions.{next_of, HasNoNext, Gathers, GathersPart, Handed, AllHanded, StopsAt, IsCut};
+ghost use Rattle.factotum_program.specs.Sessions.{next_of, HasNoNext, Handed, AllHanded, StopsAt, IsCut};
 
+use crate::asks::ask_all;
 use crate::status::Status;
 use agent_core::{Agent, Event};
 use nine_frames::{Framer, Next};
+use std::alloc::Global;
 use wire_base::{Bytes, NoMemory};
-use wire_streams::{Sink, write_all};
+use wire_streams::{Dialer, Sink, Words, write_all};
 
 /// The number of the one connection.
 pub(crate) const CONNECTION: u64 = 0;
@@ -150,49 +157,52 @@ fn take_all<W: Sink>(agent: &mut Agent, replies: &mut Bytes, output: &mut W) -> 
     Ok(())
 }
 
-// Hands one frame to the agent.
-fn ask(agent: &mut Agent, frame: Bytes, replies: &mut Bytes) -> Result<(), Status>
+// Hands one frame to the agent, with its word.
+fn ask(agent: &mut Agent, frame: Bytes, word: [u8; 8], replies: &mut Bytes) -> Result<(), Status>
     requires whole { IsFrame frame }
     ensures stands { OnOk result ((H : History) → StandsFor H agent.old
-        → StandsFor (Request 0 frame zeros ∷ H) agent.new) }
-    ensures told { OnOk result ((origin held : Option (List ℕ)) (H : History)
-        → StandsFor H agent.old → Gathers origin held replies.old (text_of H)
-        → Gathers origin held replies.new (text_of (Request 0 frame zeros ∷ H))) }
+        → StandsFor (Request 0 frame word ∷ H) agent.new) }
+    ensures told { OnOk result ((H : History) → StandsFor H agent.old
+        → replies.new ≡ replies.old) }
     ensures err { IfErr result (λ status. status ≡ Status.NoMemory) }
     ensures err_replies { OnErr result (replies.new ≡ replies.old) }
 {
     let request = Event::Request {
         conn: CONNECTION,
         frame,
-        word: [0; 8],
+        word,
     };
     agent.step(&request, replies)?;
     Ok(())
 }
 
-// Hands one frame to the agent, and gathers what it answers.
-#[tactic(auto, unfolding(crate::specs::Pipe::after_frame))]
-fn answer_frame<W: Sink>(
+// Hands one frame to the agent, asks what that raises, and gathers the replies.
+fn answer_frame<W: Sink, D: Dialer>(
+    alloc: Global,
     agent: &mut Agent,
     frame: Bytes,
+    word: [u8; 8],
     replies: &mut Bytes,
     output: &mut W,
+    dial: &mut D,
 ) -> Result<(), Status>
     requires whole { IsFrame frame }
     ensures ok { OnOk result ((origin : Option (List ℕ)) (H : History) → StandsFor H agent.old
         → Gathers origin (W.holds output.old) replies.old (text_of H)
-        → StandsFor (after_frame H frame) agent.new
-        × Gathers origin (W.holds output.new) replies.new (text_of (after_frame H frame))) }
+        → Turns H frame word (D.told dial.old) (D.told dial.new)
+        origin (W.holds output.new) replies.new agent.new) }
     ensures part { IfErr result (λ status. (origin : Option (List ℕ)) (H : History)
         → StandsFor H agent.old → Gathers origin (W.holds output.old) replies.old (text_of H)
-        → GathersPart status origin (W.holds output.new) replies.new
-        (text_of (after_frame H frame))) }
+        → TurnsPart status H frame word (D.told dial.old) (D.told dial.new)
+        origin (W.holds output.new) replies.new) }
     ensures cut { IfErr result IsCut }
     ensures cause { IfErr result (λ status. status ≡ Status.WriteFault
         → Rose (W.faults output.old) (W.faults output.new)) }
     ensures counted { W.faults output.old ≤ W.faults output.new }
+    ensures counted_dials { D.faults dial.old ≤ D.faults dial.new }
 {
-    ask(agent, frame, replies)?;
+    ask(agent, frame, word, replies)?;
+    ask_all(alloc, agent, dial)?;
     take_all(agent, replies, output)
 }
 
@@ -208,57 +218,93 @@ fn next_frame(framer: &mut Framer) -> Result<Option<Bytes>, Status>
     }
 }
 
-// Answers the frames that are whole. What is gathered of their replies is still to be written.
-fn gather_frames<W: Sink>(
+// Draws a word for a frame.
+fn draw<G: Words>(rand: &mut G) -> Result<[u8; 8], Status>
+    ensures ok { IfOk result (λ word. DrawsAll (G.to_come rand.old) (G.to_come rand.new)
+        (word ∷ [])) }
+    ensures none { OnErr result (DrawsAll (G.to_come rand.old) (G.to_come rand.new) []) }
+    ensures err { IfErr result (λ status. status ≡ Status.WordFault) }
+    ensures cause { OnErr result (Rose (G.faults rand.old) (G.faults rand.new)) }
+    ensures counted { G.faults rand.old ≤ G.faults rand.new }
+{
+    match rand.word8() {
+        Ok(word) => Ok(word),
+        Err(_) => Err(Status::WordFault),
+    }
+}
+
+// Answers the frames that are whole, each with a word of its own. What is gathered of their replies is still to be written.
+fn gather_frames<W: Sink, D: Dialer, G: Words>(
+    alloc: Global,
     agent: &mut Agent,
     framer: &mut Framer,
     replies: &mut Bytes,
     output: &mut W,
+    dial: &mut D,
+    rand: &mut G,
 ) -> Result<(), Status>
-    ensures ok { OnOk result ((origin : Option (List ℕ)) (stream : List ℕ) (handed : List (List ℕ))
-        → Handed origin (W.holds output.old) replies.old stream handed framer.old agent.old
-        → AllHanded origin (W.holds output.new) replies.new stream framer.new agent.new) }
-    ensures err { IfErr result (λ status. (origin : Option (List ℕ)) (stream : List ℕ)
-        (handed : List (List ℕ))
-        → Handed origin (W.holds output.old) replies.old stream handed framer.old agent.old
-        → StopsAt origin (W.holds output.new) replies.new stream status) }
+    ensures ok { OnOk result ((origin : Sight) (stream : List ℕ) (turns : List Turn)
+        → Handed origin (sight (G.to_come rand.old) (D.told dial.old) (W.holds output.old))
+        replies.old stream turns framer.old agent.old
+        → AllHanded origin (sight (G.to_come rand.new) (D.told dial.new) (W.holds output.new))
+        replies.new stream framer.new agent.new) }
+    ensures err { IfErr result (λ status. (origin : Sight) (stream : List ℕ) (turns : List Turn)
+        → Handed origin (sight (G.to_come rand.old) (D.told dial.old) (W.holds output.old))
+        replies.old stream turns framer.old agent.old
+        → StopsAt origin (sight (G.to_come rand.new) (D.told dial.new) (W.holds output.new))
+        replies.new stream status) }
     ensures fed { OnOk result (framer.new.before + length framer.new.held
         ≡ framer.old.before + length framer.old.held) }
     ensures which { IfErr result (λ status. status ≡ Status.ReadFault → ⊥) }
     ensures cause { IfErr result (λ status. status ≡ Status.WriteFault
         → Rose (W.faults output.old) (W.faults output.new)) }
+    ensures word_cause { IfErr result (λ status. status ≡ Status.WordFault
+        → Rose (G.faults rand.old) (G.faults rand.new)) }
     ensures counted { W.faults output.old ≤ W.faults output.new }
+    ensures counted_dials { D.faults dial.old ≤ D.faults dial.new }
+    ensures counted_words { G.faults rand.old ≤ G.faults rand.new }
 {
     while let Some(frame) = next_frame(framer)? {
-        answer_frame(agent, frame, replies, output)?;
+        let word = draw(rand)?;
+        answer_frame(alloc, agent, frame, word, replies, output, dial)?;
     }
     Ok(())
 }
 
 /// Answers the frames that are whole, and writes what was gathered of their replies, whatever stopped the answers. Where
 /// the write fails that is told, since the replies come before what stopped.
-pub(crate) fn answer_frames<W: Sink>(
+pub(crate) fn answer_frames<W: Sink, D: Dialer, G: Words>(
+    alloc: Global,
     agent: &mut Agent,
     framer: &mut Framer,
     replies: &mut Bytes,
     output: &mut W,
+    dial: &mut D,
+    rand: &mut G,
 ) -> Result<(), Status>
-    ensures ok { OnOk result ((origin : Option (List ℕ)) (stream : List ℕ) (handed : List (List ℕ))
-        → Handed origin (W.holds output.old) [] stream handed framer.old agent.old
-        → AllHanded origin (W.holds output.new) [] stream framer.new agent.new) }
-    ensures err { IfErr result (λ status. (origin : Option (List ℕ)) (stream : List ℕ)
-        (handed : List (List ℕ))
-        → Handed origin (W.holds output.old) [] stream handed framer.old agent.old
-        → StopsAt origin (W.holds output.new) [] stream status) }
+    ensures ok { OnOk result ((origin : Sight) (stream : List ℕ) (turns : List Turn)
+        → Handed origin (sight (G.to_come rand.old) (D.told dial.old) (W.holds output.old))
+        [] stream turns framer.old agent.old
+        → AllHanded origin (sight (G.to_come rand.new) (D.told dial.new) (W.holds output.new))
+        [] stream framer.new agent.new) }
+    ensures err { IfErr result (λ status. (origin : Sight) (stream : List ℕ) (turns : List Turn)
+        → Handed origin (sight (G.to_come rand.old) (D.told dial.old) (W.holds output.old))
+        [] stream turns framer.old agent.old
+        → StopsAt origin (sight (G.to_come rand.new) (D.told dial.new) (W.holds output.new))
+        [] stream status) }
     ensures fed { OnOk result (framer.new.before + length framer.new.held
         ≡ framer.old.before + length framer.old.held) }
     ensures which { IfErr result (λ status. status ≡ Status.ReadFault → ⊥) }
     ensures cause { IfErr result (λ status. status ≡ Status.WriteFault
         → Rose (W.faults output.old) (W.faults output.new)) }
+    ensures word_cause { IfErr result (λ status. status ≡ Status.WordFault
+        → Rose (G.faults rand.old) (G.faults rand.new)) }
     ensures counted { W.faults output.old ≤ W.faults output.new }
+    ensures counted_dials { D.faults dial.old ≤ D.faults dial.new }
+    ensures counted_words { G.faults rand.old ≤ G.faults rand.new }
 {
     replies.clear();
-    let answered = gather_frames(agent, framer, replies, output);
+    let answered = gather_frames(alloc, agent, framer, replies, output, dial, rand);
     write_gathered(replies, output)?;
     answered
 }

@@ -2,6 +2,7 @@
 //! program's `main` opens the real input and output and calls this.
 #![tactic(auto)]
 
+mod asks;
 mod authsrv;
 #[cfg(test)]
 mod authsrv_tests;

@@ -9,9 +9,12 @@ use std::io::{self, Read};
 use std::process::Abort;
 use std::test::Fail;
 use wire_base::{Bytes, Text, TextList};
-use wire_streams::{Got, MemSink, MemSource, MemWords, ReadSource, Sink, Source, SteadySource};
+use wire_streams::{
+    Got, MemDialer, MemSink, MemSource, MemWords, ReadSource, Sink, Source, SteadySource,
+};
 
 mod batches;
+mod sessions;
 
 const VERSION: &str = "13000000 64 ffff 18200000 0600 395032303030";
 
@@ -81,7 +84,10 @@ pub(crate) fn words_of(alloc: Global, line: &str) -> Result<TextList, Fail> {
     Ok(words)
 }
 
-// Carries out a command that neither reads tables nor draws words: the first such call would fail.
+// As many words as these tests draw.
+const MANY: usize = 4096;
+
+// Carries out a command that reads no tables and asks nothing: the first such call would fail.
 fn run_alone<R: Source, W: Sink>(
     alloc: Global,
     words: &[Text],
@@ -90,7 +96,8 @@ fn run_alone<R: Source, W: Sink>(
 ) -> Result<Status, Fail> {
     let mut keys = MemSource::new(Vec::new(alloc), [1_u64].to_vec(alloc)?);
     let mut speaks = MemSource::new(Vec::new(alloc), [1_u64].to_vec(alloc)?);
-    let mut rand = MemWords::new(Vec::new(alloc), [1_u64].to_vec(alloc)?);
+    let mut dial = MemDialer::new(alloc, Vec::new(alloc), [1_u64].to_vec(alloc)?);
+    let mut rand = MemWords::new(vec![in alloc; [7_u8; 8]; MANY]?, Vec::new(alloc));
     Ok(run_command(
         alloc,
         words,
@@ -98,6 +105,7 @@ fn run_alone<R: Source, W: Sink>(
         &mut keys,
         &mut speaks,
         output,
+        &mut dial,
         &mut rand,
     ))
 }
@@ -366,9 +374,15 @@ fn a_reply_is_written_before_more_is_read(rt: HostRuntime) -> Result<(), Fail> {
 }
 
 // No command's words.
-static OTHER_WORDS: [&str; 25] = [
+static OTHER_WORDS: [&str; 31] = [
     "",
     "pipe x",
+    "pipe --auth",
+    "pipe --auth -x",
+    "pipe --auth=x",
+    "pipe --aut x",
+    "pipe --auth x y",
+    "--auth x",
     "Pipe",
     "pipes",
     "x pipe",

@@ -2,9 +2,9 @@
 ghost use Rattle.std.specs.Prelude.{◌≡◌, ◌&&◌, ◌∷◌, [], codes, IfErr, IfOk, Some, true, false};
 ghost use Rattle.std.specs.List.{list_all};
 ghost use Rattle.clap.specs.Words.{app_of, first_value, found_of, rule_of};
-ghost use Rattle.factotum_program.specs.Words.{HasValues, IsTask, IsUnread, authsrv_options, has_authsrv_form, is_among, is_pipe, is_value};
+ghost use Rattle.factotum_program.specs.Words.{HasValues, IsTask, IsUnread, auth_given, authsrv_options, has_auth_form, has_authsrv_form, is_among, is_pipe_alone, is_value};
 ghost use Rattle.wire_base.specs.Texts.{is_text};
-ghost use Rattle.factotum_program.specs.Reading.{HasText, authsrv_app, bytes_of, option_rule};
+ghost use Rattle.factotum_program.specs.Reading.{HasText, authsrv_app, bytes_of, option_rule, pipe_app};
 
 use crate::status::Status;
 use attr_tuples::is_dom;
@@ -16,8 +16,8 @@ use wire_base::{NoMemory, Text};
 /// What the words of a command line ask for.
 #[derive(Drop)]
 pub enum Task {
-    /// One connection of 9P.
-    Pipe,
+    /// One connection of 9P, beside the authentication server at an address, if one is given.
+    Pipe { auth: Option<Text> },
     /// The authentication server, for one client.
     Authsrv(AuthsrvWords),
 }
@@ -34,11 +34,25 @@ pub struct AuthsrvWords {
 }
 
 // Whether the words are the one word `pipe`.
-fn is_pipe(words: &[Text]) -> bool
-    ensures { result ≡ is_pipe words.now }
+fn is_pipe_alone(words: &[Text]) -> bool
+    ensures { result ≡ is_pipe_alone words.now }
 {
     match words {
         [word] => word.as_slice() == b"pipe".as_slice(),
+        _ => false,
+    }
+}
+
+// Whether the words have the form of those of `pipe` with its option.
+fn has_auth_form(words: &[Text]) -> bool
+    ensures { result ≡ has_auth_form words.now }
+{
+    match words {
+        [name, option, value] => {
+            name.as_slice() == b"pipe".as_slice()
+                && option.as_slice() == b"--auth".as_slice()
+                && is_value(value.as_slice())
+        }
         _ => false,
     }
 }
@@ -113,6 +127,13 @@ fn option<'a>(alloc: Global, name: &'a str) -> Arg<'a>
         .required(true)
 }
 
+// The command of `pipe`.
+fn pipe_command<'a>(alloc: Global) -> Result<Command<'a>, NoMemory>
+    ensures { IfOk result (λ command. app_of command ≡ pipe_app) }
+{
+    Ok(Command::new(alloc, "pipe").arg(option(alloc, "auth"))?)
+}
+
 // The command of `authsrv`.
 fn authsrv_command<'a>(alloc: Global) -> Result<Command<'a>, NoMemory>
     ensures { IfOk result (λ command. app_of command ≡ authsrv_app) }
@@ -137,6 +158,36 @@ fn copy_value(alloc: Global, matches: &ArgMatches<'_>, name: &str) -> Result<Tex
         Some(text) => Ok(text),
         None => unreachable!(),
     }
+}
+
+// The value of the option of `pipe`, as clap reads it.
+fn parse_auth(alloc: Global, texts: &[&str]) -> Result<Text, Status>
+    requires form { has_auth_form (bytes_of texts.now) ≡ true }
+    requires text { list_all is_text (bytes_of texts.now) ≡ true }
+    ensures ok { IfOk result (λ auth. auth_given (bytes_of texts.now) ≡ Some auth) }
+    ensures err { IfErr result (λ status. status ≡ Status.NoMemory) }
+{
+    let command = pipe_command(alloc)?;
+    match command.try_get_matches_from(texts) {
+        Ok(matches) => Ok(copy_value(alloc, &matches, "auth")?),
+        Err(error) => match error.kind() {
+            ErrorKind::OutOfMemory => Err(Status::NoMemory),
+            _ => unreachable!(),
+        },
+    }
+}
+
+// The value of the option of `pipe`.
+fn read_auth(alloc: Global, words: &[Text]) -> Result<Text, Status>
+    requires { has_auth_form words.now ≡ true }
+    ensures ok { IfOk result (λ auth. auth_given words.now ≡ Some auth) }
+    ensures err { IfErr result (λ status. status ≡ Status.NoMemory) }
+{
+    let [name, option, value] = words else {
+        unreachable!();
+    };
+    let texts = [as_str(name), as_str(option), as_str(value)];
+    parse_auth(alloc, texts.as_slice())
 }
 
 // The values of the options of `authsrv`, as clap reads them.
@@ -187,8 +238,12 @@ pub fn read_words(alloc: Global, words: &[Text]) -> Result<Task, Status>
     ensures ok { IfOk result (λ task. IsTask words.now task) }
     ensures err { IfErr result (IsUnread words.now) }
 {
-    if is_pipe(words) {
-        return Ok(Task::Pipe);
+    if is_pipe_alone(words) {
+        return Ok(Task::Pipe { auth: None });
+    }
+    if has_auth_form(words) {
+        let auth = read_auth(alloc, words)?;
+        return Ok(Task::Pipe { auth: Some(auth) });
     }
     if !has_authsrv_form(words) {
         return Err(Status::Usage);

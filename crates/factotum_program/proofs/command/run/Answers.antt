@@ -7,9 +7,9 @@ serve-requires g c =
     let t = rw c.in-Ok-Authsrv.field-0-is at c.in-Ok-Authsrv.ensures.ok in
     dom_given c.args.words.now c.in-Ok-Authsrv.given t.0 t.1
 
-pub returns-in-Err-clause-usage : goal.returns-in-Err-clause-usage
-returns-in-Err-clause-usage g c = λ e. usage_alone c.args.words.now c.in-Err.status c.in-Err.ensures.err e
+pub returns-clause-usage : goal.returns-clause-usage
+returns-clause-usage g c = λ e. usage_alone c.args.words.now c.in-Err.status c.in-Err.ensures.err e
 
-pub returns-in-Err-clause-piped : goal.returns-in-Err-clause-piped
-returns-in-Err-clause-piped g c = λ p.
+pub returns-clause-piped : goal.returns-clause-piped
+returns-clause-piped g c = λ p.
     rw (pipe_only_memory c.args.words.now c.in-Err.status c.in-Err.ensures.err p) (memory_first _ _)

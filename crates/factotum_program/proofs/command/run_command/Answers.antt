@@ -9,9 +9,9 @@ pub returns-clause-printable : goal.returns-clause-printable
 returns-clause-printable g c = any_printable c.args.words.now c.run.result _ _ _ _ _ _ _ c.run.ensures.no_command c.run.ensures.piped c.run.ensures.served
 
 pub returns-clause-pipe_complete : goal.returns-clause-pipe_complete
-returns-clause-pipe_complete g c = λ content is_pipe told whole few read write.
+returns-clause-pipe_complete g c = λ content is_pipe told whole few read write draw.
     two_left c.run.result content _ _ _ _ told whole few
-    (λ e. read (c.run.ensures.pipe_fault is_pipe e)) (λ e. write (c.run.ensures.write_fault e)) (c.run.ensures.piped is_pipe)
+    (λ e. read (c.run.ensures.pipe_fault is_pipe e)) (λ e. write (c.run.ensures.write_fault e)) (λ e. draw (c.run.ensures.word_fault e)) (c.run.ensures.piped is_pipe)
 
 pub returns-clause-authsrv_complete : goal.returns-clause-authsrv_complete
 returns-clause-authsrv_complete g c = λ is_authsrv servable input keys speaks output rand.

@@ -3,7 +3,7 @@ use Rattle.agent_history.specs.Replies.{untaken}
 use Rattle.agent_history.specs.Histories.{History, deeds}
 use Rattle.agent_core.specs.Agents.{StandsFor, kept_replies}
 use Rattle.factotum_program.specs.Pipe.{text_of}
-use Rattle.factotum_program.specs.Sessions.{Gathers}
+use Rattle.factotum_program.specs.Gathers.{Gathers}
 use Rattle.factotum_program.proofs.TakeLemmas.{Going}
 use Rattle.factotum_program.proofs.frames.take_all.Given as goal
 

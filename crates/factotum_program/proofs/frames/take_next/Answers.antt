@@ -2,7 +2,7 @@ use Rattle.std.proofs.Common.{ℕ, List, ◌∷◌, refl, sym, subst}
 use Rattle.std.proofs.lemmas.Result.{err_from_is_err_and, on_ok_weaker, IfErr-weaker}
 use Rattle.agent_history.specs.declared.event.Event.TheVariants.{Take}
 use Rattle.factotum_program.specs.Pipe.{text_of}
-use Rattle.factotum_program.specs.Sessions.{Gathers}
+use Rattle.factotum_program.specs.Gathers.{Gathers}
 use Rattle.factotum_program.proofs.TakeLemmas.{still_gives, still_fewer}
 use Rattle.factotum_program.proofs.PartLemmas.{part_longer}
 use Rattle.factotum_program.proofs.frames.take_next.Goals as goal

@@ -1,6 +1,6 @@
 use Rattle.std.proofs.Common.{◌++◌}
 use Rattle.std.proofs.lemmas.Result.{err_from_is_err_and, on_ok_weaker, IfErr-weaker}
-use Rattle.factotum_program.specs.Commands.{frames_in}
+use Rattle.factotum_program.specs.Pipe.{frames_of}
 use Rattle.factotum_program.proofs.PipeLemmas.{stops_unfed, fed}
 use Rattle.factotum_program.proofs.pipe.answer_bytes.Goals as goal
 
@@ -11,10 +11,10 @@ returns-in_err-feed-clause-err g c =
 
 pub returns-clause-ok : goal.returns-clause-ok
 returns-clause-ok g c = on_ok_weaker c.answer_frames.result (λ f origin stream h.
-    f origin (stream ++ c.args.piece.now) (frames_in stream)
-    (fed origin _ stream c.args.piece.now c.args.session.now.framer c.feed.new.self c.args.session.now.agent h c.in_ok-feed.ensures.ok (c.in_ok-feed.ensures.stream stream (frames_in stream) h.all.cut))) c.answer_frames.ensures.ok
+    f origin (stream ++ c.args.piece.now) h.turns
+    (fed origin _ stream c.args.piece.now c.args.session.now.framer c.feed.new.self c.args.session.now.agent h c.in_ok-feed.ensures.ok (c.in_ok-feed.ensures.stream stream (frames_of h.turns) h.handed.cut))) c.answer_frames.ensures.ok
 
 pub returns-clause-err : goal.returns-clause-err
 returns-clause-err g c = IfErr-weaker c.answer_frames.result _ _ (λ status f origin stream h.
-    f origin (stream ++ c.args.piece.now) (frames_in stream)
-    (fed origin _ stream c.args.piece.now c.args.session.now.framer c.feed.new.self c.args.session.now.agent h c.in_ok-feed.ensures.ok (c.in_ok-feed.ensures.stream stream (frames_in stream) h.all.cut))) c.answer_frames.ensures.err
+    f origin (stream ++ c.args.piece.now) h.turns
+    (fed origin _ stream c.args.piece.now c.args.session.now.framer c.feed.new.self c.args.session.now.agent h c.in_ok-feed.ensures.ok (c.in_ok-feed.ensures.stream stream (frames_of h.turns) h.handed.cut))) c.answer_frames.ensures.err
