@@ -200,6 +200,11 @@ fn part_at(alloc: Global, steps: &[u8], at: usize) -> Result<(Bytes, usize), Fai
     Ok((Bytes::from_slice(alloc, part)?, end))
 }
 
+// The agent of this number.
+fn agent_of<'x>(which: u8, first: &'x mut Agent, second: &'x mut Agent) -> &'x mut Agent {
+    if which == 0 { first } else { second }
+}
+
 // Step by step; each session has two agents of its own.
 fn hold(rt: &impl Abort, alloc: Global, count: usize, steps: &[u8]) -> Result<(), Fail> {
     let mut first = Agent::new(alloc)?;
@@ -217,7 +222,7 @@ fn hold(rt: &impl Abort, alloc: Global, count: usize, steps: &[u8]) -> Result<()
             second = Agent::new(alloc)?;
             continue;
         }
-        let agent = if which == 0 { &mut first } else { &mut second };
+        let agent = agent_of(which, &mut first, &mut second);
         play(
             rt,
             alloc,
