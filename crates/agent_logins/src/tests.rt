@@ -11,9 +11,12 @@ mod rows;
 mod waits;
 
 use agent_core::{Agent, Event, Shape, StepAnswer};
+use key_ring::Key;
+use roles::{Cause, Outcome};
 use std::alloc::Global;
 use std::process::Abort;
 use std::test::Fail;
+use ticket_codec::write_info;
 use wire_base::{Bytes, get_u16, get_u32, get_u64};
 
 // These bytes as a frame.
@@ -132,6 +135,68 @@ fn converse_with_word(
     converse(rt, alloc, agent, conn, word.to_le_bytes(), request, reply)
 }
 
+fn cause_text(cause: Cause) -> &'static str {
+    match cause {
+        Cause::WrongKind => "wrong kind",
+        Cause::WrongChallenge => "wrong challenge",
+        Cause::WrongUser => "wrong user",
+        Cause::NotOffered => "not offered",
+        Cause::ServerSaidNo => "server said no",
+        Cause::NoServer => "no server",
+        Cause::NoRoom => "out of memory",
+        Cause::BadKey => "badkey",
+    }
+}
+
+// An outcome as the tables have it.
+fn outcome_text(alloc: Global, outcome: Option<Outcome>) -> Result<Bytes, Fail> {
+    let mut text = Bytes::new(alloc);
+    match outcome {
+        None => {}
+        Some(Outcome::Running) => text.append(b"running")?,
+        Some(Outcome::Finished) => text.append(b"finished")?,
+        Some(Outcome::Accepted(info)) => {
+            text.append(b"accepted ")?;
+            write_info(&info, &mut text)?;
+        }
+        Some(Outcome::Broken(cause)) => {
+            text.append(b"broken ")?;
+            text.append(cause_text(cause).as_bytes())?;
+        }
+    }
+    Ok(text)
+}
+
+// A key as the tables have it: its serial, and its user.
+fn key_text(alloc: Global, key: Option<&Key>) -> Result<Bytes, Fail> {
+    let mut text = Bytes::new(alloc);
+    if let Some(key) = key {
+        text.append(&key.serial().to_le_bytes())?;
+        text.append(key.user().as_slice())?;
+    }
+    Ok(text)
+}
+
+// Looks at the outcome, or the key, of a fid's conversation.
+fn look(
+    rt: &impl Abort,
+    alloc: Global,
+    agent: &Agent,
+    kind: u8,
+    conn: u64,
+    given: &[u8],
+    expected: &[u8],
+) -> Result<(), Fail> {
+    let fid = u32::from(given.first().copied().ok_or("no fid")?);
+    let text = if kind == b'o' {
+        outcome_text(alloc, agent.outcome(conn, fid))?
+    } else {
+        key_text(alloc, agent.chosen(conn, fid))?
+    };
+    assert_eq!(rt; text.as_slice(), expected);
+    Ok(())
+}
+
 // An event that puts nothing out.
 fn play_event(
     rt: &impl Abort,
@@ -187,6 +252,7 @@ fn play(
         b'p' => ask(rt, alloc, agent, number, [0; 8], given),
         b't' => take(rt, alloc, agent, number, expected),
         b'q' => take_question(rt, alloc, agent, number, expected),
+        b'o' | b'k' => look(rt, alloc, agent, kind, number, given, expected),
         _ => play_event(rt, alloc, agent, kind, number, given),
     }
 }
