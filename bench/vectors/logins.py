@@ -317,6 +317,7 @@ def requests():
 def moves():
     """What comes of a request that is carried out."""
     phases()
+    turns()
     searches()
     causes()
 
@@ -472,6 +473,58 @@ def phases():
                          (("write", PROVED + b"\0"), "error message too long"), ("authinfo", NONE), (("write", PROVED), "ok"),
                          ("authinfo", ("ok", INFO)), (("write", PROVED), "done haveai")]:
         s.rpc(1, text, answer)
+
+
+def out_of_turn(s, turn, size=0):
+    """Every message of a login where another is due, none of which changes anything."""
+    with s.group():
+        for message in [b"", CHC, PROVED, SHOWN, ASKED, ASKED[:size - 1], (ASKED + ASKED)[:size + 1]]:
+            if turn in ["phase awaits read", "phase broken", "done haveai"]:
+                s.rpc(1, ("write", message), turn)
+            elif len(message) != size:
+                s.rpc(1, ("write", message), "toosmall %d" % size if len(message) < size else "error message too long")
+        if turn != "phase awaits read":
+            s.rpc(1, "read", turn)
+        s.rpc(1, CLIENT, "phase already started")
+
+
+def turns():
+    """Each turn of a client and of a server, and what isn't due in it."""
+    s = one("each turn of a client", ANN_KEY)
+    s.rpc(1, CLIENT, "ok", word=CHC)
+    out_of_turn(s, "phase awaits read")
+    s.rpc(1, "read", ("ok", CHC))
+    out_of_turn(s, "phase awaits write", 141)
+    s.wait(1, ("write", ASKED))
+    s.answer(1, ANSWER)
+    s.told(1, "ok")
+    out_of_turn(s, "phase awaits read")
+    s.rpc(1, "read", ("ok", SHOWN))
+    out_of_turn(s, "phase awaits write", 13)
+    s.rpc(1, ("write", PROVED), "ok")
+    out_of_turn(s, "done haveai")
+    s = one("each turn of a server", SRV_KEY)
+    s.rpc(1, SERVER, "ok", word=CHS)
+    out_of_turn(s, "phase awaits write", 8)
+    s.rpc(1, ("write", CHC), "ok")
+    out_of_turn(s, "phase awaits read")
+    s.rpc(1, "read", ("ok", ASKED))
+    out_of_turn(s, "phase awaits write", 85)
+    s.rpc(1, ("write", SHOWN), "ok")
+    out_of_turn(s, "phase awaits read")
+    s.rpc(1, "read", ("ok", PROVED))
+    out_of_turn(s, "done haveai")
+    for role in [CLIENT, SERVER]:
+        s = one("a turn of one that broke", SRV_KEY)
+        s.rpc(1, role, "ok", word=CHC)
+        if role == CLIENT:
+            s.rpc(1, "read", ("ok", CHC))
+            s.rpc(1, ("write", b"\0" * 141), "error wrong kind")
+        else:
+            s.rpc(1, ("write", CHC), "ok")
+            s.rpc(1, "read", ("ok", treq(CHC)))
+            s.rpc(1, ("write", SHOWN), "error wrong challenge")
+        out_of_turn(s, "phase broken")
 
 
 def searches():
