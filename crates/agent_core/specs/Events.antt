@@ -16,7 +16,8 @@ use Rattle.talks.specs.Standings.{question_of}
 use Rattle.roles.specs.declared.need.Need.{Need}
 use Rattle.roles.specs.declared.need.Need.TheVariants.{Nothing, Key, Exchange}
 use Rattle.wire_base.specs.declared.shape.Shape.{Shape}
-use Rattle.agent_talks.specs.Kept.{questions_in}
+use Rattle.agent_talks.specs.Kept.{is_asked, questions_in}
+use Rattle.agent_talks.specs.Kept as kept
 use Rattle.agent_requests.specs.declared.connection.Phase.{Phase}
 use Rattle.agent_requests.specs.declared.connection.Phase.TheVariants.{Fresh}
 use Rattle.agent_requests.specs.declared.connection.Connection.{Connection}
@@ -118,7 +119,7 @@ questions s = questions_in s.talks
 
 -- those that weren't handed out yet
 abbrev pub unasked : Shared → ℕ
-unasked s = length (filter (λ q. not q.handed) (questions s))
+unasked s = kept.unasked s.talks
 
 -- what a conversation asks the authentication server was put out, if it asks something
 abbrev pub PutFor : Need → Option Shape → List ℕ → List ℕ → Type 0
@@ -137,7 +138,7 @@ IsPut done conv shape old new = PutFor (question_of (standing_of done conv)) sha
 abbrev pub TakesNoneOf : Event → (ℕ → Option Connection) → Shared → Type 0
 TakesNoneOf (Request conn frame word) at s = ⊥
 TakesNoneOf (Take conn) at s = FindsNone (at conn) (replies_at s.mailboxes conn)
-TakesNoneOf (Answer call bytes) at s = list_any (λ q. q.call == call) (questions s) ≡ false
+TakesNoneOf (Answer call bytes) at s = is_asked call (questions s) ≡ false
 TakesNoneOf TakeAsk at s = unasked s ≡ 0
 TakesNoneOf event at s = Unit {0}
 

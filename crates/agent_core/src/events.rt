@@ -292,11 +292,11 @@ pub(crate) fn act(
             Ok(StepAnswer::Done)
         }
         Event::NoAnswer { call } => {
-            shared.hear_nothing(*call);
+            shared.hear_nothing(alloc, *call);
             Ok(StepAnswer::Done)
         }
         Event::NoRoom { call } => {
-            shared.lack_room(*call);
+            shared.lack_room(alloc, *call);
             Ok(StepAnswer::Done)
         }
         Event::Stop => Ok(StepAnswer::Done),

@@ -14,16 +14,16 @@ use Rattle.file_tree.specs.declared.fault.FidFault.TheVariants.{BadOffset}
 use Rattle.file_tree.specs.Directories.{dir_bytes, dir_end}
 use Rattle.file_tree.specs.Tree.{is_exclusive, qid_of}
 use Rattle.file_tree.specs.Faults.{answered, fault_text}
-use Rattle.file_tree.specs.Calls.{node_of, open_fault, fid_fault, dir_fault}
+use Rattle.file_tree.specs.Calls.{attach_fault, node_of, open_fault, fid_fault, dir_fault}
 use Rattle.fid_table.specs.declared.fids.Fid.{Fid}
 use Rattle.fid_table.specs.Held.{state_at, next_at}
 use Rattle.fid_table.specs.Held as table
 use Rattle.key_lists.specs.Lists.{KeyList}
 use Rattle.key_lists.specs.Edits.{Add, Delete}
 use Rattle.key_lists.specs.CtlLines.{CtlLine, OnKeys, Debug, lines_of, carried_out, lines_fault, after_lines, keys_with, keys_with_all}
-use Rattle.agent_history.specs.Deeds.{Deed, OfFids, OfKeys, Versioned, Opened, Browsed, msize_of, fid_of, next_of, holder_of, keys_of}
+use Rattle.agent_history.specs.Deeds.{Deed, OfFids, OfKeys, Versioned, Attached, Opened, Browsed, msize_of, fid_of, held_by, next_of, holder_of, keys_of}
 use Rattle.agent_history.specs.Conversations.{conv_of, speakers}
-use Rattle.agent_history.specs.Requests.{Call, refusal, after, reply_of, agreed, effective, lets_read, opens_later, lets_write, written, line_deed, lines_done, is_known, is_rpc, most_msize, most_talks}
+use Rattle.agent_history.specs.Requests.{Call, refusal, after, reply_of, agreed, effective, lets_read, nofid, opens_later, lets_write, write_reply, written, line_deed, lines_done, is_known, is_rpc, most_msize, most_talks}
 use Rattle.rpc_file.specs.Requests as rpc
 use Rattle.agent_talks.specs.declared.held.Talks.{Talks}
 use Rattle.agent_talks.specs.Speaks.{Speak}
@@ -41,7 +41,7 @@ use Rattle.agent_requests.specs.declared.refused.Refusal.TheVariants as f
 use Rattle.agent_requests.specs.Connections.{kept_fid, msize_in, Keeps, Holds, Says, Shares, Told, Served}
 use Rattle.agent_requests.specs.RpcRequests.{ReadServed, ReadTold, WriteServed, WriteTold, read_refusal, write_refusal}
 use Rattle.agent_requests.proofs.OwnDeeds.{lines_own, stored_talks, talk_all}
-use Rattle.agent_requests.proofs.ShareLemmas.{holds_keys, keeps_all, keeps_keys, mail_browsed, mail_keys}
+use Rattle.agent_requests.proofs.ShareLemmas.{shares_attached, holds_keys, keeps_all, keeps_keys, mail_browsed, mail_keys}
 
 -- ---- answers
 
@@ -91,6 +91,13 @@ pub version_told : (done : List Deed) (call : Call) (msize : ℕ) (version : Lis
     → reply_bytes reply ≡ r_frame (under call.tag (r.Version (min msize most_msize) (cond (is_known version) (codes "9P2000") (codes "unknown")))) → Told (refusal done call (t.Version msize version)) (Served done call (t.Version msize version) c s) (Ok (Some reply))
 unfolding refusal after reply_of
 version_told done call msize version c s reply le k h said = rw le-ltb (record { keeps = k; shares = h; said = said })
+
+-- ---- attach
+
+pub attach_told : (done : List Deed) (call : Call) (fid afid : ℕ) (uname aname : List ℕ) (c : Connection) (s : Shared) (reply : Reply) → afid ≡ nofid → attach_fault (fid_of done call.conn fid) (held_by done call.conn) ≡ None
+    → Keeps (OfFids call.conn (Attached fid) ∷ done) call.conn c → Shares done s → reply_bytes reply ≡ r_frame (under call.tag (r.Attach (qid_of Root))) → Told (refusal done call (t.Attach fid afid uname aname)) (Served done call (t.Attach fid afid uname aname) c s) (Ok (Some reply))
+unfolding refusal after reply_of
+attach_told done call fid afid uname aname c s reply none fault k h said = rw (none, fault) (record { keeps = k; shares = shares_attached done call.conn fid s h; said = said })
 
 -- ---- open
 
@@ -144,8 +151,8 @@ dir_served : (done : List Deed) (call : Call) (fid offset count : ℕ) (state : 
     → Keeps (OfFids call.conn (Browsed fid (dir_end state.node offset (effective count (msize_of done call.conn)))) ∷ done) call.conn c → Shares done s
     → Says call.tag (Some (r.Read (dir_bytes state.node offset (effective count (msize_of done call.conn))))) reply → Served done call (t.Read fid offset count) c s reply
 unfolding after reply_of
-dir_served done call fid offset count state c s reply held (inl is) k h said = record { keeps = rw (held, is) (rw (← is) k); shares = rw (held, is) (shares_read done call.conn fid _ s h); said = rw (held, is) (rw (← is) said) }
-dir_served done call fid offset count state c s reply held (inr is) k h said = record { keeps = rw (held, is) (rw (← is) k); shares = rw (held, is) (shares_read done call.conn fid _ s h); said = rw (held, is) (rw (← is) said) }
+dir_served done call fid offset count state c s reply held (inl is) k h said = record { keeps = rw (held, is) (rw (← is) k); shares = rw (held, is) (shares_read done call.conn fid _ s h); said = rw (held, is) (subst (λ (n : Node). Says call.tag (Some (r.Read (dir_bytes n offset (effective count (msize_of done call.conn))))) reply) is said) }
+dir_served done call fid offset count state c s reply held (inr is) k h said = record { keeps = rw (held, is) (rw (← is) k); shares = rw (held, is) (shares_read done call.conn fid _ s h); said = rw (held, is) (subst (λ (n : Node). Says call.tag (Some (r.Read (dir_bytes n offset (effective count (msize_of done call.conn))))) reply) is said) }
 
 next_kept : (f : Option FidState) (state : FidState) (next : ℕ) → f ≡ Some state → table.next_of (kept_fid f next) ≡ next
 next_kept f state next held = rw held refl
@@ -193,13 +200,23 @@ rpc_write_refusal : (done : List Deed) (call : Call) (fid offset : ℕ) (content
 unfolding refusal fid_fault
 rpc_write_refusal done call fid offset content state held opened lets is later = rw (held, opened, lets, is, later) refl
 
-rpc_write_served : (done : List Deed) (call : Call) (fid offset : ℕ) (content : List ℕ) (state : FidState) (c : Connection) (s : Shared) (reply : Option Reply) → fid_of done call.conn fid ≡ Some state → is_rpc state.node ≡ true → Keeps done call.conn c
+the_rpc : (node : Node) → is_rpc node ≡ true → node ≡ Rpc
+the_rpc Rpc e = refl
+the_rpc n.Root e = absurd cc
+the_rpc n.Factotum e = absurd cc
+the_rpc n.Ctl e = absurd cc
+the_rpc n.Confirm e = absurd cc
+the_rpc n.Needkey e = absurd cc
+the_rpc n.Proto e = absurd cc
+the_rpc n.Log e = absurd cc
+
+rpc_write_served : (done : List Deed) (call : Call) (fid offset : ℕ) (content : List ℕ) (state : FidState) (c : Connection) (s : Shared) (reply : Option Reply) → fid_of done call.conn fid ≡ Some state → state.node ≡ Rpc → Keeps done call.conn c
     → WriteServed done call fid content s reply → Served done call (t.Write fid offset content) c s reply
 unfolding after reply_of
 rpc_write_served done call fid offset content state c s reply held is k h = record {
   keeps = rw (held, is) (stored_talks (λ now. Keeps now call.conn c) (keeps_all call.conn c).talks (conv_of done call.conn fid) (rpc.request_of content) done k);
   shares = rw (held, is) h.shares;
-  said = rw (held, is) h.said;
+  said = subst (λ (o : Option FidState). Says call.tag (Some (write_reply done content (node_of o))) reply) (sym held) (subst (λ (n : Node). Says call.tag (Some (write_reply done content n)) reply) (sym is) h.said);
 }
 
 opens_rpc : (node : Node) → is_rpc node ≡ true → opens_later node ≡ false
@@ -217,7 +234,7 @@ pub rpc_write_told : (done : List Deed) (call : Call) (fid offset : ℕ) (conten
     → WriteTold done call fid content s result → Told (refusal done call (t.Write fid offset content)) (Served done call (t.Write fid offset content) c s) result
 rpc_write_told done call fid offset content state c s result k held opened lets is told =
     told_maps _ _ _ _ result (sym (rpc_write_refusal done call fid offset content state held opened lets is (opens_rpc state.node is)))
-    (λ reply e served. rpc_write_served done call fid offset content state c s reply held is k served) told
+    (λ reply e served. rpc_write_served done call fid offset content state c s reply held (the_rpc state.node is) k served) told
 
 -- ---- write of ctl
 

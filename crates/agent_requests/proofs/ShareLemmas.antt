@@ -1,28 +1,31 @@
 -- What is shared, after deeds that don't concern all of it.
-use Rattle.std.proofs.Common.{◌≡◌, ℕ, List, [], ◌∷◌, ◌++◌, filter, Bool, true, false, cond, eqb, not, ◌&&◌, ◌||◌, Option, Some, None, refl, sym, ap, subst, ◌∙◌, inl, inr}
+use Rattle.std.proofs.Common.{◌≡◌, ℕ, List, [], ◌∷◌, ◌++◌, filter, Bool, true, false, cond, eqb, not, ◌&&◌, ◌||◌, ◌==◌, Option, Some, None, refl, sym, ap, subst, ◌∙◌, inl, inr}
 use Rattle.std.specs.Prelude.{find, is_some, option_map}
 use Rattle.std.specs.List.{list_any}
 use Rattle.std.proofs.lemmas.Bool.{cases_Bool, eq-eqb, false≢true}
 use Rattle.file_tree.specs.declared.tree.Node.{Node}
 use Rattle.file_tree.specs.declared.tree.Node.TheVariants as n
 use Rattle.file_tree.specs.declared.tree.FidState.{FidState}
+use Rattle.file_tree.specs.Tree.{file}
 use Rattle.file_tree.specs.Calls.{node_of}
 use Rattle.key_lists.specs.CtlLines.{CtlLine}
 use Rattle.talks.specs.Calls as calls
 use Rattle.agent_history.specs.Deeds.{Deed, FidDeed, KeyDeed, ReplyDeed, OfFids, OfKeys, OfReplies, OfConnection, OfTalk, Raised, Swept, Versioned, Attached, Walked, Opened, Listed, Browsed, Clunked, Entered, Hung, fid_of, keys_of, names, was_hung}
 use Rattle.agent_history.specs.Replies.{has_settled, swept}
-use Rattle.agent_history.specs.Conversations.{Speaker, conv_of, speaker_of, speakers}
+use Rattle.agent_history.specs.Conversations.{Speaker, conv_of, met, resumed, speaker_of, speakers}
 use Rattle.agent_history.specs.Histories.{entered}
-use Rattle.agent_history.specs.Requests.{is_rpc, lines_done}
+use Rattle.agent_history.specs.Requests.{is_rpc, walking}
 use Rattle.agent_talks.specs.declared.held.Talks.{Talks}
-use Rattle.agent_talks.specs.Speaks.{Speak, is_among, stands}
+use Rattle.agent_talks.specs.Speaks.{Speak, is_among, met_by, stands}
+use Rattle.agent_talks.proofs.OtherLemmas.{attached_speak, listed_speak, walked_speak}
 use Rattle.mailboxes.specs.declared.mailboxes.Mailboxes.{Mailboxes}
 use Rattle.mailboxes.specs.Deliveries.{Delivers, SameMail}
 use Rattle.agent_requests.specs.declared.connection.Connection.{Connection}
 use Rattle.agent_requests.specs.declared.shared.Holders.{Holders}
 use Rattle.agent_requests.specs.declared.shared.Shared.{Shared}
 use Rattle.agent_requests.specs.Connections.{AllLive, AreLive, Holds, Keeps, SameShared, Shares}
-use Rattle.agent_requests.proofs.OwnDeeds.{IsOwn, OfAll, OfTalks, entered_by, lines_own, swept_by}
+use Rattle.agent_requests.specs.RpcRequests.{IsOpen, delivered_by}
+use Rattle.agent_requests.proofs.OwnDeeds.{OfAll, OfTalks, met_talks}
 
 -- ---- holders, keys and fids, which conversations and replies leave alone
 
@@ -32,7 +35,6 @@ holds_all h = record {
   replies = λ at deed done k. record { confirm = k.confirm; needkey = k.needkey; log = k.log };
   swept = λ done k. record { confirm = k.confirm; needkey = k.needkey; log = k.log };
 }
-
 
 pub keeps_all : (conn : ℕ) (c : Connection) → OfAll (λ done. Keeps done conn c)
 keeps_all conn c = record {
@@ -90,9 +92,9 @@ found_stands done conn fid conv e = here (speakers done) e
     here (x ∷ xs) e = elim (cases_Bool (eqb x.conn conn && eqb x.fid fid)) [
       | inl is ↦ let same : x.conv ≡ conv = some_is x.conv conv (rw is at e) in rw (eq-eqb x.conv conv same) refl
       | inr is ↦ elim (cases_Bool (eqb x.conv conv)) [
-          | inl found ↦ rw found refl
-          | inr other ↦ rw other (here xs (rw is at e))
-        ]
+        | inl found ↦ rw found refl
+        | inr other ↦ rw other (here xs (rw is at e))
+      ]
     ]
 
 -- a conversation of which it is known who has it open stands
@@ -144,3 +146,79 @@ shares_still done s u same h = record {
   mail = mail_still done s.mailboxes u.mailboxes same.mail h.mail;
   talks = same.talks done h.talks;
 }
+
+-- ---- requests on fids leave the rest alone
+
+pub shares_attached : (done : List Deed) (conn fid : ℕ) (s : Shared) → Shares done s → Shares (OfFids conn (Attached fid) ∷ done) s
+shares_attached done conn fid s h = record {
+  ring = h.ring;
+  holders = record { confirm = h.holders.confirm; needkey = h.holders.needkey; log = h.holders.log };
+  mail = record { mails = λ q live. let k = h.mail.mails q live in record { replies = k.replies; waits = k.waits }; settled = h.mail.settled };
+  talks = attached_speak done s.talks conn fid h.talks;
+}
+
+pub shares_walking : (done : List Deed) (conn newfid : ℕ) (end : Option Node) (s : Shared) → Shares done s → Shares (walking conn newfid end done) s
+shares_walking done conn newfid None s h = h
+shares_walking done conn newfid (Some node) s h = record {
+  ring = h.ring;
+  holders = record { confirm = h.holders.confirm; needkey = h.holders.needkey; log = h.holders.log };
+  mail = record { mails = λ q live. let k = h.mail.mails q live in record { replies = k.replies; waits = k.waits }; settled = h.mail.settled };
+  talks = walked_speak done s.talks conn newfid node h.talks;
+}
+
+shares_listed : (done : List Deed) (conn fid : ℕ) (s : Shared) → Shares done s → Shares (OfFids conn (Listed fid) ∷ done) s
+shares_listed done conn fid s h = record {
+  ring = h.ring;
+  holders = record { confirm = h.holders.confirm; needkey = h.holders.needkey; log = h.holders.log };
+  mail = record { mails = λ q live. let k = h.mail.mails q live in record { replies = k.replies; waits = k.waits }; settled = h.mail.settled };
+  talks = listed_speak done s.talks conn fid h.talks;
+}
+
+pub shares_listing : (done : List Deed) (conn fid : ℕ) (first : Bool) (s : Shared) → Shares done s → Shares (cond first (OfFids conn (Listed fid) ∷ done) done) s
+shares_listing done conn fid true s h = shares_listed done conn fid s h
+shares_listing done conn fid false s h = h
+
+-- a fid that is held names rpc where its file is rpc
+pub names_rpc : (o : Option FidState) (node : Node) → is_some o ≡ true → node_of o ≡ node → names n.Rpc o ≡ is_rpc node
+names_rpc None node held e = absurd cc
+names_rpc (Some state) node held e = subst (λ (m : Node). names n.Rpc (Some state) ≡ is_rpc m) e (here state.node)
+  where
+    here : (m : Node) → ((file m).path == (file n.Rpc).path) ≡ is_rpc m
+    here n.Root = refl
+    here n.Factotum = refl
+    here n.Rpc = refl
+    here n.Ctl = refl
+    here n.Confirm = refl
+    here n.Needkey = refl
+    here n.Proto = refl
+    here n.Log = refl
+
+-- ---- conversations are open on connections that are live
+
+live_found : (hung : ℕ → Bool) (test : Speaker → Bool) (xs : List Speaker) (s : Speaker) → AllLive hung xs → find test xs ≡ Some s → hung s.conn ≡ false
+live_found hung test [] s h e = absurd cc
+live_found hung test (x ∷ xs) s h e = here (test x) e (λ more. live_found hung test xs s h.1 more)
+  where
+    here : (b : Bool) → cond b (Some x) (find test xs) ≡ Some s → (find test xs ≡ Some s → hung s.conn ≡ false) → hung s.conn ≡ false
+    here true e rest = let same : x ≡ s = cc in subst (λ (y : Speaker). hung y.conn ≡ false) same h.0
+    here false e rest = rest e
+
+pub live_speaker : (done : List Deed) (conv : ℕ) (s : Speaker) → AreLive done → speaker_of done conv ≡ Some s → was_hung done s.conn ≡ false
+live_speaker done conv s live e = live_found (λ conn. was_hung done conn) (λ x. eqb x.conv conv) (speakers done) s live e
+
+-- what a fid of a connection has open stands
+pub open_at : (done : List Deed) (conn fid : ℕ) (conv : Option ℕ) → conv ≡ conv_of done conn fid → IsOpen done conv
+open_at done conn fid None e = tt
+open_at done conn fid (Some conv) e = found_stands done conn fid conv (sym e)
+
+-- ---- the authentication server is done with a question
+
+abbrev pub with_talks : Shared → Talks → Shared
+with_talks s t = record { ring = s.ring; holders = s.holders; mailboxes = s.mailboxes; talks = t }
+
+pub heard_shares : (done : List Deed) (o : Option ℕ) (call : calls.Call) (s : Shared) (t : Talks) (v : Shared) → AreLive done → Shares done s → Speak (met_by o call done) t
+    → ((now : List Deed) → AreLive now → Shares now (with_talks s t) → Shares (swept (delivered_by o now)) v) → Shares (swept (resumed o call done)) v
+heard_shares done None call s t v live h speak f = f done live (record { ring = h.ring; holders = h.holders; mail = h.mail; talks = speak })
+heard_shares done (Some conv) call s t v live h speak f =
+    let rest : Rest (met conv call done) s = met_talks (λ now. Rest now s) (rest_talks s) conv call done (record { ring = h.ring; holders = h.holders; mail = h.mail }) in
+    f (met conv call done) (met_talks AreLive live_all.talks conv call done live) (record { ring = rest.ring; holders = rest.holders; mail = rest.mail; talks = speak })

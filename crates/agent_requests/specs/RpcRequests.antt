@@ -1,5 +1,5 @@
 -- What a read or a write of rpc does.
-use Rattle.std.specs.Prelude.{◌≡◌, ℕ, List, [], ◌∷◌, length, Bool, true, false, not, ◌&&◌, Option, Some, None, Result, Ok, Err, codes}
+use Rattle.std.specs.Prelude.{◌≡◌, ℕ, List, [], ◌∷◌, length, Bool, true, false, not, ◌&&◌, ◌⊎◌, Option, Some, None, Result, Ok, Err, codes}
 use Rattle.wire_base.specs.Rules.{first_told}
 use Rattle.nine_messages.specs.declared.message.RBody.TheVariants as r
 use Rattle.rpc_file.specs.Requests.{RpcRequest, meant, request_of}
@@ -10,6 +10,7 @@ use Rattle.agent_history.specs.Deeds.{Deed}
 use Rattle.agent_history.specs.Replies.{waits_for}
 use Rattle.agent_history.specs.Conversations.{conv_of, delivered, standing_of}
 use Rattle.agent_history.specs.Requests.{Call, answer_read, carried, has_answer, is_resting, is_too_long, is_unknown, phase_of, reading_answer, reading_talk, stored, talk_read, waits_enough}
+use Rattle.agent_talks.specs.Speaks.{stands}
 use Rattle.mailboxes.specs.declared.reply.Reply.{Reply}
 use Rattle.agent_requests.specs.declared.refused.Refused.{Refused}
 use Rattle.agent_requests.specs.declared.refused.Refused.TheVariants as e
@@ -41,6 +42,11 @@ ReadTold done call fid count s result = Told (read_refusal done call.conn fid) (
 
 -- ---- writes
 
+-- the conversation stands, where one is meant
+abbrev pub IsOpen : List Deed → Option ℕ → Type 0
+IsOpen done None = Unit {0}
+IsOpen done (Some conv) = stands done conv ≡ true
+
 -- the tests of a write of rpc that is open for writing
 abbrev pub write_refusal : List Deed → ℕ → ℕ → List ℕ → Option (List ℕ)
 write_refusal done conn fid content = first_told (
@@ -59,9 +65,7 @@ WriteTold done call fid content s result = Told (write_refusal done call.conn fi
 -- what is written is a request, or refused
 abbrev pub Requests : Result Request Refused → List ℕ → Type 0
 Requests (Ok request) content = request_of content ≡ Ok (meant request)
-Requests (Err (e.For f.RpcTooLong)) content = request_of content ≡ Err TooLong
-Requests (Err (e.For f.UnknownRpcVerb)) content = request_of content ≡ Err UnknownVerb
-Requests (Err why) content = ⊥
+Requests (Err why) content = ((why ≡ e.For f.RpcTooLong) × (request_of content ≡ Err TooLong)) ⊎ ((why ≡ e.For f.UnknownRpcVerb) × (request_of content ≡ Err UnknownVerb))
 
 -- ---- answers
 

@@ -5,9 +5,9 @@ ghost use Rattle.std.specs.BTreeMap.{get};
 ghost use Rattle.agent_history.specs.Deeds.{Deed};
 ghost use Rattle.agent_requests.specs.Connections.{IsFresh, IsHungUp, Keeps, is_hung, is_opened, msize_in};
 
-use listed_ring::SharedText;
 use crate::msize::Msize;
 use fid_table::Fids;
+use listed_ring::SharedText;
 use std::alloc::Global;
 use std::collections::BTreeMap;
 

@@ -5,8 +5,8 @@ ghost use Rattle.nine_messages.specs.declared.message.TBody.TheVariants as t;
 ghost use Rattle.file_tree.specs.Tree.{qid_of};
 ghost use Rattle.file_tree.specs.Calls.{open_fault};
 ghost use Rattle.fid_table.specs.Held.{state_at, HasRoom};
-ghost use Rattle.agent_history.specs.Deeds.{Deed, OfFids, Clunked, Opened, Versioned, was_hung};
-ghost use Rattle.agent_history.specs.Requests.{agreed, is_known, most_talks, opens_later, walking};
+ghost use Rattle.agent_history.specs.Deeds.{Deed, OfFids, Attached, Clunked, Opened, Versioned, was_hung};
+ghost use Rattle.agent_history.specs.Requests.{agreed, is_known, opens_later, walking};
 ghost use Rattle.mailboxes.specs.Deliveries.{SameRoom};
 ghost use Rattle.agent_requests.specs.Connections.{Keeps, Shares, SameKept, Tried, is_hung, msize_in};
 
@@ -14,7 +14,7 @@ use crate::call::Call;
 use crate::connection::{Connection, Phase};
 use crate::msize::{MOST_MSIZE, Msize};
 use crate::refused::{Refusal, Refused, Tried};
-use crate::shared::{Shared, is_rpc};
+use crate::shared::Shared;
 use fid_table::Fids;
 use file_tree::{Node, put_record, record_size};
 use mailboxes::Reply;
@@ -28,9 +28,6 @@ use wire_base::{Bytes, NoMemory, TextList};
 const NOFID: u32 = 0xffff_ffff;
 
 const LEAST_MSIZE: u32 = 256;
-
-// How many conversations may stand.
-const MOST_TALKS: usize = 256;
 
 const VERSION: &[u8; 6] = b"9P2000";
 
@@ -130,13 +127,25 @@ impl Connection {
         self.fids.may_attach(fid)?;
         let mut reply = Bytes::with_capacity(call.alloc, USUAL_REPLY)?;
         put_attach(call.tag, &Node::Root.qid(), &mut reply)?;
-        self.fids.mark_walked(fid, Node::Root)?;
-        self.texts.remove(&fid);
+        self.hold_root(fid)?;
         Ok(Some(Reply::Spelled(reply)))
     }
 
+    // The fid names the root.
+    fn hold_root(&mut self, fid: u32) -> Result<(), NoMemory>
+        requires { HasRoom self.old.fids fid }
+        ensures keeps { OnOk result ((done : List Deed) (conn : ℕ) → Keeps done conn self.old
+            → Keeps (OfFids conn (Attached fid) ∷ done) conn self.new) }
+        ensures phase { self.new.phase ≡ self.old.phase }
+        ensures err { OnErr result (SameKept self.old self.new) }
+    {
+        self.fids.mark_walked(fid, Node::Root)?;
+        self.texts.remove(&fid);
+        Ok(())
+    }
+
     /// Walk: the new fid names the file to which the names lead, where all of them are there.
-    #[tactic(auto, unfolding(agent_history::specs::Requests::refusal, agent_history::specs::Requests::after, agent_history::specs::Requests::reply_of))]
+    #[tactic(auto, unfolding(agent_history::specs::Requests::refusal, agent_history::specs::Requests::after, agent_history::specs::Requests::reply_of), using(crate::proofs::ShareLemmas::shares_walking))]
     pub fn walk(&mut self, call: Call, fid: u32, newfid: u32, wname: &TextList) -> Tried
         requires { length wname.now ≤ 16 }
         ensures { (s : Shared)
@@ -177,7 +186,7 @@ impl Connection {
         if shared.holders.has(node) {
             return Err(Refused::For(Refusal::ExclusiveUse));
         }
-        if is_rpc(node) && shared.talks.count() >= MOST_TALKS {
+        if shared.is_crowded(node) {
             return Err(Refused::For(Refusal::TooManyConversations));
         }
         if opens_later(node) {

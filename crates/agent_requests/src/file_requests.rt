@@ -148,7 +148,7 @@ impl Connection {
     }
 
     /// Read: of a directory, of ctl, of the list of protocols, or of rpc.
-    #[tactic(auto, unfolding(agent_history::specs::Requests::refusal, agent_history::specs::Requests::after, agent_history::specs::Requests::reply_of, file_tree::specs::Calls::fid_fault))]
+    #[tactic(auto, unfolding(agent_history::specs::Requests::refusal, agent_history::specs::Requests::after, agent_history::specs::Requests::reply_of, file_tree::specs::Calls::fid_fault), using(crate::proofs::ShareLemmas::shares_listing))]
     pub fn read(
         &mut self,
         call: Call,

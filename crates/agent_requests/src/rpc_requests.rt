@@ -1,22 +1,26 @@
 // Reads and writes of rpc.
-ghost use Rattle.std.specs.Prelude.{◌≡◌, ◌≤◌, List, ℕ, true, false, length, OnErr, IfOk};
-ghost use Rattle.rpc_file.specs.Requests.{Reads, request_of};
+ghost use Rattle.std.specs.Prelude.{◌≡◌, ◌≤◌, ◌&&◌, List, ℕ, Ok, true, false, length, not, OnErr, OnOk, IfOk};
+ghost use Rattle.rpc_file.specs.Requests.{meant};
 ghost use Rattle.agent_history.specs.Deeds.{Deed, was_hung};
-ghost use Rattle.agent_history.specs.Conversations.{standing_of};
-ghost use Rattle.agent_talks.specs.Speaks.{stands};
-ghost use Rattle.mailboxes.specs.Deliveries.{SameRoom, has_place};
+ghost use Rattle.agent_history.specs.Requests.{has_answer, phase_of, stored, waits_enough};
+ghost use Rattle.agent_talks.specs.Speaks.{Speak, stands};
+ghost use Rattle.nine_messages.specs.declared.message.RBody.TheVariants as r;
+ghost use Rattle.nine_messages.specs.Messages.{r_frame};
+ghost use Rattle.mailboxes.specs.Deliveries.{SameRoom, under};
 ghost use Rattle.mailboxes.specs.Kept.{reply_bytes};
-ghost use Rattle.agent_requests.specs.Connections.{SameShared, Shares, asked};
-ghost use Rattle.agent_requests.specs.RpcRequests.{Answered, ReadTold, WriteTold, Requests};
+ghost use Rattle.agent_requests.specs.Connections.{SameShared, SameSpeak, Shares, asked};
+ghost use Rattle.agent_requests.specs.RpcRequests.{Answered, IsOpen, ReadTold, WriteTold, Requests};
 
 use crate::call::Call;
 use crate::deliver::spell_told;
 use crate::fid_requests::USUAL_REPLY;
 use crate::refused::{Refusal, Refused, Tried};
 use crate::shared::Shared;
+use agent_talks::Talks;
 use mailboxes::{Read, Reply};
 use nine_codec::put_write;
 use rpc_file::{Request, RpcFault, parse_request};
+use std::alloc::Global;
 use wire_base::{Bytes, NoMemory};
 
 // How many reads of a connection may wait.
@@ -24,6 +28,7 @@ const MOST_WAITS: usize = 64;
 
 /// Read of rpc: the request that is there is carried out, and its answer is read, or the read waits for it.
 pub(crate) fn read_rpc(call: Call, shared: &mut Shared, fid: u32, count: u32) -> Tried
+    requires { count ≤ 8216 }
     ensures told { (done : List Deed) → was_hung done call.conn ≡ false → Shares done shared.old
         → ReadTold done (asked call) fid count shared.new result }
     ensures ring { shared.new.ring ≡ shared.old.ring }
@@ -36,9 +41,7 @@ pub(crate) fn read_rpc(call: Call, shared: &mut Shared, fid: u32, count: u32) ->
     if shared.talks.is_resting_at(call.conn, fid) {
         return Err(Refused::For(Refusal::NoRpcPending));
     }
-    if !shared.talks.has_answer_at(call.conn, fid)
-        && shared.mailboxes.count_waits(call.conn) >= MOST_WAITS
-    {
+    if is_crowded(shared, call.conn, fid) {
         return Err(Refused::For(Refusal::TooManyWaiting));
     }
     let Some(conv) = shared.talks.conv_at(call.conn, fid) else {
@@ -47,9 +50,20 @@ pub(crate) fn read_rpc(call: Call, shared: &mut Shared, fid: u32, count: u32) ->
     let read = Read {
         tag: call.tag,
         fid,
-        count,
+        count: count as u16,
     };
     Ok(read_talk(call, shared, conv, read)?)
+}
+
+// As many reads of the connection wait as may, and this one would have to.
+fn is_crowded(shared: &Shared, conn: u64, fid: u32) -> bool
+    ensures { (done : List Deed) → was_hung done conn ≡ false → Shares done shared.now
+        → result ≡ (not (has_answer (phase_of done conn fid)) && waits_enough done conn) }
+{
+    if shared.talks.has_answer_at(conn, fid) {
+        return false;
+    }
+    shared.mailboxes.count_waits(conn) >= MOST_WAITS
 }
 
 // The read of a conversation that stands, which nothing refuses.
@@ -70,9 +84,11 @@ fn read_talk(
     shared.mailboxes.reserve_wait(call.alloc, call.conn)?;
     let asking = shared.holders.asking();
     let keys = shared.ring.keys();
-    shared.talks.carry_out(call.alloc, conv, call.word, keys, asking)?;
-    match shared.talks.tell(conv, read.count) {
-        Some(told) => Ok(Some(spell_told(call.tag, told))),
+    shared
+        .talks
+        .carry_out(call.alloc, conv, call.word, keys, asking)?;
+    match shared.talks.tell(conv, u32::from(read.count)) {
+        Some(told) => Ok(Some(spell_told(call.alloc, call.tag, read.count, told))),
         None => {
             shared.mailboxes.wait(call.conn, read);
             Ok(None)
@@ -93,12 +109,38 @@ pub(crate) fn write_rpc(call: Call, shared: &mut Shared, fid: u32, content: &[u8
         return Err(Refused::For(Refusal::RpcBusy));
     }
     let request = read_request(content)?;
+    let reply = write_reply(call, content)?;
+    let conv = shared.talks.conv_at(call.conn, fid);
+    store_at(&mut shared.talks, call.alloc, conv, request)?;
+    Ok(Some(reply))
+}
+
+// The reply that tells how many bytes were written.
+fn write_reply(call: Call, content: &[u8]) -> Result<Reply, NoMemory>
+    requires { length content.now ≤ 8216 }
+    ensures { IfOk result (λ reply. reply_bytes reply
+        ≡ r_frame (under call.tag (r.Write (length content.now)))) }
+{
     let mut reply = Bytes::with_capacity(call.alloc, USUAL_REPLY)?;
     put_write(call.tag, content.len() as u32, &mut reply)?;
-    if let Some(conv) = shared.talks.conv_at(call.conn, fid) {
-        shared.talks.store(call.alloc, conv, request)?;
+    Ok(Reply::Spelled(reply))
+}
+
+// A request is written on a conversation, where one is meant.
+fn store_at(
+    talks: &mut Talks,
+    alloc: Global,
+    conv: Option<u64>,
+    request: Request<'_>,
+) -> Result<(), NoMemory>
+    ensures stored { OnOk result ((done : List Deed) → IsOpen done conv → Speak done talks.old
+        → Speak (stored conv (Ok (meant request.entry)) done) talks.new) }
+    ensures same { OnErr result (SameSpeak talks.old talks.new) }
+{
+    match conv {
+        Some(conv) => talks.store(alloc, conv, request),
+        None => Ok(()),
     }
-    Ok(Some(Reply::Spelled(reply)))
 }
 
 // The request that is written.

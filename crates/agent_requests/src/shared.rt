@@ -1,12 +1,13 @@
 // What the connections of an agent share.
-ghost use Rattle.std.specs.Prelude.{◌≡◌, ◌∷◌, [], ◌&&◌, ℕ, List, Option, true, is_some, OnOk, OnErr};
+ghost use Rattle.std.specs.Prelude.{◌≡◌, ◌∷◌, [], ◌&&◌, ℕ, List, Option, false, true, is_some, length, nat_lt, not, OnOk, OnErr};
 ghost use Rattle.file_tree.specs.Tree.{is_exclusive};
 ghost use Rattle.file_tree.specs.Calls.{node_of};
 ghost use Rattle.agent_history.specs.Deeds.{Deed, OfFids, OfConnection, Opened, Clunked, Versioned, Hung, fid_of, holder_of, was_hung};
-ghost use Rattle.agent_history.specs.Conversations.{asking};
-ghost use Rattle.agent_history.specs.Requests.{is_rpc};
+ghost use Rattle.agent_history.specs.Conversations.{asking, speakers};
+ghost use Rattle.agent_history.specs.Requests.{is_rpc, most_talks};
 ghost use Rattle.mailboxes.specs.Deliveries.{KeepsNone, SameRoom};
-ghost use Rattle.agent_requests.specs.Connections.{Holds, SameShared, Shares};
+ghost use Rattle.agent_talks.specs.Speaks.{Speak};
+ghost use Rattle.agent_requests.specs.Connections.{Holds, SameShared, SameSpeak, Shares};
 
 use agent_talks::Talks;
 use file_tree::Node;
@@ -15,6 +16,9 @@ use mailboxes::Mailboxes;
 use std::alloc::Global;
 use talks::Asking;
 use wire_base::NoMemory;
+
+/// How many conversations may stand.
+const MOST_TALKS: usize = 256;
 
 /// A connection and a fid of it.
 pub type Holder = (u64, u32);
@@ -108,6 +112,25 @@ pub(crate) fn is_rpc(node: Node) -> bool
     matches!(node, Node::Rpc)
 }
 
+// A conversation begins where the file of a fid that is held is rpc.
+fn open_talk(
+    talks: &mut Talks,
+    alloc: Global,
+    node: Node,
+    conn: u64,
+    fid: u32,
+) -> Result<(), NoMemory>
+    ensures opened { OnOk result ((done : List Deed) (mode : ℕ)
+        → is_some (fid_of done conn fid) ≡ true → node_of (fid_of done conn fid) ≡ node
+        → Speak done talks.old → Speak (OfFids conn (Opened fid mode) ∷ done) talks.new) }
+    ensures same { OnErr result (SameSpeak talks.old talks.new) }
+{
+    if is_rpc(node) {
+        return talks.open(alloc, conn, fid);
+    }
+    Ok(())
+}
+
 /// What the connections of an agent share: the keys, who has which file open alone, the replies and the reads that wait
 /// of all of them, and the conversations.
 #[derive(Drop)]
@@ -131,14 +154,16 @@ impl Shared {
         }
     }
 
+    /// Whether the file is rpc, and as many conversations stand as may.
+    pub fn is_crowded(&self, node: Node) -> bool
+        ensures { (done : List Deed) → Speak done self.now.talks → result
+            ≡ (is_rpc node && not (nat_lt (length (speakers done)) most_talks)) }
+    {
+        is_rpc(node) && self.talks.count() >= MOST_TALKS
+    }
+
     /// A fid that is held and names this file opens it: where it is rpc, a conversation begins.
-    pub fn open(
-        &mut self,
-        alloc: Global,
-        node: Node,
-        conn: u64,
-        fid: u32,
-    ) -> Result<(), NoMemory>
+    pub fn open(&mut self, alloc: Global, node: Node, conn: u64, fid: u32) -> Result<(), NoMemory>
         ensures opened { OnOk result ((done : List Deed) (mode : ℕ)
             → is_some (fid_of done conn fid) ≡ true → node_of (fid_of done conn fid) ≡ node
             → Shares done self.old → Shares (OfFids conn (Opened fid mode) ∷ done) self.new) }
@@ -146,9 +171,7 @@ impl Shared {
         ensures mail { self.new.mailboxes ≡ self.old.mailboxes }
         ensures same { OnErr result (SameShared self.old self.new) }
     {
-        if is_rpc(node) {
-            self.talks.open(alloc, conn, fid)?;
-        }
+        open_talk(&mut self.talks, alloc, node, conn, fid)?;
         self.holders.open(node, conn, fid);
         Ok(())
     }

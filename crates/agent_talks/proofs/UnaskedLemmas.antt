@@ -1,7 +1,8 @@
 -- How many questions weren't handed out yet, after each of the things that befall questions.
-use Rattle.std.proofs.Common.{◌≡◌, ℕ, ◌-◌, ◌≤◌, List, [], ◌∷◌, length, map, filter, Bool, true, false, cond, eqb, not, ◌||◌, Option, Some, None, Result, Ok, Err, refl, ap, ◌∙◌, arith}
+use Rattle.std.proofs.Common.{◌≡◌, ℕ, ◌-◌, ◌≤◌, List, [], ◌∷◌, length, map, filter, Bool, true, false, cond, eqb, not, ◌||◌, Option, Some, None, Result, Ok, Err, refl, sym, ap, ◌∙◌, arith}
 use Rattle.std.specs.Prelude.{find, is_some, nat_lt, option_map, OnOk, OnErr}
 use Rattle.std.specs.List.{list_any}
+use Rattle.std.proofs.lemmas.Bool.{lt-ltb}
 use Rattle.talks.specs.Calls.{Call}
 use Rattle.agent_history.specs.Conversations.{Question, hand_first}
 use Rattle.agent_talks.specs.declared.question.Question.{Question as HeldQuestion}
@@ -19,7 +20,7 @@ dropped : (keep : Question → Bool) (questions : List Question) → left (filte
 dropped keep [] = omega arith
 dropped keep (q ∷ more) = here (keep q) (not q.handed) refl (dropped keep more)
   where
-    here : (kept open : Bool) → not q.handed ≡ open → left (filter keep more) ≤ left more → left (cond kept (q ∷ filter keep more) (filter keep more)) ≤ length (cond open (q ∷ filter (λ q. not q.handed) more) (filter (λ q. not q.handed) more))
+    here : (kept fresh : Bool) → not q.handed ≡ fresh → left (filter keep more) ≤ left more → left (cond kept (q ∷ filter keep more) (filter keep more)) ≤ length (cond fresh (q ∷ filter (λ q. not q.handed) more) (filter (λ q. not q.handed) more))
     here true true e le = rw e (omega (arith, le))
     here true false e le = rw e le
     here false true e le = omega (arith, le)
@@ -52,7 +53,7 @@ found_left (q ∷ more) = here q.handed refl (found_left more)
     here : (handed : Bool) → q.handed ≡ handed → is_some (find (λ q. not q.handed) more) ≡ nat_lt 0 (left (map question_of more))
         → is_some (cond (not handed) (Some q) (find (λ q. not q.handed) more)) ≡ nat_lt 0 (length (cond (not handed) (question_of q ∷ filter (λ q. not q.handed) (map question_of more)) (filter (λ q. not q.handed) (map question_of more))))
     here true e same = same
-    here false e same = refl
+    here false e same = sym (lt-ltb 0 (length (question_of q ∷ filter (λ q. not q.handed) (map question_of more))) (omega arith))
 
 pub next_left : (t : Talks) (next : Option HeldQuestion) → next ≡ find (λ q. not q.handed) t.questions.items → is_some next ≡ nat_lt 0 (unasked t)
 next_left t next e = ap is_some e ∙ found_left t.questions.items

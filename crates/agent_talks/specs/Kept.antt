@@ -1,5 +1,6 @@
 -- What is kept of conversations and of their questions, in the words of the definitions.
-use Rattle.std.specs.Prelude.{ℕ, List, map, Option}
+use Rattle.std.specs.Prelude.{ℕ, List, ◌==◌, filter, find, length, map, not, option_map, Bool, Option}
+use Rattle.std.specs.List.{list_any}
 use Rattle.std.specs.Ordering.{nat_cmp}
 use Rattle.std.specs.BTreeMap.{get}
 use Rattle.agent_history.specs.Conversations.{Question, Speaker}

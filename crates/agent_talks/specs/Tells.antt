@@ -1,5 +1,5 @@
 -- What a read is told, and what this does.
-use Rattle.std.specs.Prelude.{◌≡◌, ℕ, List, true, Option, Some, None, codes, option_map}
+use Rattle.std.specs.Prelude.{◌≡◌, ◌≤◌, ℕ, List, length, true, Option, Some, None, codes, option_map}
 use Rattle.nine_messages.specs.declared.message.RBody.{RBody}
 use Rattle.nine_messages.specs.declared.message.RBody.TheVariants as r
 use Rattle.rpc_file.specs.Answers.{answer_text}

@@ -58,7 +58,7 @@ impl Talks {
             → Speak (met_by (asker done call) (c.Heard bytes.now) done) self.new) }
         ensures same { OnErr result (SameTalks self.old self.new) }
         ensures fewer { kept.unasked self.new ≤ kept.unasked self.old }
-        ensures unknown { is_asked call (kept.questions_in self.old) ≡ false → IsOk result }
+        ensures unknown { kept.is_asked call (kept.questions_in self.old) ≡ false → IsOk result }
     {
         match self.asker(call) {
             Some(conv) => self.end_heard(alloc, conv, bytes),

@@ -26,6 +26,7 @@ impl Talks {
         ensures tells { (done : List Deed) → stands done conv ≡ true → Speak done self.old
             → Tells (standing_of done conv).phase done self.new conv count result }
         ensures short { IfSome result (IsShort count) }
+        ensures questions { self.new.questions ≡ self.old.questions }
     {
         match self.fits(conv, count) {
             Some(true) => self.hand_answer(conv),

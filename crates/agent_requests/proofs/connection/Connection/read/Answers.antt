@@ -1,6 +1,6 @@
 use Rattle.std.proofs.Common.{refl, sym, ◌∙◌, arith, ap, rules}
 use Rattle.agent_history.specs.Requests.{effective}
-use Rattle.agent_requests.specs.Connections.{asked}
+use Rattle.agent_requests.specs.Connections.{SameKept, asked}
 use Rattle.agent_requests.proofs.RequestSteps.{state_is, held_ok, dir_told, on_err, rpc_told}
 use Rattle.agent_requests.proofs.connection.Connection.read.Goals as goal
 
@@ -31,6 +31,6 @@ returns-in-Rpc c =
       hung = λ live. live;
       few = rw h.ring (omega arith);
       room = h.room a.call.conn;
-      kept = on_err _ (record { phase = refl; fids = refl; texts = λ fid. refl });
+      kept = on_err {P = SameKept a.self.now a.self.now} _ (record { phase = refl; fids = refl; texts = λ fid. refl });
       shared = h.same;
     }

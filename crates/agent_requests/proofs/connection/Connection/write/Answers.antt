@@ -1,5 +1,5 @@
 use Rattle.std.proofs.Common.{refl, sym, ◌∙◌, arith}
-use Rattle.agent_requests.specs.Connections.{asked}
+use Rattle.agent_requests.specs.Connections.{SameKept, asked}
 use Rattle.agent_requests.proofs.RequestSteps.{state_is, told_served, write_allowed, write_served, held_ok, on_err, rpc_write_told}
 use Rattle.agent_requests.proofs.connection.Connection.write.Goals as goal
 
@@ -30,6 +30,6 @@ returns-then-is_rpc c = λ offset.
       hung = λ live. live;
       few = rw h.ring (omega arith);
       room = rw h.mail refl;
-      kept = on_err _ (record { phase = refl; fids = refl; texts = λ fid. refl });
+      kept = on_err {P = SameKept a.self.now a.self.now} _ (record { phase = refl; fids = refl; texts = λ fid. refl });
       shared = h.same;
     }
