@@ -189,8 +189,8 @@ def client(s, fid=1, start=CLIENT, conn=0, agent=0, word=CHC):
         s.rpc(fid, "read", ("ok", word), conn, agent)
 
 
-def asking(s, fid=1, conv=0, call=1, conn=0):
-    """A client, for which there is the key of ann, is given what a server asks: its read waits for an answer to its question."""
+def asking(s, fid=1, conn=0):
+    """A client, for which there is the key of ann, is given what a server asks: its read waits for the answer to a question."""
     with s.group():
         client(s, fid, conn=conn)
         s.wait(fid, ("write", ASKED), conn)
