@@ -78,6 +78,7 @@ fn take(
     reply: &[u8],
 ) -> Result<(), Fail> {
     let event = Event::Take { conn };
+    assert_eq!(rt; agent.has_reply(conn), !reply.is_empty());
     if reply.is_empty() {
         return expect(rt, alloc, agent, &event, StepAnswer::NoReply, b"");
     }
