@@ -1,5 +1,6 @@
 -- What is told of a connection after one more event.
-use Rattle.std.proofs.Common.{◌≡◌, ℕ, List, [], ◌∷◌, ◌++◌, map, filter, Bool, true, false, cond, eqb, ltb, not, ◌&&◌, ◌||◌, Equal, Greater, Option, Some, None, refl, sym, subst, ◌∙◌, inl, inr, arith}
+use Rattle.std.proofs.Common.{◌≡◌, ℕ, ◌+◌, List, [], ◌∷◌, ◌++◌, length, map, filter, Bool, true, false, cond, eqb, ltb, not, ◌&&◌, ◌||◌, Equal, Greater, Option, Some, None, refl, sym, subst, ◌∙◌, inl, inr, arith}
+use Rattle.std.specs.Prelude.{nat_lt}
 use Rattle.std.specs.Ordering.{nat_cmp, is_eq}
 use Rattle.std.specs.BTreeMap.{is_at}
 use Rattle.std.proofs.lemmas.Bool.{cases_Bool, eq-eqb, eqb-true, ne_eqb, ltb-true, false≢true}
@@ -9,11 +10,11 @@ use Rattle.file_tree.specs.declared.tree.Node.TheVariants.{Rpc}
 use Rattle.talks.specs.Calls as calls
 use Rattle.agent_history.specs.declared.event.Event.{Event}
 use Rattle.agent_history.specs.declared.event.Event.TheVariants as v
-use Rattle.agent_history.specs.Deeds.{Deed, FidDeed, KeyDeed, ReplyDeed, OfFids, OfKeys, OfReplies, OfConnection, OfTalk, Raised, HandedOut, Swept, Versioned, Attached, Walked, Opened, Listed, Browsed, Clunked, Taken, Entered, Hung, was_opened, was_hung, is_halted, fid_of, keys_of, names}
+use Rattle.agent_history.specs.Deeds.{Deed, FidDeed, KeyDeed, ReplyDeed, OfFids, OfKeys, OfReplies, OfConnection, OfTalk, Raised, HandedOut, Halted, Swept, Versioned, Attached, Walked, Opened, Listed, Browsed, Clunked, Taken, Entered, Hung, was_opened, was_hung, is_halted, fid_of, keys_of, names}
 use Rattle.agent_history.specs.Replies.{swept, untaken}
 use Rattle.agent_history.specs.Conversations.{Question, Speaker, asker, next_question, opened_talks, resumed, speakers}
 use Rattle.agent_history.specs.Requests.{answered, call_of}
-use Rattle.agent_history.specs.Histories.{does, entered, handing, taking}
+use Rattle.agent_history.specs.Histories.{History, deeds, does, entered, handing, has_stopped, most_events, taking}
 use Rattle.agent_talks.specs.declared.held.Talks.{Talks}
 use Rattle.agent_talks.specs.Speaks.{Speak}
 use Rattle.agent_talks.proofs.OtherLemmas.{enter_speak, replies_speak, swept_speak}
@@ -219,6 +220,19 @@ take_serves done conn c d s u x rest live before opened held k some ring holders
       };
     })
 
+-- no reply is left
+taking_none : (conn : ℕ) (ms : List RMsg) (X : List Deed) → [] ≡ map r_frame ms → taking conn ms X ≡ X
+taking_none conn [] X e = refl
+taking_none conn (m ∷ ms) X e = absurd cc
+
+pub take_nothing : (done : List Deed) (conn : ℕ) (c d : Connection) (s : Shared) → was_hung done conn ≡ false → Serves done conn c s → is_opened d.phase ≡ true → is_hung d.phase ≡ false → Keeps done conn d → replies_at s.mailboxes conn ≡ [] → Serves (does done (v.Take conn)) conn d s
+take_nothing done conn c d s live before opened held k none =
+    let kept : Keeps (entered conn done) conn d = keeps_entered conn d done k in
+    rw (live, taking_none conn (untaken done conn) (entered conn done) (sym none ∙ (before.shares.mail.mails conn live).replies)) (record {
+      stands = record { opened = opened ∙ sym (was_entered conn done); hung = held ∙ sym kept.live; keeps = λ h. kept };
+      shares = shares_entered conn s done before.shares;
+    })
+
 -- ---- all connections, where the one of the event was changed
 
 at_same : (a b : ℕ) → is_at (nat_cmp a) b ≡ eqb a b
@@ -291,11 +305,11 @@ hang_others done conn q o e s = here (was_opened done conn && not (was_hung done
 
 kept_live : (hung : ℕ → Bool) (keep : Speaker → Bool) (xs : List Speaker) → AllLive hung xs → AllLive hung (filter keep xs)
 kept_live hung keep [] h = tt
-kept_live hung keep (x ∷ xs) h = here (keep x)
+kept_live hung keep (x ∷ xs) h = here (keep x) (kept_live hung keep xs h.1)
   where
-    here : (b : Bool) → AllLive hung (cond b (x ∷ filter keep xs) (filter keep xs))
-    here true = (h.0, kept_live hung keep xs h.1)
-    here false = kept_live hung keep xs h.1
+    here : (b : Bool) → AllLive hung (filter keep xs) → AllLive hung (cond b (x ∷ filter keep xs) (filter keep xs))
+    here true rest = (h.0, rest)
+    here false rest = rest
 
 one_more_live : (hung : ℕ → Bool) (s : Speaker) (xs : List Speaker) → hung s.conn ≡ false → AllLive hung xs → AllLive hung (xs ++ s ∷ [])
 one_more_live hung s [] live h = (live, tt)
@@ -367,3 +381,28 @@ resumed_live conv call done h = resumed_by AreLive live_all conv call done h
 
 pub handed_live : (question : Option Question) (done : List Deed) → AreLive done → AreLive (handing question done)
 handed_live question done h = handing_by AreLive (λ now k. k) question done h
+
+-- ---- after a stop
+
+pub stopped_last : (H : History) → has_stopped H ≡ true → (before : List Deed) × (deeds H ≡ Halted ∷ before)
+stopped_last [] e = absurd (false≢true e)
+stopped_last (event ∷ H) e = elim (cases_Bool (is_halted (deeds H))) [
+  | inl was ↦ let last = stopped_last H was in (last.0, rw was last.1)
+  | inr was ↦ elim (cases_Bool (nat_lt (length H + 1) most_events)) [
+      | inl few ↦ here (is_stop event) refl was few
+      | inr many ↦ (does (deeds H) event, rw (was, many) refl)
+    ]
+]
+  where
+    stops : (event : Event) → is_stop event ≡ true → (done : List Deed) → does done event ≡ Halted ∷ done
+    stops v.Stop e done = refl
+    stops (v.Request conn frame word) e done = absurd (false≢true e)
+    stops (v.Take conn) e done = absurd (false≢true e)
+    stops (v.Hang conn) e done = absurd (false≢true e)
+    stops (v.Answer call bytes) e done = absurd (false≢true e)
+    stops (v.NoAnswer call) e done = absurd (false≢true e)
+    stops (v.NoRoom call) e done = absurd (false≢true e)
+    stops v.TakeAsk e done = absurd (false≢true e)
+    here : (b : Bool) → is_stop event ≡ b → is_halted (deeds H) ≡ false → nat_lt (length H + 1) most_events ≡ true → (before : List Deed) × (deeds (event ∷ H) ≡ Halted ∷ before)
+    here true stop was few = (deeds H, rw (was, few) (stops event stop (deeds H)))
+    here false go was few = absurd (false≢true (sym (runs_on (deeds H) event was go) ∙ rw (was, few) at e))

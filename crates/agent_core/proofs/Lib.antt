@@ -1,2 +1,3 @@
 pub mod EventSteps
+pub mod AskSteps
 pub mod AgentSteps

@@ -2,6 +2,7 @@
 ghost use Rattle.std.specs.Prelude.{◌≡◌, ◌<◌, ◌≤◌, ◌*◌, ◌^◌, [], List, true, false};
 ghost use Rattle.agent_history.specs.Deeds.{Deed, is_halted};
 ghost use Rattle.agent_history.specs.Histories.{answer_after, is_reply};
+ghost use Rattle.agent_core.specs.Events.{NoneAsked};
 
 use crate::events::{Connections, Stepped, act, has_reply, is_stop};
 use agent_history::{Event, StepAnswer};
@@ -47,6 +48,7 @@ fn after_stop(event: &Event) -> StepAnswer
     ensures answer { (done : List Deed) → is_halted done ≡ true
         → answer_after done event.now ≡ (result, []) }
     ensures none { is_reply result ≡ false }
+    ensures unasked { NoneAsked result }
 {
     match event {
         Event::Take { .. } => StepAnswer::Gone,

@@ -15,5 +15,5 @@ returns-clause-serves c = λ done before.
     record {
       stands = request_stands done a.conn a.frame.now a.word c.enter.new.self live c.enter.ensures.opened (c.enter.ensures.hung ∙ c.in_ok-serve.ensures.hung (sym c.is_hung.ensures ∙ c.if-is_hung.false))
           (c.enter.ensures.keeps last a.conn (rw (← c.tag_of.ensures) (c.in_ok-serve.ensures.keeps (entered a.conn done) keeps shares)));
-      shares = rw live (shares_swept last c.serve.new.shared _ (rw (← c.tag_of.ensures) (c.in_ok-serve.ensures.shares (entered a.conn done) keeps shares)) (λ h. c.sweep.ensures last h) refl refl);
+      shares = rw live (shares_swept last c.serve.new.shared _ (rw (← c.tag_of.ensures) (c.in_ok-serve.ensures.shares (entered a.conn done) keeps shares)) (λ h. c.sweep.ensures.delivers last h) refl refl refl);
     }
