@@ -195,10 +195,10 @@ session("open: what it is opened for", V, A, (open_(7, 0x84), error("unknown fid
         (open_(1, 0x10), error("permission denied")), (open_(1, 0x12), ropen("ctl")), (open_(1, 4), error("already open")),
         (open_(1, 0), error("already open")), at(2, "factotum", "proto"), (open_(2, 1), error("permission denied")),
         (open_(0, 2), error("permission denied")), (open_(2, 0), ropen("proto")))
-session("open: not served yet", V, A, at(1, "factotum", "rpc"), (open_(1, 2), error("not served")),
-        (open_(1, 0x42), error("permission denied")), (open_(1, 4), error("bad open mode")),
+session("open: not served yet", V, A, at(1, "factotum", "rpc"), (open_(1, 0x42), error("permission denied")),
+        (open_(1, 4), error("bad open mode")), (open_(1, 2), ropen("rpc")), (open_(1, 2), error("already open")),
         at(2, "factotum", "confirm"), (open_(2, 2), error("not served")), at(3, "factotum", "needkey"),
-        (open_(3, 0), error("not served")), (read(1, 0, 9), error("not open")))
+        (open_(3, 0), error("not served")), (read(1, 0, 9), error("no rpc pending")), (read(3, 0, 9), error("not open")))
 session("open: one fid alone", V, A, *opened(1, 0, *LOG), at(2, *LOG), (open_(2, 1), error("permission denied")),
         (open_(2, 0), error("exclusive use file already open")), *on(1, [V, A, at(1, *LOG)]),
         (1, open_(1, 0), error("exclusive use file already open")), (clunk(1), rclunk()), (1, open_(1, 0), ropen("log")),
@@ -305,8 +305,9 @@ refused("open: log for writing", V, A, at(1, *LOG), open_(1, 1), "permission den
 refused("open: log for writing, and open elsewhere", V, A, *opened(1, 0, *LOG), at(2, *LOG), open_(2, 1), "permission denied")
 refused("open: log, and open elsewhere", V, A, *opened(1, 0, *LOG), at(2, *LOG), open_(2, 0), "exclusive use file already open")
 for name in ["rpc", "confirm", "needkey"]:
-    refused("open: " + name, V, A, at(1, "factotum", name), open_(1, 2), "not served")
     refused("open: %s, to be removed" % name, V, A, at(1, "factotum", name), open_(1, 0x42), "permission denied")
+for name in ["confirm", "needkey"]:
+    refused("open: " + name, V, A, at(1, "factotum", name), open_(1, 2), "not served")
 
 refused("create", V, A, create(0), "permission denied")
 refused("remove", V, A, remove(0), "permission denied")
