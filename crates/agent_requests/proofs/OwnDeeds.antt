@@ -1,5 +1,5 @@
 -- What holds before an event, and after each deed that the event may do, holds after it.
-use Rattle.std.proofs.Common.{◌≡◌, ℕ, List, [], ◌∷◌, Bool, true, false, cond, eqb, Option, Some, None, Result, Ok, Err}
+use Rattle.std.proofs.Common.{ℕ, List, [], ◌∷◌, Bool, true, false, cond, eqb, Option, Some, None, Result, Ok, Err}
 use Rattle.nine_messages.specs.declared.message.TBody.{TBody}
 use Rattle.nine_messages.specs.declared.message.TBody.TheVariants as t
 use Rattle.nine_messages.specs.declared.message.RBody.{RBody}
@@ -14,9 +14,9 @@ use Rattle.rpc_file.specs.declared.answer.RpcAnswer.{RpcAnswer}
 use Rattle.rpc_file.specs.declared.request.RpcFault.{RpcFault}
 use Rattle.talks.specs.Calls as calls
 use Rattle.talks.specs.Standings.{Phase, Resting, Waiting, Seeking, OnConfirm, OnNeedkey, OnServer, Kept}
-use Rattle.agent_history.specs.Deeds.{Deed, FidDeed, KeyDeed, ReplyDeed, OfFids, OfKeys, OfReplies, OfConnection, OfTalk, Raised, Swept, Versioned, Attached, Walked, Opened, Listed, Browsed, Clunked, Answered, Awaited, Settled, Entered, msize_of, fid_of, keys_of, was_opened}
+use Rattle.agent_history.specs.Deeds.{Deed, FidDeed, KeyDeed, ReplyDeed, OfFids, OfKeys, OfReplies, OfConnection, OfTalk, Raised, Swept, Walked, Listed, Answered, Awaited, Settled, Entered, msize_of, fid_of, keys_of, was_opened}
 use Rattle.agent_history.specs.Replies.{Wait, has_settled, swept}
-use Rattle.agent_history.specs.Conversations.{Speaker, conv_of, deliver_to, delivered, fits, give_to, met, raising, reader_of, resumed, seeking, speaker_of, standing_of, then_raised, then_sought, then_took, told}
+use Rattle.agent_history.specs.Conversations.{Speaker, conv_of, deliver_to, delivered, fits, give_to, met, raising, reader_of, resumed, seeking, speaker_of, standing_of, then_sought, then_took, told}
 use Rattle.agent_history.specs.Histories.{entered}
 use Rattle.agent_history.specs.Requests.{Call, after, after_frame, after_granted, answered, body_to, carried, carrying_out, effective, granted, is_rpc, line_deed, lines_done, reading, reading_answer, reading_file, reading_talk, replied, stored, walking, writing}
 

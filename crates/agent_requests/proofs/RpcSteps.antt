@@ -1,27 +1,21 @@
 -- From what the calls on conversations and on mailboxes do to what the history says of a read or a write of rpc, and of
 -- what is delivered.
-use Rattle.std.proofs.Common.{◌≡◌, ◌⊎◌, ℕ, List, [], ◌∷◌, Bool, true, false, cond, eqb, not, ◌&&◌, Option, Some, None, Result, Ok, Err, refl, sym, ap, subst, ◌∙◌, inl, inr}
-use Rattle.std.specs.Prelude.{codes, is_some, length, option_map}
-use Rattle.std.proofs.lemmas.Bool.{cases_Bool, false≢true}
+use Rattle.std.proofs.Common.{◌≡◌, ◌⊎◌, ℕ, List, ◌∷◌, true, false, not, ◌&&◌, Option, Some, None, Ok, Err, refl, sym, ap, subst, ◌∙◌, inl, inr}
+use Rattle.std.specs.Prelude.{length, option_map}
 use Rattle.nine_messages.specs.declared.message.RBody.{RBody}
 use Rattle.nine_messages.specs.declared.message.RBody.TheVariants as r
 use Rattle.nine_messages.specs.Messages.{r_frame}
-use Rattle.file_tree.specs.declared.tree.FidState.{FidState}
-use Rattle.file_tree.specs.declared.tree.Node.TheVariants.{Rpc}
 use Rattle.rpc_file.specs.Requests.{RpcRequest}
 use Rattle.rpc_file.specs.Requests as rpc
-use Rattle.rpc_file.specs.declared.answer.RpcAnswer.{RpcAnswer}
-use Rattle.rpc_file.specs.declared.request.RpcFault.{RpcFault}
 use Rattle.rpc_file.specs.declared.request.RpcFault.TheVariants.{TooLong, UnknownVerb}
 use Rattle.talks.specs.Standings.{Phase, Resting, Waiting, Seeking, OnConfirm, OnNeedkey, OnServer, Kept}
-use Rattle.agent_history.specs.Deeds.{Deed, OfReplies, OfTalk, Awaited, Settled, fid_of, keys_of, was_hung}
+use Rattle.agent_history.specs.Deeds.{Deed, OfReplies, Awaited, Settled, keys_of, was_hung}
 use Rattle.agent_history.specs.Replies.{Wait}
-use Rattle.agent_history.specs.Conversations.{Speaker, conv_of, deliver_to, delivered, give_to, reader_of, speaker_of, standing_of, then_took, told}
-use Rattle.agent_history.specs.Requests.{Call, answer_read, carried, has_answer, is_resting, phase_in, phase_of, reading_answer, reading_talk, stored, talk_read, waits_enough}
+use Rattle.agent_history.specs.Conversations.{Speaker, conv_of, deliver_to, delivered, reader_of, speaker_of, standing_of, then_took, told}
+use Rattle.agent_history.specs.Requests.{Call, answer_read, has_answer, is_resting, phase_of, reading_answer, stored, waits_enough}
 use Rattle.agent_history.specs.Replies.{waits_for}
-use Rattle.agent_talks.specs.declared.held.Talks.{Talks}
 use Rattle.agent_talks.specs.declared.tell.Told.{Told as Telling}
-use Rattle.agent_talks.specs.Speaks.{Speak, stands}
+use Rattle.agent_talks.specs.Speaks.{Speak}
 use Rattle.agent_talks.specs.Tells.{Tells, told_body}
 use Rattle.agent_talks.proofs.OtherLemmas.{replies_speak}
 use Rattle.mailboxes.specs.declared.reply.Reply.{Reply}
@@ -34,7 +28,7 @@ use Rattle.agent_requests.specs.declared.refused.Refusal.{Refusal}
 use Rattle.agent_requests.specs.declared.refused.Refusal.TheVariants as f
 use Rattle.agent_requests.specs.declared.shared.Shared.{Shared}
 use Rattle.agent_requests.specs.Connections.{Holds, Says, Shares, Told, refusal_text}
-use Rattle.agent_requests.specs.RpcRequests.{Answered, ReadServed, ReadTold, Requests, WriteServed, WriteTold, delivered_by, read_refusal, write_refusal}
+use Rattle.agent_requests.specs.RpcRequests.{Answered, ReadServed, ReadTold, WriteServed, WriteTold, read_refusal, write_refusal}
 use Rattle.agent_requests.proofs.OwnDeeds.{took_talks}
 use Rattle.agent_requests.proofs.ShareLemmas.{Rest, holds_all, hung_all, mail_talks, rest_talks}
 use Rattle.agent_requests.proofs.RequestSteps.{told_served}

@@ -1,19 +1,16 @@
 -- What is shared, after deeds that don't concern all of it.
-use Rattle.std.proofs.Common.{◌≡◌, ℕ, List, [], ◌∷◌, ◌++◌, filter, Bool, true, false, cond, eqb, not, ◌&&◌, ◌||◌, ◌==◌, Option, Some, None, refl, sym, ap, subst, ◌∙◌, inl, inr}
+use Rattle.std.proofs.Common.{◌≡◌, ℕ, List, [], ◌∷◌, Bool, true, false, cond, eqb, ◌&&◌, ◌==◌, Option, Some, None, refl, sym, subst, ◌∙◌, inl, inr}
 use Rattle.std.specs.Prelude.{find, is_some, option_map}
-use Rattle.std.specs.List.{list_any}
-use Rattle.std.proofs.lemmas.Bool.{cases_Bool, eq-eqb, false≢true}
+use Rattle.std.proofs.lemmas.Bool.{cases_Bool, eq-eqb}
 use Rattle.file_tree.specs.declared.tree.Node.{Node}
 use Rattle.file_tree.specs.declared.tree.Node.TheVariants as n
 use Rattle.file_tree.specs.declared.tree.FidState.{FidState}
 use Rattle.file_tree.specs.Tree.{file}
 use Rattle.file_tree.specs.Calls.{node_of}
-use Rattle.key_lists.specs.CtlLines.{CtlLine}
 use Rattle.talks.specs.Calls as calls
-use Rattle.agent_history.specs.Deeds.{Deed, FidDeed, KeyDeed, ReplyDeed, OfFids, OfKeys, OfReplies, OfConnection, OfTalk, Raised, Swept, Versioned, Attached, Walked, Opened, Listed, Browsed, Clunked, Entered, Hung, fid_of, keys_of, names, was_hung}
-use Rattle.agent_history.specs.Replies.{has_settled, swept}
+use Rattle.agent_history.specs.Deeds.{Deed, KeyDeed, OfFids, OfKeys, OfConnection, OfTalk, Raised, Attached, Opened, Listed, Browsed, Entered, keys_of, names, was_hung}
+use Rattle.agent_history.specs.Replies.{swept}
 use Rattle.agent_history.specs.Conversations.{Speaker, conv_of, met, resumed, speaker_of, speakers}
-use Rattle.agent_history.specs.Histories.{entered}
 use Rattle.agent_history.specs.Requests.{is_rpc, walking}
 use Rattle.agent_talks.specs.declared.held.Talks.{Talks}
 use Rattle.agent_talks.specs.Speaks.{Speak, is_among, met_by, stands}

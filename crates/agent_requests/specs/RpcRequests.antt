@@ -1,15 +1,14 @@
 -- What a read or a write of rpc does.
-use Rattle.std.specs.Prelude.{◌≡◌, ℕ, List, [], ◌∷◌, length, Bool, true, false, not, ◌&&◌, ◌⊎◌, Option, Some, None, Result, Ok, Err, codes}
+use Rattle.std.specs.Prelude.{◌≡◌, ℕ, List, [], ◌∷◌, length, true, not, ◌&&◌, ◌⊎◌, Option, Some, None, Result, Ok, Err, codes}
 use Rattle.wire_base.specs.Rules.{first_told}
 use Rattle.nine_messages.specs.declared.message.RBody.TheVariants as r
-use Rattle.rpc_file.specs.Requests.{RpcRequest, meant, request_of}
+use Rattle.rpc_file.specs.Requests.{meant, request_of}
 use Rattle.rpc_file.specs.declared.request.Request.{Request}
-use Rattle.rpc_file.specs.declared.request.RpcFault.{RpcFault}
 use Rattle.rpc_file.specs.declared.request.RpcFault.TheVariants.{TooLong, UnknownVerb}
 use Rattle.agent_history.specs.Deeds.{Deed}
 use Rattle.agent_history.specs.Replies.{waits_for}
-use Rattle.agent_history.specs.Conversations.{conv_of, delivered, standing_of}
-use Rattle.agent_history.specs.Requests.{Call, answer_read, carried, has_answer, is_resting, is_too_long, is_unknown, phase_of, reading_answer, reading_talk, stored, talk_read, waits_enough}
+use Rattle.agent_history.specs.Conversations.{conv_of, delivered}
+use Rattle.agent_history.specs.Requests.{Call, has_answer, is_resting, is_too_long, is_unknown, phase_of, reading_talk, stored, talk_read, waits_enough}
 use Rattle.agent_talks.specs.Speaks.{stands}
 use Rattle.mailboxes.specs.declared.reply.Reply.{Reply}
 use Rattle.agent_requests.specs.declared.refused.Refused.{Refused}

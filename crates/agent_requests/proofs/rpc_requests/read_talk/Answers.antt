@@ -8,7 +8,7 @@ use Rattle.mailboxes.specs.Deliveries.{Delivers}
 use Rattle.agent_requests.specs.declared.shared.Shared.{Shared}
 use Rattle.agent_requests.specs.Connections.{asked}
 use Rattle.agent_requests.proofs.OwnDeeds.{carried_talks}
-use Rattle.agent_requests.proofs.ShareLemmas.{Rest, mail_talks, rest_talks, stands_all}
+use Rattle.agent_requests.proofs.ShareLemmas.{Rest, rest_talks, stands_all}
 use Rattle.agent_requests.proofs.RpcSteps.{told_none, told_some}
 use Rattle.agent_requests.proofs.rpc_requests.read_talk.Goals as goal
 

@@ -1,4 +1,4 @@
-use Rattle.std.proofs.Common.{◌≡◌, ℕ, List, Some, None, sym, subst, ◌∙◌, ap}
+use Rattle.std.proofs.Common.{◌≡◌, ℕ, Some, None, sym, subst}
 use Rattle.agent_history.specs.Conversations.{Speaker, speaker_of, standing_of}
 use Rattle.agent_talks.specs.Kept as kept
 use Rattle.agent_talks.specs.Tells.{Tells}
