@@ -1,8 +1,7 @@
-use Rattle.std.proofs.Common.{◌≡◌, true, Option, Some, None, sym, subst}
+use Rattle.std.proofs.Common.{◌≡◌, Option, Some, sym, subst}
 use Rattle.wire_base.specs.declared.shape.Shape.{Shape}
 use Rattle.agent_history.specs.Conversations.{Question, next_question}
 use Rattle.agent_talks.specs.Kept as kept
-use Rattle.agent_talks.specs.Speaks.{stands}
 use Rattle.agent_core.specs.Events.{IsPut}
 use Rattle.agent_core.proofs.AskSteps.{asked_after, next_stands, unasked_after}
 use Rattle.agent_core.proofs.events.take_ask.Goals as goal
