@@ -23,6 +23,7 @@ found_asks (x ∷ qs) q e = here (not x.handed) e (λ rest. found_asks qs q rest
     either : (a b : Bool) → b ≡ true → (a || b) ≡ true
     either true b e = refl
     either false b e = e
+
     here : (b : Bool) → cond b (Some x) (find (λ q. not q.handed) qs) ≡ Some q → (find (λ q. not q.handed) qs ≡ Some q → asks_for qs q.conv ≡ true) → (eqb x.conv q.conv || asks_for qs q.conv) ≡ true
     here true e rest = let same : x ≡ q = cc in rw (eq-eqb x.conv q.conv (subst (λ (y : Question). x.conv ≡ y.conv) same refl)) refl
     here false e rest = either (eqb x.conv q.conv) (asks_for qs q.conv) (rest e)

@@ -338,6 +338,7 @@ fids_live conn (Opened f mode) done h = record { own = h.own; all = here (names 
   where
     s : Speaker
     s = record { conv = opened_talks done; conn = conn; fid = f }
+
     here : (b : Bool) → AllLive (λ q. was_hung done q) (cond b (speakers done ++ s ∷ []) (speakers done))
     here true = one_more_live (λ q. was_hung done q) s (speakers done) h.own h.all
     here false = h.all
@@ -389,9 +390,9 @@ stopped_last [] e = absurd (false≢true e)
 stopped_last (event ∷ H) e = elim (cases_Bool (is_halted (deeds H))) [
   | inl was ↦ let last = stopped_last H was in (last.0, rw was last.1)
   | inr was ↦ elim (cases_Bool (nat_lt (length H + 1) most_events)) [
-      | inl few ↦ here (is_stop event) refl was few
-      | inr many ↦ (does (deeds H) event, rw (was, many) refl)
-    ]
+    | inl few ↦ here (is_stop event) refl was few
+    | inr many ↦ (does (deeds H) event, rw (was, many) refl)
+  ]
 ]
   where
     stops : (event : Event) → is_stop event ≡ true → (done : List Deed) → does done event ≡ Halted ∷ done
@@ -403,6 +404,7 @@ stopped_last (event ∷ H) e = elim (cases_Bool (is_halted (deeds H))) [
     stops (v.NoAnswer call) e done = absurd (false≢true e)
     stops (v.NoRoom call) e done = absurd (false≢true e)
     stops v.TakeAsk e done = absurd (false≢true e)
+
     here : (b : Bool) → is_stop event ≡ b → is_halted (deeds H) ≡ false → nat_lt (length H + 1) most_events ≡ true → (before : List Deed) × (deeds (event ∷ H) ≡ Halted ∷ before)
     here true stop was few = (deeds H, rw (was, few) (stops event stop (deeds H)))
     here false go was few = absurd (false≢true (sym (runs_on (deeds H) event was go) ∙ rw (was, few) at e))

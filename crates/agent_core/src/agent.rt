@@ -70,7 +70,7 @@ impl Agent {
     ghost use Rattle.agent_core.specs.Agents.{StandsFor, StandsBy, SameAgent, SameState, TakesOne, TakesOneIn, TakesNone, TakesNoneIn, AsksFewerIn, GivesUpIn, gives_in};
     ghost use Rattle.agent_history.specs.Conversations.{chosen_at, outcome_at};
     ghost use Rattle.agent_history.specs.Histories.{deeds};
-    ghost use Rattle.std.specs.Prelude.{List, ℕ, option_copied};
+    ghost use Rattle.std.specs.Prelude.{List, option_copied};
 
     /// An agent without keys and connections.
     pub fn new(alloc: Global) -> Result<Agent, NoMemory>

@@ -1,5 +1,5 @@
 // The events on the connections of an agent.
-ghost use Rattle.std.specs.Prelude.{◌≡◌, ◌++◌, [], ◌∷◌, ◌<◌, ◌≤◌, ◌+◌, ◌-◌, ◌^◌, List, ℕ, Option, true, false, None, Some, IsSome, IsOk, IfOk, OnOk, OnErr, length, drop};
+ghost use Rattle.std.specs.Prelude.{◌≡◌, ◌<◌, ◌≤◌, ◌+◌, ◌-◌, ◌^◌, List, ℕ, Option, true, false, None, Some, IsSome, IsOk, IfOk, OnOk, OnErr};
 ghost use Rattle.nine_messages.specs.Decoding.{IsFrame};
 ghost use Rattle.agent_history.specs.declared.event.Event.TheVariants as events;
 ghost use Rattle.agent_history.specs.Deeds.{Deed, is_halted};
@@ -7,8 +7,8 @@ ghost use Rattle.agent_history.specs.Requests.{tag_of};
 ghost use Rattle.agent_history.specs.Histories.{does, is_reply};
 ghost use Rattle.agent_talks.specs.Speaks.{stands};
 ghost use Rattle.mailboxes.specs.Deliveries.{replies_at};
-ghost use Rattle.agent_requests.specs.Connections.{AreLive, SameKept, SameShared, Shares};
-ghost use Rattle.agent_core.specs.Events.{AllStand, AnswersAfter, FindsNone, AnswersFor, AsksFewer, GivesUp, HangsUp, IsEvent, IsPut, LeavesOneLess, LivesOn, SameEach, Serves, TakesNoneOf, questions, gives_reply, gives_to, is_stop, known, unasked};
+ghost use Rattle.agent_requests.specs.Connections.{SameKept, SameShared, Shares};
+ghost use Rattle.agent_core.specs.Events.{AllStand, AnswersAfter, FindsNone, AnswersFor, AsksFewer, GivesUp, HangsUp, IsEvent, IsPut, LeavesOneLess, LivesOn, SameEach, Serves, TakesNoneOf, gives_reply, gives_to, is_stop, known, unasked};
 
 use agent_history::{Event, StepAnswer};
 use agent_requests::{Call, Connection, Shared};
