@@ -1,5 +1,5 @@
 // What a conversation is told by the authentication server, and its answer to the read that waits for it.
-ghost use Rattle.std.specs.Prelude.{◌≡◌, ◌≤◌, List, false, IsOk, OnErr, OnOk};
+ghost use Rattle.std.specs.Prelude.{◌≡◌, ◌≤◌, ◌∷◌, List, ℕ, Option, false, IsOk, OnErr, OnOk};
 ghost use Rattle.nine_messages.specs.Messages.{r_frame};
 ghost use Rattle.talks.specs.Calls as c;
 ghost use Rattle.agent_history.specs.Deeds.{Deed};

@@ -1,5 +1,5 @@
 // Reads and writes of rpc.
-ghost use Rattle.std.specs.Prelude.{◌≡◌, ◌≤◌, ◌&&◌, List, Ok, true, false, length, not, OnErr, OnOk, IfOk};
+ghost use Rattle.std.specs.Prelude.{◌≡◌, ◌≤◌, ◌&&◌, List, ℕ, Ok, true, false, length, not, OnErr, OnOk, IfOk};
 ghost use Rattle.rpc_file.specs.Requests.{meant};
 ghost use Rattle.agent_history.specs.Deeds.{Deed, was_hung};
 ghost use Rattle.agent_history.specs.Requests.{has_answer, phase_of, stored, waits_enough};

@@ -1,5 +1,5 @@
 // How a frame on a connection is answered.
-ghost use Rattle.std.specs.Prelude.{◌≡◌, List, ℕ, ◌<◌, ◌≤◌, ◌+◌, ◌-◌, ◌^◌, ◌⊎◌, false, Some, None, IsSome, IfOk, IfErr, OnOk, OnErr, length};
+ghost use Rattle.std.specs.Prelude.{◌≡◌, ◌∷◌, List, ℕ, ◌<◌, ◌≤◌, ◌+◌, ◌-◌, ◌^◌, ◌⊎◌, false, true, Some, None, IsSome, IfOk, IfErr, OnOk, OnErr, length};
 ghost use Rattle.nine_messages.specs.Messages.{t_fits, IsRequest};
 ghost use Rattle.nine_messages.specs.Decoding.{IsFrame, request_of};
 ghost use Rattle.agent_history.specs.Deeds.{Deed, msize_of, was_hung};

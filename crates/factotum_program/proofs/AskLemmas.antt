@@ -1,5 +1,5 @@
 -- Asking until there is no question.
-use Rattle.std.proofs.Common.{◌≡◌, ℕ, ◌<◌, List, [], ◌∷◌, ◌++◌, Option, true, false, not, refl, sym, ap, subst, ◌∙◌, append_assoc, append-nil, inl, inr, arith}
+use Rattle.std.proofs.Common.{◌≡◌, ℕ, ◌<◌, List, [], ◌∷◌, ◌++◌, length, Option, Bool, true, false, not, refl, sym, ap, subst, ◌∙◌, append_assoc, append-nil, inl, inr, arith}
 use Rattle.std.proofs.lemmas.Bool.{cases_Bool}
 use Rattle.wire_base.specs.declared.shape.Shape.{Shape}
 use Rattle.wire_streams.specs.Dials.{Dialed}
@@ -7,7 +7,7 @@ use Rattle.wire_streams.specs.declared.dialer.Made.{Made}
 use Rattle.wire_streams.specs.declared.dialer.Outcome.{Outcome}
 use Rattle.wire_streams.specs.declared.dialer.Outcome.TheVariants.{Answered, Unanswered, NoRoom as Roomless}
 use Rattle.agent_history.specs.declared.event.Event.{Event}
-use Rattle.agent_history.specs.declared.event.Event.TheVariants.{TakeAsk}
+use Rattle.agent_history.specs.declared.event.Event.TheVariants.{Answer, NoAnswer, NoRoom, TakeAsk}
 use Rattle.agent_history.specs.declared.event.StepAnswer.{StepAnswer}
 use Rattle.agent_history.specs.declared.event.StepAnswer.TheVariants.{Done, Reply, NoReply, Gone, Ask, DropCall, NoAsk, Stopped as StoppedAnswer}
 use Rattle.agent_history.specs.Histories.{History, answer}

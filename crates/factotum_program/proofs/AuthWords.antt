@@ -1,17 +1,17 @@
 -- Words of the form of `pipe` with its option are taken by clap, which finds the value behind the option.
-use Rattle.std.proofs.Common.{◌≡◌, ◌∙◌, List, [], ◌∷◌, true, refl, ap, sym, subst, codes, Some}
+use Rattle.std.proofs.Common.{◌≡◌, ◌∙◌, ◌&&◌, ℕ, List, [], ◌∷◌, true, refl, ap, sym, subst, codes, Option, Some, None}
 use Rattle.std.specs.List.{list_all}
 use Rattle.std.specs.Str.{bytes_eq}
 use Rattle.std.proofs.lemmas.Slice.Eq.{bytes_eq-Decides}
 use Rattle.wire_base.specs.Texts.{is_text}
-use Rattle.clap.specs.Words.{App, HasMatchesOf, Text, first_of, first_value, found_of, is_simple, matches_of, takes}
+use Rattle.clap.specs.Words.{App, HasMatchesOf, Text, first_of, first_value, found_of, is_simple, matches_of, rows_of, takes}
 use Rattle.clap.specs.Walk.{Held, Step, after_step, nothing_held, walk, walk_from, walked}
 use Rattle.clap.specs.Simple.{Shape, built}
 use Rattle.clap.specs.Takes.{step_passes, turn_passes, walk_passes}
 use Rattle.clap.specs.declared.parser.matches.ArgMatches.{ArgMatches}
 use Rattle.clap.proofs.OnLiterals.{clap_on_literals}
 use Rattle.factotum_program.specs.Reading.{HasText, pipe_app}
-use Rattle.factotum_program.specs.Words.{auth_given, has_auth_form}
+use Rattle.factotum_program.specs.Words.{auth_given, has_auth_form, is_value}
 use Rattle.factotum_program.proofs.ClapLemmas.{IsPlainWord, at_option, behind, both_pass, either_passes, flag_passes, met_plain, pass_end, pass_on}
 use Rattle.factotum_program.proofs.WordLemmas.{and_left, and_right, plain_value, same_first, short_form}
 

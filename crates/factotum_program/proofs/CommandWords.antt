@@ -1,10 +1,10 @@
 -- Words, and what they ask for.
-use Rattle.std.proofs.Common.{◌≡◌, ◌||◌, ℕ, List, Bool, true, false, Option, refl, sym, subst, inl, inr, ◌∙◌}
+use Rattle.std.proofs.Common.{◌≡◌, ◌⊎◌, ◌&&◌, ◌||◌, ℕ, List, [], ◌∷◌, Bool, true, false, Option, refl, ap, sym, subst, codes, inl, inr, ◌∙◌}
 use Rattle.attr_tuples.specs.Forms.{is_dom}
 use Rattle.factotum_program.specs.declared.status.Status.{Status}
 use Rattle.factotum_program.specs.declared.status.Status.TheVariants.{NoMemory, Usage}
 use Rattle.factotum_program.specs.declared.words.AuthsrvWords.{AuthsrvWords}
-use Rattle.factotum_program.specs.Words.{HasValues, IsUnread, has_authsrv_form, is_authsrv, is_command, is_pipe}
+use Rattle.factotum_program.specs.Words.{HasValues, IsUnread, authsrv_value, has_authsrv_form, is_authsrv, is_command, is_pipe}
 use Rattle.factotum_program.specs.Commands.{EndsSo as Piped}
 use Rattle.factotum_program.specs.Serving.{Outside, ServesSo}
 use Rattle.factotum_program.specs.Sights.{Sight}

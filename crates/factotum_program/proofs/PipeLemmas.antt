@@ -1,5 +1,5 @@
 -- The frames of a stream, answered one by one, and what a pipe has written where it stops.
-use Rattle.std.proofs.Common.{◌≡◌, ℕ, ◌+◌, ◌<◌, ◌≤◌, List, [], ◌∷◌, ◌++◌, length, take, drop, take-append-drop, length-drop, Option, refl, sym, ap, subst, ◌∙◌, append_assoc, append-nil, length-append, inl, inr, arith}
+use Rattle.std.proofs.Common.{◌≡◌, ℕ, ◌+◌, ◌<◌, ◌≤◌, List, [], ◌∷◌, ◌++◌, length, take, drop, take-append-drop, length-drop, Option, true, refl, sym, ap, subst, ◌∙◌, append_assoc, append-nil, length-append, inl, inr, arith}
 use Rattle.std.specs.Prelude.{Result, Ok, Err, OnOk, IfErr}
 use Rattle.std.specs.Io.KnownBytes.{Consumes, IsAtEnd}
 use Rattle.std.proofs.KnownBytes.{Consumes-nil, Consumes-trans}
@@ -22,9 +22,9 @@ use Rattle.factotum_program.specs.Sights.{Goes, Sight, sight}
 use Rattle.factotum_program.specs.Commands.{most_input, frames_in, Reads, Answers, EndsInside, Floods, GainsPart, EndsSo, Replies, RepliesPart}
 use Rattle.factotum_program.specs.Gathers.{Gathers, GathersPart}
 use Rattle.factotum_program.specs.Asks.{Turns, TurnsPart}
-use Rattle.factotum_program.specs.Sessions.{HasNoNext, Handed, AllHanded, StopsAt, IsCut, IsCutShort, Piped, Told, ToldPart}
+use Rattle.factotum_program.specs.Sessions.{HasNoNext, Handed, AllHanded, StopsAt, IsCut, IsCutShort, MissesWord, Piped, Told, ToldPart}
 use Rattle.factotum_program.proofs.TurnLemmas.{after_one, all_met_one, frames_one, goes_none, goes_on, goes_one, goes_still}
-use Rattle.factotum_program.proofs.PartLemmas.{gathers_none, gathers_gone, all_written, part_memory, part_gone, part_failed, part_written}
+use Rattle.factotum_program.proofs.PartLemmas.{gathers_none, gathers_gone, gathers_failed, all_written, part_memory, part_gone, part_failed, part_written}
 
 -- a sight with these bytes written
 abbrev holding : Sight → Option (List ℕ) → Sight

@@ -1,8 +1,8 @@
 -- What an `authsrv` came to, and what is left where nothing stands in its way.
-use Rattle.std.proofs.Common.{◌≡◌, ◌⊎◌, ◌∙◌, ◌≤◌, ℕ, List, true, false, length, length-append, Option, Some, None, refl, ap, sym, subst, inl, inr, arith}
-use Rattle.std.specs.Io.KnownBytes.{Consumes}
+use Rattle.std.proofs.Common.{◌≡◌, ◌⊎◌, ◌∙◌, ◌<◌, ◌≤◌, ℕ, List, [], ◌∷◌, ◌++◌, Bool, true, false, length, length-append, Option, Some, None, refl, ap, sym, subst, inl, inr, arith}
+use Rattle.std.specs.Io.KnownBytes.{Consumes, IsAtEnd}
 use Rattle.nine_frames.proofs.InputLaws.{front_of, all_read}
-use Rattle.auth_tables.specs.Keys.{bad_key_line}
+use Rattle.auth_tables.specs.Keys.{bad_key_line, key_of}
 use Rattle.auth_tables.specs.Speaks.{bad_speak_line, may_speak}
 use Rattle.auth_server.specs.Answers.{Knowledge}
 use Rattle.auth_server.specs.Standing.{knowledge}
@@ -16,7 +16,7 @@ use Rattle.auth_server.specs.declared.serve.AuthEnd.TheVariants as ends
 use Rattle.factotum_program.specs.declared.status.Status.{Status}
 use Rattle.factotum_program.specs.declared.status.Status.TheVariants.{Fine, Usage, ReadFault, WriteFault, WordFault, BadFrame, Torn, BadTables, AsEnded, NoMemory, Flood}
 use Rattle.factotum_program.specs.declared.authsrv.Tables.{Tables}
-use Rattle.factotum_program.specs.Serving.{FloodsTable, IsServableAll, MeetsBadKeys, MeetsBadSpeaks, Outside, ReadsBoth, ReadsTable, Serves, ServesSo, StopsAtTables, known_by, most_table}
+use Rattle.factotum_program.specs.Serving.{FloodsTable, IsServableAll, MeetsBadKeys, MeetsBadSpeaks, Outside, ReadsBoth, ReadsTable, Serves, ServesSo, StopsAtKeys, StopsAtSpeaks, StopsAtTables, known_by, most_table}
 use Rattle.factotum_program.specs.Tabling.{HasParsed, HasRead, status_of_end}
 
 -- 1 for the two ends that are left, 0 for all others

@@ -1,6 +1,7 @@
 -- One frame more, of those that were answered.
-use Rattle.std.proofs.Common.{◌≡◌, ℕ, List, [], ◌∷◌, ◌++◌, Option, true, refl, sym, ap, subst, ◌∙◌, append_assoc, append-nil}
+use Rattle.std.proofs.Common.{◌≡◌, ℕ, List, [], ◌∷◌, ◌++◌, ◌&&◌, Option, Bool, true, refl, sym, ap, subst, ◌∙◌, append_assoc, append-nil}
 use Rattle.std.proofs.lemmas.List.{map-append}
+use Rattle.wire_streams.specs.Dials.{Dialed}
 use Rattle.wire_streams.specs.declared.dialer.Made.{Made}
 use Rattle.wire_streams.specs.declared.dialer.Outcome.{Outcome}
 use Rattle.auth_server.specs.Sessions.{DrawsAll}

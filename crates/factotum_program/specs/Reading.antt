@@ -1,5 +1,5 @@
 -- Of the code alone: the command that clap is asked for, as its own definitions see it.
-use Rattle.std.specs.Prelude.{◌≡◌, ℕ, List, Some, map, true, codes}
+use Rattle.std.specs.Prelude.{◌≡◌, ℕ, List, ◌∷◌, Option, Some, map, true, codes}
 use Rattle.std.specs.Borrow.{Bor}
 use Rattle.wire_base.specs.Texts.{is_text}
 use Rattle.clap.specs.Words.{App, Rule, first_value, found_of, new_app, new_rule, with_rule}

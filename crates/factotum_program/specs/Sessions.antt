@@ -1,5 +1,5 @@
 -- Of the code alone: where a pipe stands between two reads, and what its parts tell each other.
-use Rattle.std.specs.Prelude.{◌≡◌, ◌≤◌, ℕ, ◌+◌, List, [], ◌∷◌, ◌++◌, length, Option, Some, None, ◌⊎◌, true}
+use Rattle.std.specs.Prelude.{◌≡◌, ◌<◌, ◌≤◌, ℕ, ◌+◌, List, [], ◌∷◌, ◌++◌, length, Option, Some, None, ◌⊎◌, true}
 use Rattle.std.specs.Io.KnownBytes.{Consumes}
 use Rattle.nine_frames.specs.Streams.{front, IsBad, IsShort, end_of, HasBadSize}
 use Rattle.nine_frames.specs.Framed.{Framing}

@@ -1,10 +1,10 @@
 -- Of the code alone: what the parts of `authsrv` tell each other.
 use Rattle.std.specs.Prelude.{◌≡◌, ℕ, List, Bool, true, false, Option, None, Some, ⊤}
-use Rattle.auth_tables.specs.Keys.{bad_key_line, key_of, table_keys}
-use Rattle.auth_tables.specs.Speaks.{bad_speak_line, names_in, names_of, table_speaks}
+use Rattle.auth_tables.specs.Keys.{KeyLine, bad_key_line, key_of, table_keys}
+use Rattle.auth_tables.specs.Speaks.{SpeakLine, bad_speak_line, names_in, names_of, table_speaks}
 use Rattle.auth_tables.specs.declared.lines.TableFault.{TableFault}
 use Rattle.auth_tables.specs.declared.lines.TableFault.TheVariants as faults
-use Rattle.auth_server.specs.Serving.{most_input}
+use Rattle.auth_server.specs.Serving.{Moment, most_input}
 use Rattle.auth_server.specs.declared.serve.AuthEnd.{AuthEnd}
 use Rattle.auth_server.specs.declared.serve.AuthEnd.TheVariants as ends
 use Rattle.factotum_program.specs.declared.status.Status.{Status}

@@ -1,5 +1,5 @@
 use Rattle.std.proofs.Common.{refl}
-use Rattle.wire_streams.specs.declared.dialer.Outcome.TheVariants.{Answered}
+use Rattle.wire_streams.specs.declared.dialer.Outcome.TheVariants.{Answered, Unanswered, NoRoom}
 use Rattle.factotum_program.proofs.MadeLemmas.{made_one}
 use Rattle.factotum_program.proofs.asks.exchange.Goals as goal
 

@@ -1,6 +1,6 @@
-use Rattle.std.proofs.Common.{sym, subst}
+use Rattle.std.proofs.Common.{◌≡◌, sym, subst}
 use Rattle.auth_server.specs.Standing.{Server, knowledge}
-use Rattle.auth_server.specs.Serving.{EndsSo}
+use Rattle.auth_server.specs.Serving.{EndsSo, moment}
 use Rattle.factotum_program.specs.declared.status.Status.{Status}
 use Rattle.factotum_program.specs.Serving.{Outside, ServesSo, outside}
 use Rattle.factotum_program.proofs.ServeLemmas.{serves, serves_so}

@@ -1,6 +1,6 @@
 use Rattle.std.proofs.Common.{inr}
 use Rattle.std.proofs.lemmas.Result.{err_from_is_err_and, on_ok_weaker, IfErr-weaker}
-use Rattle.factotum_program.proofs.PipeLemmas.{handed_gone, handed_left, stop_gone, stops_writing, cut_reads}
+use Rattle.factotum_program.proofs.PipeLemmas.{handed_gone, handed_left, stop_gone, stops_writing, cut_draws, cut_reads}
 use Rattle.factotum_program.proofs.frames.answer_frames.Goals as goal
 
 pub returns-in_err-write_gathered-clause-err : goal.returns-in_err-write_gathered-clause-err

@@ -1,3 +1,4 @@
+use Rattle.std.proofs.Common.{◌≡◌}
 use Rattle.factotum_program.proofs.WordLemmas.{text_is_utf8}
 use Rattle.factotum_program.proofs.words.as_str.Goals as goal
 

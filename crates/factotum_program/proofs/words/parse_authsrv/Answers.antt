@@ -1,4 +1,4 @@
-use Rattle.std.proofs.Common.{◌∙◌, ap}
+use Rattle.std.proofs.Common.{◌≡◌, ◌∙◌, ap}
 use Rattle.clap.specs.Words.{App, app_of, takes}
 use Rattle.factotum_program.specs.Reading.{bytes_of}
 use Rattle.factotum_program.proofs.WordLemmas.{has_dom, has_keys, has_speaks, taken_by_clap, values_found}
