@@ -1,5 +1,5 @@
 // A connection to the server: the edge to the outside.
-ghost use Rattle.std.specs.Prelude.{◌≡◌, ◌≤◌, IfSome, length, take};
+ghost use Rattle.std.specs.Prelude.{◌≡◌, ◌<◌, ◌≤◌, IfSome, length, take};
 ghost use Rattle.socket_dialer.specs.Endings.{answer_length};
 
 use crate::hearing::read_answer;
@@ -95,7 +95,7 @@ pub(crate) fn open_line<N: Net + Clock>(
 }
 
 /// Sends a request over a connection and reads the answer into the front of `room`, up to a moment. None where a call
-/// failed.
+/// failed, or nothing came.
 pub(crate) fn ask<C: Clock, S: Read + Write + OpenStream>(
     clock: &C,
     line: &mut Line<S>,
@@ -109,10 +109,14 @@ pub(crate) fn ask<C: Clock, S: Read + Write + OpenStream>(
     ensures ends { IfSome result (λ count.
         length (take count room.new) ≤ answer_length shape (take count room.new)) }
     ensures within { IfSome result (λ count. count ≤ length room.new) }
+    ensures some { IfSome result (λ count. 0 < count) }
 {
     let mut timed = Timed { clock, line, until };
     if write_all(request, &mut WriteSink::new(&mut timed)).is_err() {
         return None;
     }
-    read_answer(&mut ReadSource::new(&mut timed), shape, room)
+    match read_answer(&mut ReadSource::new(&mut timed), shape, room) {
+        None | Some(0) => None,
+        Some(count) => Some(count),
+    }
 }

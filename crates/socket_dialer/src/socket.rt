@@ -1,5 +1,5 @@
 // The dialer over sockets.
-ghost use Rattle.std.specs.Prelude.{◌≡◌, ◌≢◌, ◌≤◌, IfOk, IfSome, OnErr, false, is_some, length, take, true, ℕ};
+ghost use Rattle.std.specs.Prelude.{◌≡◌, ◌≢◌, ◌<◌, ◌≤◌, IfOk, IfSome, OnErr, false, is_some, length, take, true, ℕ};
 ghost use Rattle.wire_streams.specs.Dials.{IsAnswer, exchanged, has_failed};
 ghost use Rattle.wire_streams.specs.declared.dialer.Made.TheVariants.{Close};
 ghost use Rattle.socket_dialer.specs.Endings.{answer_length};
@@ -49,6 +49,7 @@ impl<N: Net + Clock> TcpDialer<N> {
         ensures ends { IfSome result (λ count.
             length (take count room.new) ≤ answer_length shape (take count room.new)) }
         ensures within { IfSome result (λ count. count ≤ length room.new) }
+        ensures some { IfSome result (λ count. 0 < count) }
     {
         let until = deadline(&self.net, self.limit)?;
         let mut line = open_line(&self.net, &self.address, until)?;
@@ -67,6 +68,7 @@ impl<N: Net + Clock> TcpDialer<N> {
         ensures ends { IfOk result (λ heard. IfSome heard (λ count.
             length (take count room.new) ≤ answer_length Shape.Challenge (take count room.new))) }
         ensures within { IfOk result (λ heard. IfSome heard (λ count. count ≤ length room.new)) }
+        ensures some { IfOk result (λ heard. IfSome heard (λ count. 0 < count)) }
         ensures here { IfOk result (λ heard. IfSome heard (λ _.
             is_kept self.new.kept conv ≡ true)) }
         ensures others { KeepsOthers conv self.old.kept self.new.kept }
@@ -98,6 +100,7 @@ impl<N: Net + Clock> TcpDialer<N> {
         ensures ends { IfOk result (λ heard. IfSome heard (λ count.
             length (take count room.new) ≤ answer_length Shape.Challenge (take count room.new))) }
         ensures within { IfOk result (λ heard. IfSome heard (λ count. count ≤ length room.new)) }
+        ensures some { IfOk result (λ heard. IfSome heard (λ count. 0 < count)) }
         ensures here { IfOk result (λ heard. is_kept self.new.kept conv ≡ is_some heard) }
         ensures others { KeepsOthers conv self.old.kept self.new.kept }
         ensures same { OnErr result (is_kept self.new.kept conv ≡ is_kept self.old.kept conv) }
@@ -117,6 +120,7 @@ impl<N: Net + Clock> TcpDialer<N> {
         ensures ends { IfSome result (λ count.
             length (take count room.new) ≤ answer_length Shape.Vouch (take count room.new)) }
         ensures within { IfSome result (λ count. count ≤ length room.new) }
+        ensures some { IfSome result (λ count. 0 < count) }
         ensures here { is_kept self.new.kept conv ≡ false }
         ensures others { KeepsOthers conv self.old.kept self.new.kept }
         ensures faults { self.new.faults ≡ self.old.faults }
@@ -139,6 +143,7 @@ impl<N: Net + Clock> TcpDialer<N> {
         ensures ends { IfOk result (λ heard. IfSome heard (λ count.
             length (take count room.new) ≤ answer_length shape (take count room.new))) }
         ensures within { IfOk result (λ heard. IfSome heard (λ count. count ≤ length room.new)) }
+        ensures some { IfOk result (λ heard. IfSome heard (λ count. 0 < count)) }
         ensures here { is_kept self.new.kept conv
             ≡ kept_after shape (dial_of result) (is_kept self.old.kept conv) }
         ensures others { KeepsOthers conv self.old.kept self.new.kept }
@@ -168,7 +173,8 @@ impl<N: Net + Clock> Dialer for TcpDialer<N> {
         ensures counted { self.old.faults ≤ self.new.faults }
         ensures exact { CountsOutcome self.old.faults self.new.faults (has_failed result) }
 
-        // What is heard is no more than the answer has.
+        // What is heard is something, and no more than the answer has.
+        ensures some { result ≡ Dial.Heard → 0 < length out.new }
         ensures ends { result ≡ Dial.Heard → length out.new ≤ answer_length shape out.new }
 
         // The connections that are kept: under this number as the shape says, all others as before.
@@ -257,14 +263,14 @@ mod tests {
             (7, Shape::Vouch, Dial::Failed, 86, 3),
             (7, Shape::Tickets, Dial::Heard, 145, 3),
             (7, Shape::Tickets, Dial::Heard, 3, 3),
-            (7, Shape::Challenge, Dial::Heard, 0, 3),
+            (7, Shape::Challenge, Dial::Failed, 3, 4),
         ] {
             let dial = dialer.exchange(conv, b"who", shape, &mut out);
             assert_eq!(rt; dial, want, "{shape:?} {length}");
             assert_eq!(rt; out.len(), length, "{shape:?}");
             assert_eq!(rt; dialer.faults, faults, "{shape:?} {length}");
         }
-        assert!(rt; dialer.kept.contains_key(&7));
+        assert!(rt; !dialer.kept.contains_key(&7));
         dialer.close(7);
         dialer.close(7);
         assert_eq!(rt; dialer.kept.len(), 0);
