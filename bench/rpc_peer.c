@@ -150,7 +150,9 @@ struct tuple {
 
 static void copy_word(char *to, size_t room, struct text word)
 {
-	if (word.length >= room || memchr(word.bytes, '\'', word.length) != NULL || memchr(word.bytes, '?', word.length) != NULL)
+	if (word.length >= room)
+		give_up();
+	if (memchr(word.bytes, '\'', word.length) != NULL || memchr(word.bytes, '?', word.length) != NULL)
 		give_up();
 	memcpy(to, word.bytes, word.length);
 	to[word.length] = 0;
@@ -256,6 +258,11 @@ static void answer_attr(struct talk *talk)
 	}
 }
 
+static int is_for_server(const struct tuple *key)
+{
+	return has(key, "proto", "p9sk1") && find(key, "dom") != NULL && find(key, "user") != NULL;
+}
+
 static void answer_start(struct talk *talk, struct text words)
 {
 	read_tuple(words, &talk->tuple);
@@ -266,7 +273,7 @@ static void answer_start(struct talk *talk, struct text words)
 	} else {
 		int key = 0;
 
-		while (key < key_count && !(has(&keys[key], "proto", "p9sk1") && find(&keys[key], "dom") && find(&keys[key], "user")))
+		while (key < key_count && !is_for_server(&keys[key]))
 			key++;
 		if (!has(&talk->tuple, "role", "server") || key == key_count)
 			give_up();
