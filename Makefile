@@ -27,6 +27,7 @@ test:
 
 bench: build
 	@bench/pipe
+	@bench/rpc
 	@bench/authsrv
 	@bench/codec
 	@bench/ciphers
