@@ -3,7 +3,9 @@
 socket that this script plays over OpenSSL's DES. It prints what each side is answered, and ends with status 1 where the two
 don't agree.
 
-    bench/vectors/login_by_hand.py PATH-OF-FACTOTUM
+    bench/vectors/login_by_hand.py PATH-OF-FACTOTUM [--slow]
+
+With --slow a server that never answers is waited for too, which takes 30 seconds.
 
 Frames come from agent.py, records of authsrv(6) from logins.py. Nothing of the project's own code is used.
 """
@@ -31,6 +33,17 @@ def answer(request):
     host, user = name_in(request[85:113]), name_in(request[113:141])
     fresh = os.urandom(7)
     return b"\x04" + ticket(KEYS[host], 65, chal, user, user, fresh) + ticket(KEYS[authid], 64, chal, user, user, fresh)
+
+
+def shut(listener):
+    """A server that hangs up at once."""
+    while True:
+        try:
+            line, _ = listener.accept()
+        except OSError:
+            return
+        line.recv(141, socket.MSG_WAITALL)
+        line.close()
 
 
 def serve(listener, asked):
@@ -110,8 +123,15 @@ def main():
     threading.Thread(target=serve, args=(listener, asked), daemon=True).start()
     good = login(program, address, ["ann", "srv"]) and login(program, address, ["ann again", "srv again"])
     good = good and len(asked) == 2 and all(len(request) == 141 for request in asked)
+    listener.shutdown(socket.SHUT_RDWR)
     listener.close()
     good = unreached(program, address, "nobody there") == b"error no server" and good
+    closing = socket.create_server(("127.0.0.1", 0))
+    threading.Thread(target=shut, args=(closing,), daemon=True).start()
+    good = unreached(program, "127.0.0.1:%d" % closing.getsockname()[1], "one that hangs up") == b"error no server" and good
+    if "--slow" in sys.argv:
+        silent = socket.create_server(("127.0.0.1", 0))
+        good = unreached(program, "127.0.0.1:%d" % silent.getsockname()[1], "one that says nothing, for 30 seconds") == b"error no server" and good
     path = "/tmp/login_by_hand.%d" % os.getpid()
     unix = socket.socket(socket.AF_UNIX)
     unix.bind(path)
