@@ -98,8 +98,9 @@ fn client_session(alloc: Global, key: &[u8]) -> Result<Vec<u8>, Fail> {
 
 // The last reply is one to a read that tells this.
 fn ends_with_told(written: &[u8], told: &[u8]) -> bool {
+    let count = told.len().min(255) as u8;
     match written.strip_suffix(told) {
-        Some(before) => before.ends_with(&[0x75, 10, 0, told.len() as u8, 0, 0, 0]),
+        Some(before) => before.ends_with(&[0x75, 10, 0, count, 0, 0, 0]),
         None => false,
     }
 }
