@@ -2,6 +2,7 @@
 use Rattle.std.proofs.Common.{◌≡◌, ◌≢◌, ℕ, List, ◌∷◌, ◌++◌, refl, sym, ap, subst, ◌∙◌}
 use Rattle.roles.specs.declared.answer.Gave.{Gave}
 use Rattle.roles.specs.declared.answer.Gave.TheVariants as g
+use Rattle.roles.specs.declared.stage.Stage.{Stage}
 use Rattle.roles.specs.Answers.{Comes, bytes_with, talk_with}
 use Rattle.roles.specs.Starts.{Start}
 use Rattle.roles.specs.Talks.{Call, Progress, undone}
@@ -52,7 +53,7 @@ stands_on old new call f start talk s =
 
 -- where a talk is as far with a call and its taking back as before both, it stands for the talk before both
 pub stands_back : (c : SkConv) (start : Start) (talk : List Call) (call : Call) → course start (undone ∷ call ∷ talk) ≡ course start talk → Stands c start (undone ∷ call ∷ talk) → Stands c start talk
-stands_back c start talk call same s = record { begun = s.begun; reached = s.reached ∙ same; needed = s.needed ∙ ap (λ (p : Progress). need_at start p) same }
+stands_back c start talk call same s = record { begun = s.begun; reached = s.reached ∙ same; needed = s.needed ∙ ap (λ (p : Progress Stage). need_at start p) same }
 
 pub tells : (old new : SkConv) (given : Gave) (call : Call) → MayFollow old new given (verdict_in old call) → (start : Start) (talk : List Call) → Stands old start talk → Comes given (answer_after start talk call)
 tells old new given call m start talk s = comes given (answer_after start talk call) (λ memory. m.answer memory ∙ ap answer_of (same_verdict old start talk call s))

@@ -20,13 +20,13 @@ abbrev pub start_of : Own → Start
 start_of own = record { template = own.template; word = own.word }
 
 -- a step as a verdict, with the bytes that are got
-abbrev pub with_bytes : Step → List ℕ → Verdict
+abbrev pub with_bytes : Step → List ℕ → Verdict Stage
 with_bytes (Goes next) bytes = goes next g.Ok bytes
 with_bytes (Waits next) bytes = goes next g.Wait bytes
 with_bytes (Stays answer) bytes = stays answer
 with_bytes (Breaks cause) bytes = breaks cause
 
-abbrev pub verdict_of : Step → Verdict
+abbrev pub verdict_of : Step → Verdict Stage
 verdict_of step = with_bytes step []
 
 -- the domain of a request that passed its tests
@@ -55,4 +55,4 @@ NeedsNothing (Breaks cause) = Unit {0}
 -- a message of fixed length, or the step of one that isn't
 abbrev pub Sizes : ℕ → Result (List ℕ) Step → List ℕ → Type 0
 Sizes size (Ok whole) bytes = (whole ≡ bytes) × (length bytes ≡ size)
-Sizes size (Err step) bytes = ((whole : Verdict) → verdict_of step ≡ sized size bytes whole) × LeadsOn step
+Sizes size (Err step) bytes = ((whole : Verdict Stage) → verdict_of step ≡ sized size bytes whole) × LeadsOn step

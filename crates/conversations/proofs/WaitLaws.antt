@@ -12,6 +12,7 @@ use Rattle.roles.specs.declared.answer.Gave.TheVariants as g
 use Rattle.roles.specs.declared.answer.StartFault.{StartFault}
 use Rattle.roles.specs.declared.need.Need.{Need}
 use Rattle.roles.specs.declared.need.Need.TheVariants.{Nothing, Key, Exchange}
+use Rattle.roles.specs.declared.stage.Stage.{Stage}
 use Rattle.roles.specs.Answers.{IsExchange, IsKey}
 use Rattle.roles.specs.Starts.{Start}
 use Rattle.roles.specs.Talks.{Progress, found, get, give, heard, roomless, undone, unheard}
@@ -62,12 +63,12 @@ moved_on b starting answer back = leads b starting answer (needs b.start b.moves
 -- from where nothing was needed
 from_nothing : (b : Begun) (move : Move) (starting : Bool) → needs b.start b.moves ≡ Nothing → Returns (with_move b move) starting
 from_nothing b move true none = λ key. refl
-from_nothing b move false none = λ key. ap (λ (p : Progress). need_at b.start p) (undone_call b.start b.moves move none key) ∙ none
+from_nothing b move false none = λ key. ap (λ (p : Progress Stage). need_at b.start p) (undone_call b.start b.moves move none key) ∙ none
 
 -- from where a key was sought
 still_returns : (start : Start) (moves : List Move) (move : Move) → needs start (undone ∷ moves) ≡ Nothing → (course start (move ∷ moves) ≡ course start moves) ⊎ ((needs start moves ≡ Nothing) × (course start (undone ∷ move ∷ moves) ≡ course start moves)) → needs start (undone ∷ move ∷ moves) ≡ Nothing
-still_returns start moves move none (inl same) = ap (λ (p : Progress). need_at start (then_course p (verdict start p undone))) same ∙ none
-still_returns start moves move none (inr back) = ap (λ (p : Progress). need_at start p) back.1 ∙ back.0
+still_returns start moves move none (inl same) = ap (λ (p : Progress Stage). need_at start (then_course p (verdict start p undone))) same ∙ none
+still_returns start moves move none (inr back) = ap (λ (p : Progress Stage). need_at start p) back.1 ∙ back.0
 
 from_sought : (b : Begun) (key : KeyEntry) (starting : Bool) → need_in (taken_back starting (Some b)) ≡ Nothing → Returns (chosen_for key b) starting
 from_sought b key true none = λ wanted. refl
@@ -80,7 +81,7 @@ no_exchange (Key template) key exchange = exchange
 no_exchange (Exchange request shape) key exchange = key
 
 no_key_then : (start : Start) (moves : List Move) (move : Move) → IsExchange (needs start moves) → IsKey (needs start (move ∷ moves)) → (course start (move ∷ moves) ≡ course start moves) ⊎ ((needs start moves ≡ Nothing) × (course start (undone ∷ move ∷ moves) ≡ course start moves)) → ⊥
-no_key_then start moves move exchange key (inl same) = no_exchange (needs start moves) (subst (λ (p : Progress). IsKey (need_at start p)) same key) exchange
+no_key_then start moves move exchange key (inl same) = no_exchange (needs start moves) (subst (λ (p : Progress Stage). IsKey (need_at start p)) same key) exchange
 no_key_then start moves move exchange key (inr back) = subst (λ (need : Need). IsExchange need) back.0 exchange
 
 from_exchange : (b : Begun) (move : Move) (starting : Bool) → IsExchange (needs b.start b.moves) → Returns (with_move b move) starting

@@ -23,10 +23,10 @@ use Rattle.roles.specs.Courses.{answer_after, answer_of, course, key_need, need_
 -- ---- where it is asked
 
 -- a client that isn't broken has its key, and asks
-abbrev asking : List ℕ → SkKey → Progress
+abbrev asking : List ℕ → SkKey → Progress Stage
 asking request key = record { stage = ClientAsk request key; broken = None }
 
-abbrev Asks : Progress → Type 0
+abbrev Asks : Progress Stage → Type 0
 Asks p = (request : List ℕ) × ((key : SkKey) × (p ≡ asking request key))
 
 -- a key is no answer of the authentication server
@@ -56,21 +56,21 @@ asks start talk exchange = asks_at start (course start talk).stage (course start
 -- ---- it answered
 
 -- nothing is needed behind a verdict
-abbrev Rests : Start → Progress → Verdict → Type 0
+abbrev Rests : Start → Progress Stage → Verdict Stage → Type 0
 Rests start p v = need_at start (then_course p v) ≡ Nothing
 
-either_rests : (start : Start) (p : Progress) (test : Bool) (v w : Verdict) → Rests start p v → Rests start p w → Rests start p (if test then v else w)
+either_rests : (start : Start) (p : Progress Stage) (test : Bool) (v w : Verdict Stage) → Rests start p v → Rests start p w → Rests start p (if test then v else w)
 either_rests start p true v w first second = first
 either_rests start p false v w first second = second
 
-unless_rests : (start : Start) (p : Progress) (told : Option Cause) (passed : Verdict) → Rests start p passed → Rests start p (unless_told told passed)
+unless_rests : (start : Start) (p : Progress Stage) (told : Option Cause) (passed : Verdict Stage) → Rests start p passed → Rests start p (unless_told told passed)
 unless_rests start p None passed rests = rests
 unless_rests start p (Some cause) passed rests = refl
 
-tested_rests : (start : Start) (p : Progress) (tests : List (Rule Cause)) (passed : Verdict) → Rests start p passed → Rests start p (tested tests passed)
+tested_rests : (start : Start) (p : Progress Stage) (tests : List (Rule Cause)) (passed : Verdict Stage) → Rests start p passed → Rests start p (tested tests passed)
 tested_rests start p tests passed rests = unless_rests start p (first_told tests) passed rests
 
-ticket_rests : (start : Start) (p : Progress) (cause : Cause) (ticket : Result Ticket FieldFault) (next : Ticket → Verdict) → ((t : Ticket) → Rests start p (next t)) → Rests start p (with_ticket cause ticket next)
+ticket_rests : (start : Start) (p : Progress Stage) (cause : Cause) (ticket : Result Ticket FieldFault) (next : Ticket → Verdict Stage) → ((t : Ticket) → Rests start p (next t)) → Rests start p (with_ticket cause ticket next)
 ticket_rests start p cause (Ok ticket) next rests = rests ticket
 ticket_rests start p cause (Err fault) next rests = refl
 
@@ -87,18 +87,18 @@ answer_rests start request key answer =
 pub heard_needs : (start : Start) (talk : List Call) (answer : List ℕ) → IsExchange (need_after start talk) → need_after start (heard answer ∷ talk) ≡ Nothing
 heard_needs start talk answer exchange =
     let asked = asks start talk exchange in
-    ap (λ (p : Progress). need_at start (then_course p (verdict start p (heard answer)))) asked.1.1 ∙ answer_rests start asked.0 asked.1.0 answer
+    ap (λ (p : Progress Stage). need_at start (then_course p (verdict start p (heard answer)))) asked.1.1 ∙ answer_rests start asked.0 asked.1.0 answer
 
 -- ---- it wasn't reached, or there was no memory
 
 pub unheard_needs : (start : Start) (talk : List Call) → IsExchange (need_after start talk) → need_after start (unheard ∷ talk) ≡ Nothing
-unheard_needs start talk exchange = ap (λ (p : Progress). need_at start (then_course p (verdict start p unheard))) (asks start talk exchange).1.1
+unheard_needs start talk exchange = ap (λ (p : Progress Stage). need_at start (then_course p (verdict start p unheard))) (asks start talk exchange).1.1
 
 pub unheard_tells : (start : Start) (talk : List Call) → IsExchange (need_after start talk) → answer_after start talk unheard ≡ g.Refused NoServer
-unheard_tells start talk exchange = ap (λ (p : Progress). answer_of (verdict start p unheard)) (asks start talk exchange).1.1
+unheard_tells start talk exchange = ap (λ (p : Progress Stage). answer_of (verdict start p unheard)) (asks start talk exchange).1.1
 
 pub roomless_needs : (start : Start) (talk : List Call) → IsExchange (need_after start talk) → need_after start (roomless ∷ talk) ≡ Nothing
-roomless_needs start talk exchange = ap (λ (p : Progress). need_at start (then_course p (verdict start p roomless))) (asks start talk exchange).1.1
+roomless_needs start talk exchange = ap (λ (p : Progress Stage). need_at start (then_course p (verdict start p roomless))) (asks start talk exchange).1.1
 
 pub roomless_tells : (start : Start) (talk : List Call) → IsExchange (need_after start talk) → answer_after start talk roomless ≡ g.Refused NoRoom
-roomless_tells start talk exchange = ap (λ (p : Progress). answer_of (verdict start p roomless)) (asks start talk exchange).1.1
+roomless_tells start talk exchange = ap (λ (p : Progress Stage). answer_of (verdict start p roomless)) (asks start talk exchange).1.1

@@ -1,12 +1,12 @@
 -- What a machine answers, want of memory aside, and what of its talk stays then. A machine `stands` for a start and a
 -- talk; whatever these were, its calls are answered and go on as the role says.
-use Rattle.std.specs.Prelude.{◌≡◌, ℕ, List, [], ◌∷◌, ◌++◌, Option, Some}
+use Rattle.std.specs.Prelude.{◌≡◌, ℕ, Bool, true, false, List, [], ◌∷◌, ◌++◌, Option, Some}
 use Rattle.roles.specs.declared.answer.Gave.{Gave}
 use Rattle.roles.specs.declared.answer.Gave.TheVariants as g
 use Rattle.roles.specs.declared.answer.StartFault.{StartFault}
 use Rattle.roles.specs.declared.answer.StartFault.TheVariants as fault
 use Rattle.roles.specs.declared.need.Need.{Need}
-use Rattle.roles.specs.declared.need.Need.TheVariants.{Nothing, Key, Exchange}
+use Rattle.roles.specs.declared.need.Need.TheVariants.{Nothing, Key, Offers, Pick, Exchange}
 use Rattle.roles.specs.Starts.{Start}
 use Rattle.roles.specs.Talks.{Call}
 
@@ -49,12 +49,40 @@ KeepsAlways stands old new call = (start : Start) (talk : List Call) → stands 
 abbrev pub IsKey : Need → Type 0
 IsKey Nothing = ⊥
 IsKey (Key template) = Unit {0}
+IsKey (Offers template) = ⊥
+IsKey (Pick templates) = ⊥
 IsKey (Exchange request shape) = ⊥
+
+-- a list of offers is needed
+abbrev pub IsOffers : Need → Type 0
+IsOffers Nothing = ⊥
+IsOffers (Key template) = ⊥
+IsOffers (Offers template) = Unit {0}
+IsOffers (Pick templates) = ⊥
+IsOffers (Exchange request shape) = ⊥
+
+-- one of some templates is to be picked
+abbrev pub IsPick : Need → Type 0
+IsPick Nothing = ⊥
+IsPick (Key template) = ⊥
+IsPick (Offers template) = ⊥
+IsPick (Pick templates) = Unit {0}
+IsPick (Exchange request shape) = ⊥
+
+-- it is found among the keys of a moment: a key, a list of offers, or a pick
+abbrev pub is_sought : Need → Bool
+is_sought Nothing = false
+is_sought (Key template) = true
+is_sought (Offers template) = true
+is_sought (Pick templates) = true
+is_sought (Exchange request shape) = false
 
 -- the authentication server is asked
 abbrev pub IsExchange : Need → Type 0
 IsExchange Nothing = ⊥
 IsExchange (Key template) = ⊥
+IsExchange (Offers template) = ⊥
+IsExchange (Pick templates) = ⊥
 IsExchange (Exchange request shape) = Unit {0}
 
 -- where nothing was needed before the latest call, and a key since, the machine stands for the talk before that call

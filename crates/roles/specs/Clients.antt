@@ -16,6 +16,7 @@ use Rattle.roles.specs.declared.answer.Gave.TheVariants as g
 use Rattle.roles.specs.declared.key.SkKey.{SkKey}
 use Rattle.roles.specs.declared.stage.Role.{Role}
 use Rattle.roles.specs.declared.stage.Role.TheVariants.{Client, Server, Speakfor}
+use Rattle.roles.specs.declared.stage.Stage.{Stage}
 use Rattle.roles.specs.declared.stage.Stage.TheVariants.{ClientKey, ClientThird, ClientFourth, ClientDone}
 use Rattle.roles.specs.Starts.{Start, role_of}
 use Rattle.roles.specs.Talks.{Verdict, goes, breaks, tested}
@@ -38,7 +39,7 @@ request_tests start request =
     ∷ []
 
 -- a server's request of 141 bytes
-abbrev pub request_came : Start → List ℕ → Verdict
+abbrev pub request_came : Start → List ℕ → Verdict Stage
 request_came start b = with_request WrongKind (request_of b) (λ request. tested (request_tests start request) (goes (ClientKey b) g.Wait []))
 
 -- whom the client asks to be: the user of its key, or the one for whom it speaks
@@ -68,12 +69,12 @@ ticket_tests start request key ticket =
     ∷ []
 
 -- two tickets of the authentication server
-abbrev pub tickets_came : Start → List ℕ → SkKey → List ℕ → Verdict
+abbrev pub tickets_came : Start → List ℕ → SkKey → List ℕ → Verdict Stage
 tickets_came start request key tickets =
     with_ticket BadKey (ticket_under key (ticket_part tickets)) (λ ticket. tested (ticket_tests start request key ticket) (goes (ClientThird request key tickets) g.Ok []))
 
 -- an answer of the authentication server
-abbrev pub answer_came : Start → List ℕ → SkKey → List ℕ → Verdict
+abbrev pub answer_came : Start → List ℕ → SkKey → List ℕ → Verdict Stage
 answer_came start request key answer =
     if is_refusal answer then breaks ServerSaidNo
     else if grants_tickets answer then tickets_came start request key (drop 1 answer)
@@ -85,7 +86,7 @@ answer_came start request key answer =
 abbrev pub handed_on : List ℕ → List ℕ → Ticket → List ℕ
 handed_on request tickets ticket = rest_part tickets ++ proof_for AUTH_AC (challenge_in request) ticket
 
-abbrev pub tickets_got : List ℕ → SkKey → List ℕ → Verdict
+abbrev pub tickets_got : List ℕ → SkKey → List ℕ → Verdict Stage
 tickets_got request key tickets =
     with_ticket BadKey (ticket_under key (ticket_part tickets)) (λ ticket. goes (ClientFourth request key tickets) g.Ok (handed_on request tickets ticket))
 
@@ -97,6 +98,6 @@ proof_tests kind challenge proof =
     ∷ []
 
 -- the server's authenticator of 13 bytes
-abbrev pub proof_came : Start → List ℕ → SkKey → List ℕ → List ℕ → Verdict
+abbrev pub proof_came : Start → List ℕ → SkKey → List ℕ → List ℕ → Verdict Stage
 proof_came start request key tickets b =
     with_ticket BadKey (ticket_under key (ticket_part tickets)) (λ ticket. tested (proof_tests AUTH_AS start.word (proof_under ticket b)) (goes (ClientDone request key tickets b) g.Ok []))

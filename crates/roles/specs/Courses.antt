@@ -47,7 +47,7 @@ idle (ServerThird key theirs) = g.Phase AwaitsWrite
 idle (ServerFourth key theirs shown) = g.Phase AwaitsRead
 idle (ServerDone key theirs shown) = g.Done true
 
-abbrev pub move : Start → Stage → Call → Verdict
+abbrev pub move : Start → Stage → Call → Verdict Stage
 -- client, 1: its challenge is got
 move start ClientFirst get = goes ClientSecond g.Ok start.word
 -- client, 2: the server's request is given, a key found for it, the authentication server asked
@@ -77,15 +77,15 @@ move start stage _ = stays (idle stage)
 -- ---- the course of a talk
 
 -- a broken conversation makes no move
-abbrev pub unless_broken : Option Cause → Verdict → Verdict
+abbrev pub unless_broken : {S : Type 0} → Option Cause → Verdict S → Verdict S
 unless_broken None moved = moved
 unless_broken (Some cause) moved = stays (g.Phase IsBroken)
 
-abbrev pub verdict : Start → Progress → Call → Verdict
+abbrev pub verdict : Start → Progress Stage → Call → Verdict Stage
 verdict start p call = unless_broken p.broken (move start p.stage call)
 
 -- what a verdict makes of the progress
-abbrev pub then_course : Progress → Verdict → Progress
+abbrev pub then_course : {S : Type 0} → Progress S → Verdict S → Progress S
 then_course p (goes next answer bytes) = record { stage = next; broken = p.broken }
 then_course p (stays answer) = p
 then_course p (breaks cause) = record { stage = p.stage; broken = Some cause }
@@ -96,11 +96,11 @@ first_stage Client = ClientFirst
 first_stage (Speakfor user) = ClientFirst
 first_stage Server = ServerKey
 
-abbrev pub begun : Start → Progress
+abbrev pub begun : Start → Progress Stage
 begun start = record { stage = first_stage (role_of start.template); broken = None }
 
 -- how far the calls of a talk have brought it
-abbrev pub course : Start → List Call → Progress
+abbrev pub course : Start → List Call → Progress Stage
 course start [] = begun start
 course start (call ∷ before) = then_course (course start before) (verdict start (course start before) call)
 
@@ -117,12 +117,12 @@ refusal ServerSaidNo = g.Refused ServerSaidNo
 refusal NoServer = g.Refused NoServer
 refusal NoRoom = g.Refused NoRoom
 
-abbrev pub answer_of : Verdict → Gave
+abbrev pub answer_of : {S : Type 0} → Verdict S → Gave
 answer_of (goes next answer bytes) = answer
 answer_of (stays answer) = answer
 answer_of (breaks cause) = refusal cause
 
-abbrev pub bytes_of : Verdict → List ℕ
+abbrev pub bytes_of : {S : Type 0} → Verdict S → List ℕ
 bytes_of (goes next answer bytes) = bytes
 bytes_of (stays answer) = []
 bytes_of (breaks cause) = []
@@ -156,7 +156,7 @@ abbrev pub need_unless : Option Cause → Need → Need
 need_unless None need = need
 need_unless (Some cause) need = Nothing
 
-abbrev pub need_at : Start → Progress → Need
+abbrev pub need_at : Start → Progress Stage → Need
 need_at start p = need_unless p.broken (need_of start p.stage)
 
 abbrev pub need_after : Start → List Call → Need
@@ -183,7 +183,7 @@ abbrev pub outcome_unless : Option Cause → Outcome → Outcome
 outcome_unless None outcome = outcome
 outcome_unless (Some cause) outcome = Broken cause
 
-abbrev pub outcome_at : Progress → Outcome
+abbrev pub outcome_at : Progress Stage → Outcome
 outcome_at p = outcome_unless p.broken (outcome_of p.stage)
 
 abbrev pub outcome_after : Start → List Call → Outcome

@@ -11,6 +11,7 @@ use Rattle.roles.specs.declared.answer.Cause.{Cause}
 use Rattle.roles.specs.declared.answer.Cause.TheVariants.{WrongKind, WrongChallenge, WrongUser}
 use Rattle.roles.specs.declared.answer.Gave.TheVariants as g
 use Rattle.roles.specs.declared.key.SkKey.{SkKey}
+use Rattle.roles.specs.declared.stage.Stage.{Stage}
 use Rattle.roles.specs.declared.stage.Stage.TheVariants.{ServerFourth, ServerDone}
 use Rattle.roles.specs.Starts.{Start}
 use Rattle.roles.specs.Talks.{Verdict, goes, tested}
@@ -30,11 +31,11 @@ shown_tests start ticket proof =
     ∷ proof_tests AUTH_AC start.word proof
 
 -- the third move: a ticket and an authenticator, 85 bytes; who passes is accepted here
-abbrev pub shown_came : Start → SkKey → List ℕ → List ℕ → Verdict
+abbrev pub shown_came : Start → SkKey → List ℕ → List ℕ → Verdict Stage
 shown_came start key theirs b =
     with_ticket WrongKind (ticket_under key (ticket_part b)) (λ ticket. tested (shown_tests start ticket (proof_under ticket (rest_part b))) (goes (ServerFourth key theirs b) g.Ok []))
 
 -- the fourth move: an authenticator for the client's challenge
-abbrev pub proof_got : SkKey → List ℕ → List ℕ → Verdict
+abbrev pub proof_got : SkKey → List ℕ → List ℕ → Verdict Stage
 proof_got key theirs shown =
     with_ticket WrongKind (ticket_under key (ticket_part shown)) (λ ticket. goes (ServerDone key theirs shown) g.Ok (proof_for AUTH_AS theirs ticket))

@@ -17,7 +17,7 @@ abbrev pub ticket_under : SkKey → List ℕ → Result Ticket FieldFault
 ticket_under key bytes = ticket_of (opened key.des.0 bytes)
 
 -- what follows from the ticket, where there is one, and else the cause
-abbrev pub with_ticket : Cause → Result Ticket FieldFault → (Ticket → Verdict) → Verdict
+abbrev pub with_ticket : {S : Type 0} → Cause → Result Ticket FieldFault → (Ticket → Verdict S) → Verdict S
 with_ticket cause (Ok ticket) next = next ticket
 with_ticket cause (Err fault) next = breaks cause
 
@@ -30,7 +30,7 @@ abbrev pub proof_for : ℕ → List ℕ → Ticket → List ℕ
 proof_for kind challenge ticket = sealed ticket.key.0 (authenticator_text (record { num = kind; chal = challenge; id = 0 }))
 
 -- what follows from the request that bytes are, where they are one, and else the cause
-abbrev pub with_request : Cause → Result TicketReq FieldFault → (TicketReq → Verdict) → Verdict
+abbrev pub with_request : {S : Type 0} → Cause → Result TicketReq FieldFault → (TicketReq → Verdict S) → Verdict S
 with_request cause (Ok request) next = next request
 with_request cause (Err fault) next = breaks cause
 

@@ -1,0 +1,5 @@
+pub mod Starts
+pub mod Numbers
+pub mod Clients
+pub mod Servers
+pub mod Courses

@@ -1,0 +1,6 @@
+pub mod Inner
+pub mod Starts
+pub mod Texts
+pub mod Offers
+pub mod Talks
+pub mod Courses
