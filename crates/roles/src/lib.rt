@@ -12,10 +12,10 @@ mod template;
 
 pub use answer::{Cause, Gave, PhaseWord, StartFault};
 pub use key::SkKey;
-pub use machine::Machine;
+pub use machine::{Machine, Offered};
 pub use need::{Need, Outcome, Tuples};
 pub use stage::{Role, Stage};
-pub use start::{MOST_OTHERS, fits_start, read_start};
+pub use start::{MOST_OTHERS, fits_start, read_role, read_start};
 pub use template::build_asked;
 
 #[cfg(test)]
