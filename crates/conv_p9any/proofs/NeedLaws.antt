@@ -14,16 +14,14 @@ use Rattle.roles.specs.Needs.{SeeksKeys}
 use Rattle.roles.specs.Starts.{Start}
 use Rattle.roles.specs.Talks.{Call, Progress, Verdict, give, get, found, heard, unheard, roomless, undone, offered, picked, goes, stays, tested, unless_told}
 use Rattle.roles.specs.Courses.{answer_of, need_unless, then_course}
-use Rattle.conv_p9any.specs.declared.stage.Choice.{Choice}
-use Rattle.conv_p9any.specs.declared.stage.Choice.TheVariants.{ByClient, ByPick, ByConsent}
 use Rattle.conv_p9any.specs.declared.stage.Stage.{Stage}
 use Rattle.conv_p9any.specs.declared.stage.Stage.TheVariants.{ServerOffers, ServerKey, ServerFirst, ServerSecond, ClientFirst, ClientPick, ClientSecond, ClientThird}
 use Rattle.conv_p9any.specs.declared.stage.TheConstants.{MOST_TEXT}
 use Rattle.conv_p9any.specs.Inner.{Inner}
 use Rattle.conv_p9any.specs.Offers.{consents}
 use Rattle.conv_p9any.specs.Talks.{Standing, choosing, within}
-use Rattle.conv_p9any.specs.Texts.{ended_by_nul, with_text}
-use Rattle.conv_p9any.specs.Courses.{answer_after, choice_tests, choice_text, choose, chosen_start, consent_tests, course, entered, list_tests, move, need_after, need_of, offers_came, passed_on, stage_before, verdict}
+use Rattle.conv_p9any.specs.Texts.{ended_by_nul, text_with_nul, with_text}
+use Rattle.conv_p9any.specs.Courses.{answer_after, choice_tests, choice_text, choose, chosen_start, consent_tests, course, entered, list_tests, need_after, need_of, offers_came, passed_on, taken_back, verdict}
 
 -- what is asked of the inner role
 abbrev pub InnerLaws : Inner → Type 0
@@ -69,15 +67,15 @@ if_sought : (sought : Bool) (p : Progress Standing) (v w : Verdict Standing) →
 if_sought true p v w h = refl
 if_sought false p v w h = absurd cc
 
-entered_leads : (inner : Inner) (start : Start) (choice : Choice) (bytes : List ℕ) → Leads inner start (at (choosing (stage_before choice))) (entered inner start choice bytes)
-entered_leads inner start choice bytes = λ sought. inr (λ none.
-    if_sought (is_sought (inner.needs (chosen_start inner start choice) [])) (at (within choice [])) (goes (choosing (stage_before choice)) g.Ok []) (passed_on inner start choice [] undone) sought)
+entered_leads : (inner : Inner) (start : Start) (stage : Stage) (text bytes : List ℕ) → Leads inner start (at (choosing stage)) (entered inner start stage text bytes)
+entered_leads inner start stage text bytes = λ sought. inr (λ none.
+    if_sought (is_sought (inner.needs (chosen_start inner start text) [])) (at (within stage text [])) (goes (choosing stage) g.Ok []) (passed_on inner start stage text [] undone) sought)
 
 offers_lead : (inner : Inner) (start : Start) (list : List ℕ) → Leads inner start (at (choosing ServerOffers)) (offers_came list)
 offers_lead inner start [] = λ sought. inr (λ none. absurd cc)
 offers_lead inner start (b ∷ list) = λ sought. absurd cc
 
-choose_leads : (inner : Inner) (start : Start) (stage : Stage) (call : Call) → Leads inner start (at (choosing stage)) (choose inner start stage call)
+choose_leads : (inner : Inner) (start : Start) (stage : Stage) (call : Call) → Leads inner start (at (choosing stage)) (choose inner.name start (entered inner start) stage call)
 choose_leads inner start ServerOffers (give b) = λ sought. inl refl
 choose_leads inner start ServerOffers get = λ sought. inl refl
 choose_leads inner start ServerOffers (found key password) = λ sought. inl refl
@@ -106,8 +104,8 @@ choose_leads inner start (ServerFirst list) undone = λ sought. inl refl
 choose_leads inner start (ServerFirst list) (offered offers) = λ sought. inl refl
 choose_leads inner start (ServerFirst list) (picked k) = λ sought. inl refl
 choose_leads inner start (ServerSecond list) (give b) =
-    nul_leads inner start (at (choosing (ServerSecond list))) b (λ text. tested (choice_tests inner list text) (entered inner start (ByClient list text) []))
-    (λ text. tested_leads inner start (at (choosing (ServerSecond list))) (choice_tests inner list text) (entered inner start (ByClient list text) []) (entered_leads inner start (ByClient list text) []))
+    nul_leads inner start (at (choosing (ServerSecond list))) b (λ text. tested (choice_tests inner.name list text) (entered inner start (ServerSecond list) text []))
+    (λ text. tested_leads inner start (at (choosing (ServerSecond list))) (choice_tests inner.name list text) (entered inner start (ServerSecond list) text []) (entered_leads inner start (ServerSecond list) text []))
 choose_leads inner start (ServerSecond list) get = λ sought. inl refl
 choose_leads inner start (ServerSecond list) (found key password) = λ sought. inl refl
 choose_leads inner start (ServerSecond list) (heard answer) = λ sought. inl refl
@@ -117,8 +115,8 @@ choose_leads inner start (ServerSecond list) undone = λ sought. inl refl
 choose_leads inner start (ServerSecond list) (offered offers) = λ sought. inl refl
 choose_leads inner start (ServerSecond list) (picked k) = λ sought. inl refl
 choose_leads inner start ClientFirst (give b) =
-    nul_leads inner start (at (choosing ClientFirst)) b (λ list. tested (list_tests inner start list) (goes (choosing (ClientPick list)) g.Wait []))
-    (λ list. tested_leads inner start (at (choosing ClientFirst)) (list_tests inner start list) (goes (choosing (ClientPick list)) g.Wait []) (λ sought. inr (λ none. refl)))
+    nul_leads inner start (at (choosing ClientFirst)) b (λ list. tested (list_tests inner.name start list) (goes (choosing (ClientPick list)) g.Wait []))
+    (λ list. tested_leads inner start (at (choosing ClientFirst)) (list_tests inner.name start list) (goes (choosing (ClientPick list)) g.Wait []) (λ sought. inr (λ none. refl)))
 choose_leads inner start ClientFirst get = λ sought. inl refl
 choose_leads inner start ClientFirst (found key password) = λ sought. inl refl
 choose_leads inner start ClientFirst (heard answer) = λ sought. inl refl
@@ -138,8 +136,8 @@ choose_leads inner start (ClientPick list) (offered offers) = λ sought. inl ref
 choose_leads inner start (ClientPick list) (picked k) = λ sought. absurd cc
 choose_leads inner start (ClientSecond list place) (give b) = λ sought. inl refl
 choose_leads inner start (ClientSecond list place) get =
-    either_leads inner start (at (choosing (ClientSecond list place))) (consents list) (goes (choosing (ClientThird list place)) g.Ok (choice_text inner start list place)) (entered inner start (ByPick list place) (choice_text inner start list place))
-    (λ sought. absurd cc) (entered_leads inner start (ByPick list place) (choice_text inner start list place))
+    either_leads inner start (at (choosing (ClientSecond list place))) (consents list) (goes (choosing (ClientThird list place)) g.Ok (text_with_nul (choice_text inner.name start list place))) (entered inner start (ClientSecond list place) (choice_text inner.name start list place) (text_with_nul (choice_text inner.name start list place)))
+    (λ sought. absurd cc) (entered_leads inner start (ClientSecond list place) (choice_text inner.name start list place) (text_with_nul (choice_text inner.name start list place)))
 choose_leads inner start (ClientSecond list place) (found key password) = λ sought. inl refl
 choose_leads inner start (ClientSecond list place) (heard answer) = λ sought. inl refl
 choose_leads inner start (ClientSecond list place) unheard = λ sought. inl refl
@@ -148,8 +146,8 @@ choose_leads inner start (ClientSecond list place) undone = λ sought. inl refl
 choose_leads inner start (ClientSecond list place) (offered offers) = λ sought. inl refl
 choose_leads inner start (ClientSecond list place) (picked k) = λ sought. inl refl
 choose_leads inner start (ClientThird list place) (give b) =
-    nul_leads inner start (at (choosing (ClientThird list place))) b (λ text. tested (consent_tests text) (entered inner start (ByConsent list place) []))
-    (λ text. tested_leads inner start (at (choosing (ClientThird list place))) (consent_tests text) (entered inner start (ByConsent list place) []) (entered_leads inner start (ByConsent list place) []))
+    nul_leads inner start (at (choosing (ClientThird list place))) b (λ text. tested (consent_tests text) (entered inner start (ClientThird list place) (choice_text inner.name start list place) []))
+    (λ text. tested_leads inner start (at (choosing (ClientThird list place))) (consent_tests text) (entered inner start (ClientThird list place) (choice_text inner.name start list place) []) (entered_leads inner start (ClientThird list place) (choice_text inner.name start list place) []))
 choose_leads inner start (ClientThird list place) get = λ sought. inl refl
 choose_leads inner start (ClientThird list place) (found key password) = λ sought. inl refl
 choose_leads inner start (ClientThird list place) (heard answer) = λ sought. inl refl
@@ -166,18 +164,10 @@ unless_sought : (sought : Bool) (v w : Verdict Standing) → sought ≡ false �
 unless_sought true v w h = absurd cc
 unless_sought false v w h = refl
 
-passes_on : (inner : Inner) (start : Start) (choice : Choice) (talk : List Call) (call : Call) → inner.needs (chosen_start inner start choice) talk ≡ Nothing → move inner start (within choice talk) call ≡ passed_on inner start choice talk call
-passes_on inner start choice [] (give b) none = refl
-passes_on inner start choice [] get none = refl
-passes_on inner start choice [] (found key password) none = refl
-passes_on inner start choice [] (heard answer) none = refl
-passes_on inner start choice [] unheard none = refl
-passes_on inner start choice [] roomless none = refl
-passes_on inner start choice [] undone none =
-    unless_sought (is_sought (inner.needs (chosen_start inner start choice) [])) (goes (choosing (stage_before choice)) g.Ok []) (passed_on inner start choice [] undone) (ap is_sought none)
-passes_on inner start choice [] (offered offers) none = refl
-passes_on inner start choice [] (picked k) none = refl
-passes_on inner start choice (c ∷ talk) call none = refl
+undone_passes : (inner : Inner) (start : Start) (before : Stage) (text : List ℕ) (talk : List Call) → inner.needs (chosen_start inner start text) talk ≡ Nothing → taken_back inner start before text talk ≡ passed_on inner start before text talk undone
+undone_passes inner start before text [] none =
+    unless_sought (is_sought (inner.needs (chosen_start inner start text) [])) (goes (choosing before) g.Ok []) (passed_on inner start before text [] undone) (ap is_sought none)
+undone_passes inner start before text (call ∷ talk) none = refl
 
 -- ---- what a call seeks is taken back with it
 
@@ -190,11 +180,19 @@ undone_at : (inner : Inner) → InnerLaws inner → (start : Start) (stage : Sta
 undone_at inner laws start stage (Some cause) call none sought = absurd cc
 undone_at inner laws start (choosing stage) None call none sought =
     ap (λ p. need_at inner start p) (undone_choosing inner start (at (choosing stage)) (step inner start (at (choosing stage)) call) none sought (choose_leads inner start stage call sought)) ∙ none
-undone_at inner laws start (within choice talk) None call none sought =
-    let passed = passes_on inner start choice talk call none in
-    let wanted : is_sought (inner.needs (chosen_start inner start choice) (call ∷ talk)) ≡ true = sym (ap (λ v. is_sought (need_at inner start (then_course (at (within choice talk)) v))) passed) ∙ sought in
-    ap (λ v. need_at inner start (step inner start (then_course (at (within choice talk)) v) undone)) passed
-    ∙ laws.undone_needs (chosen_start inner start choice) talk call none wanted
+undone_at inner laws start (within before text talk) None (give b) none sought = laws.undone_needs (chosen_start inner start text) talk (give b) none sought
+undone_at inner laws start (within before text talk) None get none sought = laws.undone_needs (chosen_start inner start text) talk get none sought
+undone_at inner laws start (within before text talk) None (found key password) none sought = laws.undone_needs (chosen_start inner start text) talk (found key password) none sought
+undone_at inner laws start (within before text talk) None (heard answer) none sought = laws.undone_needs (chosen_start inner start text) talk (heard answer) none sought
+undone_at inner laws start (within before text talk) None unheard none sought = laws.undone_needs (chosen_start inner start text) talk unheard none sought
+undone_at inner laws start (within before text talk) None roomless none sought = laws.undone_needs (chosen_start inner start text) talk roomless none sought
+undone_at inner laws start (within before text talk) None undone none sought =
+    let passed = undone_passes inner start before text talk none in
+    let wanted : is_sought (inner.needs (chosen_start inner start text) (undone ∷ talk)) ≡ true = sym (ap (λ v. is_sought (need_at inner start (then_course (at (within before text talk)) v))) passed) ∙ sought in
+    ap (λ v. need_at inner start (step inner start (then_course (at (within before text talk)) v) undone)) passed
+    ∙ laws.undone_needs (chosen_start inner start text) talk undone none wanted
+undone_at inner laws start (within before text talk) None (offered list) none sought = let wrong : is_sought (inner.needs (chosen_start inner start text) talk) ≡ false = ap is_sought none in absurd cc
+undone_at inner laws start (within before text talk) None (picked place) none sought = let wrong : is_sought (inner.needs (chosen_start inner start text) talk) ≡ false = ap is_sought none in absurd cc
 
 pub undone_needs : (inner : Inner) → InnerLaws inner → (start : Start) (talk : List Call) (call : Call) → need_after inner start talk ≡ Nothing → is_sought (need_after inner start (call ∷ talk)) ≡ true → need_after inner start (undone ∷ call ∷ talk) ≡ Nothing
 undone_needs inner laws start talk call none sought = undone_at inner laws start (course inner start talk).stage (course inner start talk).broken call none sought
@@ -219,8 +217,7 @@ found_at inner laws start (choosing ClientFirst) None key password wants none = 
 found_at inner laws start (choosing (ClientPick list)) None key password wants none = absurd wants
 found_at inner laws start (choosing (ClientSecond list place)) None key password wants none = absurd wants
 found_at inner laws start (choosing (ClientThird list place)) None key password wants none = absurd wants
-found_at inner laws start (within choice []) None key password wants none = laws.found_needs (chosen_start inner start choice) [] key password wants
-found_at inner laws start (within choice (c ∷ talk)) None key password wants none = laws.found_needs (chosen_start inner start choice) (c ∷ talk) key password wants
+found_at inner laws start (within before text talk) None key password wants none = laws.found_needs (chosen_start inner start text) talk key password wants
 
 pub found_needs : (inner : Inner) → InnerLaws inner → (start : Start) (talk : List Call) (key : SkKey) (password : Option (List ℕ)) → IsKey (need_after inner start talk) → need_after inner start (undone ∷ talk) ≡ Nothing → is_sought (need_after inner start (found key password ∷ talk)) ≡ false
 found_needs inner laws start talk key password wants none = found_at inner laws start (course inner start talk).stage (course inner start talk).broken key password wants none
@@ -235,7 +232,7 @@ picked_at inner laws start (choosing ClientFirst) None place wants = absurd want
 picked_at inner laws start (choosing (ClientPick list)) None place wants = refl
 picked_at inner laws start (choosing (ClientSecond list k)) None place wants = absurd wants
 picked_at inner laws start (choosing (ClientThird list k)) None place wants = absurd wants
-picked_at inner laws start (within choice talk) None place wants = absurd (laws.never_picks (chosen_start inner start choice) talk wants)
+picked_at inner laws start (within before text talk) None place wants = absurd (laws.never_picks (chosen_start inner start text) talk wants)
 
 pub picked_needs : (inner : Inner) → InnerLaws inner → (start : Start) (talk : List Call) (place : ℕ) → IsPick (need_after inner start talk) → is_sought (need_after inner start (picked place ∷ talk)) ≡ false
 picked_needs inner laws start talk place wants = picked_at inner laws start (course inner start talk).stage (course inner start talk).broken place wants
@@ -252,19 +249,19 @@ offers_at inner laws start (choosing ClientFirst) None wants none = wants
 offers_at inner laws start (choosing (ClientPick list)) None wants none = wants
 offers_at inner laws start (choosing (ClientSecond list place)) None wants none = wants
 offers_at inner laws start (choosing (ClientThird list place)) None wants none = wants
-offers_at inner laws start (within choice talk) None wants none = laws.never_offers (chosen_start inner start choice) talk wants
+offers_at inner laws start (within before text talk) None wants none = laws.never_offers (chosen_start inner start text) talk wants
 
 pub offers_stay : (inner : Inner) → InnerLaws inner → (start : Start) (talk : List Call) → IsOffers (need_after inner start talk) → need_after inner start (undone ∷ talk) ≡ Nothing → ⊥
 offers_stay inner laws start talk wants none = offers_at inner laws start (course inner start talk).stage (course inner start talk).broken wants none
 
 -- ---- the authentication server is asked by the inner role alone
 
-abbrev asking : Choice → List Call → Progress Standing
-asking choice talk = at (within choice talk)
+abbrev asking : Stage → List ℕ → List Call → Progress Standing
+asking before text talk = at (within before text talk)
 
 -- it is so far, and the inner role asks
 abbrev Asks : Inner → Start → Progress Standing → Type 0
-Asks inner start p = (choice : Choice) × ((talk : List Call) × ((p ≡ asking choice talk) × IsExchange (inner.needs (chosen_start inner start choice) talk)))
+Asks inner start p = (before : Stage) × ((text : List ℕ) × ((talk : List Call) × ((p ≡ asking before text talk) × IsExchange (inner.needs (chosen_start inner start text) talk))))
 
 asks_at : (inner : Inner) (start : Start) (stage : Standing) (broken : Option Cause) → IsExchange (need_at inner start (record { stage = stage; broken = broken })) → Asks inner start (record { stage = stage; broken = broken })
 asks_at inner start stage (Some cause) exchange = absurd exchange
@@ -276,52 +273,32 @@ asks_at inner start (choosing ClientFirst) None exchange = absurd exchange
 asks_at inner start (choosing (ClientPick list)) None exchange = absurd exchange
 asks_at inner start (choosing (ClientSecond list place)) None exchange = absurd exchange
 asks_at inner start (choosing (ClientThird list place)) None exchange = absurd exchange
-asks_at inner start (within choice talk) None exchange = (choice, (talk, (refl, exchange)))
+asks_at inner start (within before text talk) None exchange = (before, (text, (talk, (refl, exchange))))
 
 asks : (inner : Inner) (start : Start) (talk : List Call) → IsExchange (need_after inner start talk) → Asks inner start (course inner start talk)
 asks inner start talk exchange = asks_at inner start (course inner start talk).stage (course inner start talk).broken exchange
 
-heard_within : (inner : Inner) → InnerLaws inner → (start : Start) (choice : Choice) (talk : List Call) (bytes : List ℕ) → IsExchange (inner.needs (chosen_start inner start choice) talk) → need_at inner start (step inner start (asking choice talk) (heard bytes)) ≡ Nothing
-heard_within inner laws start choice [] bytes exchange = laws.heard_needs (chosen_start inner start choice) [] bytes exchange
-heard_within inner laws start choice (c ∷ talk) bytes exchange = laws.heard_needs (chosen_start inner start choice) (c ∷ talk) bytes exchange
-
 pub heard_needs : (inner : Inner) → InnerLaws inner → (start : Start) (talk : List Call) (bytes : List ℕ) → IsExchange (need_after inner start talk) → need_after inner start (heard bytes ∷ talk) ≡ Nothing
 heard_needs inner laws start talk bytes exchange =
     let asked = asks inner start talk exchange in
-    ap (λ p. need_at inner start (step inner start p (heard bytes))) asked.1.1.0 ∙ heard_within inner laws start asked.0 asked.1.0 bytes asked.1.1.1
-
-unheard_within : (inner : Inner) → InnerLaws inner → (start : Start) (choice : Choice) (talk : List Call) → IsExchange (inner.needs (chosen_start inner start choice) talk) → need_at inner start (step inner start (asking choice talk) unheard) ≡ Nothing
-unheard_within inner laws start choice [] exchange = laws.unheard_needs (chosen_start inner start choice) [] exchange
-unheard_within inner laws start choice (c ∷ talk) exchange = laws.unheard_needs (chosen_start inner start choice) (c ∷ talk) exchange
+    ap (λ p. need_at inner start (step inner start p (heard bytes))) asked.1.1.1.0 ∙ laws.heard_needs (chosen_start inner start asked.1.0) asked.1.1.0 bytes asked.1.1.1.1
 
 pub unheard_needs : (inner : Inner) → InnerLaws inner → (start : Start) (talk : List Call) → IsExchange (need_after inner start talk) → need_after inner start (unheard ∷ talk) ≡ Nothing
 unheard_needs inner laws start talk exchange =
     let asked = asks inner start talk exchange in
-    ap (λ p. need_at inner start (step inner start p unheard)) asked.1.1.0 ∙ unheard_within inner laws start asked.0 asked.1.0 asked.1.1.1
-
-roomless_within : (inner : Inner) → InnerLaws inner → (start : Start) (choice : Choice) (talk : List Call) → IsExchange (inner.needs (chosen_start inner start choice) talk) → need_at inner start (step inner start (asking choice talk) roomless) ≡ Nothing
-roomless_within inner laws start choice [] exchange = laws.roomless_needs (chosen_start inner start choice) [] exchange
-roomless_within inner laws start choice (c ∷ talk) exchange = laws.roomless_needs (chosen_start inner start choice) (c ∷ talk) exchange
+    ap (λ p. need_at inner start (step inner start p unheard)) asked.1.1.1.0 ∙ laws.unheard_needs (chosen_start inner start asked.1.0) asked.1.1.0 asked.1.1.1.1
 
 pub roomless_needs : (inner : Inner) → InnerLaws inner → (start : Start) (talk : List Call) → IsExchange (need_after inner start talk) → need_after inner start (roomless ∷ talk) ≡ Nothing
 roomless_needs inner laws start talk exchange =
     let asked = asks inner start talk exchange in
-    ap (λ p. need_at inner start (step inner start p roomless)) asked.1.1.0 ∙ roomless_within inner laws start asked.0 asked.1.0 asked.1.1.1
-
-unheard_told : (inner : Inner) → InnerLaws inner → (start : Start) (choice : Choice) (talk : List Call) → IsExchange (inner.needs (chosen_start inner start choice) talk) → answer_of (verdict inner start (asking choice talk) unheard) ≡ g.Refused NoServer
-unheard_told inner laws start choice [] exchange = laws.unheard_tells (chosen_start inner start choice) [] exchange
-unheard_told inner laws start choice (c ∷ talk) exchange = laws.unheard_tells (chosen_start inner start choice) (c ∷ talk) exchange
+    ap (λ p. need_at inner start (step inner start p roomless)) asked.1.1.1.0 ∙ laws.roomless_needs (chosen_start inner start asked.1.0) asked.1.1.0 asked.1.1.1.1
 
 pub unheard_tells : (inner : Inner) → InnerLaws inner → (start : Start) (talk : List Call) → IsExchange (need_after inner start talk) → answer_after inner start talk unheard ≡ g.Refused NoServer
 unheard_tells inner laws start talk exchange =
     let asked = asks inner start talk exchange in
-    ap (λ p. answer_of (verdict inner start p unheard)) asked.1.1.0 ∙ unheard_told inner laws start asked.0 asked.1.0 asked.1.1.1
-
-roomless_told : (inner : Inner) → InnerLaws inner → (start : Start) (choice : Choice) (talk : List Call) → IsExchange (inner.needs (chosen_start inner start choice) talk) → answer_of (verdict inner start (asking choice talk) roomless) ≡ g.Refused NoRoom
-roomless_told inner laws start choice [] exchange = laws.roomless_tells (chosen_start inner start choice) [] exchange
-roomless_told inner laws start choice (c ∷ talk) exchange = laws.roomless_tells (chosen_start inner start choice) (c ∷ talk) exchange
+    ap (λ p. answer_of (verdict inner start p unheard)) asked.1.1.1.0 ∙ laws.unheard_tells (chosen_start inner start asked.1.0) asked.1.1.0 asked.1.1.1.1
 
 pub roomless_tells : (inner : Inner) → InnerLaws inner → (start : Start) (talk : List Call) → IsExchange (need_after inner start talk) → answer_after inner start talk roomless ≡ g.Refused NoRoom
 roomless_tells inner laws start talk exchange =
     let asked = asks inner start talk exchange in
-    ap (λ p. answer_of (verdict inner start p roomless)) asked.1.1.0 ∙ roomless_told inner laws start asked.0 asked.1.0 asked.1.1.1
+    ap (λ p. answer_of (verdict inner start p roomless)) asked.1.1.1.0 ∙ laws.roomless_tells (chosen_start inner start asked.1.0) asked.1.1.0 asked.1.1.1.1
