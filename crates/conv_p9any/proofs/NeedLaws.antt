@@ -21,7 +21,7 @@ use Rattle.conv_p9any.specs.Inner.{Inner}
 use Rattle.conv_p9any.specs.Offers.{consents}
 use Rattle.conv_p9any.specs.Talks.{Standing, choosing, within}
 use Rattle.conv_p9any.specs.Texts.{ended_by_nul, text_with_nul, with_text}
-use Rattle.conv_p9any.specs.Courses.{answer_after, choice_tests, choice_text, choose, chosen_start, consent_tests, course, entered, list_tests, need_after, need_of, offers_came, passed_on, taken_back, verdict}
+use Rattle.conv_p9any.specs.Courses.{answer_after, choice_tests, choice_text, choose, chosen_start, consent_tests, course, entered, list_tests, move, need_after, need_of, offers_came, passed_on, seeks_first, taken_back, verdict}
 
 -- what is asked of the inner role
 abbrev pub InnerLaws : Inner → Type 0
@@ -164,10 +164,13 @@ unless_sought : (sought : Bool) (v w : Verdict Standing) → sought ≡ false �
 unless_sought true v w h = absurd cc
 unless_sought false v w h = refl
 
+seeks_none : (inner : Inner) (start : Start) (talk : List Call) → inner.needs start talk ≡ Nothing → seeks_first inner.needs start talk ≡ false
+seeks_none inner start [] none = ap is_sought none
+seeks_none inner start (call ∷ talk) none = refl
+
 undone_passes : (inner : Inner) (start : Start) (before : Stage) (text : List ℕ) (talk : List Call) → inner.needs (chosen_start inner start text) talk ≡ Nothing → taken_back inner start before text talk ≡ passed_on inner start before text talk undone
-undone_passes inner start before text [] none =
-    unless_sought (is_sought (inner.needs (chosen_start inner start text) [])) (goes (choosing before) g.Ok []) (passed_on inner start before text [] undone) (ap is_sought none)
-undone_passes inner start before text (call ∷ talk) none = refl
+undone_passes inner start before text talk none =
+    unless_sought (seeks_first inner.needs (chosen_start inner start text) talk) (goes (choosing before) g.Ok []) (passed_on inner start before text talk undone) (seeks_none inner (chosen_start inner start text) talk none)
 
 -- ---- what a call seeks is taken back with it
 

@@ -18,7 +18,7 @@ use Rattle.roles.specs.Templates.{asked, given_as, asked_as}
 use Rattle.roles.specs.Talks.{Call, give, get, found, undone, offered, picked}
 use Rattle.roles.specs.Courses.{answer_after as p9sk1_answers, puts_after as p9sk1_puts, need_after as p9sk1_needs, outcome_after as p9sk1_ends, ended_after as p9sk1_ended}
 use Rattle.conv_p9any.specs.Inner.{Inner}
-use Rattle.conv_p9any.specs.Offers.{eligible, is_eligible, is_offered}
+use Rattle.conv_p9any.specs.Offers.{eligible, is_eligible, is_offered, offers_dom}
 use Rattle.conv_p9any.specs.Courses.{answer_after, inner_talk, need_after, puts_after}
 
 -- the inner role of all rows, and the word
@@ -80,11 +80,11 @@ abbrev choosing_by : List ℕ → Gave
 choosing_by b = answer_after p9sk1 server offering (give b)
 
 what_it_did_not_offer_is_refused : choosing_by (with_nul (codes "p9sk1 y")) ≡ g.Refused NotOffered
-unfolding role_of value_of before_nul is_offered is_text is_utf8 chars encode
+unfolding role_of value_of before_nul is_offered offers_dom is_text is_utf8 chars encode
 what_it_did_not_offer_is_refused = refl
 
 another_protocol_too : choosing_by (with_nul (codes "p9sk2 x")) ≡ g.Refused NotOffered
-unfolding role_of value_of before_nul is_offered is_text is_utf8 chars encode
+unfolding role_of value_of before_nul is_offered offers_dom is_text is_utf8 chars encode
 another_protocol_too = refl
 
 a_nul_is_wanted : choosing_by (codes "p9sk1 x") ≡ g.TooSmall 8
@@ -104,30 +104,30 @@ unfolding role_of value_of before_nul
 which_is_too_long = refl
 
 a_choice_wants_a_key : choosing_by (with_nul (codes "p9sk1 x")) ≡ g.Wait
-unfolding role_of value_of before_nul is_offered asked is_text is_utf8 chars encode
+unfolding role_of value_of before_nul is_offered offers_dom asked is_text is_utf8 chars encode
 a_choice_wants_a_key = refl
 
 abbrev chosen : List Call
 chosen = give (with_nul (codes "p9sk1 x")) ∷ offering
 
 in_its_domain : need_after p9sk1 server chosen ≡ Key in_x
-unfolding role_of value_of before_nul is_offered asked is_text is_utf8 chars encode
+unfolding role_of value_of before_nul is_offered offers_dom asked is_text is_utf8 chars encode
 in_its_domain = refl
 
 the_inner_role_has_begun : inner_talk p9sk1 server chosen ≡ Some []
-unfolding role_of value_of before_nul is_offered asked is_text is_utf8 chars encode
+unfolding role_of value_of before_nul is_offered offers_dom asked is_text is_utf8 chars encode
 the_inner_role_has_begun = refl
 
 undoing_awaits_it_again : answer_after p9sk1 server (undone ∷ chosen) get ≡ g.Phase AwaitsWrite
-unfolding role_of value_of before_nul is_offered asked is_text is_utf8 chars encode
+unfolding role_of value_of before_nul is_offered offers_dom asked is_text is_utf8 chars encode
 undoing_awaits_it_again = refl
 
 a_challenge_follows : answer_after p9sk1 server (found srv None ∷ chosen) (give word) ≡ g.Ok
-unfolding role_of value_of before_nul is_offered asked is_text is_utf8 chars encode
+unfolding role_of value_of before_nul is_offered offers_dom asked is_text is_utf8 chars encode
 a_challenge_follows = refl
 
 a_broken_one_is_broken : answer_after p9sk1 server (give (with_nul (codes "p9sk1 y")) ∷ offering) get ≡ g.Phase Broken
-unfolding role_of value_of before_nul is_offered is_text is_utf8 chars encode
+unfolding role_of value_of before_nul is_offered offers_dom is_text is_utf8 chars encode
 a_broken_one_is_broken = refl
 
 -- ---- a client

@@ -3,3 +3,4 @@ pub mod Texts
 pub mod Offers
 pub mod Talks
 pub mod Courses
+pub mod Standing

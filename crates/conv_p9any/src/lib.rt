@@ -2,6 +2,8 @@
 //! (authsrv(6) and factotum(4) of the Plan 9 manual). Which protocol that is, its user says.
 #![tactic(auto)]
 
+mod own;
+mod spoken;
 mod stage;
 
 pub use stage::{MOST_TEXT, Stage};

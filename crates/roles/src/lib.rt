@@ -16,7 +16,7 @@ pub use machine::{Machine, Offered};
 pub use need::{Need, Outcome, Tuples};
 pub use stage::{Role, Stage};
 pub use start::{MOST_OTHERS, fits_start, read_role, read_start};
-pub use template::build_asked;
+pub use template::{build_asked, find_dom, is_elsewhere, put_attr, put_given};
 
 #[cfg(test)]
 mod tests;
