@@ -1,2 +1,3 @@
 pub mod NeedLaws
+pub mod OfferLemmas
 mod Rows

@@ -4,3 +4,5 @@ pub mod Offers
 pub mod Talks
 pub mod Courses
 pub mod Standing
+pub mod Steps
+pub mod Cutting

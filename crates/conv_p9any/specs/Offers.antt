@@ -1,8 +1,8 @@
 -- The list of offers, and the choice of one (authsrv(6) of the Plan 9 manual). A list is words `proto@dom` with a blank
 -- between; `v.2 ` in front of it says that the server consents to the choice. A choice is the text `proto dom`. Which
 -- words a client may choose is this project's.
-use Rattle.std.specs.Prelude.{ℕ, ◌+◌, ◌==◌, ◌&&◌, not, Bool, List, [], ◌++◌, length, take, drop, map, filter, codes, if◌then◌else◌}
-use Rattle.std.specs.List.{list_any, slice_index_or, slice_split}
+use Rattle.std.specs.Prelude.{ℕ, ◌+◌, ◌==◌, ◌&&◌, not, Bool, List, [], ◌++◌, length, nat_eq, drop, map, filter, codes, if◌then◌else◌}
+use Rattle.std.specs.List.{list_any, slice_index_or, slice_split, starts_with}
 use Rattle.std.specs.Str.{bytes_eq}
 use Rattle.wire_base.specs.Texts.{is_text}
 use Rattle.attr_tuples.specs.Forms.{is_dom}
@@ -16,7 +16,7 @@ words text = slice_split (λ b. b == 32) text
 
 -- a text begins so
 abbrev pub begins : List ℕ → List ℕ → Bool
-begins front text = bytes_eq (take (length front) text) front
+begins front text = starts_with nat_eq text front
 
 -- the server of a list consents to the choice
 abbrev pub consents : List ℕ → Bool

@@ -2,8 +2,11 @@
 //! (authsrv(6) and factotum(4) of the Plan 9 manual). Which protocol that is, its user says.
 #![tactic(auto)]
 
+mod offers;
 mod own;
 mod spoken;
 mod stage;
+mod step;
+mod texts;
 
 pub use stage::{MOST_TEXT, Stage};

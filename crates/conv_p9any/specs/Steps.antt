@@ -1,0 +1,48 @@
+-- Words for the steps of the machine. No public contract cites them.
+use Rattle.std.specs.Prelude.{◌≡◌, ℕ, List, [], true, Result, Ok, Err}
+use Rattle.std.specs.Borrow.{Bor}
+use Rattle.attr_tuples.specs.Attributes.{is_value}
+use Rattle.attr_tuples.specs.declared.attr.Value.TheVariants.{Is}
+use Rattle.roles.specs.declared.answer.Gave.{Gave}
+use Rattle.roles.specs.Starts.{Start}
+use Rattle.roles.specs.Talks.{Verdict, goes, stays, breaks}
+use Rattle.conv_p9any.specs.declared.own.Own.{Own}
+use Rattle.conv_p9any.specs.declared.stage.Stage.{Stage}
+use Rattle.conv_p9any.specs.declared.step.Judged.{Judged}
+use Rattle.conv_p9any.specs.declared.step.Judged.TheVariants.{Moves, Chooses}
+use Rattle.conv_p9any.specs.declared.step.Step.{Step}
+use Rattle.conv_p9any.specs.declared.step.Step.TheVariants.{Goes, Stays, Breaks}
+use Rattle.conv_p9any.specs.Courses.{Entry, choice_need}
+use Rattle.conv_p9any.specs.Offers.{dom_in}
+use Rattle.conv_p9any.specs.Talks.{Standing, choosing}
+use Rattle.conv_p9any.specs.Texts.{text_in}
+
+-- the start that a machine keeps
+abbrev pub start_of : Own → Start
+start_of own = record { template = own.template; word = own.word }
+
+-- a text was read, or what is told where there is none
+abbrev pub Reads : Result (Bor (List ℕ)) Gave → List ℕ → Type 0
+Reads (Ok text) b = text_in b ≡ Ok text.now
+Reads (Err answer) b = text_in b ≡ Err answer
+
+-- a step as a verdict
+abbrev pub verdict_of : Step → Verdict Standing
+verdict_of (Goes next need answer) = goes (choosing next) answer []
+verdict_of (Stays answer) = stays answer
+verdict_of (Breaks cause) = breaks cause
+
+-- the need of a step is that of its next stage
+abbrev pub IsNeeded : List ℕ → Start → Step → Type 0
+IsNeeded name start (Goes next need answer) = need ≡ choice_need name start next
+IsNeeded name start (Stays answer) = Unit {0}
+IsNeeded name start (Breaks cause) = Unit {0}
+
+-- the text of a choice gives a domain that may stand in a template
+abbrev pub GivesDom : List ℕ → List ℕ → Type 0
+GivesDom name text = is_value (Is (dom_in name text)) ≡ true
+
+-- what a message comes to at a stage, whatever follows a choice
+abbrev pub Judges : List ℕ → Start → Stage → Judged → (Entry → Verdict Standing) → Type 0
+Judges name start stage (Moves step) v = ((enter : Entry) → verdict_of step ≡ v enter) × IsNeeded name start step
+Judges name start stage (Chooses text) v = ((enter : Entry) → enter stage text [] ≡ v enter) × GivesDom name text
