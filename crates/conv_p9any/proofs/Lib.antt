@@ -1,3 +1,4 @@
 pub mod NeedLaws
 pub mod OfferLemmas
+pub mod StartLemmas
 mod Rows

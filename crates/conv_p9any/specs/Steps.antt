@@ -4,15 +4,17 @@ use Rattle.std.specs.Borrow.{Bor}
 use Rattle.attr_tuples.specs.Attributes.{is_value}
 use Rattle.attr_tuples.specs.declared.attr.Value.TheVariants.{Is}
 use Rattle.roles.specs.declared.answer.Gave.{Gave}
+use Rattle.roles.specs.declared.answer.Gave.TheVariants as g
 use Rattle.roles.specs.Starts.{Start}
-use Rattle.roles.specs.Talks.{Verdict, goes, stays, breaks}
+use Rattle.roles.specs.Talks.{Verdict, goes, stays, breaks, tested}
 use Rattle.conv_p9any.specs.declared.own.Own.{Own}
 use Rattle.conv_p9any.specs.declared.stage.Stage.{Stage}
+use Rattle.conv_p9any.specs.declared.stage.Stage.TheVariants.{ClientPick}
 use Rattle.conv_p9any.specs.declared.step.Judged.{Judged}
 use Rattle.conv_p9any.specs.declared.step.Judged.TheVariants.{Moves, Chooses}
 use Rattle.conv_p9any.specs.declared.step.Step.{Step}
 use Rattle.conv_p9any.specs.declared.step.Step.TheVariants.{Goes, Stays, Breaks}
-use Rattle.conv_p9any.specs.Courses.{Entry, choice_need}
+use Rattle.conv_p9any.specs.Courses.{Entry, choice_need, list_tests}
 use Rattle.conv_p9any.specs.Offers.{dom_in}
 use Rattle.conv_p9any.specs.Talks.{Standing, choosing}
 use Rattle.conv_p9any.specs.Texts.{text_in}
@@ -46,3 +48,8 @@ GivesDom name text = is_value (Is (dom_in name text)) ≡ true
 abbrev pub Judges : List ℕ → Start → Stage → Judged → (Entry → Verdict Standing) → Type 0
 Judges name start stage (Moves step) v = ((enter : Entry) → verdict_of step ≡ v enter) × IsNeeded name start step
 Judges name start stage (Chooses text) v = ((enter : Entry) → enter stage text [] ≡ v enter) × GivesDom name text
+
+-- a step of a client that was given this list
+abbrev pub Picks : List ℕ → Start → List ℕ → Step → Type 0
+Picks name start list step =
+    (verdict_of step ≡ tested (list_tests name start list) (goes (choosing (ClientPick list)) g.Wait [])) × IsNeeded name start step

@@ -2,6 +2,9 @@
 //! (authsrv(6) and factotum(4) of the Plan 9 manual). Which protocol that is, its user says.
 #![tactic(auto)]
 
+mod inner;
+mod judge;
+mod need;
 mod offers;
 mod own;
 mod spoken;

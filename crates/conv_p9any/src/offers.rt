@@ -1,6 +1,8 @@
 // Which words of a list of offers may be chosen. Nothing here takes memory.
 ghost use Rattle.std.specs.Prelude.{◌≡◌, ◌==◌, ◌<◌, ◌∷◌, IfSome, drop, length, true};
 ghost use Rattle.std.specs.List.{list_any, position};
+ghost use Rattle.attr_tuples.specs.Attributes.{is_value};
+ghost use Rattle.attr_tuples.specs.declared.attr.Value.TheVariants.{Is};
 ghost use Rattle.conv_p9any.specs.Cutting.{Finds, words_left};
 ghost use Rattle.conv_p9any.specs.Offers.{begins, consents, dom_at, dom_in, is_dom_text, is_eligible, is_marked, is_offered, offers_dom, offers_text, words};
 ghost use Rattle.conv_p9any.specs.Steps.{start_of};
@@ -130,9 +132,10 @@ pub fn all_offers(list: &[u8]) -> Option<&[u8]>
 }
 
 /// The domain of the eligible word at a place; none where there is no such place.
-#[tactic(auto, unfolding(crate::specs::Offers::eligible))]
+#[tactic(auto, unfolding(crate::specs::Offers::eligible), using(crate::proofs::OfferLemmas::dom_text_value, crate::proofs::OfferLemmas::empty_value))]
 pub fn dom_at<'a>(protocol: &[u8], own: &Own, list: &'a [u8], place: u32) -> &'a [u8]
     ensures value { result.now ≡ dom_at protocol.now (start_of own.now) list.now place }
+    ensures valid { is_value (Is result.now) ≡ true }
 {
     let mut left = all_offers(list);
     let mut before = place;
