@@ -10,7 +10,8 @@ use Rattle.roles.specs.declared.answer.Cause.TheVariants.{NotOffered, WrongKind}
 use Rattle.roles.specs.declared.answer.Gave.{Gave}
 use Rattle.roles.specs.declared.answer.Gave.TheVariants as g
 use Rattle.roles.specs.declared.answer.PhaseWord.TheVariants.{AwaitsRead, AwaitsWrite}
-use Rattle.roles.specs.declared.need.Need.TheVariants.{Nothing, Key}
+use Rattle.roles.specs.declared.need.Need.{Need}
+use Rattle.roles.specs.declared.need.Need.TheVariants.{Nothing, Key, Offers, Pick}
 use Rattle.roles.specs.declared.need.Outcome.{Outcome}
 use Rattle.roles.specs.declared.need.Outcome.TheVariants.{Running}
 use Rattle.roles.specs.declared.stage.Role.{Role}
@@ -18,14 +19,14 @@ use Rattle.roles.specs.declared.stage.Role.TheVariants.{Client, Server, Speakfor
 use Rattle.roles.specs.Starts.{Start, role_of}
 use Rattle.roles.specs.Templates.{asked}
 use Rattle.roles.specs.Talks.{Call, Progress, Verdict, give, get, found, undone, offered, picked, goes, stays, tested}
-use Rattle.roles.specs.Courses.{answer_of, bytes_of, outcome_unless, then_course, unless_broken}
+use Rattle.roles.specs.Courses.{answer_of, bytes_of, need_unless, outcome_unless, then_course, unless_broken}
 use Rattle.conv_p9any.specs.declared.stage.Choice.{Choice}
 use Rattle.conv_p9any.specs.declared.stage.Choice.TheVariants.{ByClient, ByPick}
 use Rattle.conv_p9any.specs.declared.stage.Stage.{Stage}
 use Rattle.conv_p9any.specs.declared.stage.Stage.TheVariants.{ServerOffers, ServerKey, ServerFirst, ServerSecond, ClientFirst, ClientPick, ClientSecond, ClientThird}
 use Rattle.conv_p9any.specs.Inner.{Inner, asked_within, inner_start}
 use Rattle.conv_p9any.specs.Offers.{choice_of, consents, dom_at, eligible, is_offered}
-use Rattle.conv_p9any.specs.Talks.{Standing, Wanted, choosing, within, offers, pick, plain, dom_of, wants_any, wants_key}
+use Rattle.conv_p9any.specs.Talks.{Standing, choosing, within, dom_of, wants_any, wants_key}
 use Rattle.conv_p9any.specs.Texts.{ended_by_nul, text_with_nul}
 
 -- ---- the inner role
@@ -105,6 +106,7 @@ choose inner start (ServerFirst list) get = goes (choosing (ServerSecond list)) 
 choose inner start (ServerSecond list) (give b) = choice_came inner start list b
 -- client, 1: the list is given, and a domain picked
 choose inner start ClientFirst (give b) = list_came inner start b
+choose inner start (ClientPick list) undone = goes (choosing ClientFirst) g.Ok []
 choose inner start (ClientPick list) (picked place) = goes (choosing (ClientSecond list place)) g.Ok []
 -- client, 2: the choice is got
 choose inner start (ClientSecond list place) get = choice_got inner start list place
@@ -171,19 +173,14 @@ puts_after inner start talk call = bytes_of (verdict inner start (course inner s
 abbrev pub asked_first : Inner → Start → List Attr
 asked_first inner start = asked inner.name (role_of start.template) start.template (value_of (codes "dom") start.template)
 
-abbrev pub need_of : Inner → Start → Standing → Wanted
-need_of inner start (choosing ServerOffers) = offers (asked_first inner start)
-need_of inner start (choosing ServerKey) = plain (Key (asked_first inner start))
-need_of inner start (choosing (ClientPick list)) = pick (map (λ dom. asked_within inner start dom) (eligible inner start list))
-need_of inner start (choosing _) = plain Nothing
-need_of inner start (within choice talk) = plain (inner.needs (chosen_start inner start choice) talk)
+abbrev pub need_of : Inner → Start → Standing → Need
+need_of inner start (choosing ServerOffers) = Offers (asked_first inner start)
+need_of inner start (choosing ServerKey) = Key (asked_first inner start)
+need_of inner start (choosing (ClientPick list)) = Pick (map (λ dom. asked_within inner start dom) (eligible inner start list))
+need_of inner start (choosing _) = Nothing
+need_of inner start (within choice talk) = inner.needs (chosen_start inner start choice) talk
 
--- a broken conversation needs nothing
-abbrev pub need_unless : Option Cause → Wanted → Wanted
-need_unless None need = need
-need_unless (Some cause) need = plain Nothing
-
-abbrev pub need_after : Inner → Start → List Call → Wanted
+abbrev pub need_after : Inner → Start → List Call → Need
 need_after inner start talk = need_unless (course inner start talk).broken (need_of inner start (course inner start talk).stage)
 
 -- ---- how it ends

@@ -2,7 +2,7 @@
 use Rattle.std.specs.Prelude.{ℕ, List, Bool, true, false}
 use Rattle.attr_tuples.specs.declared.attr.Attr.{Attr}
 use Rattle.roles.specs.declared.need.Need.{Need}
-use Rattle.roles.specs.declared.need.Need.TheVariants.{Nothing, Key, Exchange}
+use Rattle.roles.specs.declared.need.Need.TheVariants.{Nothing, Key, Offers, Pick, Exchange}
 use Rattle.roles.specs.Starts.{Start}
 use Rattle.roles.specs.Talks.{Call}
 use Rattle.conv_p9any.specs.declared.stage.Choice.{Choice}
@@ -16,12 +16,6 @@ pub data Standing : Type 0 where
   choosing : (stage : Stage) → Standing
   within : (choice : Choice) (talk : List Call) → Standing
 
--- what it needs: the offers for a template, a pick among templates, or what any role may need
-pub data Wanted : Type 0 where
-  offers : (template : List Attr) → Wanted
-  pick : (templates : List (List Attr)) → Wanted
-  plain : (need : Need) → Wanted
-
 -- the domain that was chosen
 abbrev pub dom_of : Inner → Start → Choice → List ℕ
 dom_of inner start (ByClient list text) = dom_in inner text
@@ -31,9 +25,13 @@ dom_of inner start (ByPick list place) = dom_at inner start list place
 abbrev pub wants_key : Need → Bool
 wants_key Nothing = false
 wants_key (Key template) = true
+wants_key (Offers template) = false
+wants_key (Pick templates) = false
 wants_key (Exchange request shape) = false
 
 abbrev pub wants_any : Need → Bool
 wants_any Nothing = false
 wants_any (Key template) = true
+wants_any (Offers template) = true
+wants_any (Pick templates) = true
 wants_any (Exchange request shape) = true

@@ -9,7 +9,7 @@ use Rattle.roles.specs.Talks.{Call as Move}
 use Rattle.rpc_file.specs.declared.answer.RpcAnswer.{RpcAnswer}
 use Rattle.rpc_file.specs.declared.answer.RpcAnswer.TheVariants as a
 use Rattle.talks.specs.Answers.{move_answer, told_key}
-use Rattle.talks.specs.Roles.{answers}
+use Rattle.conv_set.specs.Protocols.{answers}
 use Rattle.talks.specs.Standings.{Begun, chosen_for, with_move}
 use Rattle.conversations.specs.declared.begun.Begun.{Begun as Held}
 use Rattle.conversations.specs.declared.phase.Phase.{Phase}

@@ -15,7 +15,7 @@ use Rattle.rpc_file.specs.declared.answer.RpcAnswer.TheVariants as a
 use Rattle.talks.specs.Answers.{attributes, move_answer}
 use Rattle.talks.specs.Calls.{Call, CarriedOut, Found, Sought}
 use Rattle.talks.specs.declared.said.Asking.{Asking}
-use Rattle.talks.specs.Roles.{answers, needs, puts, refuses}
+use Rattle.conv_set.specs.Protocols.{answers, needs, puts, refuses}
 use Rattle.talks.specs.Standings.{Begun, Phase, Waiting, Kept, Standing, begin, begin_once, carried_out, finds, if_begun, make_move, moved, phase_after, standing, start_by, started, taken_back, then_stands, with_move}
 use Rattle.conversations.specs.declared.conversation.Conversation.{Conversation}
 use Rattle.conversations.specs.Fits.{BothBegun, Carries, Fits, Holds, IsIdle, Meets, PutsBack, searched, with_search}

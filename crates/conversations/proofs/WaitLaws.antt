@@ -25,8 +25,8 @@ use Rattle.rpc_file.specs.declared.answer.RpcAnswer.{RpcAnswer}
 use Rattle.rpc_file.specs.declared.answer.RpcAnswer.TheVariants as a
 use Rattle.talks.specs.Answers.{attributes, cause_answer, move_answer, told_key}
 use Rattle.talks.specs.Calls.{Call, Found, Chosen, AsksConsent, AsksKey, Denied, NoneServes, Stored, CarriedOut, Sought, Consented, KeyTold, Shut, Heard, Unheard, Roomless, Took}
-use Rattle.talks.specs.Roles.{answers, needs, puts, refuses}
-use Rattle.talks.specs.Standings.{Begun, Phase, Resting, Waiting, Seeking, OnConfirm, OnNeedkey, OnServer, Kept, Standing, begin, begin_once, carried_out, chosen_for, exchanged, if_begun, make_move, phase_after, sought, standing, start_by, started, taken_back, then_stands, with_key, with_move}
+use Rattle.conv_set.specs.Protocols.{answers, needs, puts, refuses}
+use Rattle.talks.specs.Standings.{Begun, Phase, Resting, Waiting, Seeking, OnConfirm, OnNeedkey, OnServer, Kept, Standing, begin, begin_once, carried_out, chosen_for, made, if_begun, make_move, phase_after, sought, standing, start_by, started, taken_back, then_stands, with_key, with_move}
 use Rattle.conversations.specs.Fits.{IsIdle}
 
 -- what is needed of what was begun
@@ -133,7 +133,7 @@ searches_on s AsksKey same none = none
 searches_on s Denied same none = none
 searches_on s NoneServes same none = none
 
-hears : (s : Standing) (move : Move) (begun : Option Begun) → AwaitsIn s → IsExchange (need_in begun) → AwaitsIn (exchanged s move begun)
+hears : (s : Standing) (move : Move) (begun : Option Begun) → AwaitsIn s → IsExchange (need_in begun) → AwaitsIn (made s move begun)
 hears s move None same exchange = same
 hears s move (Some b) same exchange = moved_on (with_move b move) s.starting (move_answer a.Ok b.key (answers b.start b.moves move)) (from_exchange b move s.starting exchange)
 
@@ -237,12 +237,12 @@ Frees move = (b : Begun) → IsExchange (needs b.start b.moves) → needs b.star
 abbrev Tells : Move → Cause → Type 0
 Tells move why = (b : Begun) → IsExchange (needs b.start b.moves) → answers b.start b.moves move ≡ g.Refused why
 
-rests : (s : Standing) (move : Move) (begun : Option Begun) → Frees move → IsExchange (need_in begun) → (answer : RpcAnswer) × ((exchanged s move begun).phase ≡ Kept answer)
+rests : (s : Standing) (move : Move) (begun : Option Begun) → Frees move → IsExchange (need_in begun) → (answer : RpcAnswer) × ((made s move begun).phase ≡ Kept answer)
 rests s move None frees exchange = absurd exchange
 rests s move (Some b) frees exchange =
     (move_answer a.Ok b.key (answers b.start b.moves move), ap (λ (need : Need). phase_after need (move_answer a.Ok b.key (answers b.start b.moves move))) (frees b exchange))
 
-tells : (s : Standing) (move : Move) (why : Cause) (answer : RpcAnswer) (begun : Option Begun) → Frees move → Tells move why → ((key : Option KeyEntry) → cause_answer key why ≡ answer) → IsExchange (need_in begun) → (exchanged s move begun).phase ≡ Kept answer
+tells : (s : Standing) (move : Move) (why : Cause) (answer : RpcAnswer) (begun : Option Begun) → Frees move → Tells move why → ((key : Option KeyEntry) → cause_answer key why ≡ answer) → IsExchange (need_in begun) → (made s move begun).phase ≡ Kept answer
 tells s move why answer None frees told is exchange = absurd exchange
 tells s move why answer (Some b) frees told is exchange =
     ap (λ (need : Need). phase_after need (move_answer a.Ok b.key (answers b.start b.moves move))) (frees b exchange)

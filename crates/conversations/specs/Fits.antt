@@ -16,7 +16,7 @@ use Rattle.rpc_file.specs.declared.answer.RpcAnswer.TheVariants as a
 use Rattle.talks.specs.Answers.{move_answer, start_answer}
 use Rattle.talks.specs.Calls.{Call, CarriedOut, Sought}
 use Rattle.talks.specs.declared.said.Asking.{Asking}
-use Rattle.talks.specs.Roles.{answers, needs, puts, refuses}
+use Rattle.conv_set.specs.Protocols.{answers, needs, puts, refuses}
 use Rattle.talks.specs.Standings.{Begun, Standing, begin, finds, phase_after, question_of, standing, template_of, then_stands, with_move}
 use Rattle.conversations.specs.declared.begun.Begun.{Begun as Held}
 use Rattle.conversations.specs.declared.conversation.Conversation.{Conversation}

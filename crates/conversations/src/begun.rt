@@ -8,7 +8,7 @@ ghost use Rattle.roles.specs.Answers.{IsKey};
 ghost use Rattle.roles.specs.Talks.{Call as Move};
 ghost use Rattle.roles.specs.Talks.{found, get, give, heard, roomless, undone, unheard};
 ghost use Rattle.talks.specs.Answers.{attributes, info_answer, key_attrs, move_answer, text_or_none, told_key};
-ghost use Rattle.talks.specs.Roles.{answers, ends, has_ended, needs, puts};
+ghost use Rattle.conv_set.specs.Protocols.{answers, ends, has_ended, needs, puts};
 ghost use Rattle.talks.specs.Standings.{Begun as Beginning, chosen_for, role_in, template_in, with_move};
 ghost use Rattle.conversations.specs.Fits.{Becomes, IsBegun, MoveTo, Moves};
 ghost use Rattle.conversations.specs.Shown.{asked_in, exchange_in};

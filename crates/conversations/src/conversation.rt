@@ -8,7 +8,7 @@ ghost use Rattle.roles.specs.Talks.{Call as Move};
 ghost use Rattle.rpc_file.specs.Requests.{RpcRequest, asks_attributes, asks_info, meant as request_meant, reads, writes};
 ghost use Rattle.talks.specs.Calls as c;
 ghost use Rattle.talks.specs.Meanings.{meant};
-ghost use Rattle.talks.specs.Roles.{needs, refuses};
+ghost use Rattle.conv_set.specs.Protocols.{needs, refuses};
 ghost use Rattle.talks.specs.Searches.{found_by};
 ghost use Rattle.talks.specs.Standings.{Begun as Beginning, Standing, Waiting, answered, begin_once, carried_out, finds, key_of, moved, nothing_said, outcome_of, question_of, refused, role_name, sought, start_by, started, taken_back, template_of, then_stands, told_of, with_key, with_move};
 ghost use Rattle.conversations.specs.Fits.{answer_held, BothBegun, Carries, Fits, Holds, IsBegun, IsIdle, Keeps, Meets, Performs, PutsBack, Searches, Shows, Stays, Turns, searched};
