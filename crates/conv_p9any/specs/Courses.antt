@@ -16,17 +16,18 @@ use Rattle.roles.specs.declared.need.Outcome.{Outcome}
 use Rattle.roles.specs.declared.need.Outcome.TheVariants.{Running}
 use Rattle.roles.specs.declared.stage.Role.{Role}
 use Rattle.roles.specs.declared.stage.Role.TheVariants.{Client, Server, Speakfor}
+use Rattle.roles.specs.Answers.{is_sought}
 use Rattle.roles.specs.Starts.{Start, role_of}
 use Rattle.roles.specs.Templates.{asked}
 use Rattle.roles.specs.Talks.{Call, Progress, Verdict, give, get, found, undone, offered, picked, goes, stays, tested}
 use Rattle.roles.specs.Courses.{answer_of, bytes_of, need_unless, outcome_unless, then_course, unless_broken}
 use Rattle.conv_p9any.specs.declared.stage.Choice.{Choice}
-use Rattle.conv_p9any.specs.declared.stage.Choice.TheVariants.{ByClient, ByPick}
+use Rattle.conv_p9any.specs.declared.stage.Choice.TheVariants.{ByClient, ByPick, ByConsent}
 use Rattle.conv_p9any.specs.declared.stage.Stage.{Stage}
 use Rattle.conv_p9any.specs.declared.stage.Stage.TheVariants.{ServerOffers, ServerKey, ServerFirst, ServerSecond, ClientFirst, ClientPick, ClientSecond, ClientThird}
 use Rattle.conv_p9any.specs.Inner.{Inner, asked_within, inner_start}
 use Rattle.conv_p9any.specs.Offers.{choice_of, consents, dom_at, eligible, is_offered}
-use Rattle.conv_p9any.specs.Talks.{Standing, choosing, within, dom_of, wants_any, wants_key}
+use Rattle.conv_p9any.specs.Talks.{Standing, choosing, within, dom_of, needs_any}
 use Rattle.conv_p9any.specs.Texts.{ended_by_nul, text_with_nul}
 
 -- ---- the inner role
@@ -38,7 +39,7 @@ chosen_start inner start choice = inner_start inner start (dom_of inner start ch
 -- it is begun: what it needs at its start is waited for
 abbrev pub entered : Inner → Start → Choice → List ℕ → Verdict Standing
 entered inner start choice bytes =
-    goes (within choice []) (if wants_any (inner.needs (chosen_start inner start choice) []) then g.Wait else g.Ok) bytes
+    goes (within choice []) (if needs_any (inner.needs (chosen_start inner start choice) []) then g.Wait else g.Ok) bytes
 
 -- a call is one of its talk
 abbrev pub passed_on : Inner → Start → Choice → List Call → Call → Verdict Standing
@@ -94,7 +95,7 @@ consent_tests text = (not (bytes_eq text (codes "OK")), WrongKind) ∷ []
 
 abbrev pub consent_came : Inner → Start → List ℕ → ℕ → List ℕ → Verdict Standing
 consent_came inner start list place b =
-    ended_by_nul b (λ text. tested (consent_tests text) (entered inner start (ByPick list place) []))
+    ended_by_nul b (λ text. tested (consent_tests text) (entered inner start (ByConsent list place) []))
 
 abbrev pub choose : Inner → Start → Stage → Call → Verdict Standing
 -- server: the offers come; where there are none a key is found, which isn't kept, and they are wanted again
@@ -106,8 +107,8 @@ choose inner start (ServerFirst list) get = goes (choosing (ServerSecond list)) 
 choose inner start (ServerSecond list) (give b) = choice_came inner start list b
 -- client, 1: the list is given, and a domain picked
 choose inner start ClientFirst (give b) = list_came inner start b
-choose inner start (ClientPick list) undone = goes (choosing ClientFirst) g.Ok []
 choose inner start (ClientPick list) (picked place) = goes (choosing (ClientSecond list place)) g.Ok []
+choose inner start (ClientPick list) undone = goes (choosing ClientFirst) g.Ok []
 -- client, 2: the choice is got
 choose inner start (ClientSecond list place) get = choice_got inner start list place
 -- client, 3: the server's consent is given
@@ -118,12 +119,13 @@ choose inner start stage _ = stays (idle stage)
 -- before the move by which a choice was made
 abbrev pub stage_before : Choice → Stage
 stage_before (ByClient list text) = ServerSecond list
-stage_before (ByPick list place) = if consents list then ClientThird list place else ClientSecond list place
+stage_before (ByPick list place) = ClientSecond list place
+stage_before (ByConsent list place) = ClientThird list place
 
--- the key that the inner role wants at its start was asked for by that move, which is taken back
+-- what the inner role seeks at its start was asked for by that move, which is taken back
 abbrev pub taken_back : Inner → Start → Choice → Verdict Standing
 taken_back inner start choice =
-    if wants_key (inner.needs (chosen_start inner start choice) []) then goes (choosing (stage_before choice)) g.Ok []
+    if is_sought (inner.needs (chosen_start inner start choice) []) then goes (choosing (stage_before choice)) g.Ok []
     else passed_on inner start choice [] undone
 
 abbrev pub move : Inner → Start → Standing → Call → Verdict Standing

@@ -32,6 +32,8 @@ pub enum Stage {
 pub enum Choice {
     /// A server of this list was given this text.
     ByClient { list: Bytes, text: Bytes },
-    /// A client was given this list, and picked the eligible word at this place.
+    /// A client was given this list, and got the eligible word at this place.
     ByPick { list: Bytes, place: u32 },
+    /// The same, and the server consented to it.
+    ByConsent { list: Bytes, place: u32 },
 }
