@@ -76,7 +76,7 @@ unfolding tuple_of words_from first_word gap_len line_len utf8_valid_len attr_of
 a_template_is_read = refl
 
 pub a_client_is_started : standing client_starts ≡ stood (Some (begin client word)) (Kept a.Ok) true
-unfolding tuple_of words_from first_word gap_len line_len utf8_valid_len attr_of is_text is_utf8 chars encode protocol_of start_fault role_of value_of protocol_of
+unfolding tuple_of words_from first_word gap_len line_len utf8_valid_len attr_of is_text is_utf8 chars encode protocol_of start_fault role_of value_of
 a_client_is_started = refl
 
 pub the_answer_is_ok : answer_text a.Ok ≡ codes "ok"
@@ -130,7 +130,7 @@ abbrev server_starts : List Call
 server_starts = CarriedOut word ∷ Stored (starts (codes "proto=p9sk1 role=server")) ∷ []
 
 pub a_start_seeks_a_key : standing server_starts ≡ stood (Some (begin server word)) Seeking true
-unfolding tuple_of words_from first_word gap_len line_len utf8_valid_len attr_of is_text is_utf8 chars encode protocol_of start_fault role_of value_of protocol_of
+unfolding tuple_of words_from first_word gap_len line_len utf8_valid_len attr_of is_text is_utf8 chars encode protocol_of start_fault role_of value_of
 a_start_seeks_a_key = refl
 
 pub no_servers_key_is_found : finds (stood (Some (begin server word)) Seeking true) shut no_keys ≡ NoneServes
@@ -158,7 +158,7 @@ that_is_told = refl
 -- ---- a secret in a template
 
 pub a_secret_starts_nothing : standing (CarriedOut word ∷ Stored (starts (codes "proto=p9sk1 role=client !password=a")) ∷ []) ≡ stood None (Kept a.SecretInTemplate) false
-unfolding tuple_of words_from first_word gap_len line_len utf8_valid_len attr_of is_text is_utf8 chars encode protocol_of start_fault role_of value_of protocol_of
+unfolding tuple_of words_from first_word gap_len line_len utf8_valid_len attr_of is_text is_utf8 chars encode protocol_of start_fault role_of value_of
 a_secret_starts_nothing = refl
 
 pub the_secret_is_told : answer_text a.SecretInTemplate ≡ codes "error secret in template"
@@ -213,9 +213,11 @@ abbrev waits : Standing
 waits = record { begun = Some client_asks; phase = OnConfirm 1; starting = false; said = nothing_said }
 
 pub the_user_is_asked : standing (Sought (AsksConsent 1) ∷ client_writes) ≡ waits
+unfolding protocol_of value_of role_of request_text request_of request_fields name_in before_nul is_text is_utf8 chars encode
 the_user_is_asked = next client_writes (Sought (AsksConsent 1)) a_key_is_sought refl
 
 pub he_agrees : standing (Consented true ∷ Sought (AsksConsent 1) ∷ client_writes) ≡ record { begun = Some client_asks; phase = Seeking; starting = false; said = agreed_to 1 }
+unfolding protocol_of value_of role_of request_text request_of request_fields name_in before_nul is_text is_utf8 chars encode
 he_agrees = next (Sought (AsksConsent 1) ∷ client_writes) (Consented true) the_user_is_asked refl
 
 pub the_server_is_asked : (standing (Sought (Chosen (asks_first 1)) ∷ Consented true ∷ Sought (AsksConsent 1) ∷ client_writes)).phase ≡ OnServer
@@ -223,6 +225,7 @@ unfolding protocol_of role_of value_of request_text request_of request_fields na
 the_server_is_asked = ap (λ (s : Standing). s.phase) (next (Consented true ∷ Sought (AsksConsent 1) ∷ client_writes) (Sought (Chosen (asks_first 1))) he_agrees refl)
 
 pub the_file_is_closed : (standing (Shut ∷ Sought (AsksConsent 1) ∷ client_writes)).phase ≡ Kept a.Denied
+unfolding protocol_of value_of role_of request_text request_of request_fields name_in before_nul is_text is_utf8 chars encode
 the_file_is_closed = ap (λ (s : Standing). s.phase) (next (Sought (AsksConsent 1) ∷ client_writes) Shut the_user_is_asked refl)
 
 pub the_denial_is_told : answer_text a.Denied ≡ codes "error confirmation denied"
