@@ -1,3 +1,4 @@
+pub mod SearchLemmas
 pub mod RoleLaws
 pub mod NameLemmas
 pub mod TemplateLemmas

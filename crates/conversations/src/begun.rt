@@ -106,11 +106,10 @@ impl Begun {
         let shown = key.tuple().copy()?;
         let told = tell_key(key);
         let gave = give_key(&mut self.machine, alloc, &told, key.password())?;
-        self.key = keep_key(copy, self.machine.need());
-        Ok(choose_phase(
-            self.machine.need(),
-            answer_move(RpcAnswer::Ok, gave, shown),
-        ))
+        let answer = answer_move(RpcAnswer::Ok, gave, shown);
+        let need = self.machine.need();
+        self.key = keep_key(copy, need);
+        Ok(choose_phase(need, answer))
     }
 
     /// The list of offers that is needed came. It takes no memory.
