@@ -24,7 +24,7 @@ use Rattle.conversations.specs.declared.phase.Stored.{Stored}
 use Rattle.conversations.specs.Fits.{BothBegun, Carries, Fits, Holds, IsIdle, Lacks, Meets, PutsBack, Shaken, searched, with_request, with_search}
 use Rattle.conversations.specs.Meanings.{phase_of}
 use Rattle.conversations.specs.Shown.{has_request, is_seeking}
-use Rattle.conversations.proofs.RoleLaws.{offers_stay, undone_needs}
+use Rattle.conv_set.proofs.Laws.{offers_stay, undone_needs}
 use Rattle.conversations.proofs.SearchLemmas.{standing_searched}
 use Rattle.conversations.proofs.WaitLaws.{waits_idle}
 

@@ -15,7 +15,7 @@ use Rattle.roles.specs.declared.need.Need.TheVariants.{Nothing, Key, Offers, Pic
 use Rattle.roles.specs.Answers.{IsExchange, IsKey, IsOffers, IsPick, is_sought}
 use Rattle.roles.specs.Talks.{found, get, give, heard, offered, picked, roomless, undone, unheard}
 use Rattle.roles.specs.Talks.{Call as Move}
-use Rattle.conversations.proofs.RoleLaws.{found_needs, heard_needs, offers_stay, picked_needs, roomless_needs, roomless_tells, undone_needs, unheard_needs, unheard_tells}
+use Rattle.conv_set.proofs.Laws.{found_needs, heard_needs, offers_stay, picked_needs, roomless_needs, roomless_tells, undone_needs, unheard_needs, unheard_tells}
 use Rattle.rpc_file.specs.Requests.{RpcRequest, starts, reads, writes, asks_info, asks_attributes}
 use Rattle.rpc_file.specs.declared.answer.RpcAnswer.{RpcAnswer}
 use Rattle.rpc_file.specs.declared.answer.RpcAnswer.TheVariants as a
