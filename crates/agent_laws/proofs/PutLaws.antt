@@ -17,10 +17,10 @@ use Rattle.rpc_file.specs.Requests.{RpcRequest, starts, reads, writes, asks_info
 use Rattle.rpc_file.specs.declared.answer.RpcAnswer.{RpcAnswer}
 use Rattle.rpc_file.specs.declared.answer.RpcAnswer.TheVariants as a
 use Rattle.talks.specs.Answers.{attributes, move_answer, told_key}
-use Rattle.talks.specs.Roles.{answers, needs, puts, refuses}
+use Rattle.conv_set.specs.Protocols.{answers, needs, puts, refuses}
 use Rattle.talks.specs.Calls as calls
 use Rattle.talks.specs.Calls.{Found, Chosen, AsksConsent, AsksKey, Denied, NoneServes}
-use Rattle.talks.specs.Standings.{Begun, Phase, Resting, Waiting, Seeking, OnConfirm, OnNeedkey, OnServer, Kept, Standing, answered, begin, begin_once, carried_out, chosen_for, exchanged, if_begun, make_move, moved, phase_after, question_of, sought, standing, start_by, started, then_stands, with_key, with_move}
+use Rattle.talks.specs.Standings.{Begun, Phase, Resting, Waiting, Seeking, OnConfirm, OnNeedkey, OnServer, Kept, Standing, answered, begin, begin_once, carried_out, chosen_for, made, if_begun, make_move, moved, phase_after, question_of, sought, standing, start_by, started, then_stands, with_key, with_move}
 use Rattle.agent_history.specs.declared.event.Event.TheVariants.{TakeAsk}
 use Rattle.agent_history.specs.declared.event.StepAnswer.TheVariants.{Ask, Stopped}
 use Rattle.agent_history.specs.Deeds.{is_halted}
@@ -91,7 +91,7 @@ sought_asks s AsksKey p = λ e. absurd cc
 sought_asks s Denied p = λ e. absurd cc
 sought_asks s NoneServes p = λ e. absurd cc
 
-exchanged_asks : (s : Standing) (move : Move) (begun : Option Begun) → AsksIf s → AsksIf (exchanged s move begun)
+exchanged_asks : (s : Standing) (move : Move) (begun : Option Begun) → AsksIf s → AsksIf (made s move begun)
 exchanged_asks s move None p = p
 exchanged_asks s move (Some b) p = made_asks s b move a.Ok
 

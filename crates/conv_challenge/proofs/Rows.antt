@@ -21,7 +21,7 @@ use Rattle.roles.specs.declared.answer.Gave.TheVariants as g
 use Rattle.roles.specs.declared.answer.PhaseWord.TheVariants.{AwaitsRead, AwaitsWrite, Broken}
 use Rattle.roles.specs.declared.answer.StartFault.TheVariants.{SecretValue, UnknownProto, UnknownRole}
 use Rattle.roles.specs.declared.key.SkKey.{SkKey}
-use Rattle.roles.specs.declared.need.Need.TheVariants.{Key, Exchange}
+use Rattle.roles.specs.declared.need.Need.TheVariants.{Nothing, Key, Exchange}
 use Rattle.roles.specs.declared.need.Outcome.TheVariants.{Finished}
 use Rattle.roles.specs.Starts.{Start, start_with}
 use Rattle.roles.specs.Templates.{asked, given_as, asked_as}
@@ -112,9 +112,13 @@ undoing_awaits_it_again : answer_after apop_client (undone ∷ give challenge �
 unfolding side_of value_of
 undoing_awaits_it_again = refl
 
-a_key_of_no_password_is_none : answer_after apop_client (give challenge ∷ []) (found srv None) ≡ g.Wait
+a_key_of_no_password_has_the_empty_one : puts_after apop_client (found srv None ∷ give challenge ∷ []) get ≡ apop_digits challenge []
+unfolding side_of proto_of value_of
+a_key_of_no_password_has_the_empty_one = refl
+
+nothing_is_sought_any_more : need_after apop_client (found srv None ∷ give challenge ∷ []) ≡ Nothing
 unfolding side_of value_of
-a_key_of_no_password_is_none = refl
+nothing_is_sought_any_more = refl
 
 a_key_is_found : answer_after apop_client (give challenge ∷ []) (found srv (Some (codes "tanstaaf"))) ≡ g.Ok
 unfolding side_of value_of

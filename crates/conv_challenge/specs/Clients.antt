@@ -1,6 +1,6 @@
 -- The client of APOP and CRAM (RFC 1939, RFC 2195): an equation a move. The lengths that a challenge may have are this
 -- project's.
-use Rattle.std.specs.Prelude.{ℕ, List, [], nat_lt, length, Option, Some, None, if◌then◌else◌}
+use Rattle.std.specs.Prelude.{ℕ, List, [], nat_lt, length, Option, unwrap_or, if◌then◌else◌}
 use Rattle.md5_answers.specs.Answer.{apop_digits, cram_digits}
 use Rattle.roles.specs.declared.answer.Gave.TheVariants as g
 use Rattle.roles.specs.Starts.{Start}
@@ -24,10 +24,9 @@ bounded most b whole =
 abbrev pub challenge_given : List ℕ → Verdict Stage
 challenge_given b = bounded MOST_CHALLENGE b (goes (ClientKey b) g.Wait [])
 
--- a key without a password answers nothing
+-- a key was found; one that has no password, which no ring gives for these protocols, has the empty one
 abbrev pub password_came : List ℕ → Option (List ℕ) → Verdict Stage
-password_came challenge None = stays g.Wait
-password_came challenge (Some password) = goes (ClientSecond challenge password) g.Ok []
+password_came challenge password = goes (ClientSecond challenge (unwrap_or password [])) g.Ok []
 
 -- ---- the second move: the digits
 

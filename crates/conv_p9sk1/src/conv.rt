@@ -2,7 +2,7 @@
 ghost use Rattle.std.specs.Prelude.{◌≡◌, ◌≢◌, ◌++◌, [], true, None, IfOk, List, ℕ, Option, option_map};
 ghost use Rattle.attr_tuples.specs.Attributes.{is_tuple};
 ghost use Rattle.roles.specs.Answers.{bytes_with};
-ghost use Rattle.roles.specs.Courses.{answer_of, bytes_of, first_stage, is_last, refusal};
+ghost use Rattle.roles.specs.Courses.{answer_of, bytes_of, first_stage, is_last};
 ghost use Rattle.roles.specs.Starts.{fits_start, role_of, start_with};
 ghost use Rattle.roles.specs.Talks.{found, get, give, heard, roomless, undone, unheard};
 ghost use Rattle.conv_p9sk1.specs.Standing.{Follows, MayFollow, Needs, Stands, progress_of, verdict_in};
@@ -18,7 +18,7 @@ use crate::step::Step;
 use attr_tuples::Tuple;
 use roles::{
     Cause, Gave, Machine, Need, Offered, Outcome, PhaseWord, Role, SkKey, Stage, StartFault,
-    read_start,
+    read_start, refuse,
 };
 use std::alloc::Global;
 use wire_base::{Bytes, NoMemory, Text};
@@ -201,19 +201,6 @@ impl SkConv {
                 self.advance(step, Need::Nothing)
             }
         }
-    }
-}
-
-fn refuse(cause: Cause) -> Gave
-    ensures value { result ≡ refusal cause }
-    ensures told { result ≢ Gave.NoMemory }
-{
-    match cause {
-        Cause::BadKey => Gave::BadKey,
-        Cause::WrongKind | Cause::WrongChallenge | Cause::WrongUser | Cause::NotOffered => {
-            Gave::Refused(cause)
-        }
-        Cause::ServerSaidNo | Cause::NoServer | Cause::NoRoom => Gave::Refused(cause),
     }
 }
 

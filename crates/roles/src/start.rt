@@ -61,15 +61,15 @@ pub fn read_role(template: &Tuple, protocol: &[u8]) -> Result<Role, StartFault>
     }
 }
 
-// Whether a secret attribute has a value.
-fn tells_secret(attrs: &[Attr]) -> bool
+/// Whether a secret attribute has a value.
+pub fn tells_secret(attrs: &[Attr]) -> bool
     ensures { result ≡ list_any tells_secret attrs.now }
 {
     attrs.iter().any(|attr| is_secret_name(attr.name.as_slice()) && is_given(&attr.value))
 }
 
-// Whether the first value of a name is this text.
-fn says(template: &Tuple, name: &[u8], text: &[u8]) -> bool
+/// Whether the first value that a template gives to a name is this text.
+pub fn says(template: &Tuple, name: &[u8], text: &[u8]) -> bool
     ensures { result ≡ says name.now text.now template.now }
 {
     match value_of(template, name) {

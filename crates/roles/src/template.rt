@@ -38,18 +38,6 @@ pub fn build_asked(
     Ok(asked)
 }
 
-/// The domain that a template gives, if it gives one.
-pub fn find_dom(template: &Tuple) -> Option<&[u8]>
-    requires { is_tuple template.now ≡ true }
-    ensures value { option_map (λ dom. dom.now) result ≡ value_of (codes "dom") template.now }
-    ensures valid { IfSome result (λ dom. is_value (Is dom.now) ≡ true) }
-{
-    match value_of(template, b"dom".as_slice()) {
-        Some(dom) => Some(dom.as_slice()),
-        None => None,
-    }
-}
-
 /// Whether a template names a domain, and another.
 pub fn is_elsewhere(template: &Tuple, dom: &[u8]) -> bool
     ensures { result ≡ is_elsewhere (value_of (codes "dom") template.now) dom.now }
@@ -136,6 +124,18 @@ fn put_ask_dom(alloc: Global, asked: &mut Tuple, role: &Role, known: bool) -> Re
     match role {
         Role::Server if !known => put_asked(alloc, asked, b"dom".as_slice()),
         Role::Server | Role::Client | Role::Speakfor { .. } => Ok(()),
+    }
+}
+
+/// The domain that a template gives, if it gives one.
+pub fn find_dom(template: &Tuple) -> Option<&[u8]>
+    requires { is_tuple template.now ≡ true }
+    ensures value { option_map (λ dom. dom.now) result ≡ value_of (codes "dom") template.now }
+    ensures valid { IfSome result (λ dom. is_value (Is dom.now) ≡ true) }
+{
+    match value_of(template, b"dom".as_slice()) {
+        Some(dom) => Some(dom.as_slice()),
+        None => None,
     }
 }
 
