@@ -6,3 +6,4 @@ pub mod Courses
 pub mod Standing
 pub mod Steps
 pub mod Cutting
+pub mod Moves

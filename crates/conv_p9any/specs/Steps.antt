@@ -13,7 +13,7 @@ use Rattle.conv_p9any.specs.declared.stage.Stage.TheVariants.{ClientPick}
 use Rattle.conv_p9any.specs.declared.step.Judged.{Judged}
 use Rattle.conv_p9any.specs.declared.step.Judged.TheVariants.{Moves, Chooses}
 use Rattle.conv_p9any.specs.declared.step.Step.{Step}
-use Rattle.conv_p9any.specs.declared.step.Step.TheVariants.{Goes, Stays, Breaks}
+use Rattle.conv_p9any.specs.declared.step.Step.TheVariants.{Waits, Stays, Breaks}
 use Rattle.conv_p9any.specs.Courses.{Entry, choice_need, list_tests}
 use Rattle.conv_p9any.specs.Offers.{dom_in}
 use Rattle.conv_p9any.specs.Talks.{Standing, choosing}
@@ -30,13 +30,13 @@ Reads (Err answer) b = text_in b ≡ Err answer
 
 -- a step as a verdict
 abbrev pub verdict_of : Step → Verdict Standing
-verdict_of (Goes next need answer) = goes (choosing next) answer []
+verdict_of (Waits next need) = goes (choosing next) g.Wait []
 verdict_of (Stays answer) = stays answer
 verdict_of (Breaks cause) = breaks cause
 
 -- the need of a step is that of its next stage
 abbrev pub IsNeeded : List ℕ → Start → Step → Type 0
-IsNeeded name start (Goes next need answer) = need ≡ choice_need name start next
+IsNeeded name start (Waits next need) = need ≡ choice_need name start next
 IsNeeded name start (Stays answer) = Unit {0}
 IsNeeded name start (Breaks cause) = Unit {0}
 

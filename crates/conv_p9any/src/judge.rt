@@ -13,7 +13,7 @@ use crate::own::Own;
 use crate::stage::Stage;
 use crate::step::{Judged, Step, idle};
 use crate::texts::read_text;
-use roles::{Cause, Gave, Need};
+use roles::{Cause, Need};
 use std::alloc::Global;
 use wire_base::{Bytes, NoMemory};
 
@@ -95,12 +95,11 @@ fn pick_from(alloc: Global, protocol: &[u8], own: &Own, list: &[u8]) -> Result<S
     if templates.len() == 0 {
         return Ok(Step::Breaks(Cause::NotOffered));
     }
-    Ok(Step::Goes {
+    Ok(Step::Waits {
         next: Stage::ClientPick {
             list: Bytes::from_slice(alloc, list)?,
         },
         need: Need::Pick(templates),
-        answer: Gave::Wait,
     })
 }
 

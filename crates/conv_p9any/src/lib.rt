@@ -2,6 +2,7 @@
 //! (authsrv(6) and factotum(4) of the Plan 9 manual). Which protocol that is, its user says.
 #![tactic(auto)]
 
+mod chooser;
 mod inner;
 mod judge;
 mod need;

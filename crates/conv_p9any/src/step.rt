@@ -9,12 +9,8 @@ use wire_base::Bytes;
 /// What a call comes to that chooses nothing.
 #[derive(Drop)]
 pub enum Step {
-    /// The move passed, and this is needed then.
-    Goes {
-        next: Stage,
-        need: Need,
-        answer: Gave,
-    },
+    /// The move passed, and something is needed.
+    Waits { next: Stage, need: Need },
     /// Nothing changes.
     Stays(Gave),
     /// The conversation is broken.
