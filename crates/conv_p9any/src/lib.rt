@@ -3,6 +3,7 @@
 #![tactic(auto)]
 
 mod chooser;
+mod conv;
 mod inner;
 mod judge;
 mod need;
@@ -13,4 +14,5 @@ mod stage;
 mod step;
 mod texts;
 
+pub use conv::AnyConv;
 pub use stage::{MOST_TEXT, Stage};
