@@ -12,7 +12,7 @@ use Rattle.roles.specs.declared.need.Need.TheVariants.{Nothing}
 use Rattle.roles.specs.Answers.{IsExchange, IsKey, IsOffers, IsPick, is_sought}
 use Rattle.roles.specs.Needs.{SeeksKeys}
 use Rattle.roles.specs.Starts.{Start}
-use Rattle.roles.specs.Talks.{Call, Progress, Verdict, give, get, found, heard, unheard, roomless, undone, offered, picked, goes, stays, tested, unless_told}
+use Rattle.roles.specs.Talks.{Call, Progress, Verdict, give, get, found, heard, unheard, roomless, undone, offered, picked, goes, tested, unless_told}
 use Rattle.roles.specs.Courses.{answer_of, need_unless, then_course}
 use Rattle.conv_p9any.specs.declared.stage.Stage.{Stage}
 use Rattle.conv_p9any.specs.declared.stage.Stage.TheVariants.{ServerOffers, ServerKey, ServerFirst, ServerSecond, ClientFirst, ClientPick, ClientSecond, ClientThird}
@@ -20,7 +20,7 @@ use Rattle.conv_p9any.specs.Inner.{Inner}
 use Rattle.conv_p9any.specs.Offers.{consents}
 use Rattle.conv_p9any.specs.Talks.{Standing, choosing, within}
 use Rattle.conv_p9any.specs.Texts.{text_in, text_with_nul, with_text}
-use Rattle.conv_p9any.specs.Courses.{answer_after, choice_tests, choice_text, choose, chosen_start, consent_tests, course, entered, list_tests, move, need_after, need_of, offers_came, passed_on, seeks_first, taken_back, verdict}
+use Rattle.conv_p9any.specs.Courses.{answer_after, choice_tests, choice_text, choose, chosen_start, consent_tests, course, entered, list_tests, need_after, need_of, offers_came, passed_on, seeks_first, taken_back, verdict}
 
 -- what is asked of the inner role
 abbrev pub InnerLaws : Inner → Type 0

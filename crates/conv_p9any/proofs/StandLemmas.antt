@@ -1,16 +1,15 @@
 -- From what a call does to a choice to what a machine promises of every talk.
-use Rattle.std.proofs.Common.{◌≡◌, ◌≢◌, List, [], ◌∷◌, Option, Some, None, refl, sym, ap, ap₂, subst, ◌∙◌}
+use Rattle.std.proofs.Common.{◌≡◌, ◌≢◌, List, ◌∷◌, Option, None, refl, sym, ap, subst, ◌∙◌}
 use Rattle.roles.specs.declared.answer.Cause.{Cause}
 use Rattle.roles.specs.declared.answer.Gave.{Gave}
 use Rattle.roles.specs.declared.answer.Gave.TheVariants as g
 use Rattle.roles.proofs.AnswerLemmas.{goes_on}
 use Rattle.roles.specs.Answers.{talk_with}
 use Rattle.roles.specs.Starts.{Start}
-use Rattle.roles.specs.Talks.{Call, Progress, Verdict}
+use Rattle.roles.specs.Talks.{Call, Progress}
 use Rattle.roles.specs.Courses.{answer_of, then_course, unless_broken}
 use Rattle.conv_p9any.specs.declared.chooser.Chooser.{Chooser}
 use Rattle.conv_p9any.specs.declared.conv.AnyConv.{AnyConv}
-use Rattle.conv_p9any.specs.declared.spoken.Spoken.{Spoken}
 use Rattle.conv_p9any.specs.Courses.{Entry, choose, course, entered, verdict}
 use Rattle.conv_p9any.specs.Inner.{Inner}
 use Rattle.conv_p9any.specs.Standing.{Follows, IsAt, Leads, Reached, Takes, need_in, progress_of, verdict_in}
@@ -49,9 +48,10 @@ choice_goes stands inner old new call before after f start p at =
     subst (λ x. IsAt stands inner new start x) same (at_choice stands inner new start after (follows.own ∙ at.begun) (follows.need at.needed))
 
 pub choice_leads : {M : Type 0} (stands : M → Start → List Call → Type 0) (inner : Inner) (old new : AnyConv M) (given : Gave) (call : Call) → old.spoken ≡ None → new.spoken ≡ None → Takes inner.name old.chooser new.chooser given call → Leads stands inner old new given call
-choice_leads stands inner old new given call before after takes start p at =
-    ( takes.answer (entered inner start) ∙ ap answer_of (choice_verdict stands inner old start p call before at)
-    , choice_goes stands inner old new call before after takes.follows start p at )
+choice_leads stands inner old new given call before after takes start p at = (
+  takes.answer (entered inner start) ∙ ap answer_of (choice_verdict stands inner old start p call before at),
+  choice_goes stands inner old new call before after takes.follows start p at,
+)
 
 -- a call for which there was memory is one of the talk
 pub kept_with : {M : Type 0} (stands : M → Start → List Call → Type 0) (inner : Inner) (c : AnyConv M) (given : Gave) (call : Call) → given ≢ g.NoMemory → (start : Start) (talk : List Call) → IsAt stands inner c start (course inner start (call ∷ talk)) → IsAt stands inner c start (course inner start (talk_with given call talk))

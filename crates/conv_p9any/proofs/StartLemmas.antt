@@ -1,5 +1,5 @@
 -- A template that starts p9any, with another protocol and a domain in the place of its own, starts that protocol.
-use Rattle.std.proofs.Common.{◌≡◌, ℕ, ◌+◌, ◌≤◌, List, [], ◌∷◌, Bool, true, false, not, ◌&&◌, ◌||◌, length, codes, Option, Some, None, if◌then◌else◌, cond, leb, refl, sym, ap, ◌∙◌, arith}
+use Rattle.std.proofs.Common.{◌≡◌, ℕ, ◌+◌, ◌≤◌, List, [], ◌∷◌, Bool, true, false, not, ◌&&◌, ◌||◌, length, codes, Option, Some, None, if◌then◌else◌, cond, refl, ap, ◌∙◌, arith}
 use Rattle.std.specs.List.{list_any, slice_get, cons_option}
 use Rattle.std.specs.Str.{bytes_eq}
 use Rattle.std.proofs.lemmas.Bool.{leb-true, le-leb}
@@ -7,11 +7,9 @@ use Rattle.std.proofs.lemmas.Slice.Eq.{bytes_eq-Decides}
 use Rattle.wire_base.specs.Rules.{first_told}
 use Rattle.attr_tuples.specs.declared.attr.Attr.{Attr}
 use Rattle.attr_tuples.specs.declared.attr.Value.{Value}
-use Rattle.attr_tuples.specs.declared.attr.Value.TheVariants.{Is, Ask, Bare}
 use Rattle.attr_tuples.specs.Attributes.{is_named}
 use Rattle.attr_tuples.specs.Matching.{given_text, texts_of, value_of}
 use Rattle.key_lists.specs.Lists.{tells_secret}
-use Rattle.roles.specs.declared.answer.StartFault.{StartFault}
 use Rattle.roles.specs.declared.answer.StartFault.TheVariants.{SecretValue, UnknownProto, UnknownRole, BadUser}
 use Rattle.roles.specs.Starts.{fault_of, fits_start, is_some_user, is_text_of, names_role, others, says, speaks_for_nobody}
 use Rattle.conv_p9any.specs.Inner.{inner_template, is_replaced, left_part}

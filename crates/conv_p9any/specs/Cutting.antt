@@ -1,5 +1,5 @@
 -- Words for loops over the words of a list: what is left behind the word at hand. No public contract cites them.
-use Rattle.std.specs.Prelude.{◌≡◌, ◌<◌, ◌+◌, ℕ, List, [], ◌∷◌, Bool, true, length, Option, Some, None}
+use Rattle.std.specs.Prelude.{◌≡◌, ◌<◌, ◌+◌, ℕ, List, [], ◌∷◌, true, length, Option, Some, None}
 use Rattle.std.specs.Borrow.{Bor}
 use Rattle.roles.specs.Starts.{Start}
 use Rattle.conv_p9any.specs.declared.offers.Offer.{Offer}

@@ -19,9 +19,7 @@ use crate::spoken::Spoken;
 use crate::step::Judged;
 use crate::texts::put_text;
 use attr_tuples::Tuple;
-use roles::{
-    Gave, Machine, Need, Offered, Outcome, PhaseWord, SkKey, StartFault, read_role,
-};
+use roles::{Gave, Machine, Need, Offered, Outcome, PhaseWord, SkKey, StartFault, read_role};
 use std::alloc::Global;
 use wire_base::{Bytes, NoMemory, Text};
 
@@ -109,7 +107,13 @@ impl<M: Offered + Drop> AnyConv<M> {
             return Gave::Phase(PhaseWord::Broken);
         }
         let protocol = M::protocol_name();
-        match judge_given(alloc, protocol, &self.chooser.own, &self.chooser.stage, bytes) {
+        match judge_given(
+            alloc,
+            protocol,
+            &self.chooser.own,
+            &self.chooser.stage,
+            bytes,
+        ) {
             Ok(Judged::Moves(step)) => self.chooser.advance(step),
             Ok(Judged::Chooses(text)) => self.enter(text.as_slice()),
             Err(NoMemory) => Gave::NoMemory,

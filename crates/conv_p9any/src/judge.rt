@@ -69,12 +69,7 @@ fn judge_choice(
 }
 
 // A server's list was given.
-fn judge_list(
-    alloc: Global,
-    protocol: &[u8],
-    own: &Own,
-    bytes: &[u8],
-) -> Result<Judged, NoMemory>
+fn judge_list(alloc: Global, protocol: &[u8], own: &Own, bytes: &[u8]) -> Result<Judged, NoMemory>
     requires { is_value (Is protocol.now) ≡ true }
     ensures { IfOk result (λ judged.
         Judges protocol.now (start_of own.now) ClientFirst judged

@@ -3,8 +3,8 @@ ghost use Rattle.std.specs.Prelude.{◌≡◌};
 ghost use Rattle.roles.specs.Answers.{is_sought};
 ghost use Rattle.conv_p9any.specs.Standing.{seeks_after};
 
-use roles::{Gave, Machine, Need, Outcome, SkKey, StartFault};
 use attr_tuples::Tuple;
+use roles::{Gave, Machine, Need, Outcome, SkKey, StartFault};
 use std::alloc::Global;
 use wire_base::{Bytes, Text};
 
@@ -17,7 +17,7 @@ pub struct Spoken<M> {
 
 impl<M: Machine> Machine for Spoken<M> {
     ghost use Rattle.roles.specs.Answers.{is_sought};
-ghost use Rattle.conv_p9any.specs.Standing.{Speaks};
+    ghost use Rattle.conv_p9any.specs.Standing.{Speaks};
 
     ghost refuses = { M.refuses };
 
@@ -107,7 +107,8 @@ fn note(seeks: &mut bool, gave: Gave) -> Gave
 {
     match gave {
         Gave::NoMemory => {}
-        Gave::Ok | Gave::Wait | Gave::Phase(_) | Gave::TooSmall(_) | Gave::TooLong => *seeks = false,
+        Gave::Ok | Gave::Wait | Gave::Phase(_) | Gave::TooSmall(_) | Gave::TooLong => *seeks =
+            false,
         Gave::Done { .. } | Gave::BadKey | Gave::Refused(_) => *seeks = false,
     }
     gave

@@ -30,7 +30,9 @@ pub fn idle(stage: &Stage) -> Gave
     ensures { result ≡ idle stage.now }
 {
     match stage {
-        Stage::ServerFirst { .. } | Stage::ClientSecond { .. } => Gave::Phase(PhaseWord::AwaitsRead),
+        Stage::ServerFirst { .. } | Stage::ClientSecond { .. } => Gave::Phase(
+            PhaseWord::AwaitsRead,
+        ),
         Stage::ServerSecond { .. } | Stage::ClientFirst | Stage::ClientThird { .. } => {
             Gave::Phase(PhaseWord::AwaitsWrite)
         }

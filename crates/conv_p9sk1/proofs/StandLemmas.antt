@@ -1,7 +1,6 @@
 -- From what a method does in the present state of a machine to what it promises of every talk.
-use Rattle.std.proofs.Common.{◌≡◌, ◌≢◌, ℕ, List, ◌∷◌, ◌++◌, refl, sym, ap, subst, ◌∙◌}
+use Rattle.std.proofs.Common.{◌≡◌, ℕ, List, ◌∷◌, ◌++◌, sym, ap, subst, ◌∙◌}
 use Rattle.roles.specs.declared.answer.Gave.{Gave}
-use Rattle.roles.specs.declared.answer.Gave.TheVariants as g
 use Rattle.roles.specs.declared.stage.Stage.{Stage}
 use Rattle.roles.proofs.AnswerLemmas.{comes, goes_on}
 use Rattle.roles.specs.Answers.{Comes, bytes_with, talk_with}
