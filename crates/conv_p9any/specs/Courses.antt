@@ -34,7 +34,7 @@ use Rattle.conv_p9any.specs.Texts.{ended_by_nul, text_with_nul}
 abbrev pub chosen_start : Inner → Start → List ℕ → Start
 chosen_start inner start text = inner_start inner.name start (dom_in inner.name text)
 
--- what it is told that nothing moved: that it waits, if it does
+-- what is told of a need: that it is waited for, where there is one
 abbrev pub waits : Need → Gave
 waits need = if needs_any need then g.Wait else g.Ok
 

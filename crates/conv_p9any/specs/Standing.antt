@@ -1,5 +1,5 @@
 -- When a machine stands for a start and a talk: what is kept of the choice is as far as the talk, and where a domain is
--- chosen the inner machine stands for the talk since. No public contract cites what stands below the line.
+-- chosen the inner machine stands for the talk since. Of these words public contracts cite `Stands` alone.
 use Rattle.std.specs.Prelude.{◌≡◌, ◌≢◌, ℕ, List, [], ◌++◌, Bool, false, Option, Some, None}
 use Rattle.roles.specs.declared.answer.Cause.{Cause}
 use Rattle.roles.specs.declared.answer.Gave.{Gave}

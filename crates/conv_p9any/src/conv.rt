@@ -3,9 +3,8 @@ ghost use Rattle.std.specs.Prelude.{◌≡◌, ◌++◌, [], IfOk, None, Some, c
 ghost use Rattle.roles.specs.Answers.{IsTold, KeepsAlways, TellsAlways, bytes_with};
 ghost use Rattle.roles.specs.Starts.{Start};
 ghost use Rattle.roles.specs.Talks.{get, give, offered, picked};
-ghost use Rattle.conv_p9any.specs.Courses.{answer_after, waits};
-ghost use Rattle.conv_p9any.specs.Inner.{Inner, inner_start};
-ghost use Rattle.conv_p9any.specs.Offers.{dom_in};
+ghost use Rattle.conv_p9any.specs.Courses.{answer_after, chosen_start, waits};
+ghost use Rattle.conv_p9any.specs.Inner.{Inner};
 ghost use Rattle.conv_p9any.specs.Standing.{HasSought, MayEnter, MayFollow, MayPut, Speaks, Stands};
 ghost use Rattle.conv_p9any.specs.Steps.{GivesDom, start_of};
 ghost use Rattle.conv_p9any.specs.Talks.{needs_any};
@@ -23,14 +22,21 @@ use roles::{Gave, Machine, Need, Offered, Outcome, PhaseWord, SkKey, StartFault,
 use std::alloc::Global;
 use wire_base::{Bytes, NoMemory, Text};
 
-/// A role whose domains p9any offers, as its definitions.
+/// What definitions know of a machine whose domains p9any offers.
 pub trait AsInner {
     /// Its name, and what it makes of its talks.
     ghost inner: { Inner };
 }
 
 impl<M: Offered> AsInner for M {
-    ghost inner = { record { name = M.protocol; answers = M.answers; puts = M.puts; needs = M.needs; ends = M.ends; ended = M.ended } };
+    ghost inner = { record {
+      name = M.protocol;
+      answers = M.answers;
+      puts = M.puts;
+      needs = M.needs;
+      ends = M.ends;
+      ended = M.ended;
+    } };
 }
 
 /// A conversation of p9any over a machine of the protocol whose domains it offers. It has no Debug, which would print
@@ -47,7 +53,7 @@ impl<M: Offered + Drop> AnyConv<M> {
     fn begin_inner(&self, text: &[u8]) -> Result<Spoken<M>, NoMemory>
         requires { GivesDom M.protocol text.now }
         ensures { IfOk result (λ spoken. Speaks M.stands M.needs spoken
-            (inner_start M.protocol (start_of self.now.chooser.own) (dom_in M.protocol text.now)) []) }
+            (chosen_start ⟦<M as AsInner>⟧.inner (start_of self.now.chooser.own) text.now) []) }
     {
         let own = &self.chooser.own;
         let protocol = M::protocol_name();
@@ -280,7 +286,7 @@ impl<M: Offered + Drop> Machine for AnyConv<M> {
     }
 }
 
-// What is told where nothing moved: that something is waited for, if it is.
+// What is told of a need: that it is waited for, where there is one.
 fn waits(need: &Need) -> Gave
     ensures { result ≡ waits need.now }
 {

@@ -1,5 +1,6 @@
-//! What a conversation of p9any is, by which two agents choose a domain of another protocol and then speak that
-//! (authsrv(6) and factotum(4) of the Plan 9 manual). Which protocol that is, its user says.
+//! A conversation of p9any, by which two agents choose a domain of another protocol and then speak that (authsrv(6) and
+//! factotum(4) of the Plan 9 manual): a client and a server, over any machine of a protocol whose domains are offered.
+//! Whatever it is given, it does what its role says.
 #![tactic(auto)]
 
 mod chooser;
