@@ -675,6 +675,7 @@ impl Conversation {
 fn take_back(starting: bool, begun: &mut Option<Begun>)
     ensures taken { (b : Option Beginning) → BothBegun begun.old b
         → BothBegun begun.new (taken_back starting b) }
+    ensures dropped { starting ≡ true → begun.new ≡ None }
     ensures back { starting ≡ false → (b : Beginning) (move : Move)
         → needs b.start b.moves ≡ Nothing → IsKey (needs b.start (move ∷ b.moves))
         → BothBegun begun.old (Some (with_move b move)) → BothBegun begun.new (Some b) }
