@@ -470,7 +470,12 @@ impl Conversation {
     }
 
     // As often as one search may lead to another.
-    fn search_start(&mut self, alloc: Global, ring: &KeyRing, asking: Asking) -> Result<(), NoMemory>
+    fn search_start(
+        &mut self,
+        alloc: Global,
+        ring: &KeyRing,
+        asking: Asking,
+    ) -> Result<(), NoMemory>
         requires { self.old.starting ≡ true }
         ensures met { OnOk result (Turns self.old self.new (searched asking ring.now)) }
         ensures starting { self.new.starting ≡ self.old.starting }
