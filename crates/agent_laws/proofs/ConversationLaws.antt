@@ -11,7 +11,7 @@ use Rattle.file_tree.specs.declared.tree.FidState.{FidState}
 use Rattle.file_tree.specs.Tree.{file}
 use Rattle.file_tree.specs.Calls.{at_rest, is_open, node_of, opened}
 use Rattle.talks.specs.Calls as calls
-use Rattle.agent_history.specs.Deeds.{Deed, FidDeed, KeyDeed, OfFids, OfKeys, OfReplies, OfConnection, OfTalk, Raised, HandedOut, Swept, Halted, Versioned, Attached, Walked, Opened, Listed, Browsed, Clunked, Entered, Hung, fid_of, names}
+use Rattle.agent_history.specs.Deeds.{Deed, FidDeed, KeyDeed, OfFids, OfKeys, OfReplies, OfConnection, OfTalk, Raised, HandedOut, DropTaken, Swept, Halted, Versioned, Attached, Walked, Opened, Listed, Browsed, Clunked, Entered, Hung, fid_of, names}
 use Rattle.agent_history.specs.Conversations.{Question, Speaker, chosen_at, conv_of, hand_first, opened_talks, questions, raised, speakers}
 use Rattle.agent_history.specs.Requests.{is_rpc, most_talks}
 use Rattle.agent_history.specs.Histories.{History, deeds}
@@ -151,6 +151,7 @@ openers_more c done (OfConnection at Entered) kind fits h = h
 openers_more c done (OfTalk conv call) kind fits h = h
 openers_more c done (Raised conv) kind fits h = h
 openers_more c done HandedOut kind fits h = h
+openers_more c done DropTaken kind fits h = h
 openers_more c done Swept kind fits h = h
 openers_more c done Halted kind fits h = λ conn fid. refl
 
@@ -220,6 +221,7 @@ once_more c done (OfConnection at Entered) kind fits h = h.1
 once_more c done (OfTalk conv call) kind fits h = h.1
 once_more c done (Raised conv) kind fits h = h.1
 once_more c done HandedOut kind fits h = h.1
+once_more c done DropTaken kind fits h = h.1
 once_more c done Swept kind fits h = h.1
 once_more c done Halted kind fits h = tt
 
@@ -287,6 +289,7 @@ few_more c done (OfConnection at Entered) kind fits h = h
 few_more c done (OfTalk conv call) kind fits h = h
 few_more c done (Raised conv) kind fits h = h
 few_more c done HandedOut kind fits h = h
+few_more c done DropTaken kind fits h = h
 few_more c done Swept kind fits h = h
 few_more c done Halted kind fits h = omega arith
 
@@ -373,6 +376,7 @@ speakers_more c done (OfConnection at Entered) kind fits h = h
 speakers_more c done (OfTalk conv call) kind fits h = h
 speakers_more c done (Raised conv) kind fits h = h
 speakers_more c done HandedOut kind fits h = h
+speakers_more c done DropTaken kind fits h = h
 speakers_more c done Swept kind fits h = h
 speakers_more c done Halted kind fits h = refl
 
@@ -421,6 +425,7 @@ questions_more c done (OfReplies at deed) kind fits h = h
 questions_more c done (OfTalk conv call) kind fits h = met_rise done conv call h
 questions_more c done (Raised conv) kind fits h = rise_append call_of (raised done + 1) (questions done) (record { call = raised done + 1; conv = conv; handed = false }) refl h
 questions_more c done HandedOut kind fits h = subst (Rise (raised done + 1)) (sym (handed_same (questions done))) h
+questions_more c done DropTaken kind fits h = h
 questions_more c done Swept kind fits h = h
 questions_more c done Halted kind fits h = refl
 
@@ -446,6 +451,7 @@ searched_more c done (OfReplies at deed) kind fits h = h
 searched_more c done (OfConnection at deed) kind fits h = h
 searched_more c done (Raised conv) kind fits h = h
 searched_more c done HandedOut kind fits h = h
+searched_more c done DropTaken kind fits h = h
 searched_more c done Swept kind fits h = h
 searched_more c done Halted kind fits h = h
 

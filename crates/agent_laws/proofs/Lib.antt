@@ -14,6 +14,7 @@ mod FitLaws
 mod SpellLaws
 mod HiddenLaws
 mod SightLaws
+mod DueLaws
 mod SecretLaws
 mod AlikeLaws
 mod WriteLaws

@@ -1,39 +1,20 @@
--- How far a conversation of p9any may have come, and what it may need.
+-- How far a conversation of p9any may have come.
 use Rattle.std.specs.Prelude.{ℕ, List, Bool, true, false}
-use Rattle.attr_tuples.specs.declared.attr.Attr.{Attr}
 use Rattle.roles.specs.declared.need.Need.{Need}
-use Rattle.roles.specs.declared.need.Need.TheVariants.{Nothing, Key, Exchange}
-use Rattle.roles.specs.Starts.{Start}
+use Rattle.roles.specs.declared.need.Need.TheVariants.{Nothing, Key, Offers, Pick, Exchange}
 use Rattle.roles.specs.Talks.{Call}
-use Rattle.conv_p9any.specs.declared.stage.Choice.{Choice}
-use Rattle.conv_p9any.specs.declared.stage.Choice.TheVariants.{ByClient, ByPick}
 use Rattle.conv_p9any.specs.declared.stage.Stage.{Stage}
-use Rattle.conv_p9any.specs.Inner.{Inner}
-use Rattle.conv_p9any.specs.Offers.{dom_at, dom_in}
 
--- it is choosing, or it has chosen, and this is the inner role's talk
 pub data Standing : Type 0 where
+  -- it is choosing
   choosing : (stage : Stage) → Standing
-  within : (choice : Choice) (talk : List Call) → Standing
+  -- it has chosen: the stage of the move by which it did, the text that says what, and the inner role's talk since
+  within : (before : Stage) (text : List ℕ) (talk : List Call) → Standing
 
--- what it needs: the offers for a template, a pick among templates, or what any role may need
-pub data Wanted : Type 0 where
-  offers : (template : List Attr) → Wanted
-  pick : (templates : List (List Attr)) → Wanted
-  plain : (need : Need) → Wanted
-
--- the domain that was chosen
-abbrev pub dom_of : Inner → Start → Choice → List ℕ
-dom_of inner start (ByClient list text) = dom_in inner text
-dom_of inner start (ByPick list place) = dom_at inner start list place
-
--- a key is needed, and something
-abbrev pub wants_key : Need → Bool
-wants_key Nothing = false
-wants_key (Key template) = true
-wants_key (Exchange request shape) = false
-
-abbrev pub wants_any : Need → Bool
-wants_any Nothing = false
-wants_any (Key template) = true
-wants_any (Exchange request shape) = true
+-- something is needed
+abbrev pub needs_any : Need → Bool
+needs_any Nothing = false
+needs_any (Key template) = true
+needs_any (Offers template) = true
+needs_any (Pick templates) = true
+needs_any (Exchange request shape) = true

@@ -17,8 +17,8 @@ use crate::own::Own;
 use crate::step::Step;
 use attr_tuples::Tuple;
 use roles::{
-    Cause, Gave, Machine, Need, Outcome, PhaseWord, Role, SkKey, Stage, StartFault, read_start,
-    refuse,
+    Cause, Gave, Machine, Need, Offered, Outcome, PhaseWord, Role, SkKey, Stage, StartFault,
+    read_start, refuse,
 };
 use std::alloc::Global;
 use wire_base::{Bytes, NoMemory, Text};
@@ -272,6 +272,25 @@ impl Machine for SkConv {
     fn has_ended(&self) -> bool {
         is_last(&self.stage)
     }
+}
+
+impl Offered for SkConv {
+    ghost use Rattle.std.specs.Prelude.{codes};
+    ghost use Rattle.roles.proofs.NeedLaws.{p9sk1_seeks};
+    ghost use Rattle.roles.proofs.StartLemmas.{p9sk1_starts};
+    ghost use Rattle.roles.proofs.ValueLemmas.{protocol_is_value};
+
+    ghost protocol = { codes "p9sk1" };
+
+    fn protocol_name() -> &'static [u8] {
+        b"p9sk1".as_slice()
+    }
+
+    ghost valid = { protocol_is_value };
+
+    ghost starts = { p9sk1_starts };
+
+    ghost seeks = { p9sk1_seeks };
 }
 
 fn is_last(stage: &Stage) -> bool

@@ -26,6 +26,7 @@ use Rattle.rpc_file.specs.declared.answer.RpcAnswer.TheVariants as a
 use Rattle.talks.specs.declared.said.Said.{Said}
 use Rattle.talks.specs.declared.said.Asking.{Asking}
 use Rattle.talks.specs.Calls.{Call, Chosen, AsksConsent, AsksKey, Denied, NoneServes, Stored, CarriedOut, Sought, Consented, Shut, Took, Found}
+use Rattle.conv_set.specs.Protocols.{protocol_of}
 use Rattle.talks.specs.Searches.{found_by}
 use Rattle.talks.specs.Standings.{Begun, Phase, Seeking, OnConfirm, OnServer, Kept, Standing, begin, finds, nothing_said, standing, then_stands}
 
@@ -75,7 +76,7 @@ unfolding tuple_of words_from first_word gap_len line_len utf8_valid_len attr_of
 a_template_is_read = refl
 
 pub a_client_is_started : standing client_starts ≡ stood (Some (begin client word)) (Kept a.Ok) true
-unfolding tuple_of words_from first_word gap_len line_len utf8_valid_len attr_of is_text is_utf8 chars encode start_fault role_of value_of
+unfolding tuple_of words_from first_word gap_len line_len utf8_valid_len attr_of is_text is_utf8 chars encode protocol_of start_fault role_of value_of
 a_client_is_started = refl
 
 pub the_answer_is_ok : answer_text a.Ok ≡ codes "ok"
@@ -89,7 +90,7 @@ abbrev client_began : Begun
 client_began = record { start = record { template = client; word = word }; moves = get ∷ []; key = None }
 
 pub the_word_is_read : standing client_reads ≡ stood (Some client_began) (Kept (a.Got word)) false
-unfolding role_of value_of
+unfolding protocol_of role_of value_of
 the_word_is_read = next (Stored reads ∷ Took ∷ client_starts) (CarriedOut chal) (next (Took ∷ client_starts) (Stored reads) (next client_starts Took a_client_is_started refl) refl) refl
 
 pub the_word_stands_behind_ok : answer_text (a.Got word) ≡ codes "ok " ++ word
@@ -105,18 +106,18 @@ abbrev client_asks : Begun
 client_asks = record { start = record { template = client; word = word }; moves = give server_request ∷ get ∷ []; key = None }
 
 pub a_key_is_sought : standing client_writes ≡ stood (Some client_asks) Seeking false
-unfolding role_of value_of request_text request_of request_fields name_in before_nul is_text is_utf8 chars encode
+unfolding protocol_of role_of value_of request_text request_of request_fields name_in before_nul is_text is_utf8 chars encode
 a_key_is_sought = next (Stored (writes server_request) ∷ Took ∷ client_reads) (CarriedOut chal) (next (Took ∷ client_reads) (Stored (writes server_request)) (next client_reads Took the_word_is_read refl) refl) refl
 
 abbrev wanted : List Attr
 wanted = proto ∷ given_as (codes "dom") (codes "x") ∷ asked_as (codes "user") ∷ []
 
 pub no_key_is_found : finds (stood (Some client_asks) Seeking false) shut no_keys ≡ NoneServes
-unfolding finds found_by role_of value_of request_text request_of request_fields name_in before_nul is_text is_utf8 chars encode asked
+unfolding finds found_by protocol_of role_of value_of request_text request_of request_fields name_in before_nul is_text is_utf8 chars encode asked
 no_key_is_found = refl
 
 pub a_key_is_wanted : (standing (Sought NoneServes ∷ client_writes)).phase ≡ Kept (a.NeedKey wanted)
-unfolding role_of value_of request_text request_of request_fields name_in before_nul is_text is_utf8 chars encode asked
+unfolding protocol_of role_of value_of request_text request_of request_fields name_in before_nul is_text is_utf8 chars encode asked
 a_key_is_wanted = ap (λ (s : Standing). s.phase) (next client_writes (Sought NoneServes) a_key_is_sought refl)
 
 pub a_clients_key_is_shown : answer_text (a.NeedKey wanted) ≡ codes "needkey proto=p9sk1 dom=x user? !password?"
@@ -129,18 +130,18 @@ abbrev server_starts : List Call
 server_starts = CarriedOut word ∷ Stored (starts (codes "proto=p9sk1 role=server")) ∷ []
 
 pub a_start_seeks_a_key : standing server_starts ≡ stood (Some (begin server word)) Seeking true
-unfolding tuple_of words_from first_word gap_len line_len utf8_valid_len attr_of is_text is_utf8 chars encode start_fault role_of value_of
+unfolding tuple_of words_from first_word gap_len line_len utf8_valid_len attr_of is_text is_utf8 chars encode protocol_of start_fault role_of value_of
 a_start_seeks_a_key = refl
 
 pub no_servers_key_is_found : finds (stood (Some (begin server word)) Seeking true) shut no_keys ≡ NoneServes
-unfolding finds found_by role_of value_of asked
+unfolding finds found_by protocol_of role_of value_of asked
 no_servers_key_is_found = refl
 
 abbrev wanted_by_server : List Attr
 wanted_by_server = proto ∷ asked_as (codes "user") ∷ asked_as (codes "dom") ∷ []
 
 pub a_start_wants_a_key : standing (Sought NoneServes ∷ server_starts) ≡ stood None (Kept (a.NeedKey wanted_by_server)) true
-unfolding role_of value_of asked
+unfolding protocol_of role_of value_of asked
 a_start_wants_a_key = next server_starts (Sought NoneServes) a_start_seeks_a_key refl
 
 pub a_servers_key_is_shown : answer_text (a.NeedKey wanted_by_server) ≡ codes "needkey proto=p9sk1 user? dom? !password?"
@@ -157,7 +158,7 @@ that_is_told = refl
 -- ---- a secret in a template
 
 pub a_secret_starts_nothing : standing (CarriedOut word ∷ Stored (starts (codes "proto=p9sk1 role=client !password=a")) ∷ []) ≡ stood None (Kept a.SecretInTemplate) false
-unfolding tuple_of words_from first_word gap_len line_len utf8_valid_len attr_of is_text is_utf8 chars encode start_fault role_of value_of
+unfolding tuple_of words_from first_word gap_len line_len utf8_valid_len attr_of is_text is_utf8 chars encode protocol_of start_fault role_of value_of
 a_secret_starts_nothing = refl
 
 pub the_secret_is_told : answer_text a.SecretInTemplate ≡ codes "error secret in template"
@@ -212,16 +213,19 @@ abbrev waits : Standing
 waits = record { begun = Some client_asks; phase = OnConfirm 1; starting = false; said = nothing_said }
 
 pub the_user_is_asked : standing (Sought (AsksConsent 1) ∷ client_writes) ≡ waits
+unfolding protocol_of value_of role_of request_text request_of request_fields name_in before_nul is_text is_utf8 chars encode
 the_user_is_asked = next client_writes (Sought (AsksConsent 1)) a_key_is_sought refl
 
 pub he_agrees : standing (Consented true ∷ Sought (AsksConsent 1) ∷ client_writes) ≡ record { begun = Some client_asks; phase = Seeking; starting = false; said = agreed_to 1 }
+unfolding protocol_of value_of role_of request_text request_of request_fields name_in before_nul is_text is_utf8 chars encode
 he_agrees = next (Sought (AsksConsent 1) ∷ client_writes) (Consented true) the_user_is_asked refl
 
 pub the_server_is_asked : (standing (Sought (Chosen (asks_first 1)) ∷ Consented true ∷ Sought (AsksConsent 1) ∷ client_writes)).phase ≡ OnServer
-unfolding role_of value_of request_text request_of request_fields name_in before_nul is_text is_utf8 chars encode
+unfolding protocol_of role_of value_of request_text request_of request_fields name_in before_nul is_text is_utf8 chars encode
 the_server_is_asked = ap (λ (s : Standing). s.phase) (next (Consented true ∷ Sought (AsksConsent 1) ∷ client_writes) (Sought (Chosen (asks_first 1))) he_agrees refl)
 
 pub the_file_is_closed : (standing (Shut ∷ Sought (AsksConsent 1) ∷ client_writes)).phase ≡ Kept a.Denied
+unfolding protocol_of value_of role_of request_text request_of request_fields name_in before_nul is_text is_utf8 chars encode
 the_file_is_closed = ap (λ (s : Standing). s.phase) (next (Sought (AsksConsent 1) ∷ client_writes) Shut the_user_is_asked refl)
 
 pub the_denial_is_told : answer_text a.Denied ≡ codes "error confirmation denied"

@@ -4,7 +4,7 @@ use Rattle.std.specs.Prelude.{ℕ, List, Bool}
 use Rattle.key_lists.specs.Lists.{KeyEntry}
 use Rattle.rpc_file.specs.Requests.{RpcRequest}
 
--- what a search among the keys of a moment comes to
+-- what a search among the keys of a moment comes to: a key, a list of offers, or a pick is searched for
 pub data Found : Type 0 where
   -- this key is to be used
   Chosen : (key : KeyEntry) → Found
@@ -16,13 +16,17 @@ pub data Found : Type 0 where
   Denied : Found
   -- there is no key
   NoneServes : Found
+  -- this is the list of what the keys that serve offer, empty where none serves
+  Offered : (list : List ℕ) → Found
+  -- this is the place of the template that is picked
+  Picked : (place : ℕ) → Found
 
 pub data Call : Type 0 where
   -- a request was written; it isn't carried out yet
   Stored : (request : RpcRequest) → Call
   -- the request is carried out, by a read for which this word was drawn
   CarriedOut : (word : List ℕ) → Call
-  -- the key that it needs was searched for
+  -- what it needs of the keys was searched for
   Sought : (found : Found) → Call
   -- the user was asked whether a key may be used, and answered
   Consented : (agrees : Bool) → Call

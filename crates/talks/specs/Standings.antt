@@ -7,20 +7,20 @@ use Rattle.attr_tuples.specs.Matching.{value_of}
 use Rattle.key_lists.specs.Lists.{KeyEntry, KeyList}
 use Rattle.key_lists.specs.CtlLines.{few_of}
 use Rattle.roles.specs.declared.need.Need.{Need}
-use Rattle.roles.specs.declared.need.Need.TheVariants.{Nothing, Key, Exchange}
+use Rattle.roles.specs.declared.need.Need.TheVariants.{Nothing, Key, Offers, Pick, Exchange}
 use Rattle.roles.specs.declared.need.Outcome.{Outcome}
 use Rattle.roles.specs.declared.answer.StartFault.{StartFault}
 use Rattle.roles.specs.Starts.{Start, start_with}
-use Rattle.roles.specs.Talks.{give, get, found, heard, unheard, roomless, undone}
+use Rattle.roles.specs.Talks.{give, get, found, heard, unheard, roomless, undone, offered, picked}
 use Rattle.roles.specs.Talks.{Call as Move}
 use Rattle.rpc_file.specs.Requests.{RpcRequest, starts, reads, writes, asks_info, asks_attributes}
 use Rattle.rpc_file.specs.declared.answer.RpcAnswer.{RpcAnswer}
 use Rattle.rpc_file.specs.declared.answer.RpcAnswer.TheVariants as a
-use Rattle.talks.specs.Calls.{Call, Found, Chosen, AsksConsent, AsksKey, Denied, NoneServes, Stored, CarriedOut, Sought, Consented, KeyTold, Shut, Heard, Unheard, Roomless, Took}
+use Rattle.talks.specs.Calls.{Call, Found, Chosen, AsksConsent, AsksKey, Denied, NoneServes, Offered, Picked, Stored, CarriedOut, Sought, Consented, KeyTold, Shut, Heard, Unheard, Roomless, Took}
 use Rattle.talks.specs.declared.said.Said.{Said}
 use Rattle.talks.specs.declared.said.Asking.{Asking}
-use Rattle.talks.specs.Searches.{found_by}
-use Rattle.talks.specs.Roles.{refuses, answers, puts, needs, ends, has_ended}
+use Rattle.talks.specs.Searches.{found_by, offered_by, picked_by}
+use Rattle.conv_set.specs.Protocols.{refuses, answers, puts, needs, ends, has_ended}
 use Rattle.talks.specs.Answers.{told_key, start_answer, move_answer, info_answer, attributes}
 
 -- a conversation that was started: with what, what its role met since, the newest first, and the key that was chosen
@@ -35,7 +35,7 @@ pub data Phase : Type 0 where
   Resting : Phase
   -- it isn't carried out yet
   Waiting : (request : RpcRequest) → Phase
-  -- it needs a key, which is searched for
+  -- it needs something of the keys, which is searched for
   Seeking : Phase
   -- its user is asked whether the key of this number may be used
   OnConfirm : (serial : ℕ) → Phase
@@ -75,6 +75,8 @@ answered s answer = in_phase s (Kept answer)
 -- there
 abbrev pub phase_after : Need → RpcAnswer → Phase
 phase_after (Key template) answer = Seeking
+phase_after (Offers template) answer = Seeking
+phase_after (Pick templates) answer = Seeking
 phase_after (Exchange request shape) answer = OnServer
 phase_after Nothing answer = Kept answer
 
@@ -124,11 +126,18 @@ carried_out s word (writes message) = if_begun s s.begun (λ b. make_move s b (g
 carried_out s word asks_info = answered s (info_of s.begun)
 carried_out s word asks_attributes = if_begun s s.begun (λ b. answered s (a.Attributes (attributes b.start.template b.key)))
 
--- ---- a key is searched for
+-- ---- what is needed is searched for
+
+-- what it needs
+abbrev pub need_in : Option Begun → Need
+need_in None = Nothing
+need_in (Some b) = needs b.start b.moves
 
 -- the template that is asked of a key, where one is needed
 abbrev pub template_in : Need → List Attr
 template_in (Key template) = template
+template_in (Offers template) = []
+template_in (Pick templates) = []
 template_in (Exchange request shape) = []
 template_in Nothing = []
 
@@ -144,9 +153,26 @@ abbrev pub role_name : Option Begun → List ℕ
 role_name None = []
 role_name (Some b) = role_in b.start.template
 
--- what a conversation that seeks a key finds among the keys of a moment
+-- what is found for a need among the keys of a moment
+abbrev pub found_for : Need → List ℕ → Said → Asking → KeyList → Found
+found_for (Key template) role said asking list = found_by template role said asking list
+found_for (Offers template) role said asking list = Offered (offered_by template role list)
+found_for (Pick templates) role said asking list = Picked (picked_by templates role list)
+found_for (Exchange request shape) role said asking list = NoneServes
+found_for Nothing role said asking list = NoneServes
+
+-- what a conversation finds among the keys of a moment
 unfoldable pub finds : Standing → Asking → KeyList → Found
-finds s asking list = found_by (template_of s.begun) (role_name s.begun) s.said asking list
+finds s asking list = found_for (need_in s.begun) (role_name s.begun) s.said asking list
+
+-- what is found is what is needed
+abbrev pub is_for : Need → Found → Bool
+is_for (Key template) (Offered list) = false
+is_for (Key template) (Picked place) = false
+is_for (Key template) came = true
+is_for (Offers template) (Offered list) = true
+is_for (Pick templates) (Picked place) = true
+is_for need came = false
 
 -- the request that needed a key is taken back: a start is none, and another move wasn't made
 abbrev pub taken_back : Bool → Option Begun → Option Begun
@@ -161,13 +187,30 @@ refused s answer = record { begun = taken_back s.starting s.begun; phase = Kept 
 abbrev pub needs_key : Standing → RpcAnswer
 needs_key s = a.NeedKey (template_of s.begun)
 
+-- the move by which the role is told of a key
+abbrev pub told_of_key : KeyEntry → Move
+told_of_key key = found (told_key key) (value_of (codes "!password") key.tuple)
+
+-- a key isn't kept that was found for the sake of the offers, which are needed again
+abbrev pub kept_key : KeyEntry → Need → Option KeyEntry
+kept_key key (Offers template) = None
+kept_key key (Key template) = Some key
+kept_key key (Pick templates) = Some key
+kept_key key (Exchange request shape) = Some key
+kept_key key Nothing = Some key
+
 -- the role is told of the key
 abbrev pub chosen_for : KeyEntry → Begun → Begun
-chosen_for key b = record { start = b.start; moves = found (told_key key) (value_of (codes "!password") key.tuple) ∷ b.moves; key = Some key }
+chosen_for key b = record { start = b.start; moves = told_of_key key ∷ b.moves; key = kept_key key (needs b.start (told_of_key key ∷ b.moves)) }
 
 abbrev pub with_key : Standing → KeyEntry → Option Begun → Standing
 with_key s key None = s
-with_key s key (Some b) = moved s (chosen_for key b) (move_answer a.Ok (Some key) (answers b.start b.moves (found (told_key key) (value_of (codes "!password") key.tuple))))
+with_key s key (Some b) = moved s (chosen_for key b) (move_answer a.Ok (Some key) (answers b.start b.moves (told_of_key key)))
+
+-- a move that no request makes is made, which is answered `ok` where it is done
+abbrev pub made : Standing → Move → Option Begun → Standing
+made s move None = s
+made s move (Some b) = make_move s b move a.Ok
 
 abbrev pub asks_for_key : Said → Said
 asks_for_key said = record { agreed = said.agreed; denied = said.denied; asked = true }
@@ -178,6 +221,13 @@ sought s (AsksConsent serial) = in_phase s (OnConfirm serial)
 sought s AsksKey = record { begun = s.begun; phase = OnNeedkey; starting = s.starting; said = asks_for_key s.said }
 sought s Denied = refused s a.Denied
 sought s NoneServes = refused s (needs_key s)
+sought s (Offered list) = made s (offered list) s.begun
+sought s (Picked place) = made s (picked place) s.begun
+
+-- what is found counts where it is what is needed
+abbrev pub sought_if : Bool → Standing → Found → Standing
+sought_if true s came = sought s came
+sought_if false s came = s
 
 -- ---- its user answers, or can't
 
@@ -191,25 +241,20 @@ told_of serial agrees s = record { begun = s.begun; phase = Seeking; starting = 
 
 -- ---- what each call comes to
 
--- the authentication server is done with
-abbrev pub exchanged : Standing → Move → Option Begun → Standing
-exchanged s move None = s
-exchanged s move (Some b) = make_move s b move a.Ok
-
 abbrev pub stored : Standing → RpcRequest → Standing
 stored s request = record { begun = s.begun; phase = Waiting request; starting = false; said = nothing_said }
 
 abbrev pub then_stands : Standing → Phase → Call → Standing
 then_stands s Resting (Stored request) = stored s request
 then_stands s (Waiting request) (CarriedOut word) = carried_out s word request
-then_stands s Seeking (Sought came) = sought s came
+then_stands s Seeking (Sought came) = sought_if (is_for (need_in s.begun) came) s came
 then_stands s (OnConfirm serial) (Consented agrees) = told_of serial agrees s
 then_stands s (OnConfirm serial) Shut = refused s a.Denied
 then_stands s OnNeedkey KeyTold = in_phase s Seeking
 then_stands s OnNeedkey Shut = refused s (needs_key s)
-then_stands s OnServer (Heard bytes) = exchanged s (heard bytes) s.begun
-then_stands s OnServer Unheard = exchanged s unheard s.begun
-then_stands s OnServer Roomless = exchanged s roomless s.begun
+then_stands s OnServer (Heard bytes) = made s (heard bytes) s.begun
+then_stands s OnServer Unheard = made s unheard s.begun
+then_stands s OnServer Roomless = made s roomless s.begun
 then_stands s (Kept answer) Took = in_phase s Resting
 then_stands s phase call = s
 
@@ -222,9 +267,9 @@ standing (call ∷ before) = then_stands (standing before) (standing before).pha
 
 -- the question for the authentication server that stands
 abbrev pub question_of : Standing → Need
-question_of s = elim s.begun [ None ↦ Nothing | Some b ↦ needs b.start b.moves ]
+question_of s = need_in s.begun
 
--- a start that waits for its user hasn't started yet
+-- a start that waits for its user, or for what is searched for, hasn't started yet
 abbrev pub waits_for_user : Phase → Bool
 waits_for_user Seeking = true
 waits_for_user (OnConfirm serial) = true

@@ -9,4 +9,4 @@ mod tests;
 
 pub use found::Found;
 pub use said::{Asking, Said};
-pub use seek::search_keys;
+pub use seek::{pick_template, search_keys};

@@ -1,13 +1,15 @@
 // The search for a key among those of a ring. Nothing here takes memory.
-ghost use Rattle.std.specs.Prelude.{◌≡◌};
+ghost use Rattle.std.specs.Prelude.{◌≡◌, ◌<◌, ◌≤◌, IfSome, length, position, take};
+ghost use Rattle.key_lists.specs.Listing.{most_offered};
 ghost use Rattle.talks.specs.Meanings.{meant};
-ghost use Rattle.talks.specs.Searches.{found_by, is_among, is_passed_over, is_refused, one_left, wants_consent};
+ghost use Rattle.talks.specs.Searches.{found_by, is_among, is_passed_over, is_refused, is_served, one_left, picked_by, wants_consent};
 ghost use Rattle.talks.specs.Seeking.{none_past};
 
 use crate::found::Found;
 use crate::said::{Asking, Said};
 use attr_tuples::{Tuple, has_name};
 use key_ring::{Key, KeyRing};
+use roles::Tuples;
 use wire_base::List;
 
 /// Searches the keys of a moment for one that serves a template and a role, in the order of the ring: a key that its user
@@ -87,4 +89,42 @@ fn is_among(serials: &List<u64>, key: &Key) -> bool
 {
     let sought = key.serial();
     serials.as_slice().iter().any(|serial| *serial == sought)
+}
+
+/// How many templates are looked at: no list of offers has more bytes.
+const MOST_OFFERED: usize = 1024;
+
+/// The place of the first template that a key serves, and 0 where none is served. It takes no memory.
+#[tactic(auto, unfolding(crate::specs::Searches::picked_by))]
+pub fn pick_template(ring: &KeyRing, templates: &Tuples, role: &[u8]) -> u32
+    ensures { result ≡ picked_by templates.now role.now ring.now }
+{
+    match find_served(ring, first_ones(templates.as_slice()), role) {
+        Some(place) => place as u32,
+        None => 0,
+    }
+}
+
+fn first_ones(templates: &[Tuple]) -> &[Tuple]
+    ensures ones { result.now ≡ take most_offered templates.now }
+    ensures few { length result.now ≤ most_offered }
+{
+    &templates[..MOST_OFFERED.min(templates.len())]
+}
+
+fn find_served(ring: &KeyRing, templates: &[Tuple], role: &[u8]) -> Option<usize>
+    requires { length templates.now ≤ most_offered }
+    ensures place { result ≡ position (is_served role.now ring.now) templates.now }
+    ensures bound { IfSome result (λ place. place < most_offered) }
+{
+    templates
+        .iter()
+        .position(|template| is_served(ring, template, role))
+}
+
+// Whether some key serves.
+fn is_served(ring: &KeyRing, template: &Tuple, role: &[u8]) -> bool
+    ensures { result ≡ is_served role.now ring.now template.now }
+{
+    ring.find(template, role).is_some()
 }

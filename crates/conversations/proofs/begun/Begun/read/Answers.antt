@@ -2,7 +2,7 @@ use Rattle.std.proofs.Common.{ℕ, List, refl, subst}
 use Rattle.roles.specs.Talks.{get}
 use Rattle.rpc_file.specs.declared.answer.RpcAnswer.TheVariants as a
 use Rattle.talks.specs.Answers.{move_answer}
-use Rattle.talks.specs.Roles.{answers}
+use Rattle.conv_set.specs.Protocols.{answers}
 use Rattle.talks.specs.Standings.{with_move}
 use Rattle.conversations.specs.Fits.{Becomes}
 use Rattle.conversations.proofs.MoveLemmas.{moves}
