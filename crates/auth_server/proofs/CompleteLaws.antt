@@ -1,13 +1,13 @@
 -- What is servable is served to its end.
-use Rattle.std.proofs.Common.{◌≡◌, ◌⊎◌, ℕ, ◌+◌, ◌<◌, ◌≤◌, List, [], ◌∷◌, ◌++◌, Bool, true, false, length, Option, Some, None, refl, sym, ap, subst, ◌∙◌, append_assoc, append-nil, length-append, inl, inr, arith}
+use Rattle.std.proofs.Common.{◌≡◌, ◌⊎◌, ℕ, ◌+◌, ◌<◌, ◌≤◌, List, [], ◌∷◌, ◌++◌, true, false, length, Option, Some, None, refl, sym, ap, subst, ◌∙◌, append_assoc, append-nil, length-append, inl, inr, arith}
 use Rattle.std.specs.Io.KnownBytes.{Consumes, IsAtEnd}
 use Rattle.std.proofs.lemmas.List.{append_cancel_left}
 use Rattle.auth_server.specs.declared.serve.AuthEnd.{AuthEnd}
 use Rattle.auth_server.specs.declared.serve.AuthEnd.TheVariants as e
-use Rattle.auth_server.specs.Requests.{Asked, Challenge, kind_of, needed}
+use Rattle.auth_server.specs.Requests.{Asked, kind_of, needed}
 use Rattle.auth_server.specs.Answers.{Knowledge, held, is_over}
-use Rattle.auth_server.specs.Sessions.{DrawsAll, Follows, GoesOnFrom, IsPart, IsSession, bytes_of, words_of}
-use Rattle.auth_server.specs.Serving.{EndsInside, EndsSo, EndsWrong, Floods, IsServable, MeetsUnknown, Moment, Reads, most_input}
+use Rattle.auth_server.specs.Sessions.{DrawsAll, Follows, IsSession, bytes_of, words_of}
+use Rattle.auth_server.specs.Serving.{EndsInside, EndsSo, EndsWrong, Floods, IsServable, MeetsUnknown, Moment, Reads}
 use Rattle.auth_server.proofs.SessionLaws.{OneGoesOn, bytes_on, follows_first, kind_kept, one_session, some_bytes, with_last}
 
 -- told bytes and words that were read and drawn

@@ -4,9 +4,9 @@ use Rattle.std.specs.Prelude.{◌≡◌, ℕ, ◌+◌, ◌<◌, ◌≤◌, List,
 use Rattle.std.specs.Io.KnownBytes.{Consumes, IsAtEnd}
 use Rattle.wire_streams.specs.Streams.{Gains}
 use Rattle.wire_streams.specs.Whole.{GainsFront}
-use Rattle.auth_server.specs.Requests.{Asked, asked_so, kind_of, needed}
+use Rattle.auth_server.specs.Requests.{Asked, kind_of, needed}
 use Rattle.auth_server.specs.Answers.{Knowledge, held, is_over}
-use Rattle.auth_server.specs.Sessions.{Follows, IsSession, IsPart, IsUnfinished, DrawsAll, answers_of, bytes_of, words_of}
+use Rattle.auth_server.specs.Sessions.{IsSession, IsPart, IsUnfinished, DrawsAll, answers_of, bytes_of, words_of}
 use Rattle.auth_server.specs.declared.serve.AuthEnd.{AuthEnd}
 use Rattle.auth_server.specs.declared.serve.AuthEnd.TheVariants.{End, UnknownType, Torn, TooManyWrong, ReadFault, WriteFault, WordFault, Flood, NoMemory}
 

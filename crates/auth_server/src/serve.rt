@@ -12,7 +12,8 @@ ghost use Rattle.auth_server.specs.Steps.{HasAnswered, IsAnswerEnd, IsReadEnd, P
 ghost use Rattle.auth_server.specs.declared.serve.Progress.TheVariants.{Whole, Part, Ended};
 
 use crate::incoming::Incoming;
-use crate::server::{AsStep, AuthCore, Session};
+use crate::server::AuthCore;
+use crate::session::{AsStep, Session};
 use std::alloc::Global;
 use wire_base::{Bytes, NoMemory};
 use wire_streams::{Got, Sink, Source, WordFault, Words, WriteFault, write_all};
