@@ -11,17 +11,17 @@ use Rattle.auth_server.specs.Serving.{EndsInside, EndsSo, EndsWrong, Floods, IsS
 use Rattle.auth_server.proofs.SessionLaws.{OneGoesOn, bytes_on, follows_first, kind_kept, one_session, some_bytes, with_last}
 
 -- told bytes and words that were read and drawn
-told_read : (old now : Option (List ℕ)) (told taken : List ℕ) → old ≡ Some told → Consumes old now taken → (rest : List ℕ) × (told ≡ taken ++ rest)
+pub told_read : (old now : Option (List ℕ)) (told taken : List ℕ) → old ≡ Some told → Consumes old now taken → (rest : List ℕ) × (told ≡ taken ++ rest)
 told_read None now told taken e h = absurd cc
 told_read (Some bytes) None told taken e h = absurd h
 told_read (Some bytes) (Some rest) told taken e h = (rest, let same : told ≡ bytes = cc in same ∙ h)
 
-read_all : (old now : Option (List ℕ)) (told taken : List ℕ) → old ≡ Some told → Consumes old now taken → IsAtEnd now → told ≡ taken
+pub read_all : (old now : Option (List ℕ)) (told taken : List ℕ) → old ≡ Some told → Consumes old now taken → IsAtEnd now → told ≡ taken
 read_all None now told taken e h end = absurd cc
 read_all (Some bytes) None told taken e h end = absurd h
 read_all (Some bytes) (Some rest) told taken e h end = let same : told ≡ bytes = cc in same ∙ (h ∙ (ap (λ (l : List ℕ). taken ++ l) end ∙ append-nil taken))
 
-told_drawn : (old now : Option (List (List ℕ))) (told taken : List (List ℕ)) → old ≡ Some told → DrawsAll old now taken → (rest : List (List ℕ)) × (told ≡ taken ++ rest)
+pub told_drawn : (old now : Option (List (List ℕ))) (told taken : List (List ℕ)) → old ≡ Some told → DrawsAll old now taken → (rest : List (List ℕ)) × (told ≡ taken ++ rest)
 told_drawn None now told taken e h = absurd cc
 told_drawn (Some words) None told taken e h = absurd h
 told_drawn (Some words) (Some rest) told taken e h = (rest, let same : told ≡ words = cc in same ∙ h)
@@ -114,7 +114,7 @@ no_flood known before now v f =
     absurd (omega (arith, long, f.full, v.few))
 
 -- and no wrong answer too many
-over_or_not : (known : Knowledge) (whole requests : List Asked) → IsSession known whole → is_over known whole ≡ false → (more : List Asked) → whole ≡ more ++ requests → is_over known requests ≡ true → ⊥
+pub over_or_not : (known : Knowledge) (whole requests : List Asked) → IsSession known whole → is_over known whole ≡ false → (more : List Asked) → whole ≡ more ++ requests → is_over known requests ≡ true → ⊥
 over_or_not known whole requests s goes_on [] is over = absurd (let same : is_over known whole ≡ true = ap (is_over known) is ∙ over in let contra : false ≡ true = sym goes_on ∙ same in cc)
 over_or_not known whole requests s goes_on (first ∷ more) is over =
     let last = with_last first more in

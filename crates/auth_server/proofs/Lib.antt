@@ -6,4 +6,5 @@ pub mod AnswerLemmas
 pub mod ServeLemmas
 pub mod SessionLaws
 pub mod CompleteLaws
+pub mod SpentLaws
 pub mod GrantLaws

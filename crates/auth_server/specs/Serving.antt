@@ -138,3 +138,15 @@ pub record IsServable (known : Knowledge) (before : Moment) : Type 0 where
   pub few : length (bytes_of requests) ≤ most_input
   pub left : before.left ≡ Some (bytes_of requests)
   pub to_come : before.to_come ≡ Some (words_of requests ++ later)
+
+-- the client's bytes are told, they begin with a session that five wrong answers end, and that isn't too many; and its words
+-- are told to come
+pub record IsSpent (known : Knowledge) (before : Moment) : Type 0 where
+  pub requests : List Asked
+  pub behind : List ℕ
+  pub later : List (List ℕ)
+  pub session : IsSession known requests
+  pub over : is_over known requests ≡ true
+  pub few : length (bytes_of requests) ≤ most_input
+  pub left : before.left ≡ Some (bytes_of requests ++ behind)
+  pub to_come : before.to_come ≡ Some (words_of requests ++ later)
