@@ -1,10 +1,10 @@
 -- What is needed after a talk of p9any, whatever the inner role is, as long as that needs keys and the authentication
 -- server's answers alone. What a call seeks is taken back with it, and each search ends.
-use Rattle.std.proofs.Common.{◌≡◌, ℕ, List, [], ◌∷◌, Bool, true, false, Option, Some, None, nat_lt, length, ◌+◌, ◌==◌, if◌then◌else◌, refl, sym, ap, subst, ◌∙◌, ◌⊎◌, inl, inr}
+use Rattle.std.proofs.Common.{◌≡◌, ℕ, List, [], ◌∷◌, Bool, true, false, Option, Some, None, Result, Ok, Err, if◌then◌else◌, refl, sym, ap, subst, ◌∙◌, ◌⊎◌, inl, inr}
 use Rattle.wire_base.specs.Rules.{Rule, first_told}
-use Rattle.ticket_codec.specs.Fields.{before_nul}
 use Rattle.roles.specs.declared.answer.Cause.{Cause}
 use Rattle.roles.specs.declared.answer.Cause.TheVariants.{NoServer, NoRoom}
+use Rattle.roles.specs.declared.answer.Gave.{Gave}
 use Rattle.roles.specs.declared.answer.Gave.TheVariants as g
 use Rattle.roles.specs.declared.key.SkKey.{SkKey}
 use Rattle.roles.specs.declared.need.Need.{Need}
@@ -16,12 +16,11 @@ use Rattle.roles.specs.Talks.{Call, Progress, Verdict, give, get, found, heard, 
 use Rattle.roles.specs.Courses.{answer_of, need_unless, then_course}
 use Rattle.conv_p9any.specs.declared.stage.Stage.{Stage}
 use Rattle.conv_p9any.specs.declared.stage.Stage.TheVariants.{ServerOffers, ServerKey, ServerFirst, ServerSecond, ClientFirst, ClientPick, ClientSecond, ClientThird}
-use Rattle.conv_p9any.specs.declared.stage.TheConstants.{MOST_TEXT}
 use Rattle.conv_p9any.specs.Inner.{Inner}
 use Rattle.conv_p9any.specs.Offers.{consents}
 use Rattle.conv_p9any.specs.Talks.{Standing, choosing, within}
-use Rattle.conv_p9any.specs.Texts.{ended_by_nul, text_with_nul, with_text}
-use Rattle.conv_p9any.specs.Courses.{answer_after, choice_tests, choice_text, choose, chosen_start, consent_tests, course, entered, list_tests, need_after, need_of, offers_came, passed_on, taken_back, verdict}
+use Rattle.conv_p9any.specs.Texts.{text_in, text_with_nul, with_text}
+use Rattle.conv_p9any.specs.Courses.{answer_after, choice_tests, choice_text, choose, chosen_start, consent_tests, course, entered, list_tests, move, need_after, need_of, offers_came, passed_on, seeks_first, taken_back, verdict}
 
 -- what is asked of the inner role
 abbrev pub InnerLaws : Inner → Type 0
@@ -55,12 +54,9 @@ unless_leads inner start p (Some cause) passed leads = λ sought. absurd cc
 tested_leads : (inner : Inner) (start : Start) (p : Progress Standing) (tests : List (Rule Cause)) (passed : Verdict Standing) → Leads inner start p passed → Leads inner start p (tested tests passed)
 tested_leads inner start p tests passed leads = unless_leads inner start p (first_told tests) passed leads
 
-text_leads : (inner : Inner) (start : Start) (p : Progress Standing) (b : List ℕ) (text : Option (List ℕ)) (whole : List ℕ → Verdict Standing) → ((t : List ℕ) → Leads inner start p (whole t)) → Leads inner start p (with_text b text whole)
-text_leads inner start p b None whole leads = λ sought. inl refl
-text_leads inner start p b (Some text) whole leads = either_leads inner start p (length b == length text + 1) (whole text) (stays g.TooLong) (leads text) (λ sought. inl refl)
-
-nul_leads : (inner : Inner) (start : Start) (p : Progress Standing) (b : List ℕ) (whole : List ℕ → Verdict Standing) → ((t : List ℕ) → Leads inner start p (whole t)) → Leads inner start p (ended_by_nul b whole)
-nul_leads inner start p b whole leads = either_leads inner start p (nat_lt MOST_TEXT (length b)) (stays g.TooLong) (with_text b (before_nul b) whole) (λ sought. inl refl) (text_leads inner start p b (before_nul b) whole leads)
+text_leads : (inner : Inner) (start : Start) (p : Progress Standing) (text : Result (List ℕ) Gave) (whole : List ℕ → Verdict Standing) → ((t : List ℕ) → Leads inner start p (whole t)) → Leads inner start p (with_text text whole)
+text_leads inner start p (Ok text) whole leads = leads text
+text_leads inner start p (Err answer) whole leads = λ sought. inl refl
 
 -- what the inner role seeks at its start is taken back with the move that chose
 if_sought : (sought : Bool) (p : Progress Standing) (v w : Verdict Standing) → sought ≡ true → then_course p (if sought then v else w) ≡ then_course p v
@@ -104,7 +100,7 @@ choose_leads inner start (ServerFirst list) undone = λ sought. inl refl
 choose_leads inner start (ServerFirst list) (offered offers) = λ sought. inl refl
 choose_leads inner start (ServerFirst list) (picked k) = λ sought. inl refl
 choose_leads inner start (ServerSecond list) (give b) =
-    nul_leads inner start (at (choosing (ServerSecond list))) b (λ text. tested (choice_tests inner.name list text) (entered inner start (ServerSecond list) text []))
+    text_leads inner start (at (choosing (ServerSecond list))) (text_in b) (λ text. tested (choice_tests inner.name list text) (entered inner start (ServerSecond list) text []))
     (λ text. tested_leads inner start (at (choosing (ServerSecond list))) (choice_tests inner.name list text) (entered inner start (ServerSecond list) text []) (entered_leads inner start (ServerSecond list) text []))
 choose_leads inner start (ServerSecond list) get = λ sought. inl refl
 choose_leads inner start (ServerSecond list) (found key password) = λ sought. inl refl
@@ -115,7 +111,7 @@ choose_leads inner start (ServerSecond list) undone = λ sought. inl refl
 choose_leads inner start (ServerSecond list) (offered offers) = λ sought. inl refl
 choose_leads inner start (ServerSecond list) (picked k) = λ sought. inl refl
 choose_leads inner start ClientFirst (give b) =
-    nul_leads inner start (at (choosing ClientFirst)) b (λ list. tested (list_tests inner.name start list) (goes (choosing (ClientPick list)) g.Wait []))
+    text_leads inner start (at (choosing ClientFirst)) (text_in b) (λ list. tested (list_tests inner.name start list) (goes (choosing (ClientPick list)) g.Wait []))
     (λ list. tested_leads inner start (at (choosing ClientFirst)) (list_tests inner.name start list) (goes (choosing (ClientPick list)) g.Wait []) (λ sought. inr (λ none. refl)))
 choose_leads inner start ClientFirst get = λ sought. inl refl
 choose_leads inner start ClientFirst (found key password) = λ sought. inl refl
@@ -146,7 +142,7 @@ choose_leads inner start (ClientSecond list place) undone = λ sought. inl refl
 choose_leads inner start (ClientSecond list place) (offered offers) = λ sought. inl refl
 choose_leads inner start (ClientSecond list place) (picked k) = λ sought. inl refl
 choose_leads inner start (ClientThird list place) (give b) =
-    nul_leads inner start (at (choosing (ClientThird list place))) b (λ text. tested (consent_tests text) (entered inner start (ClientThird list place) (choice_text inner.name start list place) []))
+    text_leads inner start (at (choosing (ClientThird list place))) (text_in b) (λ text. tested (consent_tests text) (entered inner start (ClientThird list place) (choice_text inner.name start list place) []))
     (λ text. tested_leads inner start (at (choosing (ClientThird list place))) (consent_tests text) (entered inner start (ClientThird list place) (choice_text inner.name start list place) []) (entered_leads inner start (ClientThird list place) (choice_text inner.name start list place) []))
 choose_leads inner start (ClientThird list place) get = λ sought. inl refl
 choose_leads inner start (ClientThird list place) (found key password) = λ sought. inl refl
@@ -164,10 +160,13 @@ unless_sought : (sought : Bool) (v w : Verdict Standing) → sought ≡ false �
 unless_sought true v w h = absurd cc
 unless_sought false v w h = refl
 
+seeks_none : (inner : Inner) (start : Start) (talk : List Call) → inner.needs start talk ≡ Nothing → seeks_first inner.needs start talk ≡ false
+seeks_none inner start [] none = ap is_sought none
+seeks_none inner start (call ∷ talk) none = refl
+
 undone_passes : (inner : Inner) (start : Start) (before : Stage) (text : List ℕ) (talk : List Call) → inner.needs (chosen_start inner start text) talk ≡ Nothing → taken_back inner start before text talk ≡ passed_on inner start before text talk undone
-undone_passes inner start before text [] none =
-    unless_sought (is_sought (inner.needs (chosen_start inner start text) [])) (goes (choosing before) g.Ok []) (passed_on inner start before text [] undone) (ap is_sought none)
-undone_passes inner start before text (call ∷ talk) none = refl
+undone_passes inner start before text talk none =
+    unless_sought (seeks_first inner.needs (chosen_start inner start text) talk) (goes (choosing before) g.Ok []) (passed_on inner start before text talk undone) (seeks_none inner (chosen_start inner start text) talk none)
 
 -- ---- what a call seeks is taken back with it
 

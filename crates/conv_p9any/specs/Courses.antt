@@ -1,6 +1,6 @@
 -- What the calls of a conversation of p9any come to, one after the other, for every list of calls. Once a domain is chosen
 -- each call is one of the inner role's talk.
-use Rattle.std.specs.Prelude.{ℕ, List, [], ◌∷◌, Bool, false, not, map, codes, length, ◌==◌, Option, Some, None, if◌then◌else◌}
+use Rattle.std.specs.Prelude.{ℕ, List, [], ◌∷◌, Bool, false, ◌&&◌, not, map, codes, length, ◌==◌, Option, Some, None, if◌then◌else◌}
 use Rattle.std.specs.Str.{bytes_eq}
 use Rattle.wire_base.specs.Rules.{Rule}
 use Rattle.attr_tuples.specs.declared.attr.Attr.{Attr}
@@ -25,7 +25,7 @@ use Rattle.conv_p9any.specs.declared.stage.Stage.{Stage}
 use Rattle.conv_p9any.specs.declared.stage.Stage.TheVariants.{ServerOffers, ServerKey, ServerFirst, ServerSecond, ClientFirst, ClientPick, ClientSecond, ClientThird}
 use Rattle.conv_p9any.specs.Inner.{Inner, asked_within, inner_start}
 use Rattle.conv_p9any.specs.Offers.{choice_of, consents, dom_at, dom_in, eligible, is_offered}
-use Rattle.conv_p9any.specs.Talks.{Standing, choosing, within, needs_any}
+use Rattle.conv_p9any.specs.Talks.{Standing, choosing, within, is_empty, needs_any}
 use Rattle.conv_p9any.specs.Texts.{ended_by_nul, text_with_nul}
 
 -- ---- the inner role
@@ -121,12 +121,15 @@ choose name start enter stage _ = stays (idle stage)
 
 -- ---- all moves
 
--- what the inner role seeks at its start was asked for by the move that chose, which is taken back
+-- the inner role was told nothing, and seeks something
+abbrev pub seeks_first : (Start → List Call → Need) → Start → List Call → Bool
+seeks_first needs start talk = is_empty talk && is_sought (needs start [])
+
+-- that was asked for by the move that chose, which is taken back
 abbrev pub taken_back : Inner → Start → Stage → List ℕ → List Call → Verdict Standing
-taken_back inner start before text [] =
-    if is_sought (inner.needs (chosen_start inner start text) []) then goes (choosing before) g.Ok []
-    else passed_on inner start before text [] undone
-taken_back inner start before text (call ∷ talk) = passed_on inner start before text (call ∷ talk) undone
+taken_back inner start before text talk =
+    if seeks_first inner.needs (chosen_start inner start text) talk then goes (choosing before) g.Ok []
+    else passed_on inner start before text talk undone
 
 abbrev pub move : Inner → Start → Standing → Call → Verdict Standing
 move inner start (choosing stage) call = choose inner.name start (entered inner start) stage call

@@ -3,3 +3,7 @@ pub mod Texts
 pub mod Offers
 pub mod Talks
 pub mod Courses
+pub mod Standing
+pub mod Steps
+pub mod Cutting
+pub mod Moves

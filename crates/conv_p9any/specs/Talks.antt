@@ -1,5 +1,5 @@
 -- How far a conversation of p9any may have come.
-use Rattle.std.specs.Prelude.{ℕ, List, Bool, true, false}
+use Rattle.std.specs.Prelude.{ℕ, List, [], ◌∷◌, Bool, true, false}
 use Rattle.roles.specs.declared.need.Need.{Need}
 use Rattle.roles.specs.declared.need.Need.TheVariants.{Nothing, Key, Offers, Pick, Exchange}
 use Rattle.roles.specs.Talks.{Call}
@@ -18,3 +18,8 @@ needs_any (Key template) = true
 needs_any (Offers template) = true
 needs_any (Pick templates) = true
 needs_any (Exchange request shape) = true
+
+-- nothing was told so far
+abbrev pub is_empty : List Call → Bool
+is_empty [] = true
+is_empty (call ∷ talk) = false

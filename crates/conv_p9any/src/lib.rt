@@ -2,6 +2,17 @@
 //! (authsrv(6) and factotum(4) of the Plan 9 manual). Which protocol that is, its user says.
 #![tactic(auto)]
 
+mod chooser;
+mod conv;
+mod inner;
+mod judge;
+mod need;
+mod offers;
+mod own;
+mod spoken;
 mod stage;
+mod step;
+mod texts;
 
+pub use conv::AnyConv;
 pub use stage::{MOST_TEXT, Stage};

@@ -1,5 +1,5 @@
 -- Messages of two parts.
-use Rattle.std.proofs.Common.{◌≡◌, ℕ, List, [], ◌++◌, length, take, drop, refl, ap, ◌∙◌, arith, length-append, length-drop, append-nil}
+use Rattle.std.proofs.Common.{◌≡◌, ℕ, List, [], ◌++◌, length, take, drop, ap, ◌∙◌, arith, length-append, length-drop, append-nil}
 use Rattle.std.proofs.lemmas.List.{take-append-le, take_all, drop_all}
 use borrow.Rule.Slice.PartMut.{post_of, put_mid}
 

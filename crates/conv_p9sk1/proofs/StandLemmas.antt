@@ -3,6 +3,7 @@ use Rattle.std.proofs.Common.{◌≡◌, ◌≢◌, ℕ, List, ◌∷◌, ◌++�
 use Rattle.roles.specs.declared.answer.Gave.{Gave}
 use Rattle.roles.specs.declared.answer.Gave.TheVariants as g
 use Rattle.roles.specs.declared.stage.Stage.{Stage}
+use Rattle.roles.proofs.AnswerLemmas.{comes, goes_on}
 use Rattle.roles.specs.Answers.{Comes, bytes_with, talk_with}
 use Rattle.roles.specs.Starts.{Start}
 use Rattle.roles.specs.Talks.{Call, Progress, undone}
@@ -10,30 +11,6 @@ use Rattle.roles.specs.Courses.{answer_after, answer_of, course, need_at, puts_a
 use Rattle.conv_p9sk1.specs.declared.conv.SkConv.{SkConv}
 use Rattle.conv_p9sk1.specs.Steps.{start_of}
 use Rattle.conv_p9sk1.specs.Standing.{Follows, MayFollow, Stands, progress_of, verdict_in}
-
--- what is told where there is memory is told, unless there is none
-comes : (given wanted : Gave) → (given ≢ g.NoMemory → given ≡ wanted) → Comes given wanted
-comes g.NoMemory wanted h = tt
-comes g.Ok wanted h = h (λ e. cc)
-comes g.Wait wanted h = h (λ e. cc)
-comes (g.Phase word) wanted h = h (λ e. cc)
-comes (g.TooSmall size) wanted h = h (λ e. cc)
-comes g.TooLong wanted h = h (λ e. cc)
-comes (g.Done haveai) wanted h = h (λ e. cc)
-comes g.BadKey wanted h = h (λ e. cc)
-comes (g.Refused cause) wanted h = h (λ e. cc)
-
--- the same of the talk for which a machine stands
-goes_on : (c : SkConv) (start : Start) (talk : List Call) (call : Call) (given : Gave) → (given ≡ g.NoMemory → Stands c start talk) → (given ≢ g.NoMemory → Stands c start (call ∷ talk)) → Stands c start (talk_with given call talk)
-goes_on c start talk call g.NoMemory same more = same refl
-goes_on c start talk call g.Ok same more = more (λ e. cc)
-goes_on c start talk call g.Wait same more = more (λ e. cc)
-goes_on c start talk call (g.Phase word) same more = more (λ e. cc)
-goes_on c start talk call (g.TooSmall size) same more = more (λ e. cc)
-goes_on c start talk call g.TooLong same more = more (λ e. cc)
-goes_on c start talk call (g.Done haveai) same more = more (λ e. cc)
-goes_on c start talk call g.BadKey same more = more (λ e. cc)
-goes_on c start talk call (g.Refused cause) same more = more (λ e. cc)
 
 -- a call's verdict is that of the talk
 pub same_verdict : (c : SkConv) (start : Start) (talk : List Call) (call : Call) → Stands c start talk → verdict_in c call ≡ verdict start (course start talk) call
@@ -60,7 +37,7 @@ tells old new given call m start talk s = comes given (answer_after start talk c
 
 pub keeps : (old new : SkConv) (given : Gave) (call : Call) → MayFollow old new given (verdict_in old call) → (start : Start) (talk : List Call) → Stands old start talk → Stands new start (talk_with given call talk)
 keeps old new given call m start talk s =
-    goes_on new start talk call given
+    goes_on (λ (t : List Call). Stands new start t) given call talk
     (λ none. let same : new ≡ old = m.unchanged none in subst (λ (c : SkConv). Stands c start talk) (sym same) s)
     (λ memory. stands_on old new call (m.follows memory) start talk s)
 

@@ -1,16 +1,15 @@
 // The moves of a client. Nothing here takes memory.
-ghost use Rattle.std.specs.Prelude.{◌≡◌, ◌++◌, codes, drop, length, take, option_map};
+ghost use Rattle.std.specs.Prelude.{◌≡◌, ◌++◌, drop, length, take};
 ghost use Rattle.wire_base.specs.Rules.{first_told};
-ghost use Rattle.attr_tuples.specs.Matching.{value_of};
-ghost use Rattle.roles.specs.Clients.{answer_came, grants_tickets, handed_on, is_elsewhere, proof_came, proof_tests, request_came, request_tests, ticket_tests, tickets_came, wanted_user};
+ghost use Rattle.roles.specs.Clients.{answer_came, grants_tickets, handed_on, proof_came, proof_tests, request_came, request_tests, ticket_tests, tickets_came, wanted_user};
 ghost use Rattle.roles.specs.Talks.{sized};
 ghost use Rattle.roles.specs.Tickets.{challenge_in, proof_under, rest_part, ticket_part, ticket_under};
 ghost use Rattle.conv_p9sk1.specs.Steps.{LeadsOn, start_of, verdict_of};
 
 use crate::own::Own;
 use crate::step::{Step, take_sized};
-use attr_tuples::{is_dom, value_of};
-use roles::{Cause, Role, SkKey, Stage, is_refusal, test_proof, ticket_in};
+use attr_tuples::is_dom;
+use roles::{Cause, Role, SkKey, Stage, is_elsewhere, is_refusal, test_proof, ticket_in};
 use ticket_codec::{
     AUTH_AC, AUTH_AS, AUTH_OK, AUTH_TC, AUTH_TREQ, Authenticator, Ticket, TicketReq, open_auth,
     read_req, seal_auth,
@@ -48,20 +47,10 @@ fn test_request(own: &Own, request: &TicketReq) -> Option<Cause>
         Some(Cause::WrongKind)
     } else if !is_dom(request.authdom.text()) {
         Some(Cause::WrongKind)
-    } else if is_elsewhere(own, request.authdom.text()) {
+    } else if is_elsewhere(&own.template, request.authdom.text()) {
         Some(Cause::NotOffered)
     } else {
         None
-    }
-}
-
-// Whether the start names a domain, and another.
-fn is_elsewhere(own: &Own, dom: &[u8]) -> bool
-    ensures { result ≡ is_elsewhere (value_of (codes "dom") own.now.template) dom.now }
-{
-    match value_of(&own.template, b"dom".as_slice()) {
-        Some(wanted) => wanted.as_slice() != dom,
-        None => false,
     }
 }
 

@@ -3,8 +3,9 @@ ghost use Rattle.std.specs.Prelude.{◌≡◌, ◌+◌, ◌<◌, ◌≤◌, [], 
 ghost use Rattle.std.specs.List.{list_all};
 ghost use Rattle.wire_base.specs.Texts.{is_text};
 ghost use Rattle.attr_tuples.specs.Attributes.{is_attr, is_name, is_tuple, is_value};
-ghost use Rattle.attr_tuples.specs.Matching.{value_of};
 ghost use Rattle.attr_tuples.specs.declared.attr.Value.TheVariants.{Is};
+ghost use Rattle.attr_tuples.specs.Matching.{value_of};
+ghost use Rattle.roles.specs.Clients.{is_elsewhere};
 ghost use Rattle.roles.specs.Starts.{fits_start};
 ghost use Rattle.roles.specs.Templates.{asked, asked_as, ask_dom_part, dom_part, given_as, is_other, is_own, is_set, others_part, user_part};
 
@@ -35,6 +36,16 @@ pub fn build_asked(
     put_user(alloc, &mut asked)?;
     put_ask_dom(alloc, &mut asked, role, dom.is_some())?;
     Ok(asked)
+}
+
+/// Whether a template names a domain, and another.
+pub fn is_elsewhere(template: &Tuple, dom: &[u8]) -> bool
+    ensures { result ≡ is_elsewhere (value_of (codes "dom") template.now) dom.now }
+{
+    match value_of(template, b"dom".as_slice()) {
+        Some(wanted) => wanted.as_slice() != dom,
+        None => false,
+    }
 }
 
 #[tactic(auto, using(crate::proofs::TemplateLemmas::dom_is_name))]
@@ -130,7 +141,8 @@ pub fn find_dom(template: &Tuple) -> Option<&[u8]>
 
 // ---- attributes
 
-fn put_given(alloc: Global, asked: &mut Tuple, name: &[u8], text: &[u8]) -> Result<(), NoMemory>
+/// Puts `name=text` behind the attributes that stand.
+pub fn put_given(alloc: Global, asked: &mut Tuple, name: &[u8], text: &[u8]) -> Result<(), NoMemory>
     requires room { length asked.old < 36 }
     requires name { is_name name.now ≡ true }
     requires value { is_value (Is text.now) ≡ true }
@@ -158,7 +170,8 @@ fn put_asked(alloc: Global, asked: &mut Tuple, name: &[u8]) -> Result<(), NoMemo
     )
 }
 
-fn put_attr(asked: &mut Tuple, attr: Attr) -> Result<(), NoMemory>
+/// Puts an attribute behind those that stand.
+pub fn put_attr(asked: &mut Tuple, attr: Attr) -> Result<(), NoMemory>
     requires room { length asked.old < 36 }
     requires valid { is_attr attr ≡ true }
     ensures put { OnOk result (asked.new ≡ asked.old ++ attr ∷ []) }
