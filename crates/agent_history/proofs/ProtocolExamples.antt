@@ -27,10 +27,9 @@ use Rattle.md5.specs.Md5.{block_words, compress, digest_bytes, hash_after, md5, 
 use Rattle.md5_answers.specs.Answer.{apop_digits}
 use Rattle.ticket_codec.specs.Fields.{before_nul}
 use Rattle.ticket_codec.specs.Request.{request_text}
-use Rattle.roles.specs.Starts.{role_of}
+use Rattle.roles.specs.Starts.{fault_of, role_of}
 use Rattle.roles.specs.Templates.{asked, given_as, shown_text}
 use Rattle.conv_p9any.specs.Offers.{is_offered}
-use Rattle.conv_p9any.specs.Starts as choice
 use Rattle.conv_challenge.specs.Numbers.{told_length}
 use Rattle.conv_challenge.specs.Starts as mail
 use Rattle.conv_challenge.specs.Starts.{proto_of, side_of}
@@ -98,14 +97,14 @@ abbrev offers_x : List Deed
 offers_x = tells 6 (codes "ok") (OfTalk 0 (Sought (Offered (codes "p9sk1@x"))) ∷ does_it (any_asked (with_key srvs)))
 
 pub it_has_offers : step (any_asked (with_key srvs)) (call 1 6) (t.Read 3 0 8192) ≡ offers_x
-unfolding refusal after reply_of fid_fault finds offers offers_text matches public_equal tuple_of words_from first_word gap_len line_len utf8_valid_len attr_of is_text is_utf8 chars encode protocol_of choice.start_fault role_of value_of asked answer_text
+unfolding refusal after reply_of fid_fault finds offers offers_text matches public_equal tuple_of words_from first_word gap_len line_len utf8_valid_len attr_of is_text is_utf8 chars encode protocol_of fault_of role_of value_of asked answer_text
 it_has_offers = refl
 
 abbrev shows_x : List Deed
 shows_x = tells 8 (codes "ok p9sk1@x" ++ 0 ∷ []) (does_it (asks 7 4 reads offers_x))
 
 pub its_list_is_read : step (asks 7 4 reads offers_x) (call 1 8) (t.Read 3 0 8192) ≡ shows_x
-unfolding refusal after reply_of fid_fault tuple_of words_from first_word gap_len line_len utf8_valid_len attr_of is_text is_utf8 chars encode protocol_of choice.start_fault role_of value_of answer_text
+unfolding refusal after reply_of fid_fault tuple_of words_from first_word gap_len line_len utf8_valid_len attr_of is_text is_utf8 chars encode protocol_of fault_of role_of value_of answer_text
 its_list_is_read = refl
 
 -- it is given a domain that it didn't offer
@@ -116,11 +115,11 @@ abbrev given_y : List Deed
 given_y = asks 9 14 (writes not_offered) shows_x
 
 pub a_choice_is_written : step shows_x (call 1 9) (t.Write 3 0 (codes "write " ++ not_offered)) ≡ given_y
-unfolding refusal after reply_of fid_fault rpc.request_of tuple_of words_from first_word gap_len line_len utf8_valid_len attr_of is_text is_utf8 chars encode protocol_of choice.start_fault role_of value_of answer_text
+unfolding refusal after reply_of fid_fault rpc.request_of tuple_of words_from first_word gap_len line_len utf8_valid_len attr_of is_text is_utf8 chars encode protocol_of fault_of role_of value_of answer_text
 a_choice_is_written = refl
 
 pub it_is_not_offered : step given_y (call 1 10) (t.Read 3 0 8192) ≡ tells 10 (codes "error not offered") (does_it given_y)
-unfolding refusal after reply_of fid_fault is_offered before_nul tuple_of words_from first_word gap_len line_len utf8_valid_len attr_of is_text is_utf8 chars encode protocol_of choice.start_fault role_of value_of answer_text
+unfolding refusal after reply_of fid_fault is_offered before_nul tuple_of words_from first_word gap_len line_len utf8_valid_len attr_of is_text is_utf8 chars encode protocol_of fault_of role_of value_of answer_text
 it_is_not_offered = refl
 
 -- or its own domain, without the byte behind it
@@ -128,7 +127,7 @@ abbrev given_short : List Deed
 given_short = asks 9 13 (writes (codes "p9sk1 x")) shows_x
 
 pub a_byte_is_wanting : (standing_of (does_it given_short) 0).phase ≡ Kept (a.TooSmall 8)
-unfolding before_nul tuple_of words_from first_word gap_len line_len utf8_valid_len attr_of is_text is_utf8 chars encode protocol_of choice.start_fault role_of value_of
+unfolding before_nul tuple_of words_from first_word gap_len line_len utf8_valid_len attr_of is_text is_utf8 chars encode protocol_of fault_of role_of value_of
 a_byte_is_wanting = refl
 
 pub it_is_told_how_many : answer_text (a.TooSmall 8) ≡ codes "toosmall " ++ decimal 8
@@ -141,7 +140,7 @@ abbrev without_offers : List Deed → List Deed
 without_offers done = OfTalk 0 (Sought (Offered [])) ∷ does_it (any_asked done)
 
 pub it_wants_a_key : step (any_asked began) (call 1 6) (t.Read 3 0 8192) ≡ tells 6 (codes "needkey proto=p9sk1 user? dom? !password?") (OfTalk 0 (Sought NoneServes) ∷ without_offers began)
-unfolding refusal after reply_of fid_fault finds found_by offers offers_text matches public_equal tuple_of words_from first_word gap_len line_len utf8_valid_len attr_of is_text is_utf8 chars encode protocol_of choice.start_fault role_of value_of asked answer_text shown_text printed_text
+unfolding refusal after reply_of fid_fault finds found_by offers offers_text matches public_equal tuple_of words_from first_word gap_len line_len utf8_valid_len attr_of is_text is_utf8 chars encode protocol_of fault_of role_of value_of asked answer_text shown_text printed_text
 it_wants_a_key = refl
 
 -- its user may be asked for one, and adds it: a key serves then, and is offered
@@ -152,14 +151,14 @@ abbrev asks_user : List Deed
 asks_user = OfReplies 1 (Awaited 6 3 8192) ∷ OfTalk 0 (Sought AsksKey) ∷ without_offers with_needkey
 
 pub its_user_is_asked : step (any_asked with_needkey) (call 1 6) (t.Read 3 0 8192) ≡ asks_user
-unfolding refusal after reply_of fid_fault finds found_by offers offers_text matches public_equal tuple_of words_from first_word gap_len line_len utf8_valid_len attr_of is_text is_utf8 chars encode protocol_of choice.start_fault role_of value_of asked answer_text
+unfolding refusal after reply_of fid_fault finds found_by offers offers_text matches public_equal tuple_of words_from first_word gap_len line_len utf8_valid_len attr_of is_text is_utf8 chars encode protocol_of fault_of role_of value_of asked answer_text
 its_user_is_asked = refl
 
 abbrev key_added : List Deed
 key_added = OfKeys 2 (Edited (Add srvs)) ∷ asks_user
 
 pub then_it_has_offers : met 0 KeyTold key_added ≡ OfTalk 0 (Sought (Offered (codes "p9sk1@x"))) ∷ finds_it srv (OfTalk 0 KeyTold ∷ key_added)
-unfolding finds found_by offers offers_text matches public_equal tuple_of words_from first_word gap_len line_len utf8_valid_len attr_of is_text is_utf8 chars encode protocol_of choice.start_fault role_of value_of asked
+unfolding finds found_by offers offers_text matches public_equal tuple_of words_from first_word gap_len line_len utf8_valid_len attr_of is_text is_utf8 chars encode protocol_of fault_of role_of value_of asked
 then_it_has_offers = refl
 
 -- ---- a client of APOP, from its start to its end, with the challenge and the password of RFC 1939

@@ -22,3 +22,6 @@ mod ConversationLaws
 mod WaitLaws
 mod EditLaws
 mod PutLaws
+mod OverLaws
+mod DropLaws
+mod DropHistoryLaws

@@ -1,2 +1,5 @@
 pub mod NeedLaws
+pub mod NumberLemmas
+pub mod StandLemmas
+pub mod TextLemmas
 mod Rows

@@ -20,7 +20,7 @@ use Rattle.conv_challenge.specs.declared.stage.Stage.{Stage}
 use Rattle.conv_challenge.specs.declared.stage.Stage.TheVariants.{ClientFirst, ClientKey, ClientSecond, ClientDone, ServerKey, ServerAsk, ServerFirst, ServerSecond, ServerThird, ServerVouch, ServerDone}
 use Rattle.conv_challenge.specs.Starts.{asked_by_client, asked_by_server, side_of}
 use Rattle.conv_challenge.specs.Clients.{challenge_given, digits_got, password_came}
-use Rattle.conv_challenge.specs.Servers.{challenge_came, challenge_question, digits_came, user_came, vouch_came, vouch_question}
+use Rattle.conv_challenge.specs.Servers.{challenge_came, challenge_got, challenge_question, digits_came, user_came, vouch_came, vouch_question}
 
 -- ---- the moves
 
@@ -51,7 +51,7 @@ move start (ServerAsk key) (heard answer) = challenge_came key answer
 move start (ServerAsk key) unheard = breaks NoServer
 move start (ServerAsk key) roomless = breaks NoRoom
 -- server, 1: the challenge is got
-move start (ServerFirst key challenge) get = goes (ServerSecond key challenge) g.Ok challenge
+move start (ServerFirst key challenge) get = challenge_got key challenge
 -- server, 2: the user's name is given
 move start (ServerSecond key challenge) (give b) = user_came key challenge b
 -- server, 3: his digits are given, and the authentication server asked to vouch for him

@@ -3,3 +3,5 @@ pub mod Numbers
 pub mod Clients
 pub mod Servers
 pub mod Courses
+pub mod Steps
+pub mod Standing

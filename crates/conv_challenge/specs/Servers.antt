@@ -2,11 +2,10 @@
 -- (authsrv(6) of the Plan 9 manual): an equation a move, and in it the tests in the order in which they are made. Which
 -- cause a failed test has is this project's.
 use Rattle.std.specs.Prelude.{ℕ, ◌+◌, ◌==◌, ◌&&◌, ◌||◌, not, Bool, List, [], ◌∷◌, ◌++◌, nat_le, length, take, drop, slice_index, if◌then◌else◌}
-use Rattle.std.specs.List.{list_all}
 use Rattle.std.specs.Str.{bytes_eq}
 use Rattle.wire_base.specs.Rules.{Rule}
 use Rattle.wire_base.specs.Texts.{is_text}
-use Rattle.attr_tuples.specs.Forms.{is_above_blank}
+use Rattle.attr_tuples.specs.Forms.{is_user}
 use Rattle.ticket_codec.specs.Request.{request_text}
 use Rattle.ticket_codec.specs.declared.authenticator.Authenticator.{Authenticator}
 use Rattle.ticket_codec.specs.declared.kind.TheConstants.{AUTH_APOP, AUTH_CRAM, AUTH_OK, AUTH_OK_VAR, AUTH_TS, AUTH_AC}
@@ -23,7 +22,7 @@ use Rattle.conv_challenge.specs.declared.stage.TheConstants.{MOST_CHALLENGE}
 use Rattle.conv_challenge.specs.declared.stage.Proto.{Proto}
 use Rattle.conv_challenge.specs.declared.stage.Proto.TheVariants.{Apop, Cram}
 use Rattle.conv_challenge.specs.declared.stage.Stage.{Stage}
-use Rattle.conv_challenge.specs.declared.stage.Stage.TheVariants.{ServerFirst, ServerThird, ServerVouch, ServerDone}
+use Rattle.conv_challenge.specs.declared.stage.Stage.TheVariants.{ServerFirst, ServerSecond, ServerThird, ServerVouch, ServerDone}
 use Rattle.conv_challenge.specs.Starts.{proto_of}
 use Rattle.conv_challenge.specs.Numbers.{told_length}
 use Rattle.conv_challenge.specs.Clients.{bounded}
@@ -52,11 +51,13 @@ vouch_question start key user digits = request_about start key user ++ digits
 abbrev pub length_in : List ℕ → ℕ
 length_in answer = told_length (take 5 (drop 1 answer))
 
--- an answer that is a challenge, behind its length
+-- it tells a length that a challenge may have, and so many bytes stand behind it
+abbrev pub has_length : List ℕ → Bool
+has_length answer = nat_le 1 (length_in answer) && (nat_le (length_in answer) MOST_CHALLENGE && (length answer == 6 + length_in answer))
+
+-- an answer that is a challenge, behind its kind and its length
 abbrev pub grants_challenge : List ℕ → Bool
-grants_challenge answer =
-    (slice_index answer 0 == AUTH_OK_VAR)
-    && (nat_le 1 (length_in answer) && (nat_le (length_in answer) MOST_CHALLENGE && (length answer == 6 + length_in answer)))
+grants_challenge answer = nat_le 6 (length answer) && ((slice_index answer 0 == AUTH_OK_VAR) && has_length answer)
 
 abbrev pub challenge_came : SkKey → List ℕ → Verdict Stage
 challenge_came key answer =
@@ -64,11 +65,16 @@ challenge_came key answer =
     else if grants_challenge answer then goes (ServerFirst key (drop 6 answer)) g.Ok []
     else breaks WrongKind
 
+-- ---- the first move: the challenge is got
+
+abbrev pub challenge_got : SkKey → List ℕ → Verdict Stage
+challenge_got key challenge = goes (ServerSecond key challenge) g.Ok challenge
+
 -- ---- the second and the third move: the user and his digits come
 
--- the test of a user's name of 1 to 27 bytes
+-- the test of a user's name
 abbrev pub user_tests : List ℕ → List (Rule Cause)
-user_tests b = (not (list_all is_above_blank b) || not (is_text b), WrongUser) ∷ []
+user_tests b = (not (is_user b) || not (is_text b), WrongUser) ∷ []
 
 abbrev pub user_came : SkKey → List ℕ → List ℕ → Verdict Stage
 user_came key challenge b = bounded 27 b (tested (user_tests b) (goes (ServerThird key challenge b) g.Ok []))

@@ -25,13 +25,17 @@ pub record Inner : Type 0 where
 abbrev pub is_replaced : Attr → Bool
 is_replaced a = is_named (codes "proto") a || is_named (codes "dom") a
 
--- the start of the inner role in a domain: that of the whole, but for the protocol and the domain
-abbrev pub inner_start : Inner → Start → List ℕ → Start
-inner_start inner start dom = record {
-  template = given_as (codes "proto") inner.name ∷ given_as (codes "dom") dom ∷ filter (λ a. not (is_replaced a)) start.template;
-  word = start.word;
-}
+-- the other attributes of a start
+abbrev pub left_part : List Attr → List Attr
+left_part template = filter (λ a. not (is_replaced a)) template
 
--- the template asked for the inner role in a domain
-abbrev pub asked_within : Inner → Start → List ℕ → List Attr
-asked_within inner start dom = asked inner.name (role_of start.template) start.template (Some dom)
+-- the start of the role of this name in a domain: that of the whole, but for the protocol and the domain
+abbrev pub inner_template : List ℕ → List Attr → List ℕ → List Attr
+inner_template name template dom = given_as (codes "proto") name ∷ given_as (codes "dom") dom ∷ left_part template
+
+abbrev pub inner_start : List ℕ → Start → List ℕ → Start
+inner_start name start dom = record { template = inner_template name start.template dom; word = start.word }
+
+-- the template asked for it in a domain
+abbrev pub asked_within : List ℕ → Start → List ℕ → List Attr
+asked_within name start dom = asked name (role_of start.template) start.template (Some dom)

@@ -1,5 +1,4 @@
 pub mod Inner
-pub mod Starts
 pub mod Texts
 pub mod Offers
 pub mod Talks

@@ -4,4 +4,4 @@
 
 mod stage;
 
-pub use stage::{Choice, MOST_TEXT, Stage};
+pub use stage::{MOST_TEXT, Stage};

@@ -26,14 +26,3 @@ pub enum Stage {
     /// Before the server's consent to the choice is given.
     ClientThird { list: Bytes, place: u32 },
 }
-
-/// What was chosen, by what was taken and found.
-#[derive(Drop)]
-pub enum Choice {
-    /// A server of this list was given this text.
-    ByClient { list: Bytes, text: Bytes },
-    /// A client was given this list, and got the eligible word at this place.
-    ByPick { list: Bytes, place: u32 },
-    /// The same, and the server consented to it.
-    ByConsent { list: Bytes, place: u32 },
-}

@@ -1,14 +1,7 @@
--- Messages of two parts, and the empty name.
+-- Messages of two parts.
 use Rattle.std.proofs.Common.{◌≡◌, ℕ, List, [], ◌++◌, length, take, drop, refl, ap, ◌∙◌, arith, length-append, length-drop, append-nil}
-use Rattle.std.specs.Str.{is_utf8, chars}
 use Rattle.std.proofs.lemmas.List.{take-append-le, take_all, drop_all}
-use Rattle.wire_base.specs.Texts.{is_text}
-use Rattle.wire_base.specs.Names.{IsName}
 use borrow.Rule.Slice.PartMut.{post_of, put_mid}
-
-pub nobody_is_name : IsName 28 []
-unfolding is_text is_utf8 chars
-nobody_is_name = record { text = refl; short = omega arith }
 
 -- a part written over what stands behind another
 pub joined : (a b z : List ℕ) → length a ≡ 72 → length z ≡ 13 → put_mid 72 13 (a ++ z) b ≡ a ++ b

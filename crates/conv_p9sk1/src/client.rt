@@ -1,8 +1,8 @@
 // The moves of a client. Nothing here takes memory.
-ghost use Rattle.std.specs.Prelude.{◌≡◌, ◌≤◌, ◌++◌, codes, drop, length, take, option_map};
+ghost use Rattle.std.specs.Prelude.{◌≡◌, ◌++◌, codes, drop, length, take, option_map};
 ghost use Rattle.wire_base.specs.Rules.{first_told};
 ghost use Rattle.attr_tuples.specs.Matching.{value_of};
-ghost use Rattle.roles.specs.Clients.{answer_came, grants_tickets, handed_on, is_elsewhere, is_refusal, proof_came, proof_tests, request_came, request_tests, ticket_tests, tickets_came, wanted_user};
+ghost use Rattle.roles.specs.Clients.{answer_came, grants_tickets, handed_on, is_elsewhere, proof_came, proof_tests, request_came, request_tests, ticket_tests, tickets_came, wanted_user};
 ghost use Rattle.roles.specs.Talks.{sized};
 ghost use Rattle.roles.specs.Tickets.{challenge_in, proof_under, rest_part, ticket_part, ticket_under};
 ghost use Rattle.conv_p9sk1.specs.Steps.{LeadsOn, start_of, verdict_of};
@@ -10,10 +10,10 @@ ghost use Rattle.conv_p9sk1.specs.Steps.{LeadsOn, start_of, verdict_of};
 use crate::own::Own;
 use crate::step::{Step, take_sized};
 use attr_tuples::{is_dom, value_of};
-use roles::{Cause, Role, SkKey, Stage};
+use roles::{Cause, Role, SkKey, Stage, is_refusal, test_proof, ticket_in};
 use ticket_codec::{
-    AUTH_AC, AUTH_AS, AUTH_ERR, AUTH_OK, AUTH_TC, AUTH_TREQ, Authenticator, FieldFault, Ticket,
-    TicketReq, open_auth, open_ticket, read_req, seal_auth,
+    AUTH_AC, AUTH_AS, AUTH_OK, AUTH_TC, AUTH_TREQ, Authenticator, Ticket, TicketReq, open_auth,
+    read_req, seal_auth,
 };
 use wire_base::Name;
 
@@ -80,12 +80,6 @@ pub fn take_answer(own: &Own, request: &[u8; 141], key: &SkKey, answer: &[u8]) -
     }
 }
 
-fn is_refusal(answer: &[u8]) -> bool
-    ensures { result ≡ is_refusal answer.now }
-{
-    answer.len() == 65 && answer[0] == AUTH_ERR
-}
-
 fn grants_tickets(answer: &[u8]) -> bool
     ensures { result ≡ grants_tickets answer.now }
 {
@@ -112,16 +106,6 @@ fn take_tickets(own: &Own, request: &[u8; 141], key: &SkKey, granted: &[u8]) -> 
         },
         Err(_) => Step::Breaks(Cause::BadKey),
     }
-}
-
-/// The ticket at the front of a message.
-pub fn ticket_in(key: &SkKey, bytes: &[u8]) -> Result<Ticket, FieldFault>
-    requires { 72 ≤ length bytes.now }
-    ensures { result ≡ ticket_under key.now (ticket_part bytes.now) }
-{
-    let mut part = [0; 72];
-    part.copy_from_slice(&bytes[..72]);
-    open_ticket(&part, &key.des)
 }
 
 // The first test that a client's ticket fails.
@@ -215,18 +199,5 @@ pub fn take_proof(
             Some(cause) => Step::Breaks(cause),
         },
         Err(_) => Step::Breaks(Cause::BadKey),
-    }
-}
-
-/// The first test that an authenticator of a kind fails.
-pub fn test_proof(kind: u8, challenge: &[u8; 8], proof: &Authenticator) -> Option<Cause>
-    ensures { result ≡ first_told (proof_tests kind challenge.now proof.now) }
-{
-    if proof.num != kind || proof.id != 0 {
-        Some(Cause::WrongKind)
-    } else if proof.chal != *challenge {
-        Some(Cause::WrongChallenge)
-    } else {
-        None
     }
 }

@@ -2,7 +2,7 @@
 ghost use Rattle.std.specs.Prelude.{◌≡◌, ◌≢◌, ◌++◌, [], true, None, IfOk, List, ℕ, Option, option_map};
 ghost use Rattle.attr_tuples.specs.Attributes.{is_tuple};
 ghost use Rattle.roles.specs.Answers.{bytes_with};
-ghost use Rattle.roles.specs.Courses.{answer_of, bytes_of, first_stage, is_last, refusal};
+ghost use Rattle.roles.specs.Courses.{answer_of, bytes_of, first_stage, is_last};
 ghost use Rattle.roles.specs.Starts.{fits_start, role_of, start_with};
 ghost use Rattle.roles.specs.Talks.{found, get, give, heard, roomless, undone, unheard};
 ghost use Rattle.conv_p9sk1.specs.Standing.{Follows, MayFollow, Needs, Stands, progress_of, verdict_in};
@@ -17,7 +17,8 @@ use crate::own::Own;
 use crate::step::Step;
 use attr_tuples::Tuple;
 use roles::{
-    Cause, Gave, Machine, Need, Outcome, PhaseWord, Role, SkKey, Stage, StartFault, read_start,
+    Cause, Gave, Machine, Need, Offered, Outcome, PhaseWord, Role, SkKey, Stage, StartFault,
+    read_start, refuse,
 };
 use std::alloc::Global;
 use wire_base::{Bytes, NoMemory, Text};
@@ -203,19 +204,6 @@ impl SkConv {
     }
 }
 
-fn refuse(cause: Cause) -> Gave
-    ensures value { result ≡ refusal cause }
-    ensures told { result ≢ Gave.NoMemory }
-{
-    match cause {
-        Cause::BadKey => Gave::BadKey,
-        Cause::WrongKind | Cause::WrongChallenge | Cause::WrongUser | Cause::NotOffered => {
-            Gave::Refused(cause)
-        }
-        Cause::ServerSaidNo | Cause::NoServer | Cause::NoRoom => Gave::Refused(cause),
-    }
-}
-
 impl Machine for SkConv {
     ghost use Rattle.roles.specs.Courses.{answer_after, ended_after, need_after, outcome_after, puts_after};
     ghost use Rattle.roles.specs.Starts.{start_fault};
@@ -284,6 +272,25 @@ impl Machine for SkConv {
     fn has_ended(&self) -> bool {
         is_last(&self.stage)
     }
+}
+
+impl Offered for SkConv {
+    ghost use Rattle.std.specs.Prelude.{codes};
+    ghost use Rattle.roles.proofs.NeedLaws.{p9sk1_seeks};
+    ghost use Rattle.roles.proofs.StartLemmas.{p9sk1_starts};
+    ghost use Rattle.roles.proofs.ValueLemmas.{protocol_is_value};
+
+    ghost protocol = { codes "p9sk1" };
+
+    fn protocol_name() -> &'static [u8] {
+        b"p9sk1".as_slice()
+    }
+
+    ghost valid = { protocol_is_value };
+
+    ghost starts = { p9sk1_starts };
+
+    ghost seeks = { p9sk1_seeks };
 }
 
 fn is_last(stage: &Stage) -> bool

@@ -6,11 +6,11 @@ ghost use Rattle.roles.specs.Servers.{proof_got};
 ghost use Rattle.roles.specs.Talks.{found, get, give, heard, roomless, undone, unheard};
 ghost use Rattle.conv_p9sk1.specs.Steps.{LeadsOn, NeedsNothing, start_of, verdict_of, with_bytes};
 
-use crate::client::{hand_on, take_answer, take_proof, take_request, ticket_in};
+use crate::client::{hand_on, take_answer, take_proof, take_request};
 use crate::own::Own;
 use crate::server::{make_proof, make_request, take_challenge, take_shown};
 use crate::step::{Step, idle};
-use roles::{Cause, SkKey, Stage};
+use roles::{Cause, SkKey, Stage, ticket_in};
 use ticket_codec::read_req;
 use wire_base::{Bytes, NoMemory};
 

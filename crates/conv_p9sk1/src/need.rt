@@ -1,8 +1,5 @@
 // What a stage needs.
-ghost use Rattle.std.specs.Prelude.{◌≡◌, true, codes, IfOk, IfSome, option_map};
-ghost use Rattle.attr_tuples.specs.Attributes.{is_tuple, is_value};
-ghost use Rattle.attr_tuples.specs.declared.attr.Value.TheVariants.{Is};
-ghost use Rattle.attr_tuples.specs.Matching.{value_of};
+ghost use Rattle.std.specs.Prelude.{◌≡◌, true, IfOk};
 ghost use Rattle.roles.specs.Clients.{question_for};
 ghost use Rattle.roles.specs.Courses.{need_of};
 ghost use Rattle.roles.specs.Templates.{asked_first, asked_in};
@@ -14,8 +11,8 @@ ghost use Rattle.conv_p9sk1.specs.Steps.{IsReady, LeadsOn, start_of};
 use crate::client::wanted_user;
 use crate::own::Own;
 use crate::step::Step;
-use attr_tuples::{Tuple, value_of};
-use roles::{Need, Role, SkKey, Stage, build_asked};
+use attr_tuples::Tuple;
+use roles::{Need, Role, SkKey, Stage, build_asked, find_dom};
 use std::alloc::Global;
 use ticket_codec::{AUTH_TREQ, TicketReq, read_req, write_req};
 use wire_base::{Bytes, Name, NoMemory, Shape};
@@ -90,18 +87,6 @@ fn ask_first(alloc: Global, own: &Own) -> Result<Tuple, NoMemory>
         &own.template,
         find_dom(&own.template),
     )
-}
-
-// The domain that a template gives, if it gives one.
-fn find_dom(template: &Tuple) -> Option<&[u8]>
-    requires { is_tuple template.now ≡ true }
-    ensures value { option_map (λ dom. dom.now) result ≡ value_of (codes "dom") template.now }
-    ensures valid { IfSome result (λ dom. is_value (Is dom.now) ≡ true) }
-{
-    match value_of(template, b"dom".as_slice()) {
-        Some(dom) => Some(dom.as_slice()),
-        None => None,
-    }
 }
 
 fn make_question(

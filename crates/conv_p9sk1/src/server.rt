@@ -8,15 +8,12 @@ ghost use Rattle.roles.specs.declared.answer.Gave.TheVariants as g;
 ghost use Rattle.roles.specs.declared.stage.Stage.TheVariants.{ServerSecond};
 ghost use Rattle.conv_p9sk1.specs.Steps.{LeadsOn, start_of, verdict_of};
 
-use crate::client::{test_proof, ticket_in};
 use crate::own::Own;
 use crate::step::{Step, take_sized};
-use roles::{Cause, SkKey, Stage};
+use roles::{Cause, SkKey, Stage, no_name, proof_in, test_proof, ticket_in};
 use ticket_codec::{
-    AUTH_AC, AUTH_AS, AUTH_TREQ, AUTH_TS, Authenticator, Ticket, TicketReq, open_auth, seal_auth,
-    write_req,
+    AUTH_AC, AUTH_AS, AUTH_TREQ, AUTH_TS, Authenticator, Ticket, TicketReq, seal_auth, write_req,
 };
-use wire_base::Name;
 
 /// The client's challenge was given.
 pub fn take_challenge(key: &SkKey, bytes: &[u8]) -> Step
@@ -45,16 +42,6 @@ pub fn make_request(own: &Own, key: &SkKey) -> [u8; 141]
     })
 }
 
-#[tactic(auto, using(crate::proofs::PartLemmas::nobody_is_name))]
-fn no_name() -> Name<28>
-    ensures { result ≡ [] }
-{
-    match Name::from_text(&[]) {
-        Some(name) => name,
-        None => unreachable!(),
-    }
-}
-
 /// The client's ticket and authenticator were given.
 pub fn take_shown(own: &Own, key: &SkKey, theirs: &[u8; 8], bytes: &[u8]) -> Step
     ensures verdict { verdict_of result ≡ sized 85 bytes.now
@@ -76,16 +63,6 @@ pub fn take_shown(own: &Own, key: &SkKey, theirs: &[u8; 8], bytes: &[u8]) -> Ste
         },
         Err(_) => Step::Breaks(Cause::WrongKind),
     }
-}
-
-// The authenticator behind a ticket.
-fn proof_in(ticket: &Ticket, shown: &[u8; 85]) -> Authenticator
-    ensures { result ≡ proof_under ticket.now (rest_part shown.now) }
-{
-    let (_, sealed) = shown.split_at(72);
-    let mut part = [0; 13];
-    part.copy_from_slice(sealed);
-    open_auth(&part, &ticket.key)
 }
 
 // The first test that a ticket and its authenticator fail.

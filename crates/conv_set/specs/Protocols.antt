@@ -7,11 +7,10 @@ use Rattle.roles.specs.declared.answer.StartFault.{StartFault}
 use Rattle.roles.specs.declared.need.Need.{Need}
 use Rattle.roles.specs.declared.need.Outcome.{Outcome}
 use Rattle.roles.specs.declared.need.Outcome.TheVariants.{Running, Accepted, Finished, Broken}
-use Rattle.roles.specs.Starts.{Start, says, start_fault}
+use Rattle.roles.specs.Starts.{Start, fault_of, says, start_fault}
 use Rattle.roles.specs.Talks.{Call}
 use Rattle.roles.specs.Courses as sk
 use Rattle.conv_p9any.specs.Inner.{Inner}
-use Rattle.conv_p9any.specs.Starts as choice_starts
 use Rattle.conv_p9any.specs.Courses as choice
 use Rattle.conv_challenge.specs.Starts as mail_starts
 use Rattle.conv_challenge.specs.Courses as mail
@@ -37,7 +36,7 @@ p9sk1 = record { name = codes "p9sk1"; answers = sk.answer_after; puts = sk.puts
 -- why a template starts no conversation, if it starts none
 abbrev pub refuses_by : Protocol → List Attr → Option StartFault
 refuses_by P9sk1 template = start_fault template
-refuses_by P9any template = choice_starts.start_fault template
+refuses_by P9any template = fault_of (codes "p9any") template
 refuses_by Mail template = mail_starts.start_fault template
 
 abbrev pub refuses : List Attr → Option StartFault

@@ -1,3 +1,5 @@
+pub mod SearchLemmas
+pub mod RoleLaws
 pub mod NameLemmas
 pub mod TemplateLemmas
 pub mod MoveLemmas

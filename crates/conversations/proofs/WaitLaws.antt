@@ -11,29 +11,21 @@ use Rattle.roles.specs.declared.answer.Gave.{Gave}
 use Rattle.roles.specs.declared.answer.Gave.TheVariants as g
 use Rattle.roles.specs.declared.answer.StartFault.{StartFault}
 use Rattle.roles.specs.declared.need.Need.{Need}
-use Rattle.roles.specs.declared.need.Need.TheVariants.{Nothing, Key, Exchange}
-use Rattle.roles.specs.declared.stage.Stage.{Stage}
-use Rattle.roles.specs.Answers.{IsExchange, IsKey}
-use Rattle.roles.specs.Starts.{Start}
-use Rattle.roles.specs.Talks.{Progress, found, get, give, heard, roomless, undone, unheard}
+use Rattle.roles.specs.declared.need.Need.TheVariants.{Nothing, Key, Offers, Pick, Exchange}
+use Rattle.roles.specs.Answers.{IsExchange, IsKey, IsOffers, IsPick, is_sought}
+use Rattle.roles.specs.Talks.{found, get, give, heard, offered, picked, roomless, undone, unheard}
 use Rattle.roles.specs.Talks.{Call as Move}
-use Rattle.roles.specs.Courses.{course, need_at, then_course, verdict}
-use Rattle.roles.proofs.UndoLaws.{undone_call, wanted_by}
-use Rattle.roles.proofs.ExchangeLaws.{heard_needs, roomless_needs, roomless_tells, unheard_needs, unheard_tells}
+use Rattle.conv_set.proofs.Laws.{found_needs, heard_needs, offers_stay, picked_needs, roomless_needs, roomless_tells, undone_needs, unheard_needs, unheard_tells}
 use Rattle.rpc_file.specs.Requests.{RpcRequest, starts, reads, writes, asks_info, asks_attributes}
 use Rattle.rpc_file.specs.declared.answer.RpcAnswer.{RpcAnswer}
 use Rattle.rpc_file.specs.declared.answer.RpcAnswer.TheVariants as a
 use Rattle.talks.specs.Answers.{attributes, cause_answer, move_answer, told_key}
-use Rattle.talks.specs.Calls.{Call, Found, Chosen, AsksConsent, AsksKey, Denied, NoneServes, Stored, CarriedOut, Sought, Consented, KeyTold, Shut, Heard, Unheard, Roomless, Took}
+use Rattle.talks.specs.Calls.{Call, Found, Chosen, AsksConsent, AsksKey, Denied, NoneServes, Offered, Picked, Stored, CarriedOut, Sought, Consented, KeyTold, Shut, Heard, Unheard, Roomless, Took}
 use Rattle.conv_set.specs.Protocols.{answers, needs, puts, refuses}
-use Rattle.talks.specs.Standings.{Begun, Phase, Resting, Waiting, Seeking, OnConfirm, OnNeedkey, OnServer, Kept, Standing, begin, begin_once, carried_out, chosen_for, made, if_begun, make_move, phase_after, sought, standing, start_by, started, taken_back, then_stands, with_key, with_move}
+use Rattle.talks.specs.Standings.{Begun, Phase, Resting, Waiting, Seeking, OnConfirm, OnNeedkey, OnServer, Kept, Standing, begin, begin_once, carried_out, chosen_for, if_begun, is_for, made, make_move, need_in, phase_after, sought, sought_if, standing, start_by, started, taken_back, then_stands, told_of_key, with_key, with_move}
 use Rattle.conversations.specs.Fits.{IsIdle}
 
--- what is needed of what was begun
-abbrev pub need_in : Option Begun → Need
-need_in begun = elim begun [ None ↦ Nothing | Some b ↦ needs b.start b.moves ]
-
--- while a key is sought, nothing is needed once the request is taken back
+-- while something is sought, nothing is needed once the request is taken back
 abbrev Awaits : Option Begun → Bool → Phase → Type 0
 Awaits begun starting Resting = need_in begun ≡ Nothing
 Awaits begun starting (Waiting request) = (need_in begun ≡ Nothing) × (starting ≡ false)
@@ -48,44 +40,70 @@ AwaitsIn s = Awaits s.begun s.starting s.phase
 
 -- ---- the role met a move
 
--- where a key is needed then, nothing is needed once it is taken back
+-- where something is sought then, nothing is needed once it is taken back
 abbrev Returns : Begun → Bool → Type 0
-Returns b starting = IsKey (needs b.start b.moves) → need_in (taken_back starting (Some b)) ≡ Nothing
+Returns b starting = is_sought (needs b.start b.moves) ≡ true → need_in (taken_back starting (Some b)) ≡ Nothing
 
-leads : (b : Begun) (starting : Bool) (answer : RpcAnswer) (need : Need) → needs b.start b.moves ≡ need → (IsKey need → need_in (taken_back starting (Some b)) ≡ Nothing) → Awaits (Some b) starting (phase_after need answer)
+leads : (b : Begun) (starting : Bool) (answer : RpcAnswer) (need : Need) → needs b.start b.moves ≡ need → (is_sought need ≡ true → need_in (taken_back starting (Some b)) ≡ Nothing) → Awaits (Some b) starting (phase_after need answer)
 leads b starting answer Nothing e back = e
-leads b starting answer (Key template) e back = back tt
+leads b starting answer (Key template) e back = back refl
+leads b starting answer (Offers template) e back = back refl
+leads b starting answer (Pick templates) e back = back refl
 leads b starting answer (Exchange request shape) e back = subst (λ (need : Need). IsExchange need) (sym e) tt
 
 moved_on : (b : Begun) (starting : Bool) (answer : RpcAnswer) → Returns b starting → Awaits (Some b) starting (phase_after (needs b.start b.moves) answer)
 moved_on b starting answer back = leads b starting answer (needs b.start b.moves) refl back
 
+differ : true ≡ false → ⊥
+differ e = cc
+
 -- from where nothing was needed
 from_nothing : (b : Begun) (move : Move) (starting : Bool) → needs b.start b.moves ≡ Nothing → Returns (with_move b move) starting
-from_nothing b move true none = λ key. refl
-from_nothing b move false none = λ key. ap (λ (p : Progress Stage). need_at b.start p) (undone_call b.start b.moves move none key) ∙ none
+from_nothing b move true none = λ sought. refl
+from_nothing b move false none = λ sought. undone_needs b.start b.moves move none sought
 
--- from where a key was sought
-still_returns : (start : Start) (moves : List Move) (move : Move) → needs start (undone ∷ moves) ≡ Nothing → (course start (move ∷ moves) ≡ course start moves) ⊎ ((needs start moves ≡ Nothing) × (course start (undone ∷ move ∷ moves) ≡ course start moves)) → needs start (undone ∷ move ∷ moves) ≡ Nothing
-still_returns start moves move none (inl same) = ap (λ (p : Progress Stage). need_at start (then_course p (verdict start p undone))) same ∙ none
-still_returns start moves move none (inr back) = ap (λ (p : Progress Stage). need_at start p) back.1 ∙ back.0
+-- from where something was sought, and nothing is after it
+from_unsought : (b : Begun) (starting : Bool) → is_sought (needs b.start b.moves) ≡ false → Returns b starting
+from_unsought b starting none = λ sought. absurd (differ (sym sought ∙ none))
 
-from_sought : (b : Begun) (key : KeyEntry) (starting : Bool) → need_in (taken_back starting (Some b)) ≡ Nothing → Returns (chosen_for key b) starting
-from_sought b key true none = λ wanted. refl
-from_sought b key false none = λ wanted. still_returns b.start b.moves (found (told_key key) (value_of (codes "!password") key.tuple)) none (wanted_by b.start b.moves (found (told_key key) (value_of (codes "!password") key.tuple)) wanted)
+-- a key was found
+wants_key : (need : Need) (key : KeyEntry) → is_for need (Chosen key) ≡ true → IsKey need
+wants_key (Key template) key e = tt
+wants_key (Offers template) key e = absurd (differ (sym e))
+wants_key (Pick templates) key e = absurd (differ (sym e))
+wants_key (Exchange request shape) key e = absurd (differ (sym e))
+wants_key Nothing key e = absurd (differ (sym e))
+
+from_found : (b : Begun) (key : KeyEntry) (starting : Bool) → is_for (needs b.start b.moves) (Chosen key) ≡ true → need_in (taken_back starting (Some b)) ≡ Nothing → Returns (chosen_for key b) starting
+from_found b key true wanted none = λ sought. refl
+from_found b key false wanted none = from_unsought (chosen_for key b) false (found_needs b.start b.moves (told_key key) (value_of (codes "!password") key.tuple) (wants_key (needs b.start b.moves) key wanted) none)
+
+-- a list of offers came
+wants_offers : (need : Need) (list : List ℕ) → is_for need (Offered list) ≡ true → IsOffers need
+wants_offers (Key template) list e = absurd (differ (sym e))
+wants_offers (Offers template) list e = tt
+wants_offers (Pick templates) list e = absurd (differ (sym e))
+wants_offers (Exchange request shape) list e = absurd (differ (sym e))
+wants_offers Nothing list e = absurd (differ (sym e))
+
+from_offered : (b : Begun) (list : List ℕ) (starting : Bool) → is_for (needs b.start b.moves) (Offered list) ≡ true → need_in (taken_back starting (Some b)) ≡ Nothing → Returns (with_move b (offered list)) starting
+from_offered b list true wanted none = λ sought. refl
+from_offered b list false wanted none = absurd (offers_stay b.start b.moves (wants_offers (needs b.start b.moves) list wanted) none)
+
+-- a place was picked
+wants_pick : (need : Need) (place : ℕ) → is_for need (Picked place) ≡ true → IsPick need
+wants_pick (Key template) place e = absurd (differ (sym e))
+wants_pick (Offers template) place e = absurd (differ (sym e))
+wants_pick (Pick templates) place e = tt
+wants_pick (Exchange request shape) place e = absurd (differ (sym e))
+wants_pick Nothing place e = absurd (differ (sym e))
+
+from_picked : (b : Begun) (place : ℕ) (starting : Bool) → is_for (needs b.start b.moves) (Picked place) ≡ true → Returns (with_move b (picked place)) starting
+from_picked b place starting wanted = from_unsought (with_move b (picked place)) starting (picked_needs b.start b.moves place (wants_pick (needs b.start b.moves) place wanted))
 
 -- from where the authentication server was asked
-no_exchange : (need : Need) → IsKey need → IsExchange need → ⊥
-no_exchange Nothing key exchange = key
-no_exchange (Key template) key exchange = exchange
-no_exchange (Exchange request shape) key exchange = key
-
-no_key_then : (start : Start) (moves : List Move) (move : Move) → IsExchange (needs start moves) → IsKey (needs start (move ∷ moves)) → (course start (move ∷ moves) ≡ course start moves) ⊎ ((needs start moves ≡ Nothing) × (course start (undone ∷ move ∷ moves) ≡ course start moves)) → ⊥
-no_key_then start moves move exchange key (inl same) = no_exchange (needs start moves) (subst (λ (p : Progress Stage). IsKey (need_at start p)) same key) exchange
-no_key_then start moves move exchange key (inr back) = subst (λ (need : Need). IsExchange need) back.0 exchange
-
-from_exchange : (b : Begun) (move : Move) (starting : Bool) → IsExchange (needs b.start b.moves) → Returns (with_move b move) starting
-from_exchange b move starting exchange = λ key. absurd (no_key_then b.start b.moves move exchange key (wanted_by b.start b.moves move key))
+from_exchange : (b : Begun) (move : Move) (starting : Bool) → needs b.start (move ∷ b.moves) ≡ Nothing → Returns (with_move b move) starting
+from_exchange b move starting none = from_unsought (with_move b move) starting (ap (λ (need : Need). is_sought need) none)
 
 -- ---- each call of a talk
 
@@ -120,22 +138,40 @@ carries_out s word (writes message) none = writes_on s message s.begun none none
 carries_out s word asks_info none = none
 carries_out s word asks_attributes none = shows_on s s.begun none
 
-takes_key : (s : Standing) (key : KeyEntry) (begun : Option Begun) → AwaitsIn s → need_in (taken_back s.starting begun) ≡ Nothing → AwaitsIn (with_key s key begun)
-takes_key s key None same none = same
-takes_key s key (Some b) same none =
-    moved_on (chosen_for key b) s.starting (move_answer a.Ok (Some key) (answers b.start b.moves (found (told_key key) (value_of (codes "!password") key.tuple))))
-    (from_sought b key s.starting none)
+takes_key : (s : Standing) (key : KeyEntry) (begun : Option Begun) → AwaitsIn s → is_for (need_in begun) (Chosen key) ≡ true → need_in (taken_back s.starting begun) ≡ Nothing → AwaitsIn (with_key s key begun)
+takes_key s key None same wanted none = same
+takes_key s key (Some b) same wanted none =
+    moved_on (chosen_for key b) s.starting (move_answer a.Ok (Some key) (answers b.start b.moves (told_of_key key)))
+    (from_found b key s.starting wanted none)
 
-searches_on : (s : Standing) (came : Found) → AwaitsIn s → need_in (taken_back s.starting s.begun) ≡ Nothing → AwaitsIn (sought s came)
-searches_on s (Chosen key) same none = takes_key s key s.begun same none
-searches_on s (AsksConsent serial) same none = none
-searches_on s AsksKey same none = none
-searches_on s Denied same none = none
-searches_on s NoneServes same none = none
+takes_offers : (s : Standing) (list : List ℕ) (begun : Option Begun) → AwaitsIn s → is_for (need_in begun) (Offered list) ≡ true → need_in (taken_back s.starting begun) ≡ Nothing → AwaitsIn (made s (offered list) begun)
+takes_offers s list None same wanted none = same
+takes_offers s list (Some b) same wanted none = moved_on (with_move b (offered list)) s.starting (move_answer a.Ok b.key (answers b.start b.moves (offered list))) (from_offered b list s.starting wanted none)
 
-hears : (s : Standing) (move : Move) (begun : Option Begun) → AwaitsIn s → IsExchange (need_in begun) → AwaitsIn (made s move begun)
-hears s move None same exchange = same
-hears s move (Some b) same exchange = moved_on (with_move b move) s.starting (move_answer a.Ok b.key (answers b.start b.moves move)) (from_exchange b move s.starting exchange)
+takes_pick : (s : Standing) (place : ℕ) (begun : Option Begun) → AwaitsIn s → is_for (need_in begun) (Picked place) ≡ true → AwaitsIn (made s (picked place) begun)
+takes_pick s place None same wanted = same
+takes_pick s place (Some b) same wanted = moved_on (with_move b (picked place)) s.starting (move_answer a.Ok b.key (answers b.start b.moves (picked place))) (from_picked b place s.starting wanted)
+
+searches_on : (s : Standing) (came : Found) → AwaitsIn s → is_for (need_in s.begun) came ≡ true → need_in (taken_back s.starting s.begun) ≡ Nothing → AwaitsIn (sought s came)
+searches_on s (Chosen key) same wanted none = takes_key s key s.begun same wanted none
+searches_on s (AsksConsent serial) same wanted none = none
+searches_on s AsksKey same wanted none = none
+searches_on s Denied same wanted none = none
+searches_on s NoneServes same wanted none = none
+searches_on s (Offered list) same wanted none = takes_offers s list s.begun same wanted none
+searches_on s (Picked place) same wanted none = takes_pick s place s.begun same wanted
+
+searches_if : (s : Standing) (came : Found) (wanted : Bool) → is_for (need_in s.begun) came ≡ wanted → AwaitsIn s → need_in (taken_back s.starting s.begun) ≡ Nothing → AwaitsIn (sought_if wanted s came)
+searches_if s came true e same none = searches_on s came same e none
+searches_if s came false e same none = same
+
+-- the authentication server is done with: nothing is needed then
+abbrev Frees : Move → Type 0
+Frees move = (b : Begun) → IsExchange (needs b.start b.moves) → needs b.start (move ∷ b.moves) ≡ Nothing
+
+hears : (s : Standing) (move : Move) (begun : Option Begun) → AwaitsIn s → Frees move → IsExchange (need_in begun) → AwaitsIn (made s move begun)
+hears s move None same frees exchange = same
+hears s move (Some b) same frees exchange = moved_on (with_move b move) s.starting (move_answer a.Ok b.key (answers b.start b.moves move)) (from_exchange b move s.starting (frees b exchange))
 
 goes_on : (s : Standing) (phase : Phase) (call : Call) → Awaits s.begun s.starting phase → AwaitsIn s → AwaitsIn (then_stands s phase call)
 goes_on s Resting (Stored r) is same = (is, refl)
@@ -160,7 +196,7 @@ goes_on s (Waiting request) Roomless is same = same
 goes_on s (Waiting request) Took is same = same
 goes_on s Seeking (Stored r) is same = same
 goes_on s Seeking (CarriedOut word) is same = same
-goes_on s Seeking (Sought came) is same = searches_on s came same is
+goes_on s Seeking (Sought came) is same = searches_if s came (is_for (need_in s.begun) came) refl same is
 goes_on s Seeking (Consented agrees) is same = same
 goes_on s Seeking KeyTold is same = same
 goes_on s Seeking Shut is same = same
@@ -194,9 +230,9 @@ goes_on s OnServer (Sought came) is same = same
 goes_on s OnServer (Consented agrees) is same = same
 goes_on s OnServer KeyTold is same = same
 goes_on s OnServer Shut is same = same
-goes_on s OnServer (Heard bytes) is same = hears s (heard bytes) s.begun same is
-goes_on s OnServer Unheard is same = hears s unheard s.begun same is
-goes_on s OnServer Roomless is same = hears s roomless s.begun same is
+goes_on s OnServer (Heard bytes) is same = hears s (heard bytes) s.begun same (λ b exchange. heard_needs b.start b.moves bytes exchange) is
+goes_on s OnServer Unheard is same = hears s unheard s.begun same (λ b exchange. unheard_needs b.start b.moves exchange) is
+goes_on s OnServer Roomless is same = hears s roomless s.begun same (λ b exchange. roomless_needs b.start b.moves exchange) is
 goes_on s OnServer Took is same = same
 goes_on s (Kept answer) (Stored r) is same = same
 goes_on s (Kept answer) (CarriedOut word) is same = same
@@ -228,10 +264,6 @@ asked_in s phase asks is = subst (λ (p : Phase). Awaits s.begun s.starting p) a
 
 is_asked : (talk : List Call) → (standing talk).phase ≡ OnServer → IsExchange (need_in (standing talk).begun)
 is_asked talk asks = asked_in (standing talk) (standing talk).phase asks (awaits talk)
-
--- nothing is needed then
-abbrev Frees : Move → Type 0
-Frees move = (b : Begun) → IsExchange (needs b.start b.moves) → needs b.start (move ∷ b.moves) ≡ Nothing
 
 -- and this is told
 abbrev Tells : Move → Cause → Type 0

@@ -1,23 +1,26 @@
 -- When a conversation holds for a talk: what was begun is what the definitions say was begun, and so are the phase, the
 -- start and what the user said.
-use Rattle.std.specs.Prelude.{◌≡◌, ℕ, List, ◌∷◌, false, Option, Some, None, if◌then◌else◌}
+use Rattle.std.specs.Prelude.{◌≡◌, ℕ, List, ◌∷◌, true, false, Option, Some, None, if◌then◌else◌}
 use Rattle.attr_tuples.specs.declared.attr.Attr.{Attr}
 use Rattle.key_lists.specs.Lists.{KeyList}
 use Rattle.roles.specs.declared.answer.Gave.{Gave}
 use Rattle.roles.specs.declared.answer.StartFault.{StartFault}
-use Rattle.roles.specs.declared.need.Need.TheVariants.{Nothing}
+use Rattle.roles.specs.declared.need.Need.{Need}
+use Rattle.roles.specs.declared.need.Need.TheVariants.{Nothing, Key, Offers, Pick, Exchange}
+use Rattle.roles.specs.Answers.{IsPick}
 use Rattle.roles.specs.Starts.{Start}
 use Rattle.roles.specs.Talks.{get}
 use Rattle.roles.specs.Talks.{Call as Move}
-use Rattle.conv_p9sk1.specs.declared.conv.SkConv.{SkConv}
-use Rattle.conv_p9sk1.specs.Standing.{Stands}
+use Rattle.conv_set.specs.declared.conv.Conv.{Conv}
+use Rattle.conv_set.specs.Standing.{Stands}
 use Rattle.rpc_file.specs.declared.answer.RpcAnswer.{RpcAnswer}
 use Rattle.rpc_file.specs.declared.answer.RpcAnswer.TheVariants as a
 use Rattle.talks.specs.Answers.{move_answer, start_answer}
 use Rattle.talks.specs.Calls.{Call, CarriedOut, Sought}
 use Rattle.talks.specs.declared.said.Asking.{Asking}
 use Rattle.conv_set.specs.Protocols.{answers, needs, puts, refuses}
-use Rattle.talks.specs.Standings.{Begun, Standing, begin, finds, phase_after, question_of, standing, template_of, then_stands, with_move}
+use Rattle.talks.specs.Searches.{offered_by, picked_by}
+use Rattle.talks.specs.Standings.{Begun, Standing, begin, finds, need_in, phase_after, question_of, standing, template_of, then_stands, with_move}
 use Rattle.conversations.specs.declared.begun.Begun.{Begun as Held}
 use Rattle.conversations.specs.declared.conversation.Conversation.{Conversation}
 use Rattle.conversations.specs.declared.opening.Opening.{Opening}
@@ -25,7 +28,7 @@ use Rattle.conversations.specs.declared.opening.Opening.TheVariants as o
 use Rattle.conversations.specs.declared.phase.Phase.{Phase}
 use Rattle.conversations.specs.declared.phase.Phase.TheVariants as held
 use Rattle.conversations.specs.Meanings.{phase_of}
-use Rattle.conversations.specs.Shown.{answer_in, is_seeking}
+use Rattle.conversations.specs.Shown.{answer_in, has_request, is_seeking}
 
 -- ---- what was begun
 
@@ -82,17 +85,23 @@ answer_held c = answer_in (phase_of c.phase)
 
 -- ---- a request and the search that it wants
 
--- a talk, and behind it a search among the keys of a moment, where a key is sought
+-- a talk, and behind it a search among the keys of a moment, where something is sought
+abbrev pub with_search_once : Asking → KeyList → List Call → List Call
+with_search_once asking list talk = if is_seeking (standing talk).phase then Sought (finds (standing talk) asking list) ∷ talk else talk
+
+-- and as many as it wants: a start may want the offers, a key where there are none, and the offers again
 abbrev pub with_search : Asking → KeyList → List Call → List Call
-with_search asking list talk = if is_seeking (standing talk).phase then Sought (finds (standing talk) asking list) ∷ talk else talk
+with_search asking list talk =
+    if (standing talk).starting then with_search_once asking list (with_search_once asking list (with_search_once asking list talk))
+    else with_search_once asking list talk
 
--- whatever its talk was, it holds for the talk with the search that it wants
-abbrev pub Searches : Conversation → Conversation → Asking → KeyList → Type 0
-Searches old new asking list = (talk : List Call) → Holds old talk → Holds new (with_search asking list talk)
+-- a talk with its request carried out, and the search that this wants; as it was, where it has no request
+abbrev pub with_request : List ℕ → Asking → KeyList → List Call → List Call
+with_request word asking list talk = if has_request (standing talk).phase then with_search asking list (CarriedOut word ∷ talk) else talk
 
--- whatever its talk was, it holds for the talk with its request carried out, and the search that this wants
+-- whatever its talk was, it holds for the talk with its request carried out
 abbrev pub Performs : Conversation → Conversation → List ℕ → Asking → KeyList → Type 0
-Performs old new word asking list = (talk : List Call) → Holds old talk → Holds new (with_search asking list (CarriedOut word ∷ talk))
+Performs old new word asking list = (talk : List Call) → Holds old talk → Holds new (with_request word asking list talk)
 
 -- whatever its talk was, it holds for it still
 abbrev pub Stays : Conversation → Conversation → Type 0
@@ -100,9 +109,23 @@ Stays old new = (talk : List Call) → Holds old talk → Holds new talk
 
 -- ---- for the proofs of its methods alone
 
--- a standing, and the search that it wants
+-- a standing, and the search that it wants, once, and as often as it wants it
+abbrev pub searched_once : Asking → KeyList → Standing → Standing
+searched_once asking list s = if is_seeking s.phase then then_stands s s.phase (Sought (finds s asking list)) else s
+
 abbrev pub searched : Asking → KeyList → Standing → Standing
-searched asking list s = if is_seeking s.phase then then_stands s s.phase (Sought (finds s asking list)) else s
+searched asking list s = if s.starting then searched_once asking list (searched_once asking list (searched_once asking list s)) else searched_once asking list s
+
+-- a search finds no memory: something is sought, and it is no pick
+pub record Lacks (s : Standing) : Type 0 where
+  pub seeks : is_seeking s.phase ≡ true
+  pub picks : IsPick (need_in s.begun) → ⊥
+
+-- a start that found no memory for its search is as it was but for what was begun
+pub record Shaken (old new : Conversation) : Type 0 where
+  pub starting : new.starting ≡ old.starting
+  pub said : new.said ≡ old.said
+  pub once : old.starting ≡ false → new ≡ old
 
 -- nothing is needed, and the latest request that was carried out is forgotten
 pub record IsIdle (s : Standing) : Type 0 where
@@ -122,11 +145,11 @@ abbrev pub Turns : Conversation → Conversation → (Standing → Standing) →
 Turns old new change = (s : Standing) → Fits old s → Fits new (change s)
 
 -- a move of the machine was made, and answered so
-abbrev pub Made : SkConv → SkConv → Move → Gave → Type 0
+abbrev pub Made : Conv → Conv → Move → Gave → Type 0
 Made old new move gave = (start : Start) (moves : List Move) → Stands old start moves → (gave ≡ answers start moves move) × Stands new start (move ∷ moves)
 
 -- these bytes are got of it
-abbrev pub Got : SkConv → List ℕ → Type 0
+abbrev pub Got : Conv → List ℕ → Type 0
 Got old bytes = (start : Start) (moves : List Move) → Stands old start moves → bytes ≡ puts start moves get
 
 -- the phase that follows where this was begun, and this is the answer where nothing is needed
@@ -145,3 +168,19 @@ Moves old new phase move = (b : Begun) → IsBegun old b → Becomes new phase (
 abbrev pub Opens : Opening → List Attr → List ℕ → Type 0
 Opens (o.Refused answer) template word = (fault : StartFault) × ((refuses template ≡ Some fault) × (answer ≡ start_answer fault))
 Opens (o.Started held) template word = (refuses template ≡ None) × IsBegun held (begin template word)
+
+-- where offers are needed, this is their list
+abbrev pub IsOfferedBy : List ℕ → Need → List ℕ → KeyList → Type 0
+IsOfferedBy given Nothing role list = Unit {0}
+IsOfferedBy given (Key template) role list = Unit {0}
+IsOfferedBy given (Offers template) role list = given ≡ offered_by template role list
+IsOfferedBy given (Pick templates) role list = Unit {0}
+IsOfferedBy given (Exchange request shape) role list = Unit {0}
+
+-- where one of some templates is to be picked, this is its place
+abbrev pub IsPickedBy : ℕ → Need → List ℕ → KeyList → Type 0
+IsPickedBy place Nothing role list = Unit {0}
+IsPickedBy place (Key template) role list = Unit {0}
+IsPickedBy place (Offers template) role list = Unit {0}
+IsPickedBy place (Pick templates) role list = place ≡ picked_by templates role list
+IsPickedBy place (Exchange request shape) role list = Unit {0}

@@ -4,6 +4,8 @@ use Rattle.wire_base.specs.declared.shape.Shape.{Shape}
 use Rattle.attr_tuples.specs.declared.attr.Attr.{Attr}
 use Rattle.roles.specs.declared.need.Need.{Need}
 use Rattle.roles.specs.declared.need.Need.TheVariants as n
+use Rattle.conversations.specs.declared.begun.Wanted.{Wanted}
+use Rattle.conversations.specs.declared.begun.Wanted.TheVariants as w
 use Rattle.rpc_file.specs.declared.answer.RpcAnswer.{RpcAnswer}
 use Rattle.talks.specs.Standings.{Phase, Resting, Waiting, Seeking, OnConfirm, OnNeedkey, OnServer, Kept}
 
@@ -27,7 +29,7 @@ has_request OnNeedkey = false
 has_request OnServer = false
 has_request (Kept answer) = false
 
--- a key is to be searched for
+-- what is needed of the keys is to be searched for
 abbrev pub is_seeking : Phase → Bool
 is_seeking Resting = false
 is_seeking (Waiting request) = false
@@ -70,6 +72,8 @@ answer_in OnServer = None
 -- the template that is asked of a key, if a key is needed
 abbrev pub asked_in : Need → Option (List Attr)
 asked_in (n.Key template) = Some template
+asked_in (n.Offers template) = None
+asked_in (n.Pick templates) = None
 asked_in (n.Exchange request shape) = None
 asked_in n.Nothing = None
 
@@ -77,4 +81,14 @@ asked_in n.Nothing = None
 abbrev pub exchange_in : Need → Option (List ℕ × Shape)
 exchange_in (n.Exchange request shape) = Some (request, shape)
 exchange_in (n.Key template) = None
+exchange_in (n.Offers template) = None
+exchange_in (n.Pick templates) = None
 exchange_in n.Nothing = None
+
+-- which of the things that are searched for is needed
+abbrev pub wanted_in : Need → Wanted
+wanted_in n.Nothing = w.Nothing
+wanted_in (n.Key template) = w.Key
+wanted_in (n.Offers template) = w.Offers
+wanted_in (n.Pick templates) = w.Pick
+wanted_in (n.Exchange request shape) = w.Nothing

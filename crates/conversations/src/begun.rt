@@ -4,33 +4,43 @@ ghost use Rattle.attr_tuples.specs.Forms.{is_dom, is_user};
 ghost use Rattle.attr_tuples.specs.Matching.{value_of};
 ghost use Rattle.attr_tuples.specs.Merging.{merged};
 ghost use Rattle.roles.specs.declared.need.Need.TheVariants.{Nothing};
-ghost use Rattle.roles.specs.Answers.{IsKey};
+ghost use Rattle.roles.specs.Answers.{IsKey, IsOffers, IsPick};
 ghost use Rattle.roles.specs.Talks.{Call as Move};
-ghost use Rattle.roles.specs.Talks.{found, get, give, heard, roomless, undone, unheard};
+ghost use Rattle.roles.specs.Talks.{get, give, heard, offered, picked, roomless, undone, unheard};
 ghost use Rattle.talks.specs.Answers.{attributes, info_answer, key_attrs, move_answer, text_or_none, told_key};
 ghost use Rattle.conv_set.specs.Protocols.{answers, ends, has_ended, needs, puts};
-ghost use Rattle.talks.specs.Standings.{Begun as Beginning, chosen_for, role_in, template_in, with_move};
-ghost use Rattle.conversations.specs.Fits.{Becomes, IsBegun, MoveTo, Moves};
-ghost use Rattle.conversations.specs.Shown.{asked_in, exchange_in};
+ghost use Rattle.talks.specs.Standings.{Begun as Beginning, chosen_for, kept_key, role_in, template_in, told_of_key, with_move};
+ghost use Rattle.conversations.specs.Fits.{Becomes, IsBegun, IsOfferedBy, IsPickedBy, MoveTo, Moves};
+ghost use Rattle.conversations.specs.Shown.{asked_in, exchange_in, wanted_in};
 
 use crate::answer::{answer_info, answer_move};
 use crate::machine::{get_message, give_answer, give_key, give_message};
 use crate::phase::{Phase, choose_phase};
 use attr_tuples::{MergeFault, Tuple, merge, value_of};
-use conv_p9sk1::SkConv;
-use key_ring::Key;
+use conv_set::Conv;
+use key_ring::{Key, KeyRing};
 use roles::{Gave, Machine, Need, Outcome, SkKey};
 use rpc_file::RpcAnswer;
 use std::alloc::Global;
+use talks::pick_template;
 use wire_base::{Bytes, Name, NoMemory, Shape, Text};
 
 /// A conversation that was started. It has no Debug, which would print its key.
 #[derive(Drop)]
 pub struct Begun {
-    pub machine: SkConv,
+    pub machine: Conv,
     pub template: Tuple,
     /// The key that was chosen.
     pub key: Option<Key>,
+}
+
+/// What is needed of those things that are searched for among keys.
+#[derive(Clone, Copy, Debug, PartialEq, Eq)]
+pub enum Wanted {
+    Nothing,
+    Key,
+    Offers,
+    Pick,
 }
 
 impl Begun {
@@ -89,15 +99,37 @@ impl Begun {
         ensures moves { IfOk result (λ phase. (b : Beginning) → IsBegun self.old b
             → Becomes self.new phase (chosen_for key.now b)
             (move_answer RpcAnswer.Ok (Some key.now) (answers b.start b.moves
-            (found (told_key key.now) (value_of (codes "!password") key.now.tuple))))) }
+            (told_of_key key.now)))) }
         ensures unchanged { OnErr result (self.new ≡ self.old) }
     {
         let copy = key.copy()?;
         let shown = key.tuple().copy()?;
         let told = tell_key(key);
         let gave = give_key(&mut self.machine, alloc, &told, key.password())?;
-        self.key = Some(copy);
-        Ok(self.phase_behind(RpcAnswer::Ok, gave, shown))
+        let answer = answer_move(RpcAnswer::Ok, gave, shown);
+        let need = self.machine.need();
+        self.key = keep_key(copy, need);
+        Ok(choose_phase(need, answer))
+    }
+
+    /// The list of offers that is needed came. It takes no memory.
+    pub fn use_offers(&mut self, list: Bytes) -> Phase
+        ensures { (b : Beginning) → IsBegun self.old b → IsOffers (needs b.start b.moves)
+            → Becomes self.new result (with_move b (offered list)) (move_answer RpcAnswer.Ok b.key
+            (answers b.start b.moves (offered list))) }
+    {
+        self.machine.with_offers(list);
+        choose_phase(self.machine.need(), RpcAnswer::Ok)
+    }
+
+    /// A place was picked. It takes no memory.
+    pub fn use_pick(&mut self, place: u32) -> Phase
+        ensures { (b : Beginning) → IsBegun self.old b → IsPick (needs b.start b.moves)
+            → Becomes self.new result (with_move b (picked place)) (move_answer RpcAnswer.Ok b.key
+            (answers b.start b.moves (picked place))) }
+    {
+        self.machine.with_pick(place);
+        choose_phase(self.machine.need(), RpcAnswer::Ok)
     }
 
     /// The authentication server answered.
@@ -134,6 +166,42 @@ impl Begun {
         self.machine.undo_need();
     }
 
+    /// What is needed of those things that are searched for.
+    pub fn wanted(&self) -> Wanted
+        ensures { (b : Beginning) → IsBegun self.now b
+            → result ≡ wanted_in (needs b.start b.moves) }
+    {
+        match self.machine.need() {
+            Need::Key(_) => Wanted::Key,
+            Need::Offers(_) => Wanted::Offers,
+            Need::Pick(_) => Wanted::Pick,
+            Need::Nothing | Need::Exchange { .. } => Wanted::Nothing,
+        }
+    }
+
+    /// A list of what the keys of a ring offer, where offers are needed.
+    pub fn list_offers(&self, alloc: Global, ring: &KeyRing) -> Result<Bytes, NoMemory>
+        ensures { IfOk result (λ list. (b : Beginning) → IsBegun self.now b
+            → IsOfferedBy list (needs b.start b.moves) (role_in b.start.template) ring.now) }
+    {
+        let mut list = Bytes::new(alloc);
+        if let Need::Offers(template) = self.machine.need() {
+            ring.offers(template, self.role_name(), &mut list)?;
+        }
+        Ok(list)
+    }
+
+    /// The place of the first template that a key of a ring serves, where one is to be picked. It takes no memory.
+    pub fn find_pick(&self, ring: &KeyRing) -> u32
+        ensures { (b : Beginning) → IsBegun self.now b
+            → IsPickedBy result (needs b.start b.moves) (role_in b.start.template) ring.now }
+    {
+        match self.machine.need() {
+            Need::Pick(templates) => pick_template(ring, templates, self.role_name()),
+            Need::Nothing | Need::Key(_) | Need::Offers(_) | Need::Exchange { .. } => 0,
+        }
+    }
+
     /// The template that is asked of a key, where one is needed.
     pub fn asked(&self) -> Option<&Tuple>
         ensures { (b : Beginning) → IsBegun self.now b
@@ -141,7 +209,7 @@ impl Begun {
     {
         match self.machine.need() {
             Need::Key(template) => Some(template),
-            Need::Nothing | Need::Exchange { .. } => None,
+            Need::Nothing | Need::Offers(_) | Need::Pick(_) | Need::Exchange { .. } => None,
         }
     }
 
@@ -152,7 +220,9 @@ impl Begun {
     {
         match self.machine.need() {
             Need::Key(template) => template.copy(),
-            Need::Nothing | Need::Exchange { .. } => Ok(Tuple::new(alloc)),
+            Need::Nothing | Need::Offers(_) | Need::Pick(_) | Need::Exchange { .. } => {
+                Ok(Tuple::new(alloc))
+            }
         }
     }
 
@@ -164,7 +234,7 @@ impl Begun {
     {
         match self.machine.need() {
             Need::Exchange { request, shape } => Some((request.as_slice(), *shape)),
-            Need::Nothing | Need::Key(_) => None,
+            Need::Nothing | Need::Key(_) | Need::Offers(_) | Need::Pick(_) => None,
         }
     }
 
@@ -201,6 +271,16 @@ impl Begun {
             Some(key) => join_attributes(&self.template, key.tuple()),
             None => self.template.copy(),
         }
+    }
+}
+
+// A key isn't kept that was found for the sake of the offers, which are needed again.
+fn keep_key(key: Key, need: &Need) -> Option<Key>
+    ensures { result ≡ kept_key key need.now }
+{
+    match need {
+        Need::Offers(_) => None,
+        Need::Nothing | Need::Key(_) | Need::Pick(_) | Need::Exchange { .. } => Some(key),
     }
 }
 

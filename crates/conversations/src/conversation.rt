@@ -1,21 +1,20 @@
 // A conversation.
-ghost use Rattle.std.specs.Prelude.{◌≡◌, ◌++◌, ◌∷◌, [], ℕ, false, true, IfOk, List, OnErr, OnOk, Option, Some, option_copied, option_map};
+ghost use Rattle.std.specs.Prelude.{◌≡◌, ◌++◌, ◌∷◌, [], ℕ, false, true, IfOk, List, OnErr, OnOk, Option, Some, option_copied, option_map, None};
 ghost use Rattle.key_lists.specs.CtlLines.{few_of};
 ghost use Rattle.roles.specs.declared.need.Need.TheVariants.{Nothing};
-ghost use Rattle.roles.specs.Answers.{IsKey};
+ghost use Rattle.roles.specs.Answers.{IsKey, IsOffers, IsPick};
 ghost use Rattle.roles.specs.Starts.{fits_start};
 ghost use Rattle.roles.specs.Talks.{Call as Move};
 ghost use Rattle.rpc_file.specs.Requests.{RpcRequest, asks_attributes, asks_info, meant as request_meant, reads, writes};
 ghost use Rattle.talks.specs.Calls as c;
 ghost use Rattle.talks.specs.Meanings.{meant};
 ghost use Rattle.conv_set.specs.Protocols.{needs, refuses};
-ghost use Rattle.talks.specs.Searches.{found_by};
-ghost use Rattle.talks.specs.Standings.{Begun as Beginning, Standing, Waiting, answered, begin_once, carried_out, finds, key_of, moved, nothing_said, outcome_of, question_of, refused, role_name, sought, start_by, started, taken_back, template_of, then_stands, told_of, with_key, with_move};
-ghost use Rattle.conversations.specs.Fits.{answer_held, BothBegun, Carries, Fits, Holds, IsBegun, IsIdle, Keeps, Meets, Performs, PutsBack, Searches, Shows, Stays, Turns, searched};
-ghost use Rattle.conversations.specs.Meanings.{request_of};
-ghost use Rattle.conversations.specs.Shown.{answer_in, asked_in, exchange_in, has_answer, has_request, is_resting, is_seeking, waits_for_server};
+ghost use Rattle.talks.specs.Standings.{Begun as Beginning, Standing, Waiting, answered, begin_once, carried_out, finds, key_of, moved, nothing_said, outcome_of, found_for, need_in, question_of, refused, role_name, sought, start_by, started, taken_back, template_of, then_stands, told_of, with_key, with_move};
+ghost use Rattle.conversations.specs.Fits.{answer_held, BothBegun, Carries, Fits, Holds, IsBegun, IsIdle, Keeps, Lacks, Meets, Performs, PutsBack, Shaken, Shows, Stays, Turns, searched, searched_once};
+ghost use Rattle.conversations.specs.Meanings.{phase_of, request_of};
+ghost use Rattle.conversations.specs.Shown.{answer_in, asked_in, exchange_in, has_answer, has_request, is_resting, is_seeking, waits_for_server, wanted_in};
 
-use crate::begun::Begun;
+use crate::begun::{Begun, Wanted};
 use crate::opening::{Opening, open, read_template};
 use crate::phase::{self, Phase, Stored as Request, store_request};
 use attr_tuples::Tuple;
@@ -97,13 +96,6 @@ impl Conversation {
         }
     }
 
-    /// What is found among the keys of a ring, where these files are open. It takes no memory.
-    pub fn find_key<'a>(&self, alloc: Global, ring: &'a KeyRing, asking: Asking) -> Found<'a>
-        ensures { Shows self.now (λ s. finds s asking ring.now) (meant result) }
-    {
-        self.find(alloc, ring, asking)
-    }
-
     /// The question for the authentication server, and where its answer ends, if there is one. It takes no memory.
     pub fn question(&self) -> Option<(&[u8], Shape)>
         ensures { Shows self.now (λ s. exchange_in (question_of s))
@@ -166,44 +158,8 @@ impl Conversation {
         Ok(())
     }
 
-    /// The request is carried out, by a read for which this word was drawn.
-    pub fn carry_out(&mut self, alloc: Global, word: [u8; 8]) -> Result<(), NoMemory>
-        ensures kept { OnOk result (Keeps self.old self.new (c.CarriedOut word)) }
-        ensures unchanged { OnErr result (self.new ≡ self.old) }
-    {
-        match mem::replace(&mut self.phase, Phase::Resting) {
-            Phase::Waiting(request) => {
-                let done = self.answer_request(alloc, &request, word);
-                if done.is_err() {
-                    self.phase = Phase::Waiting(request);
-                }
-                done
-            }
-            other => {
-                self.phase = other;
-                Ok(())
-            }
-        }
-    }
-
-    /// The key that is needed was searched for.
-    pub fn sought(&mut self, alloc: Global, found: Found<'_>) -> Result<(), NoMemory>
-        ensures kept { OnOk result (Keeps self.old self.new (c.Sought (meant found.entry))) }
-        ensures unchanged { OnErr result (self.new ≡ self.old) }
-    {
-        self.take_found(alloc, found)
-    }
-
-    /// Where a key is sought, it is searched for among the keys of a ring, where these files are open.
-    pub fn seek_on(&mut self, alloc: Global, ring: &KeyRing, asking: Asking) -> Result<(), NoMemory>
-        ensures kept { OnOk result (Searches self.old self.new asking ring.now) }
-        ensures unchanged { OnErr result (self.new ≡ self.old) }
-    {
-        self.search(alloc, ring, asking)
-    }
-
-    /// The request is carried out, by a read for which this word was drawn; where it needs a key, that is searched for
-    /// among the keys of a ring, where these files are open.
+    /// The request, if it has one, is carried out by a read for which this word was drawn; what it needs of the keys of a
+    /// ring is searched for, where these files are open.
     pub fn perform(
         &mut self,
         alloc: Global,
@@ -218,7 +174,7 @@ impl Conversation {
             Phase::Waiting(request) => self.perform_request(alloc, request, word, ring, asking),
             other => {
                 self.phase = other;
-                self.search(alloc, ring, asking)
+                Ok(())
             }
         }
     }
@@ -358,12 +314,14 @@ impl Conversation {
         done
     }
 
-    // The request, for which a key is sought, is taken back without an answer.
+    // The request, for which something is sought, is taken back without an answer.
     fn unmake_request(&mut self)
-        ensures { (s : Standing) (word : List ℕ) (request : RpcRequest)
+        ensures made { (s : Standing) (word : List ℕ) (request : RpcRequest)
             → Fits self.old (carried_out s word request)
-            → is_seeking (carried_out s word request).phase ≡ true
-            → IsIdle s → Carries self.new s }
+            → Lacks (carried_out s word request) → IsIdle s → Carries self.new s }
+        ensures begun { self.old.starting ≡ true → self.new.begun ≡ None }
+        ensures starting { self.new.starting ≡ false }
+        ensures said { self.new.said ≡ self.old.said }
     {
         let starting = self.starting;
         self.starting = false;
@@ -495,40 +453,123 @@ impl Conversation {
     }
 }
 
-// ---- a key is searched for
+// ---- what is needed is searched for
 
 impl Conversation {
-    fn find<'a>(&self, alloc: Global, ring: &'a KeyRing, asking: Asking) -> Found<'a>
-        ensures { (s : Standing) → Carries self.now s → meant result ≡ finds s asking ring.now }
+    fn search(&mut self, alloc: Global, ring: &KeyRing, asking: Asking) -> Result<(), NoMemory>
+        ensures met { OnOk result (Turns self.old self.new (searched asking ring.now)) }
+        ensures shaken { OnErr result (Shaken self.old self.new) }
+        ensures lacks { OnErr result (self.old.starting ≡ false
+            → (s : Standing) → Fits self.old s → Lacks s) }
     {
-        let none = Tuple::new(alloc);
-        match &self.begun {
-            Some(begun) => find_for(ring, &none, begun, &self.said, asking),
-            None => find_none(ring, &none, &self.said, asking),
+        if self.starting {
+            self.search_start(alloc, ring, asking)
+        } else {
+            self.search_once(alloc, ring, asking)
         }
     }
 
-    fn search(&mut self, alloc: Global, ring: &KeyRing, asking: Asking) -> Result<(), NoMemory>
+    // As often as one search may lead to another.
+    fn search_start(&mut self, alloc: Global, ring: &KeyRing, asking: Asking) -> Result<(), NoMemory>
+        requires { self.old.starting ≡ true }
         ensures met { OnOk result (Turns self.old self.new (searched asking ring.now)) }
+        ensures starting { self.new.starting ≡ self.old.starting }
+        ensures said { OnErr result (self.new.said ≡ self.old.said) }
+    {
+        self.search_once(alloc, ring, asking)?;
+        self.search_once(alloc, ring, asking)?;
+        self.search_once(alloc, ring, asking)
+    }
+
+    fn search_once(&mut self, alloc: Global, ring: &KeyRing, asking: Asking) -> Result<(), NoMemory>
+        ensures met { OnOk result (Turns self.old self.new (searched_once asking ring.now)) }
+        ensures starting { self.new.starting ≡ self.old.starting }
+        ensures said { OnOk result (is_seeking (phase_of self.new.phase) ≡ true
+            → self.new.said ≡ self.old.said) }
+        ensures still { OnOk result (is_seeking (phase_of self.new.phase) ≡ true
+            → is_seeking (phase_of self.old.phase) ≡ true) }
         ensures unchanged { OnErr result (self.new ≡ self.old) }
-        ensures seeking { OnErr result ((s : Standing) → Fits self.old s
-            → is_seeking s.phase ≡ true) }
+        ensures seeks { OnErr result (is_seeking (phase_of self.old.phase) ≡ true) }
+        ensures lacks { OnErr result ((s : Standing) → Fits self.old s → Lacks s) }
     {
         if !phase::is_seeking(&self.phase) {
             return Ok(());
         }
-        let found = self.find(alloc, ring, asking);
+        match self.wanted() {
+            Wanted::Key => self.search_key(alloc, ring, asking),
+            Wanted::Offers => self.search_offers(alloc, ring),
+            Wanted::Pick => {
+                self.search_pick(ring);
+                Ok(())
+            }
+            Wanted::Nothing => Ok(()),
+        }
+    }
+
+    fn wanted(&self) -> Wanted
+        ensures { (s : Standing) → Carries self.now s → result ≡ wanted_in (need_in s.begun) }
+    {
+        match &self.begun {
+            Some(begun) => begun.wanted(),
+            None => Wanted::Nothing,
+        }
+    }
+
+    fn search_offers(&mut self, alloc: Global, ring: &KeyRing) -> Result<(), NoMemory>
+        ensures met { OnOk result ((s : Standing) (asking : Asking) → Fits self.old s
+            → IsOffers (need_in s.begun) → Fits self.new (sought s (finds s asking ring.now))) }
+        ensures starting { self.new.starting ≡ self.old.starting }
+        ensures said { self.new.said ≡ self.old.said }
+        ensures unchanged { OnErr result (self.new ≡ self.old) }
+    {
+        if let Some(begun) = &mut self.begun {
+            let list = begun.list_offers(alloc, ring)?;
+            self.phase = begun.use_offers(list);
+        }
+        Ok(())
+    }
+
+    fn search_pick(&mut self, ring: &KeyRing)
+        ensures met { (s : Standing) (asking : Asking) → Fits self.old s
+            → IsPick (need_in s.begun) → Fits self.new (sought s (finds s asking ring.now)) }
+        ensures starting { self.new.starting ≡ self.old.starting }
+        ensures said { self.new.said ≡ self.old.said }
+    {
+        if let Some(begun) = &mut self.begun {
+            let place = begun.find_pick(ring);
+            self.phase = begun.use_pick(place);
+        }
+    }
+
+    fn search_key(&mut self, alloc: Global, ring: &KeyRing, asking: Asking) -> Result<(), NoMemory>
+        ensures met { OnOk result ((s : Standing) → Fits self.old s → IsKey (need_in s.begun)
+            → Fits self.new (sought s (finds s asking ring.now))) }
+        ensures starting { self.new.starting ≡ self.old.starting }
+        ensures said { OnOk result (is_seeking (phase_of self.new.phase) ≡ true
+            → self.new.said ≡ self.old.said) }
+        ensures unchanged { OnErr result (self.new ≡ self.old) }
+    {
+        let found = self.find(ring, asking);
         self.take_found(alloc, found)
     }
 
+    fn find<'a>(&self, ring: &'a KeyRing, asking: Asking) -> Found<'a>
+        ensures { (s : Standing) → Carries self.now s → IsKey (need_in s.begun)
+            → meant result ≡ finds s asking ring.now }
+    {
+        match &self.begun {
+            Some(begun) => find_for(ring, begun, &self.said, asking),
+            None => Found::NoneServes,
+        }
+    }
+
     fn take_found(&mut self, alloc: Global, found: Found<'_>) -> Result<(), NoMemory>
-        ensures met { OnOk result (Turns self.old self.new
-            (λ s. then_stands s s.phase (c.Sought (meant found.entry)))) }
+        ensures met { OnOk result (Turns self.old self.new (λ s. sought s (meant found.entry))) }
+        ensures starting { self.new.starting ≡ self.old.starting }
+        ensures said { OnOk result (is_seeking (phase_of self.new.phase) ≡ true
+            → self.new.said ≡ self.old.said) }
         ensures unchanged { OnErr result (self.new ≡ self.old) }
     {
-        if !phase::is_seeking(&self.phase) {
-            return Ok(());
-        }
         match found {
             Found::Chosen(key) => self.use_key(alloc, key),
             Found::AsksConsent(key) => self.ask_consent(key.serial()),
@@ -540,6 +581,8 @@ impl Conversation {
 
     fn use_key(&mut self, alloc: Global, key: &Key) -> Result<(), NoMemory>
         ensures met { OnOk result (Turns self.old self.new (λ s. with_key s key.now s.begun)) }
+        ensures starting { self.new.starting ≡ self.old.starting }
+        ensures said { self.new.said ≡ self.old.said }
         ensures unchanged { OnErr result (self.new ≡ self.old) }
     {
         if let Some(begun) = &mut self.begun {
@@ -551,6 +594,8 @@ impl Conversation {
     fn ask_consent(&mut self, serial: u64) -> Result<(), NoMemory>
         ensures met { OnOk result (Meets self.old self.new
             (λ s. sought s (c.AsksConsent serial))) }
+        ensures starting { self.new.starting ≡ self.old.starting }
+        ensures said { self.new.said ≡ self.old.said }
         ensures unchanged { OnErr result (self.new ≡ self.old) }
     {
         self.phase = Phase::OnConfirm(serial);
@@ -559,6 +604,8 @@ impl Conversation {
 
     fn ask_key(&mut self, alloc: Global) -> Result<(), NoMemory>
         ensures met { OnOk result (Meets self.old self.new (λ s. sought s c.AsksKey)) }
+        ensures starting { self.new.starting ≡ self.old.starting }
+        ensures phase { OnOk result (is_seeking (phase_of self.new.phase) ≡ false) }
         ensures unchanged { OnErr result (self.new ≡ self.old) }
     {
         let template = self.copy_template(alloc)?;
@@ -569,6 +616,8 @@ impl Conversation {
 
     fn deny(&mut self) -> Result<(), NoMemory>
         ensures met { OnOk result (Meets self.old self.new (λ s. sought s c.Denied)) }
+        ensures starting { self.new.starting ≡ self.old.starting }
+        ensures said { self.new.said ≡ self.old.said }
         ensures unchanged { OnErr result (self.new ≡ self.old) }
     {
         self.refuse(RpcAnswer::Denied);
@@ -577,6 +626,8 @@ impl Conversation {
 
     fn want_key(&mut self, alloc: Global) -> Result<(), NoMemory>
         ensures met { OnOk result (Meets self.old self.new (λ s. sought s c.NoneServes)) }
+        ensures starting { self.new.starting ≡ self.old.starting }
+        ensures said { self.new.said ≡ self.old.said }
         ensures unchanged { OnErr result (self.new ≡ self.old) }
     {
         let template = self.copy_template(alloc)?;
@@ -597,7 +648,9 @@ impl Conversation {
 
     // The request that needed a key is taken back with this answer.
     fn refuse(&mut self, answer: RpcAnswer)
-        ensures { Meets self.old self.new (λ s. refused s answer) }
+        ensures met { Meets self.old self.new (λ s. refused s answer) }
+        ensures starting { self.new.starting ≡ self.old.starting }
+        ensures said { self.new.said ≡ self.old.said }
     {
         take_back(self.starting, &mut self.begun);
         self.phase = Phase::Kept(answer);
@@ -643,28 +696,14 @@ fn say_nothing(alloc: Global) -> Said
     }
 }
 
-// What is found for what was begun; `none` is the empty template.
-fn find_for<'a>(
-    ring: &'a KeyRing,
-    none: &Tuple,
-    begun: &Begun,
-    said: &Said,
-    asking: Asking,
-) -> Found<'a>
-    requires { none.now ≡ [] }
-    ensures { (b : Beginning) → IsBegun begun.now b → meant result
-        ≡ found_by (template_of (Some b)) (role_name (Some b)) said.now asking ring.now }
+// The key that is found for what was begun, where it needs one.
+fn find_for<'a>(ring: &'a KeyRing, begun: &Begun, said: &Said, asking: Asking) -> Found<'a>
+    ensures { (b : Beginning) → IsBegun begun.now b → IsKey (needs b.start b.moves)
+        → meant result ≡ found_for (needs b.start b.moves) (role_name (Some b)) said.now
+        asking ring.now }
 {
     match begun.asked() {
         Some(template) => search_keys(ring, template, begun.role_name(), said, asking),
-        None => search_keys(ring, none, begun.role_name(), said, asking),
+        None => Found::NoneServes,
     }
-}
-
-// What is found for nothing.
-fn find_none<'a>(ring: &'a KeyRing, none: &Tuple, said: &Said, asking: Asking) -> Found<'a>
-    requires { none.now ≡ [] }
-    ensures { meant result ≡ found_by [] [] said.now asking ring.now }
-{
-    search_keys(ring, none, b"".as_slice(), said, asking)
 }

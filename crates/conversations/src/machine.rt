@@ -3,12 +3,12 @@ ghost use Rattle.std.specs.Prelude.{◌≡◌, [], IfOk, OnErr, option_map};
 ghost use Rattle.roles.specs.Talks.{found, get, give, heard};
 ghost use Rattle.conversations.specs.Fits.{Made, Got};
 
-use conv_p9sk1::SkConv;
+use conv_set::Conv;
 use roles::{Gave, Machine, SkKey};
 use std::alloc::Global;
 use wire_base::{Bytes, NoMemory, Text};
 
-pub fn give_message(machine: &mut SkConv, alloc: Global, bytes: &[u8]) -> Result<Gave, NoMemory>
+pub fn give_message(machine: &mut Conv, alloc: Global, bytes: &[u8]) -> Result<Gave, NoMemory>
     ensures made { IfOk result (λ gave. Made machine.old machine.new (give bytes.now) gave) }
     ensures unchanged { OnErr result (machine.new ≡ machine.old) }
 {
@@ -19,7 +19,7 @@ pub fn give_message(machine: &mut SkConv, alloc: Global, bytes: &[u8]) -> Result
 }
 
 /// Gets a message into bytes that are empty.
-pub fn get_message(machine: &mut SkConv, out: &mut Bytes) -> Result<Gave, NoMemory>
+pub fn get_message(machine: &mut Conv, out: &mut Bytes) -> Result<Gave, NoMemory>
     requires { out.old ≡ [] }
     ensures made { IfOk result (λ gave. Made machine.old machine.new get gave) }
     ensures got { IfOk result (λ gave. Got machine.old out.new) }
@@ -32,7 +32,7 @@ pub fn get_message(machine: &mut SkConv, out: &mut Bytes) -> Result<Gave, NoMemo
 }
 
 pub fn give_key(
-    machine: &mut SkConv,
+    machine: &mut Conv,
     alloc: Global,
     key: &SkKey,
     password: Option<&Text>,
@@ -47,7 +47,7 @@ pub fn give_key(
     }
 }
 
-pub fn give_answer(machine: &mut SkConv, alloc: Global, answer: &[u8]) -> Result<Gave, NoMemory>
+pub fn give_answer(machine: &mut Conv, alloc: Global, answer: &[u8]) -> Result<Gave, NoMemory>
     ensures made { IfOk result (λ gave. Made machine.old machine.new (heard answer.now) gave) }
     ensures unchanged { OnErr result (machine.new ≡ machine.old) }
 {

@@ -7,7 +7,7 @@ ghost use Rattle.conversations.specs.Fits.{Opens};
 
 use crate::begun::Begun;
 use attr_tuples::{Tuple, TupleFault, parse_tuple};
-use conv_p9sk1::SkConv;
+use conv_set::Conv;
 use roles::{Machine, StartFault};
 use rpc_file::RpcAnswer;
 use std::alloc::Global;
@@ -55,7 +55,7 @@ pub fn open(alloc: Global, template: Tuple, word: [u8; 8]) -> Result<Opening, No
     requires { fits_start template ≡ true }
     ensures { IfOk result (λ opening. Opens opening template word) }
 {
-    match SkConv::start(alloc, &template, word) {
+    match Conv::start(alloc, &template, word) {
         Ok(machine) => Ok(Opening::Started(Begun {
             machine,
             template,

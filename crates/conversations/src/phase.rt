@@ -28,7 +28,7 @@ pub enum Phase {
     Resting,
     /// It isn't carried out yet.
     Waiting(Stored),
-    /// It needs a key, which is searched for.
+    /// It needs something of the keys, which is searched for.
     Seeking,
     /// The user is asked whether the key of this number may be used.
     OnConfirm(u64),
@@ -59,7 +59,7 @@ pub fn choose_phase(need: &Need, answer: RpcAnswer) -> Phase
 {
     match need {
         Need::Nothing => Phase::Kept(answer),
-        Need::Key(_) => Phase::Seeking,
+        Need::Key(_) | Need::Offers(_) | Need::Pick(_) => Phase::Seeking,
         Need::Exchange { .. } => Phase::OnServer,
     }
 }

@@ -3,4 +3,5 @@ pub mod TemplateLemmas
 pub mod ValueLemmas
 pub mod UndoLaws
 pub mod ExchangeLaws
+pub mod NeedLaws
 mod Rows

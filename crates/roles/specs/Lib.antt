@@ -6,3 +6,4 @@ pub mod Clients
 pub mod Servers
 pub mod Courses
 pub mod Answers
+pub mod Needs

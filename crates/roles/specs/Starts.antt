@@ -45,7 +45,7 @@ is_some_user (Some text) = is_user text
 abbrev pub says : List ℕ → List ℕ → List Attr → Bool
 says name text template = is_text_of (value_of name template) text
 
--- a role of p9sk1
+-- a role of p9sk1, or of p9any
 abbrev pub names_role : List Attr → Bool
 names_role template = says (codes "role") (codes "client") template || (says (codes "role") (codes "server") template || says (codes "role") (codes "speakfor") template)
 
@@ -53,18 +53,22 @@ names_role template = says (codes "role") (codes "client") template || (says (co
 abbrev pub speaks_for_nobody : List Attr → Bool
 speaks_for_nobody template = says (codes "role") (codes "speakfor") template && not (is_some_user (value_of (codes "user") template))
 
--- the rules of a start, in order
-abbrev pub start_rules : List Attr → List (Rule StartFault)
-start_rules template =
+-- the rules of a start of a protocol that has these three roles, in order
+abbrev pub rules_of : List ℕ → List Attr → List (Rule StartFault)
+rules_of protocol template =
     (list_any tells_secret template, SecretValue)
-    ∷ (not (says (codes "proto") (codes "p9sk1") template), UnknownProto)
+    ∷ (not (says (codes "proto") protocol template), UnknownProto)
     ∷ (not (names_role template), UnknownRole)
     ∷ (speaks_for_nobody template, BadUser)
     ∷ []
 
--- why a conversation isn't started, if it isn't
+-- why a conversation of that protocol isn't started, if it isn't
+unfoldable pub fault_of : List ℕ → List Attr → Option StartFault
+fault_of protocol template = first_told (rules_of protocol template)
+
+-- the same of p9sk1
 unfoldable pub start_fault : List Attr → Option StartFault
-start_fault template = first_told (start_rules template)
+start_fault template = first_told (rules_of (codes "p9sk1") template)
 
 -- the role that a template names
 unfoldable pub role_of : List Attr → Role
@@ -73,7 +77,12 @@ role_of template =
     else if says (codes "role") (codes "server") template then Server
     else Client
 
--- a start that is one, and its role, or why it is none
+-- a start of a protocol and its role, or why it is none
+abbrev pub StartsAs : List ℕ → Result Role StartFault → List Attr → Type 0
+StartsAs protocol (Ok role) template = (fault_of protocol template ≡ None) × (role ≡ role_of template)
+StartsAs protocol (Err fault) template = fault_of protocol template ≡ Some fault
+
+-- the same of p9sk1
 abbrev pub Starts : Result Role StartFault → List Attr → Type 0
 Starts (Ok role) template = (start_fault template ≡ None) × (role ≡ role_of template)
 Starts (Err fault) template = start_fault template ≡ Some fault

@@ -1,4 +1,6 @@
 // What a call of a conversation answers.
+ghost use Rattle.std.specs.Prelude.{◌≡◌, ◌≢◌};
+ghost use Rattle.roles.specs.Courses.{refusal};
 
 /// Why a conversation isn't started. The first of these that is so is told, in the order in which they stand here.
 #[derive(Clone, Copy, Debug, PartialEq, Eq)]
@@ -68,4 +70,18 @@ pub enum Gave {
     Refused(Cause),
     /// No memory. The conversation is as before.
     NoMemory,
+}
+
+/// What a call answers that breaks a conversation.
+pub fn refuse(cause: Cause) -> Gave
+    ensures value { result ≡ refusal cause }
+    ensures told { result ≢ Gave.NoMemory }
+{
+    match cause {
+        Cause::BadKey => Gave::BadKey,
+        Cause::WrongKind | Cause::WrongChallenge | Cause::WrongUser | Cause::NotOffered => {
+            Gave::Refused(cause)
+        }
+        Cause::ServerSaidNo | Cause::NoServer | Cause::NoRoom => Gave::Refused(cause),
+    }
 }

@@ -9,14 +9,16 @@ mod need;
 mod stage;
 mod start;
 mod template;
+mod tickets;
 
-pub use answer::{Cause, Gave, PhaseWord, StartFault};
+pub use answer::{Cause, Gave, PhaseWord, StartFault, refuse};
 pub use key::SkKey;
-pub use machine::Machine;
+pub use machine::{Machine, Offered};
 pub use need::{Need, Outcome, Tuples};
 pub use stage::{Role, Stage};
-pub use start::{MOST_OTHERS, fits_start, read_start};
-pub use template::build_asked;
+pub use start::{MOST_OTHERS, fits_start, read_role, read_start, says, tells_secret};
+pub use template::{build_asked, find_dom};
+pub use tickets::{find_accepted, is_refusal, no_name, proof_in, test_proof, ticket_in};
 
 #[cfg(test)]
 mod tests;

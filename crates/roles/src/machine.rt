@@ -6,7 +6,10 @@ ghost use Rattle.roles.specs.declared.answer.Gave.TheVariants.{NoMemory};
 ghost use Rattle.roles.specs.declared.answer.StartFault.{StartFault};
 ghost use Rattle.roles.specs.declared.need.Need.{Need};
 ghost use Rattle.roles.specs.declared.need.Outcome.{Outcome};
-ghost use Rattle.roles.specs.Starts.{Start, start_with, fits_start};
+ghost use Rattle.attr_tuples.specs.declared.attr.Value.TheVariants.{Is};
+ghost use Rattle.attr_tuples.specs.Attributes.{is_value};
+ghost use Rattle.roles.specs.Starts.{Start, start_with, fits_start, fault_of};
+ghost use Rattle.roles.specs.Needs.{SeeksKeys};
 ghost use Rattle.roles.specs.Talks.{Call, give, get, found, heard, unheard, roomless, undone};
 ghost use Rattle.roles.specs.Answers.{IsTold, Tells, Keeps, TellsAlways, KeepsAlways, TakesBack, Puts, Shows};
 
@@ -101,4 +104,23 @@ pub trait Machine {
     /// Whether the last move was made. It takes no memory.
     fn has_ended(&self) -> bool
         ensures { Shows stands ended self.now result };
+}
+
+/// A machine of a protocol whose domains p9any offers. Its roles are client, server and speakfor.
+pub trait Offered: Machine {
+    /// The protocol's name, as a list of offers and a template have it.
+    ghost protocol: { List ℕ };
+
+    /// That name.
+    fn protocol_name() -> &'static [u8]
+        ensures { result.now ≡ protocol };
+
+    /// A name may stand in a template.
+    ghost valid: { is_value (Is protocol) ≡ true };
+
+    /// A template that meets the rules of starts of this protocol isn't refused.
+    ghost starts: { (template : List Attr) → fault_of protocol template ≡ None → Self.refuses template ≡ None };
+
+    /// What is needed.
+    ghost seeks: { SeeksKeys Self.needs Self.answers };
 }

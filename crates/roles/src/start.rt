@@ -4,7 +4,7 @@ ghost use Rattle.std.specs.List.{list_any};
 ghost use Rattle.attr_tuples.specs.Attributes.{is_tuple};
 ghost use Rattle.attr_tuples.specs.Forms.{is_user};
 ghost use Rattle.key_lists.specs.Lists.{tells_secret};
-ghost use Rattle.roles.specs.Starts.{Speaks, Starts, fits_start, others, says};
+ghost use Rattle.roles.specs.Starts.{Speaks, Starts, StartsAs, fits_start, others, says};
 
 use crate::answer::StartFault;
 use crate::stage::Role;
@@ -30,16 +30,25 @@ fn count_others(attrs: &[Attr]) -> usize
         .count()
 }
 
-/// The role that a template starts, or the first rule of starts that it breaks.
-#[tactic(auto, unfolding(crate::specs::Starts::start_fault, crate::specs::Starts::role_of))]
+/// The role of p9sk1 that a template starts, or the first rule of starts that it breaks.
+#[tactic(auto, unfolding(crate::specs::Starts::start_fault, crate::specs::Starts::fault_of))]
 pub fn read_start(template: &Tuple) -> Result<Role, StartFault>
     ensures started { Starts result template.now }
+    ensures valid { is_tuple template.now ≡ true }
+{
+    read_role(template, b"p9sk1".as_slice())
+}
+
+/// The role of this protocol that a template starts, or the first rule of starts that it breaks.
+#[tactic(auto, unfolding(crate::specs::Starts::fault_of, crate::specs::Starts::role_of))]
+pub fn read_role(template: &Tuple, protocol: &[u8]) -> Result<Role, StartFault>
+    ensures started { StartsAs protocol.now result template.now }
     ensures valid { is_tuple template.now ≡ true }
 {
     let role = b"role".as_slice();
     if tells_secret(template.attrs()) {
         Err(StartFault::SecretValue)
-    } else if !says(template, b"proto".as_slice(), b"p9sk1".as_slice()) {
+    } else if !says(template, b"proto".as_slice(), protocol) {
         Err(StartFault::UnknownProto)
     } else if says(template, role, b"speakfor".as_slice()) {
         read_spoken_for(template)
@@ -52,15 +61,15 @@ pub fn read_start(template: &Tuple) -> Result<Role, StartFault>
     }
 }
 
-// Whether a secret attribute has a value.
-fn tells_secret(attrs: &[Attr]) -> bool
+/// Whether a secret attribute has a value.
+pub fn tells_secret(attrs: &[Attr]) -> bool
     ensures { result ≡ list_any tells_secret attrs.now }
 {
     attrs.iter().any(|attr| is_secret_name(attr.name.as_slice()) && is_given(&attr.value))
 }
 
-// Whether the first value of a name is this text.
-fn says(template: &Tuple, name: &[u8], text: &[u8]) -> bool
+/// Whether the first value that a template gives to a name is this text.
+pub fn says(template: &Tuple, name: &[u8], text: &[u8]) -> bool
     ensures { result ≡ says name.now text.now template.now }
 {
     match value_of(template, name) {

@@ -2,13 +2,14 @@
 ghost use Rattle.std.specs.Prelude.{◌≡◌, ◌+◌, ◌<◌, ◌≤◌, [], ◌∷◌, ◌++◌, codes, length, true, IfOk, IfSome, OnOk, option_map};
 ghost use Rattle.std.specs.List.{list_all};
 ghost use Rattle.wire_base.specs.Texts.{is_text};
-ghost use Rattle.attr_tuples.specs.Attributes.{is_attr, is_name, is_value};
+ghost use Rattle.attr_tuples.specs.Attributes.{is_attr, is_name, is_tuple, is_value};
+ghost use Rattle.attr_tuples.specs.Matching.{value_of};
 ghost use Rattle.attr_tuples.specs.declared.attr.Value.TheVariants.{Is};
 ghost use Rattle.roles.specs.Starts.{fits_start};
 ghost use Rattle.roles.specs.Templates.{asked, asked_as, ask_dom_part, dom_part, given_as, is_other, is_own, is_set, others_part, user_part};
 
 use crate::stage::Role;
-use attr_tuples::{Attr, Tuple, Value, has_name, is_named, is_secret_name};
+use attr_tuples::{Attr, Tuple, Value, has_name, is_named, is_secret_name, value_of};
 use std::alloc::Global;
 use wire_base::{NoMemory, Text};
 
@@ -112,6 +113,18 @@ fn put_ask_dom(alloc: Global, asked: &mut Tuple, role: &Role, known: bool) -> Re
     match role {
         Role::Server if !known => put_asked(alloc, asked, b"dom".as_slice()),
         Role::Server | Role::Client | Role::Speakfor { .. } => Ok(()),
+    }
+}
+
+/// The domain that a template gives, if it gives one.
+pub fn find_dom(template: &Tuple) -> Option<&[u8]>
+    requires { is_tuple template.now ≡ true }
+    ensures value { option_map (λ dom. dom.now) result ≡ value_of (codes "dom") template.now }
+    ensures valid { IfSome result (λ dom. is_value (Is dom.now) ≡ true) }
+{
+    match value_of(template, b"dom".as_slice()) {
+        Some(dom) => Some(dom.as_slice()),
+        None => None,
     }
 }
 

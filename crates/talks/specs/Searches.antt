@@ -1,12 +1,12 @@
 -- How a key is searched for among the keys of a moment. After factotum(4) of the Plan 9 manual: a key with the attribute
 -- `confirm` is used only where the user agrees, who is asked through the file confirm; where there is no key, he is asked
 -- for one through the file needkey. What a file that nobody has open comes to, and the order, are this project's.
-use Rattle.std.specs.Prelude.{ℕ, List, Bool, not, ◌&&◌, ◌||◌, ◌==◌, nat_lt, length, filter, find, position, codes, is_some, Option, Some, None, unwrap_or, if◌then◌else◌}
+use Rattle.std.specs.Prelude.{ℕ, List, Bool, not, ◌&&◌, ◌||◌, ◌==◌, nat_lt, length, filter, find, position, take, codes, is_some, Option, Some, None, unwrap_or, if◌then◌else◌}
 use Rattle.std.specs.List.{list_any}
 use Rattle.attr_tuples.specs.declared.attr.Attr.{Attr}
 use Rattle.attr_tuples.specs.Matching.{has_name}
 use Rattle.key_lists.specs.Lists.{KeyEntry, KeyList, first_serving, serves}
-use Rattle.key_lists.specs.Listing.{offers, offers_text}
+use Rattle.key_lists.specs.Listing.{most_offered, offers, offers_text}
 use Rattle.talks.specs.declared.said.Said.{Said}
 use Rattle.talks.specs.declared.said.Asking.{Asking}
 use Rattle.talks.specs.Calls.{Found, Chosen, AsksConsent, AsksKey, Denied, NoneServes}
@@ -71,6 +71,7 @@ offered_by template role list = offers_text (offers template role list)
 abbrev pub is_served : List ℕ → KeyList → List Attr → Bool
 is_served role list template = is_some (first_serving template role list)
 
--- the place of the first template that a key serves, and of the first at all where none is served
+-- the place of the first template that a key serves, and of the first at all where none is served; of no more templates
+-- than a list of offers has bytes
 unfoldable pub picked_by : List (List Attr) → List ℕ → KeyList → ℕ
-picked_by templates role list = unwrap_or (position (is_served role list) templates) 0
+picked_by templates role list = unwrap_or (position (is_served role list) (take most_offered templates)) 0

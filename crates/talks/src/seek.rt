@@ -1,5 +1,6 @@
 // The search for a key among those of a ring. Nothing here takes memory.
-ghost use Rattle.std.specs.Prelude.{◌≡◌, ◌<◌, ◌^◌, IfSome, length, position};
+ghost use Rattle.std.specs.Prelude.{◌≡◌, ◌<◌, ◌≤◌, IfSome, length, position, take};
+ghost use Rattle.key_lists.specs.Listing.{most_offered};
 ghost use Rattle.talks.specs.Meanings.{meant};
 ghost use Rattle.talks.specs.Searches.{found_by, is_among, is_passed_over, is_refused, is_served, one_left, picked_by, wants_consent};
 ghost use Rattle.talks.specs.Seeking.{none_past};
@@ -90,21 +91,31 @@ fn is_among(serials: &List<u64>, key: &Key) -> bool
     serials.as_slice().iter().any(|serial| *serial == sought)
 }
 
+/// How many templates are looked at: no list of offers has more bytes.
+const MOST_OFFERED: usize = 1024;
+
 /// The place of the first template that a key serves, and 0 where none is served. It takes no memory.
 #[tactic(auto, unfolding(crate::specs::Searches::picked_by))]
 pub fn pick_template(ring: &KeyRing, templates: &Tuples, role: &[u8]) -> u32
-    requires { length templates.now < 2 ^ 32 }
     ensures { result ≡ picked_by templates.now role.now ring.now }
 {
-    match find_served(ring, templates.as_slice(), role) {
+    match find_served(ring, first_ones(templates.as_slice()), role) {
         Some(place) => place as u32,
         None => 0,
     }
 }
 
+fn first_ones(templates: &[Tuple]) -> &[Tuple]
+    ensures ones { result.now ≡ take most_offered templates.now }
+    ensures few { length result.now ≤ most_offered }
+{
+    &templates[..MOST_OFFERED.min(templates.len())]
+}
+
 fn find_served(ring: &KeyRing, templates: &[Tuple], role: &[u8]) -> Option<usize>
+    requires { length templates.now ≤ most_offered }
     ensures place { result ≡ position (is_served role.now ring.now) templates.now }
-    ensures bound { IfSome result (λ place. place < length templates.now) }
+    ensures bound { IfSome result (λ place. place < most_offered) }
 {
     templates
         .iter()

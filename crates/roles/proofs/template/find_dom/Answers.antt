@@ -5,7 +5,7 @@ use Rattle.attr_tuples.specs.declared.attr.Value.TheVariants.{Is}
 use Rattle.attr_tuples.specs.Attributes.{is_attr, is_value}
 use Rattle.attr_tuples.specs.Matching.{value_of}
 use Rattle.roles.proofs.ValueLemmas.{given_is_value}
-use Rattle.conv_p9sk1.proofs.need.find_dom.Goals as goal
+use Rattle.roles.proofs.template.find_dom.Goals as goal
 
 pub returns-in-Some-clause-valid : goal.returns-in-Some-clause-valid
 returns-in-Some-clause-valid c =
