@@ -6,8 +6,8 @@ use Rattle.roles.specs.declared.answer.Gave.{Gave}
 use Rattle.roles.specs.declared.answer.StartFault.{StartFault}
 use Rattle.roles.specs.declared.need.Need.{Need}
 use Rattle.roles.specs.declared.need.Outcome.{Outcome}
-use Rattle.roles.specs.declared.need.Outcome.TheVariants.{Running, Accepted, Finished, Broken}
 use Rattle.roles.specs.Starts.{Start, fault_of, says, start_fault}
+use Rattle.roles.specs.declared.need.Outcome.TheVariants.{Running, Accepted, Finished, Broken}
 use Rattle.roles.specs.Talks.{Call}
 use Rattle.roles.specs.Courses as sk
 use Rattle.conv_p9any.specs.Inner.{Inner}

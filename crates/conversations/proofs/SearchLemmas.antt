@@ -110,6 +110,9 @@ unsearched c asking list s rests fits = subst (λ (test : Bool). Fits c (if test
 
 -- ---- which thing is needed
 
+other : w.Key ≡ w.Nothing → ⊥
+other e = cc
+
 pub wants_key : (need : Need) → w.Key ≡ wanted_in need → IsKey need
 wants_key Nothing e = absurd (cc)
 wants_key (Key template) e = tt
@@ -152,3 +155,6 @@ thrice old first second third asking list starting a b c = λ s fits.
 pub no_start : (old new : Conversation) (asking : Asking) (list : KeyList) → old.starting ≡ false → Turns old new (searched_once asking list) → Turns old new (searched asking list)
 no_start old new asking list starting a = λ s fits.
     subst (λ (test : Bool). Fits new (if test then searched_once asking list (searched_once asking list (searched_once asking list s)) else searched_once asking list s)) (sym starting ∙ fits.carries.starting) (a s fits)
+
+pub key_some : (need : Need) → w.Key ≡ wanted_in need → wanted_in need ≡ w.Nothing → ⊥
+key_some need key nothing = other (key ∙ nothing)

@@ -1,0 +1,14 @@
+use Rattle.std.proofs.Common.{rules, ◌≡◌, ◌∙◌, sym, true}
+use Rattle.std.proofs.lemmas.Result.{on_ok_weaker}
+use Rattle.talks.specs.Standings.{need_in}
+use Rattle.conversations.specs.declared.begun.Wanted.TheVariants as w
+use Rattle.conversations.proofs.SearchLemmas.{key_some, searched_so, seeks_so, wants_key}
+use Rattle.conversations.proofs.conversation.Conversation.search_once.Goals as goal
+
+pub returns-in-Key-clause-met : goal.returns-in-Key-clause-met
+returns-in-Key-clause-met c =
+    let seeks : c.is_seeking.result ≡ true = search rules in
+    let key : c.wanted.result ≡ w.Key = search rules in
+    on_ok_weaker c.search_key.result (λ met s fits.
+    let wanted = sym key ∙ c.wanted.ensures s fits.carries in
+    searched_so c.search_key.new.self c.args.asking c.args.ring.now s (seeks_so c.args.self.now s c.is_seeking.result fits c.is_seeking.ensures ∙ seeks) (key_some (need_in s.begun) wanted) (met s fits (wants_key (need_in s.begun) wanted))) c.search_key.ensures.met
