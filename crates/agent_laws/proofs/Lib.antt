@@ -25,3 +25,4 @@ mod PutLaws
 mod OverLaws
 mod DropLaws
 mod DropHistoryLaws
+mod RaiseLaws

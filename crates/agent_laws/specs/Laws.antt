@@ -62,6 +62,11 @@ is_talk deed = false
 abbrev pub Adds : (Deed → Bool) → List Deed → List Deed → Type 0
 Adds kind before after = (more : List Deed) × (after ≡ more ++ before) × (list_all kind more ≡ true)
 
+-- whether an event is a request
+abbrev pub is_request : Event → Bool
+is_request (Request at frame word) = true
+is_request event = false
+
 -- whether an event is a request, a take or a hang
 abbrev pub has_connection : Event → Bool
 has_connection (Request at frame word) = true
