@@ -308,7 +308,7 @@ list_all_kept f p keep (x ∷ xs) h =
     step true e more = and_from (p (f x)) _ e more
     step false e more = more
 
-abbrev Rise : ℕ → List ℕ → Type 0
+abbrev pub Rise : ℕ → List ℕ → Type 0
 Rise top ns = rise_below top ns ≡ true
 
 -- its parts
@@ -317,7 +317,7 @@ pub record Rises (top n : ℕ) (ns : List ℕ) : Type 0 where
   pub above : list_all (ltb n) ns ≡ true
   pub rest : Rise top ns
 
-rise_parts : (top n : ℕ) (ns : List ℕ) → Rise top (n ∷ ns) → Rises top n ns
+pub rise_parts : (top n : ℕ) (ns : List ℕ) → Rise top (n ∷ ns) → Rises top n ns
 rise_parts top n ns h = by_cases (ltb n top) (list_all (ltb n) ns) (rise_below top ns) refl refl refl h
   where
     by_cases : (a b c : Bool) → ltb n top ≡ a → list_all (ltb n) ns ≡ b → rise_below top ns ≡ c → (a && b && c) ≡ true → Rises top n ns
@@ -351,17 +351,17 @@ rise_append f top (y ∷ xs) x e h =
     let lower = ltb-true (f y) top parts.below in
     rise_from (top + 1) (f y) (map f (xs ++ x ∷ [])) (record { below = lt-ltb (f y) (top + 1) (omega (arith, lower)); above = above_append f (f y) xs x parts.above (lt-ltb (f y) (f x) (omega (arith, lower, e))); rest = rise_append f top xs x e parts.rest })
 
-abbrev number : Speaker → ℕ
+abbrev pub number : Speaker → ℕ
 number s = s.conv
 
-abbrev SpeakersRise : List Deed → Type 0
+abbrev pub SpeakersRise : List Deed → Type 0
 SpeakersRise done = Rise (opened_talks done) (map number (speakers done))
 
 next_speaks : (r : Bool) (top : ℕ) (xs : List Speaker) (s : Speaker) → s.conv ≡ top → Rise top (map number xs) → Rise (cond r (top + 1) top) (map number (cond r (xs ++ s ∷ []) xs))
 next_speaks true top xs s e h = rise_append number top xs s e h
 next_speaks false top xs s e h = h
 
-speakers_more : (conn : ℕ) → KeepsOf (is_done conn) SpeakersRise
+pub speakers_more : (conn : ℕ) → KeepsOf (is_done conn) SpeakersRise
 speakers_more c done (OfFids at (Versioned msize)) kind fits h = rise_kept number (opened_talks done) (λ s. not (eqb s.conn at)) (speakers done) h
 speakers_more c done (OfConnection at Hung) kind fits h = rise_kept number (opened_talks done) (λ s. not (eqb s.conn at)) (speakers done) h
 speakers_more c done (OfFids at (Clunked f)) kind fits h = rise_kept number (opened_talks done) (λ s. not (eqb s.conn at && eqb s.fid f)) (speakers done) h

@@ -5,7 +5,7 @@ use Rattle.std.specs.List.{filter, list_any}
 use Rattle.talks.specs.Calls as calls
 use Rattle.talks.specs.Standings.{outcome_of, question_of, standing}
 use Rattle.agent_history.specs.Deeds.{Deed, OfFids, OfKeys, OfReplies, OfConnection, OfTalk, Raised, HandedOut, DropTaken, Swept, Halted, Edited, Switched}
-use Rattle.agent_history.specs.Conversations.{Drop, Due, Question, Speaker, asks_challenge, drops, due, due_of, given_up, gives_up, is_end, keeps, kept_by, next_question, questions, raised, speakers}
+use Rattle.agent_history.specs.Conversations.{Drop, Question, Speaker, asks_challenge, drops, due, due_of, given_up, gives_up, is_end, keeps, kept_by, next_question, raised, speakers}
 use Rattle.agent_laws.specs.Laws.{SameButSecrets, hidden_deed}
 use Rattle.agent_laws.proofs.SightLaws.{alike, questions_hidden, raised_hidden, sight, speakers_hidden, talk_hidden}
 

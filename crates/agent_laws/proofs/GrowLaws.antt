@@ -522,6 +522,7 @@ event_on conn event = Unit {0}
 
 abbrev pub is_take : Event → Bool
 is_take (Take at) = true
+is_take TakeAsk = true
 is_take event = false
 
 request_does : (Known : Type 0) (P : List Deed → Type 0) (at : ℕ) → KeepsIf Known (is_said at) P → (frame word : List ℕ) (done : List Deed) → (Known → all_asked done ≡ true) → P done → P (does done (Request at frame word))
@@ -538,7 +539,7 @@ take_does Known P at k done p =
 hang_does : (Known : Type 0) (P : List Deed → Type 0) (at : ℕ) → KeepsIf Known (is_said at) P → (done : List Deed) → P done → P (does done (Hang at))
 hang_does Known P at k done p = either_way P (was_opened done at && not (was_hung done at)) _ done (k done (OfConnection at Hung) (same_number at) tt p) p
 
-handing_does : (Known : Type 0) (P : List Deed → Type 0) (conn : ℕ) → KeepsIf Known (is_said conn) P → (o : Due) (done : List Deed) → P done → P (handing o done)
+handing_does : (Known : Type 0) (P : List Deed → Type 0) (conn : ℕ) → KeepsIf Known (is_done conn) P → (o : Due) (done : List Deed) → P done → P (handing o done)
 handing_does Known P conn k NoneDue done p = p
 handing_does Known P conn k (DropDue drop) done p = k done DropTaken refl tt p
 handing_does Known P conn k (QuestionDue question) done p = k done HandedOut refl tt p
@@ -564,7 +565,7 @@ said_does Known P conn k Stop done know on none p = k done Halted refl tt p
 said_does Known P conn k (Answer number bytes) done know on none p = answer_does Known P (told_of_said Known P conn k) number bytes done know p
 said_does Known P conn k (NoAnswer number) done know on none p = no_answer_does Known P (told_of_said Known P conn k) number done know p
 said_does Known P conn k (NoRoom number) done know on none p = no_room_does Known P (told_of_said Known P conn k) number done know p
-said_does Known P conn k TakeAsk done know on none p = handing_does Known P conn k (due done) done p
+said_does Known P conn k TakeAsk done know on none p = absurd cc
 
 pub event_does : (Known : Type 0) (P : List Deed → Type 0) (conn : ℕ) → KeepsIf Known (is_done conn) P → (e : Event) (done : List Deed) → (Known → all_asked done ≡ true) → event_on conn e → P done → P (does done e)
 event_does Known P conn k (Take at) done know on p = take_does Known P at (subst (λ (n : ℕ). KeepsIf Known (is_done n) P) (sym on) k) done p
@@ -574,7 +575,7 @@ event_does Known P conn k Stop done know on p = said_does Known P conn (said_of_
 event_does Known P conn k (Answer number bytes) done know on p = said_does Known P conn (said_of_done Known P conn k) (Answer number bytes) done know on refl p
 event_does Known P conn k (NoAnswer number) done know on p = said_does Known P conn (said_of_done Known P conn k) (NoAnswer number) done know on refl p
 event_does Known P conn k (NoRoom number) done know on p = said_does Known P conn (said_of_done Known P conn k) (NoRoom number) done know on refl p
-event_does Known P conn k TakeAsk done know on p = said_does Known P conn (said_of_done Known P conn k) TakeAsk done know on refl p
+event_does Known P conn k TakeAsk done know on p = handing_does Known P conn k (due done) done p
 
 -- what is done by an event, and a stop where it is the last
 pub last_or_not : (P : List Deed → Type 0) (H : History) (e : Event) → ((done : List Deed) → P done → P (Halted ∷ done)) → P (deeds H) → P (does (deeds H) e) → P (deeds (e ∷ H))
@@ -661,7 +662,7 @@ answer_asks done conv call h =
     and_from (stands done q.conv) _ both.0 (still_asks done conv call q.conv (eqb conv q.conv) (λ same. absurd (let no_way : true ≡ false = sym same ∙ other in cc)) both.1))
     (all_kept (asked_by done) (λ q. not (eqb q.conv conv)) (questions done) h)
 
-asked_more : (conn : ℕ) → KeepsOf (is_done conn) AllAsked
+pub asked_more : (conn : ℕ) → KeepsOf (is_done conn) AllAsked
 asked_more c done (OfFids at deed) kind fits h = speakers_leave done (λ q. stands (OfFids at deed ∷ done) q.conv) h
 asked_more c done (OfConnection at deed) kind fits h = speakers_leave done (λ q. stands (OfConnection at deed ∷ done) q.conv) h
 asked_more c done (OfKeys at deed) kind fits h = h

@@ -131,9 +131,11 @@ is_done conn DropTaken = true
 is_done conn Swept = true
 is_done conn Halted = true
 
--- the same, but that no reply is taken
+-- the same, but that nothing is taken
 abbrev pub is_said : ℕ → Deed → Bool
 is_said conn (OfReplies at Taken) = false
+is_said conn HandedOut = false
+is_said conn DropTaken = false
 is_said conn deed = is_done conn deed
 
 -- a deed of this kind that fits keeps what holds
@@ -210,8 +212,8 @@ done_by_said conn (OfReplies at Taken) e = absurd cc
 done_by_said conn (OfConnection at deed) e = e
 done_by_said conn (OfTalk conv call) e = e
 done_by_said conn (Raised conv) e = e
-done_by_said conn HandedOut e = e
-done_by_said conn DropTaken e = e
+done_by_said conn HandedOut e = absurd cc
+done_by_said conn DropTaken e = absurd cc
 done_by_said conn Swept e = e
 done_by_said conn Halted e = e
 

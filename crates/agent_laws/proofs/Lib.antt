@@ -22,3 +22,7 @@ mod ConversationLaws
 mod WaitLaws
 mod EditLaws
 mod PutLaws
+mod OverLaws
+mod DropLaws
+mod DropHistoryLaws
+mod RaiseLaws

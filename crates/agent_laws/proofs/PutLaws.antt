@@ -24,7 +24,7 @@ use Rattle.talks.specs.Standings.{Begun, Phase, Resting, Waiting, Seeking, OnCon
 use Rattle.agent_history.specs.declared.event.Event.TheVariants.{TakeAsk}
 use Rattle.agent_history.specs.declared.event.StepAnswer.TheVariants.{Ask, Stopped}
 use Rattle.agent_history.specs.Deeds.{is_halted}
-use Rattle.agent_history.specs.Conversations.{Question, next_question, questions, standing_of, talk, stands, Drop, Due, DropDue, QuestionDue, drops, due, due_of}
+use Rattle.agent_history.specs.Conversations.{Question, next_question, questions, standing_of, talk, stands, Drop, DropDue, QuestionDue, drops, due, due_of}
 use Rattle.agent_history.specs.Histories.{History, answer, asks, deeds, put_out}
 use Rattle.agent_laws.specs.Laws.{asks_server, is_on_server}
 use Rattle.agent_laws.proofs.GrowLaws.{all_are_asked}
@@ -189,7 +189,7 @@ waits_with_question (call ∷ before) = call_asks (standing before) (standing be
 
 -- ---- what a take of a question puts out
 
-on_server : (ph : Phase) → is_on_server ph ≡ true → ph ≡ OnServer
+pub on_server : (ph : Phase) → is_on_server ph ≡ true → ph ≡ OnServer
 on_server OnServer e = refl
 on_server Resting e = absurd cc
 on_server (Waiting request) e = absurd cc
@@ -202,7 +202,7 @@ found_step : (test : ℕ → Bool) (p : Question → Bool) (q which : Question) 
 found_step test p q which qs true e h more = let same : q ≡ which = cc in ap (λ (x : Question). test x.conv) (sym same) ∙ h
 found_step test p q which qs false e h more = more e
 
-found_asks : (test : ℕ → Bool) (p : Question → Bool) (qs : List Question) (which : Question) → find p qs ≡ Some which → list_all (λ q. test q.conv) qs ≡ true → test which.conv ≡ true
+pub found_asks : (test : ℕ → Bool) (p : Question → Bool) (qs : List Question) (which : Question) → find p qs ≡ Some which → list_all (λ q. test q.conv) qs ≡ true → test which.conv ≡ true
 found_asks test p [] which e h = absurd cc
 found_asks test p (q ∷ qs) which e h =
     let parts = and_parts (test q.conv) (list_all (λ x. test x.conv) qs) h in
@@ -216,7 +216,7 @@ due_first : (drop : Drop) (q question : Question) (b : Bool) → cond b (DropDue
 due_first drop q question true e = absurd cc
 due_first drop q question false e = cc
 
-due_is_next : (drops : List Drop) (next : Option Question) (question : Question) → due_of drops next ≡ QuestionDue question → next ≡ Some question
+pub due_is_next : (drops : List Drop) (next : Option Question) (question : Question) → due_of drops next ≡ QuestionDue question → next ≡ Some question
 due_is_next [] None question e = absurd cc
 due_is_next [] (Some q) question e = ap Some (next_waits q question e)
 due_is_next (drop ∷ more) None question e = absurd cc

@@ -28,7 +28,7 @@ use Rattle.talks.specs.Standings.{Phase, OnServer, finds}
 use Rattle.agent_history.specs.Deeds.{Deed, OfFids, OfKeys, OfConnection, OfTalk, Halted, Versioned, Attached, Walked, Opened, Listed, Clunked, Edited, Hung, fid_of, held_by, keys_of, msize_of, names, OfReplies, Settled}
 use Rattle.key_lists.specs.CtlLines.{OnKeys, after_lines, line_over, lines_fault, read_line}
 use Rattle.agent_history.specs.Replies.{Wait, is_unsettled, untaken, waits}
-use Rattle.agent_history.specs.Conversations.{asking, questions, speakers, standing_of, Speaker, told, stands}
+use Rattle.agent_history.specs.Conversations.{asking, questions, standing_of, Speaker, told, stands}
 use Rattle.agent_history.specs.Requests.{Call, body_to, call_of, is_rpc, least_msize, most_waits, tag_of}
 use Rattle.agent_history.specs.Histories.{History, deeds, answer, is_reply}
 
@@ -61,6 +61,11 @@ is_talk deed = false
 -- some deeds of this kind came to those that were done before, and nothing else changed
 abbrev pub Adds : (Deed → Bool) → List Deed → List Deed → Type 0
 Adds kind before after = (more : List Deed) × (after ≡ more ++ before) × (list_all kind more ≡ true)
+
+-- whether an event is a request
+abbrev pub is_request : Event → Bool
+is_request (Request at frame word) = true
+is_request event = false
 
 -- whether an event is a request, a take or a hang
 abbrev pub has_connection : Event → Bool

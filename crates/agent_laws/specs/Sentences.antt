@@ -18,7 +18,7 @@ use Rattle.key_lists.specs.CtlLines.{after_lines, carried_out, lines_fault}
 use Rattle.talks.specs.Calls.{Found, Sought}
 use Rattle.talks.specs.Standings.{finds}
 use Rattle.agent_history.specs.declared.event.Event.{Event}
-use Rattle.agent_history.specs.declared.event.Event.TheVariants.{Take, TakeAsk}
+use Rattle.agent_history.specs.declared.event.Event.TheVariants.{Take, TakeAsk, Request}
 use Rattle.agent_history.specs.declared.event.StepAnswer.TheVariants.{Ask, DropCall, NoAsk}
 use Rattle.wire_base.specs.declared.shape.Shape.{Shape}
 use Rattle.wire_base.specs.declared.shape.Shape.TheVariants.{Challenge}
@@ -27,7 +27,7 @@ use Rattle.agent_history.specs.Replies.{has_settled, replies, taken, untaken, wa
 use Rattle.agent_history.specs.Conversations.{chosen_at, conv_of, opened_talks, questions, raised, speakers, asking, standing_of, Question, Drop, NoneDue, DropDue, QuestionDue, due}
 use Rattle.agent_history.specs.Requests.{Call, after_frame, body_to, effective, granted, least_msize, lines_done, most_msize, most_talks, piece, reply_of}
 use Rattle.agent_history.specs.Histories.{History, answer, deeds, does, has_stopped}
-use Rattle.agent_laws.specs.Laws.{AddAlike, Adds, AllSearched, AreHeld, AreWaiting, HasFirstRefused, IsFirstRefused, SameButSecrets, StoodOnce, all_asked, all_open, given, gives, gives_content, has_connection, has_conversed, has_open, hidden_deed, is_of, is_of_talks, is_on, longest_reply, may_err_and_act, none_concerns, none_sets_text, put_out, reads_rpc, reply_to, rise_below, AllTold, is_same_place, is_edit, is_talk, last_asked}
+use Rattle.agent_laws.specs.Laws.{AddAlike, Adds, AllSearched, AreHeld, AreWaiting, HasFirstRefused, IsFirstRefused, SameButSecrets, StoodOnce, all_asked, all_open, given, gives, gives_content, has_connection, has_conversed, has_open, hidden_deed, is_of, is_of_talks, is_on, longest_reply, may_err_and_act, none_concerns, none_sets_text, put_out, reads_rpc, reply_to, rise_below, AllTold, is_same_place, is_edit, is_talk, last_asked, is_request}
 
 -- ---- keys are the lines in order
 
@@ -232,6 +232,12 @@ QuestionsRise = (history : History) → rise_below (raised (deeds history) + 1) 
 abbrev pub QuestionsArePut : Type 0
 QuestionsArePut = (history : History) (question : Question) → has_stopped history ≡ false → due (deeds history) ≡ QuestionDue question
     → (request : List ℕ) × (shape : Shape) × (answer history TakeAsk ≡ (Ask question.call question.conv shape, request))
+
+abbrev pub RequestsRaiseOne : Type 0
+RequestsRaiseOne = (history : History) (conn : ℕ) (frame word : List ℕ) → raised (deeds (Request conn frame word ∷ history)) ≤ raised (deeds history) + 1
+
+abbrev pub OthersRaiseNone : Type 0
+OthersRaiseNone = (event : Event) (history : History) → is_request event ≡ false → raised (deeds (event ∷ history)) ≡ raised (deeds history)
 
 -- ---- connections that are given up
 
