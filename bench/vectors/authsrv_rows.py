@@ -8,22 +8,31 @@ import pathlib
 import sys
 
 from authsrv import answer, request
-from tickets_text import field
+from mail_requests import apop, challenge, mail_request, refusal, vouch
 
 GRANT = b"".join(request(b"bootes", b"h", b"eve"))
 # The same with a server's name that no NUL ends.
 BAD = GRANT[:1] + b"b" * 28 + GRANT[29:]
 TICKETS = b"".join(answer(b"bootes", b"h", b"eve", True))
-REFUSAL = b"\x05" + field(b"bad request", 64)
+REFUSAL = b"".join(refusal(b"bad request"))
+# A mail server asks for a challenge, and sends the digits of ann's password, or five times those of another.
+FIRST = mail_request(7, b"bootes", b"", b"")
+RIGHT = mail_request(7, b"bootes", b"ann", apop(b"annpass"))
+GUESS = mail_request(7, b"bootes", b"ann", apop(b"annpas"))
+CHALLENGE = b"".join(challenge())
+VOUCH = b"".join(vouch(b"bootes", b"ann"))
+WRONG = b"".join(refusal(b"bad response"))
 
 FILES = {
-    "keys": b"user=bootes !hex=f0f07c7e7fcbc9\nuser=h !hex=0123456789ABCD\n",
+    "keys": b"user=bootes !hex=f0f07c7e7fcbc9\nuser=h !hex=0123456789ABCD\nuser=ann !password=annpass\n",
     "speaks": b"# all but bob\nhostid=h uid=!bob uid=*\n",
     "bad_keys": b"user=bootes !hex=f0f07c7e7fcbc9\nuser=h !hex=0123456789ABC\n",
     "bad_speaks": b"# all but bob\n\nuid=eve\n",
     "grant": GRANT,
     "nothing": b"",
-    "refused": BAD + b"\x07bootes",
+    "refused": BAD + b"\x03bootes",
+    "apop": FIRST + RIGHT,
+    "guesses": FIRST + GUESS * 5 + RIGHT,
     "part": GRANT[:100],
 }
 
@@ -31,7 +40,9 @@ FILES = {
 ROWS = [
     (TICKETS, "a grant", 0, ""),
     (b"", "a client that ends at once", 0, ""),
-    (REFUSAL, "a bad request, and a kind that isn't served", 9, "factotum: unknown request 7 at 141\n"),
+    (REFUSAL, "a bad request, and a kind that isn't served", 9, "factotum: unknown request 3 at 141\n"),
+    (CHALLENGE + VOUCH, "a login by APOP", 0, ""),
+    (CHALLENGE + WRONG * 5, "five wrong answers", 9, "factotum: too many wrong answers\n"),
     (b"", "a part of a request", 6, "factotum: input ends inside the message at 0\n"),
     (b"", "a bad line of who speaks for whom", 8, "factotum: speaks line 3\n"),
     (b"", "a bad line of the keys", 8, "factotum: keys line 2\n"),

@@ -34,6 +34,7 @@ use Rattle.roles.specs.Templates.{asked, given_as, shown_text}
 use Rattle.rpc_file.specs.Answers.{answer_text}
 use Rattle.rpc_file.specs.Requests as rpc
 use Rattle.rpc_file.specs.Requests.{starts, reads, writes}
+use Rattle.conv_set.specs.Protocols.{protocol_of}
 use Rattle.talks.specs.Calls.{Stored, CarriedOut, Sought, Chosen, NoneServes, Heard, Unheard, Roomless, Took}
 use Rattle.talks.specs.Searches.{found_by}
 use Rattle.talks.specs.Standings.{finds}
@@ -48,31 +49,31 @@ use Rattle.agent_history.specs.Histories.{answer_after, does}
 -- ---- words of the rows
 
 -- a request of a connection under a tag, and the word that was drawn for it
-abbrev word : List ℕ
+abbrev pub word : List ℕ
 word = 1 ∷ 35 ∷ 69 ∷ 103 ∷ 137 ∷ 171 ∷ 205 ∷ 239 ∷ []
 
-abbrev call : ℕ → ℕ → Call
+abbrev pub call : ℕ → ℕ → Call
 call conn tag = record { conn = conn; tag = tag; word = word }
 
 -- the deeds after a request that was read, with all of its tests
-abbrev by_test : List Deed → Call → TBody → Result TBody (List ℕ) → List Deed
+abbrev pub by_test : List Deed → Call → TBody → Result TBody (List ℕ) → List Deed
 by_test done at body came = swept (replied at (body_for done at came) (after_granted done at came))
 
-abbrev step : List Deed → Call → TBody → List Deed
+abbrev pub step : List Deed → Call → TBody → List Deed
 step done at body = by_test done at body (granted_body done at body)
 
-abbrev under : ℕ → RBody → RMsg
+abbrev pub under : ℕ → RBody → RMsg
 under tag body = record { tag = tag; body = body }
 
 -- a reply to a request of connection 1
-abbrev reply : ℕ → RBody → Deed
+abbrev pub reply : ℕ → RBody → Deed
 reply tag body = OfReplies 1 (Answered tag body)
 
 -- the fid 3 of connection 1 opens rpc to read and write, so that conversation 0 stands
-abbrev rests : List Deed
+abbrev pub rests : List Deed
 rests = OfFids 1 (Walked 3 Rpc) ∷ OfFids 1 (Versioned (Some 8216)) ∷ OfConnection 1 Entered ∷ []
 
-abbrev began : List Deed
+abbrev pub began : List Deed
 began = reply 2 (r.Open (qid_of Rpc) 0) ∷ OfFids 1 (Opened 3 2) ∷ rests
 
 pub rpc_is_opened : step rests (call 1 2) (t.Open 3 2) ≡ began
@@ -98,31 +99,31 @@ abbrev started : List Deed
 started = reply 6 (r.Read (codes "ok")) ∷ OfTalk 0 Took ∷ OfTalk 0 (CarriedOut word) ∷ wrote
 
 pub a_start_is_read : step wrote (call 1 6) (t.Read 3 0 8192) ≡ started
-unfolding refusal after reply_of fid_fault tuple_of words_from first_word gap_len line_len utf8_valid_len attr_of is_text is_utf8 chars encode start_fault role_of value_of answer_text
+unfolding refusal after reply_of fid_fault tuple_of words_from first_word gap_len line_len utf8_valid_len attr_of is_text is_utf8 chars encode protocol_of start_fault role_of value_of answer_text
 a_start_is_read = refl
 
 -- the answer that is kept isn't read twice
 pub nothing_is_pending : granted_body started (call 1 7) (t.Read 3 0 8192) ≡ Err (codes "no rpc pending")
-unfolding refusal fid_fault tuple_of words_from first_word gap_len line_len utf8_valid_len attr_of is_text is_utf8 chars encode start_fault role_of value_of
+unfolding refusal fid_fault tuple_of words_from first_word gap_len line_len utf8_valid_len attr_of is_text is_utf8 chars encode protocol_of start_fault role_of value_of
 nothing_is_pending = refl
 
 abbrev asked_word : List Deed
 asked_word = reply 7 (r.Write 4) ∷ OfTalk 0 (Stored reads) ∷ started
 
 pub a_read_is_written : step started (call 1 7) (t.Write 3 0 (codes "read")) ≡ asked_word
-unfolding refusal after reply_of fid_fault rpc.request_of tuple_of words_from first_word gap_len line_len utf8_valid_len attr_of is_text is_utf8 chars encode start_fault role_of value_of answer_text
+unfolding refusal after reply_of fid_fault rpc.request_of tuple_of words_from first_word gap_len line_len utf8_valid_len attr_of is_text is_utf8 chars encode protocol_of start_fault role_of value_of answer_text
 a_read_is_written = refl
 
 -- a second request comes while the first isn't carried out
 pub a_request_is_there : granted_body asked_word (call 1 8) (t.Write 3 0 (codes "read")) ≡ Err (codes "rpc busy")
-unfolding refusal fid_fault tuple_of words_from first_word gap_len line_len utf8_valid_len attr_of is_text is_utf8 chars encode start_fault role_of value_of
+unfolding refusal fid_fault tuple_of words_from first_word gap_len line_len utf8_valid_len attr_of is_text is_utf8 chars encode protocol_of start_fault role_of value_of
 a_request_is_there = refl
 
 abbrev has_word : List Deed
 has_word = reply 8 (r.Read (codes "ok " ++ word)) ∷ OfTalk 0 Took ∷ OfTalk 0 (CarriedOut word) ∷ asked_word
 
 pub the_word_is_read : step asked_word (call 1 8) (t.Read 3 0 8192) ≡ has_word
-unfolding refusal after reply_of fid_fault tuple_of words_from first_word gap_len line_len utf8_valid_len attr_of is_text is_utf8 chars encode start_fault role_of value_of answer_text
+unfolding refusal after reply_of fid_fault tuple_of words_from first_word gap_len line_len utf8_valid_len attr_of is_text is_utf8 chars encode protocol_of start_fault role_of value_of answer_text
 the_word_is_read = refl
 
 -- a read that holds ten bytes has carried the request out, and leaves the answer to a later one
@@ -130,15 +131,15 @@ abbrev kept_word : List Deed
 kept_word = reply 8 (r.Error (codes "read too small")) ∷ OfTalk 0 (CarriedOut word) ∷ asked_word
 
 pub a_read_is_too_small : step asked_word (call 1 8) (t.Read 3 0 10) ≡ kept_word
-unfolding refusal after reply_of fid_fault tuple_of words_from first_word gap_len line_len utf8_valid_len attr_of is_text is_utf8 chars encode start_fault role_of value_of answer_text
+unfolding refusal after reply_of fid_fault tuple_of words_from first_word gap_len line_len utf8_valid_len attr_of is_text is_utf8 chars encode protocol_of start_fault role_of value_of answer_text
 a_read_is_too_small = refl
 
 pub an_answer_is_there : granted_body kept_word (call 1 9) (t.Write 3 0 (codes "read")) ≡ Err (codes "rpc busy")
-unfolding refusal fid_fault tuple_of words_from first_word gap_len line_len utf8_valid_len attr_of is_text is_utf8 chars encode start_fault role_of value_of
+unfolding refusal fid_fault tuple_of words_from first_word gap_len line_len utf8_valid_len attr_of is_text is_utf8 chars encode protocol_of start_fault role_of value_of
 an_answer_is_there = refl
 
 pub a_later_read_has_it : step kept_word (call 1 9) (t.Read 3 0 11) ≡ reply 9 (r.Read (codes "ok " ++ word)) ∷ OfTalk 0 Took ∷ kept_word
-unfolding refusal after reply_of fid_fault tuple_of words_from first_word gap_len line_len utf8_valid_len attr_of is_text is_utf8 chars encode start_fault role_of value_of answer_text
+unfolding refusal after reply_of fid_fault tuple_of words_from first_word gap_len line_len utf8_valid_len attr_of is_text is_utf8 chars encode protocol_of start_fault role_of value_of answer_text
 a_later_read_has_it = refl
 
 -- ---- a server's request finds no key
@@ -154,14 +155,14 @@ abbrev gave_request : List Deed
 gave_request = reply 9 (r.Write 147) ∷ OfTalk 0 (Stored (writes server_request)) ∷ has_word
 
 pub the_request_is_written : step has_word (call 1 9) (t.Write 3 0 (codes "write " ++ server_request)) ≡ gave_request
-unfolding request_text refusal after reply_of fid_fault rpc.request_of tuple_of words_from first_word gap_len line_len utf8_valid_len attr_of is_text is_utf8 chars encode start_fault role_of value_of answer_text
+unfolding request_text refusal after reply_of fid_fault rpc.request_of tuple_of words_from first_word gap_len line_len utf8_valid_len attr_of is_text is_utf8 chars encode protocol_of start_fault role_of value_of answer_text
 the_request_is_written = refl
 
 abbrev wants_key : List Deed
 wants_key = reply 10 (r.Read (codes "needkey proto=p9sk1 dom=x user? !password?")) ∷ OfTalk 0 Took ∷ OfTalk 0 (Sought NoneServes) ∷ OfTalk 0 (CarriedOut word) ∷ gave_request
 
 pub a_key_is_wanted : step gave_request (call 1 10) (t.Read 3 0 8192) ≡ wants_key
-unfolding request_text refusal after reply_of fid_fault finds found_by tuple_of words_from first_word gap_len line_len utf8_valid_len attr_of tickets.request_of request_fields name_in before_nul is_text is_utf8 chars encode start_fault role_of value_of asked answer_text shown_text printed_text
+unfolding request_text refusal after reply_of fid_fault finds found_by tuple_of words_from first_word gap_len line_len utf8_valid_len attr_of tickets.request_of request_fields name_in before_nul is_text is_utf8 chars encode protocol_of start_fault role_of value_of asked answer_text shown_text printed_text
 a_key_is_wanted = refl
 
 -- ---- a server's start on no keys is none
@@ -177,14 +178,14 @@ abbrev not_started : List Deed
 not_started = reply 6 (r.Read (codes "needkey proto=p9sk1 user? dom? !password?")) ∷ OfTalk 0 Took ∷ OfTalk 0 (Sought NoneServes) ∷ OfTalk 0 (CarriedOut word) ∷ server_wrote
 
 pub a_start_wants_a_key : step server_wrote (call 1 6) (t.Read 3 0 8192) ≡ not_started
-unfolding refusal after reply_of fid_fault finds found_by tuple_of words_from first_word gap_len line_len utf8_valid_len attr_of is_text is_utf8 chars encode start_fault role_of value_of asked answer_text shown_text printed_text
+unfolding refusal after reply_of fid_fault finds found_by tuple_of words_from first_word gap_len line_len utf8_valid_len attr_of is_text is_utf8 chars encode protocol_of start_fault role_of value_of asked answer_text shown_text printed_text
 a_start_wants_a_key = refl
 
 abbrev reads_early : List Deed
 reads_early = reply 7 (r.Write 4) ∷ OfTalk 0 (Stored reads) ∷ not_started
 
 pub it_was_not_started : step reads_early (call 1 8) (t.Read 3 0 8192) ≡ reply 8 (r.Read (codes "protocol not started")) ∷ OfTalk 0 Took ∷ OfTalk 0 (CarriedOut word) ∷ reads_early
-unfolding refusal after reply_of fid_fault finds found_by tuple_of words_from first_word gap_len line_len utf8_valid_len attr_of is_text is_utf8 chars encode start_fault role_of value_of asked answer_text
+unfolding refusal after reply_of fid_fault finds found_by tuple_of words_from first_word gap_len line_len utf8_valid_len attr_of is_text is_utf8 chars encode protocol_of start_fault role_of value_of asked answer_text
 it_was_not_started = refl
 
 -- ---- a key of ann, and the question for the authentication server
@@ -203,7 +204,7 @@ abbrev asks : List Deed
 asks = OfReplies 1 (Awaited 10 3 8192) ∷ Raised 0 ∷ OfTalk 0 (Sought (Chosen ann)) ∷ OfTalk 0 (CarriedOut word) ∷ with_key
 
 pub the_server_is_asked : step with_key (call 1 10) (t.Read 3 0 9000) ≡ asks
-unfolding request_text refusal after reply_of fid_fault finds found_by matches public_equal tuple_of words_from first_word gap_len line_len utf8_valid_len attr_of tickets.request_of request_fields name_in before_nul is_text is_utf8 chars encode start_fault role_of value_of asked answer_text
+unfolding request_text refusal after reply_of fid_fault finds found_by matches public_equal tuple_of words_from first_word gap_len line_len utf8_valid_len attr_of tickets.request_of request_fields name_in before_nul is_text is_utf8 chars encode protocol_of start_fault role_of value_of asked answer_text
 the_server_is_asked = refl
 
 -- the question is hers, for herself
@@ -211,7 +212,7 @@ abbrev question : List ℕ
 question = request_text (record { kind = 1; authid = codes "srv"; authdom = codes "x"; chal = chal; hostid = codes "ann"; uid = codes "ann" })
 
 pub her_question_is_put : answer_after asks TakeAsk ≡ (Ask 1 0 Tickets, question)
-unfolding request_text tuple_of words_from first_word gap_len line_len utf8_valid_len attr_of tickets.request_of request_fields name_in before_nul is_text is_utf8 chars encode start_fault role_of value_of asked
+unfolding request_text tuple_of words_from first_word gap_len line_len utf8_valid_len attr_of tickets.request_of request_fields name_in before_nul is_text is_utf8 chars encode protocol_of start_fault role_of value_of asked
 her_question_is_put = refl
 
 pub it_is_handed_out : does asks TakeAsk ≡ HandedOut ∷ asks
@@ -232,7 +233,7 @@ abbrev unheard : List Deed
 unheard = told_of (r.Read (codes "error no server")) (OfTalk 0 Unheard ∷ HandedOut ∷ asks)
 
 pub no_server_is_told : does (HandedOut ∷ asks) (NoAnswer 1) ≡ unheard
-unfolding request_text tuple_of words_from first_word gap_len line_len utf8_valid_len attr_of tickets.request_of request_fields name_in before_nul is_text is_utf8 chars encode start_fault role_of value_of asked answer_text
+unfolding request_text tuple_of words_from first_word gap_len line_len utf8_valid_len attr_of tickets.request_of request_fields name_in before_nul is_text is_utf8 chars encode protocol_of start_fault role_of value_of asked answer_text
 no_server_is_told = refl
 
 pub it_is_told_there : untaken unheard 1 ≡ untaken asks 1 ++ under 10 (r.Read (codes "error no server")) ∷ []
@@ -243,7 +244,7 @@ none_is_told_elsewhere = refl
 
 -- also where the question wasn't handed out; it isn't then
 pub no_room_is_told : does asks (NoRoom 1) ≡ told_of (r.Read (codes "error out of memory")) (OfTalk 0 Roomless ∷ asks)
-unfolding request_text tuple_of words_from first_word gap_len line_len utf8_valid_len attr_of tickets.request_of request_fields name_in before_nul is_text is_utf8 chars encode start_fault role_of value_of asked answer_text
+unfolding request_text tuple_of words_from first_word gap_len line_len utf8_valid_len attr_of tickets.request_of request_fields name_in before_nul is_text is_utf8 chars encode protocol_of start_fault role_of value_of asked answer_text
 no_room_is_told = refl
 
 pub it_leaves_the_queue : questions (told_of (r.Read (codes "error out of memory")) (OfTalk 0 Roomless ∷ asks)) ≡ []
@@ -276,11 +277,11 @@ abbrev heard : List Deed
 heard = OfTalk 0 (Heard refusal_text) ∷ flushed
 
 pub none_is_told_yet : does flushed (Answer 1 refusal_text) ≡ heard
-unfolding request_text tuple_of words_from first_word gap_len line_len utf8_valid_len attr_of tickets.request_of request_fields name_in before_nul is_text is_utf8 chars encode start_fault role_of value_of asked answer_text
+unfolding request_text tuple_of words_from first_word gap_len line_len utf8_valid_len attr_of tickets.request_of request_fields name_in before_nul is_text is_utf8 chars encode protocol_of start_fault role_of value_of asked answer_text
 none_is_told_yet = refl
 
 pub it_has_come : step heard (call 1 10) (t.Read 3 0 8192) ≡ reply 10 (r.Read (codes "error server said no")) ∷ OfTalk 0 Took ∷ heard
-unfolding refusal after reply_of fid_fault request_text tuple_of words_from first_word gap_len line_len utf8_valid_len attr_of tickets.request_of request_fields name_in before_nul is_text is_utf8 chars encode start_fault role_of value_of asked answer_text
+unfolding refusal after reply_of fid_fault request_text tuple_of words_from first_word gap_len line_len utf8_valid_len attr_of tickets.request_of request_fields name_in before_nul is_text is_utf8 chars encode protocol_of start_fault role_of value_of asked answer_text
 it_has_come = refl
 
 -- or the later read waits again, and is told
@@ -288,11 +289,11 @@ abbrev waits_again : List Deed
 waits_again = OfReplies 1 (Awaited 12 3 20) ∷ flushed
 
 pub it_waits_again : step flushed (call 1 12) (t.Read 3 0 20) ≡ waits_again
-unfolding refusal after reply_of fid_fault request_text tuple_of words_from first_word gap_len line_len utf8_valid_len attr_of tickets.request_of request_fields name_in before_nul is_text is_utf8 chars encode start_fault role_of value_of asked answer_text
+unfolding refusal after reply_of fid_fault request_text tuple_of words_from first_word gap_len line_len utf8_valid_len attr_of tickets.request_of request_fields name_in before_nul is_text is_utf8 chars encode protocol_of start_fault role_of value_of asked answer_text
 it_waits_again = refl
 
 pub the_later_is_told : does waits_again (Answer 1 refusal_text) ≡ Swept ∷ OfReplies 1 (Settled 12 (r.Read (codes "error server said no"))) ∷ OfTalk 0 Took ∷ OfTalk 0 (Heard refusal_text) ∷ waits_again
-unfolding request_text tuple_of words_from first_word gap_len line_len utf8_valid_len attr_of tickets.request_of request_fields name_in before_nul is_text is_utf8 chars encode start_fault role_of value_of asked answer_text
+unfolding request_text tuple_of words_from first_word gap_len line_len utf8_valid_len attr_of tickets.request_of request_fields name_in before_nul is_text is_utf8 chars encode protocol_of start_fault role_of value_of asked answer_text
 the_later_is_told = refl
 
 -- a read that waits and holds too little is told so, and the answer stays
@@ -303,11 +304,11 @@ abbrev stays : List Deed
 stays = Swept ∷ OfReplies 1 (Settled 12 (r.Error (codes "read too small"))) ∷ OfTalk 0 (Heard refusal_text) ∷ waits_short
 
 pub a_wait_is_too_small : does waits_short (Answer 1 refusal_text) ≡ stays
-unfolding request_text tuple_of words_from first_word gap_len line_len utf8_valid_len attr_of tickets.request_of request_fields name_in before_nul is_text is_utf8 chars encode start_fault role_of value_of asked answer_text
+unfolding request_text tuple_of words_from first_word gap_len line_len utf8_valid_len attr_of tickets.request_of request_fields name_in before_nul is_text is_utf8 chars encode protocol_of start_fault role_of value_of asked answer_text
 a_wait_is_too_small = refl
 
 pub it_stays : step stays (call 1 13) (t.Read 3 0 20) ≡ reply 13 (r.Read (codes "error server said no")) ∷ OfTalk 0 Took ∷ stays
-unfolding refusal after reply_of fid_fault request_text tuple_of words_from first_word gap_len line_len utf8_valid_len attr_of tickets.request_of request_fields name_in before_nul is_text is_utf8 chars encode start_fault role_of value_of asked answer_text
+unfolding refusal after reply_of fid_fault request_text tuple_of words_from first_word gap_len line_len utf8_valid_len attr_of tickets.request_of request_fields name_in before_nul is_text is_utf8 chars encode protocol_of start_fault role_of value_of asked answer_text
 it_stays = refl
 
 -- ---- while a read waits
@@ -320,7 +321,7 @@ pub its_tag_is_taken : granted_body asks (call 1 10) (t.Read 3 0 20) ≡ Err (co
 its_tag_is_taken = refl
 
 pub no_request_meanwhile : granted_body asks (call 1 12) (t.Write 3 0 (codes "read")) ≡ Err (codes "rpc busy")
-unfolding refusal fid_fault request_text tuple_of words_from first_word gap_len line_len utf8_valid_len attr_of tickets.request_of request_fields name_in before_nul is_text is_utf8 chars encode start_fault role_of value_of asked finds found_by matches public_equal
+unfolding refusal fid_fault request_text tuple_of words_from first_word gap_len line_len utf8_valid_len attr_of tickets.request_of request_fields name_in before_nul is_text is_utf8 chars encode protocol_of start_fault role_of value_of asked finds found_by matches public_equal
 no_request_meanwhile = refl
 
 -- ---- the conversation ends while a read waits
@@ -379,39 +380,39 @@ many (suc n) done = OfReplies 1 (Awaited (100 + n) (100 + n) 8192) ∷ many n do
 
 -- whether or not the request would wait, and it isn't carried out
 pub too_many_wait : granted_body (many 64 asked_word) (call 1 8) (t.Read 3 0 8192) ≡ Err (codes "too many waiting")
-unfolding refusal fid_fault request_text tuple_of words_from first_word gap_len line_len utf8_valid_len attr_of tickets.request_of request_fields name_in before_nul is_text is_utf8 chars encode start_fault role_of value_of asked
+unfolding refusal fid_fault request_text tuple_of words_from first_word gap_len line_len utf8_valid_len attr_of tickets.request_of request_fields name_in before_nul is_text is_utf8 chars encode protocol_of start_fault role_of value_of asked
 too_many_wait = refl
 
 pub one_more_may_wait : granted_body (many 63 asked_word) (call 1 8) (t.Read 3 0 8192) ≡ Ok (t.Read 3 0 8192)
-unfolding refusal fid_fault request_text tuple_of words_from first_word gap_len line_len utf8_valid_len attr_of tickets.request_of request_fields name_in before_nul is_text is_utf8 chars encode start_fault role_of value_of asked
+unfolding refusal fid_fault request_text tuple_of words_from first_word gap_len line_len utf8_valid_len attr_of tickets.request_of request_fields name_in before_nul is_text is_utf8 chars encode protocol_of start_fault role_of value_of asked
 one_more_may_wait = refl
 
 -- an answer that is there is read all the same
 pub an_answer_is_read : granted_body (many 64 kept_word) (call 1 8) (t.Read 3 0 8192) ≡ Ok (t.Read 3 0 8192)
-unfolding refusal fid_fault request_text tuple_of words_from first_word gap_len line_len utf8_valid_len attr_of tickets.request_of request_fields name_in before_nul is_text is_utf8 chars encode start_fault role_of value_of asked
+unfolding refusal fid_fault request_text tuple_of words_from first_word gap_len line_len utf8_valid_len attr_of tickets.request_of request_fields name_in before_nul is_text is_utf8 chars encode protocol_of start_fault role_of value_of asked
 an_answer_is_read = refl
 
 -- ---- how the conversation of a fid stands as to its end, and its key
 
 pub it_runs : outcome_at asks 1 3 ≡ Some Running
-unfolding request_text tuple_of words_from first_word gap_len line_len utf8_valid_len attr_of tickets.request_of request_fields name_in before_nul is_text is_utf8 chars encode start_fault role_of value_of asked
+unfolding request_text tuple_of words_from first_word gap_len line_len utf8_valid_len attr_of tickets.request_of request_fields name_in before_nul is_text is_utf8 chars encode protocol_of start_fault role_of value_of asked
 it_runs = refl
 
 pub it_is_broken : outcome_at unheard 1 3 ≡ Some (Broken NoServer)
-unfolding request_text tuple_of words_from first_word gap_len line_len utf8_valid_len attr_of tickets.request_of request_fields name_in before_nul is_text is_utf8 chars encode start_fault role_of value_of asked
+unfolding request_text tuple_of words_from first_word gap_len line_len utf8_valid_len attr_of tickets.request_of request_fields name_in before_nul is_text is_utf8 chars encode protocol_of start_fault role_of value_of asked
 it_is_broken = refl
 
 pub it_never_started : outcome_at not_started 1 3 ≡ None
-unfolding request_text tuple_of words_from first_word gap_len line_len utf8_valid_len attr_of tickets.request_of request_fields name_in before_nul is_text is_utf8 chars encode start_fault role_of value_of asked
+unfolding request_text tuple_of words_from first_word gap_len line_len utf8_valid_len attr_of tickets.request_of request_fields name_in before_nul is_text is_utf8 chars encode protocol_of start_fault role_of value_of asked
 it_never_started = refl
 
 pub her_key_is_chosen : chosen_at asks 1 3 ≡ Some ann
-unfolding request_text tuple_of words_from first_word gap_len line_len utf8_valid_len attr_of tickets.request_of request_fields name_in before_nul is_text is_utf8 chars encode start_fault role_of value_of asked
+unfolding request_text tuple_of words_from first_word gap_len line_len utf8_valid_len attr_of tickets.request_of request_fields name_in before_nul is_text is_utf8 chars encode protocol_of start_fault role_of value_of asked
 her_key_is_chosen = refl
 
 -- the key stays although the keys are deleted that match any template
 pub her_key_stays : chosen_at (OfKeys 2 (Edited (Delete [])) ∷ asks) 1 3 ≡ Some ann
-unfolding request_text tuple_of words_from first_word gap_len line_len utf8_valid_len attr_of tickets.request_of request_fields name_in before_nul is_text is_utf8 chars encode start_fault role_of value_of asked
+unfolding request_text tuple_of words_from first_word gap_len line_len utf8_valid_len attr_of tickets.request_of request_fields name_in before_nul is_text is_utf8 chars encode protocol_of start_fault role_of value_of asked
 her_key_stays = refl
 
 pub nothing_is_told_of_it : (outcome_at clunked 1 3 ≡ None) × (chosen_at clunked 1 3 ≡ None) × (outcome_at (Halted ∷ asks) 1 3 ≡ None)

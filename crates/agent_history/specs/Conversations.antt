@@ -1,19 +1,24 @@
 -- The conversations of an agent and their questions for the authentication server, read off a list of deeds. After
 -- factotum(4) of the Plan 9 manual: each opening of rpc is a conversation, which ends with its fid.
-use Rattle.std.specs.Prelude.{ℕ, ◌+◌, List, [], ◌∷◌, ◌++◌, length, filter, find, Bool, true, false, not, ◌&&◌, ◌==◌, nat_le, Option, Some, None, is_some, option_map, codes, if◌then◌else◌}
+use Rattle.std.specs.Prelude.{ℕ, ◌+◌, List, [], ◌∷◌, ◌++◌, length, drop, map, filter, find, Bool, true, false, not, ◌&&◌, ◌==◌, nat_le, nat_lt, Option, Some, None, is_some, option_map, codes, if◌then◌else◌}
 use Rattle.std.specs.List.{list_any}
+use Rattle.wire_base.specs.declared.shape.Shape.{Shape}
+use Rattle.wire_base.specs.declared.shape.Shape.TheVariants.{Challenge, Vouch, Tickets}
 use Rattle.nine_messages.specs.declared.message.RBody.{RBody}
 use Rattle.nine_messages.specs.declared.message.RBody.TheVariants as r
 use Rattle.file_tree.specs.declared.tree.Node.TheVariants.{Rpc, Confirm, Needkey}
 use Rattle.key_lists.specs.Lists.{KeyEntry}
+use Rattle.roles.specs.declared.need.Need.{Need}
+use Rattle.roles.specs.declared.need.Need.TheVariants.{Nothing, Key, Offers, Pick, Exchange}
 use Rattle.roles.specs.declared.need.Outcome.{Outcome}
+use Rattle.conv_set.specs.Protocols.{is_over}
 use Rattle.rpc_file.specs.Answers.{answer_text}
 use Rattle.rpc_file.specs.declared.answer.RpcAnswer.{RpcAnswer}
 use Rattle.talks.specs.Calls as calls
 use Rattle.talks.specs.Calls.{Call}
 use Rattle.talks.specs.declared.said.Asking.{Asking}
-use Rattle.talks.specs.Standings.{Phase, Standing, Kept, OnServer, Seeking, finds, key_of, outcome_of, standing}
-use Rattle.agent_history.specs.Deeds.{Deed, OfFids, OfReplies, OfConnection, OfTalk, Raised, HandedOut, Halted, Versioned, Opened, Clunked, Settled, Hung, fid_of, holder_of, keys_of, names}
+use Rattle.talks.specs.Standings.{Phase, Standing, Kept, OnServer, Seeking, finds, key_of, outcome_of, question_of, standing}
+use Rattle.agent_history.specs.Deeds.{Deed, OfFids, OfReplies, OfConnection, OfTalk, Raised, HandedOut, DropTaken, Halted, Versioned, Opened, Clunked, Settled, Hung, fid_of, holder_of, keys_of, names}
 use Rattle.agent_history.specs.Replies.{Wait, is_unsettled, waits}
 
 -- ---- conversations
@@ -122,6 +127,94 @@ asker done call = option_map (λ q. q.conv) (find (λ q. q.call == call) (questi
 abbrev pub next_question : List Deed → Option Question
 next_question done = find (λ q. not q.handed) (questions done)
 
+-- ---- connections to the authentication server that are kept
+
+-- a conversation that was given a challenge answers it over the same connection: it keeps the connection over which it
+-- asks for one until it has its next question sent, or has come to its end
+
+-- the conversation of a number stands
+abbrev pub stands : List Deed → ℕ → Bool
+stands done conv = list_any (λ s. s.conv == conv) (speakers done)
+
+-- it is asked for a challenge
+abbrev pub is_for_challenge : Shape → Bool
+is_for_challenge Challenge = true
+is_for_challenge Vouch = false
+is_for_challenge Tickets = false
+
+abbrev pub asks_challenge : Need → Bool
+asks_challenge (Exchange request shape) = is_for_challenge shape
+asks_challenge (Key template) = false
+asks_challenge (Offers template) = false
+asks_challenge (Pick templates) = false
+asks_challenge Nothing = false
+
+-- a conversation has come to its end
+abbrev pub is_end : Option Outcome → Bool
+is_end None = false
+is_end (Some outcome) = is_over outcome
+
+-- behind a question that is handed out: its own conversation keeps the connection over which it asks for a challenge, and
+-- uses up the one that it kept by any other question
+abbrev pub kept_by : List Deed → Option Question → ℕ → Bool → Bool
+kept_by done None conv kept = kept
+kept_by done (Some q) conv kept = if q.conv == conv then asks_challenge (question_of (standing_of done conv)) else kept
+
+-- a conversation keeps a connection
+abbrev pub keeps : List Deed → ℕ → Bool
+keeps [] conv = false
+keeps (HandedOut ∷ before) conv = kept_by before (next_question before) conv (keeps before conv)
+keeps (OfTalk at call ∷ before) conv = if at == conv then keeps before conv && not (is_end (outcome_of (standing_of (OfTalk at call ∷ before) conv))) else keeps before conv
+keeps (OfFids at deed ∷ before) conv = keeps before conv && stands (OfFids at deed ∷ before) conv
+keeps (OfConnection at deed ∷ before) conv = keeps before conv && stands (OfConnection at deed ∷ before) conv
+keeps (Halted ∷ before) conv = false
+keeps (deed ∷ before) conv = keeps before conv
+
+-- a connection that is to be given up: its conversation, and how many questions had been raised by then
+pub record Drop : Type 0 where
+  pub conv : ℕ
+  pub behind : ℕ
+
+-- a conversation kept a connection before a deed, and keeps none behind it
+abbrev pub gives_up : Deed → List Deed → ℕ → Bool
+gives_up deed before conv = keeps before conv && not (keeps (deed ∷ before) conv)
+
+abbrev pub drop_of : List Deed → ℕ → Drop
+drop_of before conv = record { conv = conv; behind = raised before }
+
+-- the connections that the conversations of some speakers give up by a deed
+abbrev pub given_up : Deed → List Deed → List Speaker → List Drop
+given_up deed before standing = map (λ s. drop_of before s.conv) (filter (λ s. gives_up deed before s.conv) standing)
+
+-- the connections that are to be given up, the oldest first; after a stop none is
+abbrev pub drops : List Deed → List Drop
+drops [] = []
+drops (OfTalk conv call ∷ before) = if gives_up (OfTalk conv call) before conv then drops before ++ drop_of before conv ∷ [] else drops before
+drops (OfFids at deed ∷ before) = drops before ++ given_up (OfFids at deed) before (speakers before)
+drops (OfConnection at deed ∷ before) = drops before ++ given_up (OfConnection at deed) before (speakers before)
+drops (DropTaken ∷ before) = drop 1 (drops before)
+drops (Halted ∷ before) = []
+drops (deed ∷ before) = drops before
+
+-- what is due to be handed out next: a connection that is to be given up, or a question
+pub data Due : Type 0 where
+  NoneDue : Due
+  DropDue : (drop : Drop) → Due
+  QuestionDue : (question : Question) → Due
+
+-- of a connection and a question the one that came first
+abbrev pub first_due : Drop → Option Question → Due
+first_due drop None = DropDue drop
+first_due drop (Some question) = if nat_lt drop.behind question.call then DropDue drop else QuestionDue question
+
+abbrev pub due_of : List Drop → Option Question → Due
+due_of [] None = NoneDue
+due_of [] (Some question) = QuestionDue question
+due_of (drop ∷ more) question = first_due drop question
+
+abbrev pub due : List Deed → Due
+due done = due_of (drops done) (next_question done)
+
 -- ---- what follows on what a conversation met
 
 -- a question is raised where it is for the authentication server
@@ -132,13 +225,22 @@ raising conv phase done = done
 abbrev pub then_raised : ℕ → List Deed → List Deed
 then_raised conv done = raising conv (standing_of done conv).phase done
 
--- a key is searched for where one is needed, among the keys of this moment
+-- what is needed of the keys is searched for, where something is, among the keys of this moment
 abbrev pub seeking : ℕ → Phase → List Deed → List Deed
 seeking conv Seeking done = OfTalk conv (calls.Sought (finds (standing_of done conv) (asking done) (keys_of done))) ∷ done
 seeking conv phase done = done
 
+abbrev pub sought_once : ℕ → List Deed → List Deed
+sought_once conv done = seeking conv (standing_of done conv).phase done
+
+-- a start may need one thing after the other: offers, a key where there are none, and the offers again. Any other request
+-- needs one thing
+abbrev pub seeking_all : Bool → ℕ → List Deed → List Deed
+seeking_all true conv done = sought_once conv (sought_once conv (sought_once conv done))
+seeking_all false conv done = sought_once conv done
+
 abbrev pub then_sought : ℕ → List Deed → List Deed
-then_sought conv done = seeking conv (standing_of done conv).phase done
+then_sought conv done = seeking_all (standing_of done conv).starting conv done
 
 -- a conversation met something, and what it needs then is got for it
 abbrev pub met : ℕ → Call → List Deed → List Deed

@@ -70,6 +70,8 @@ pub data Deed : Type 0 where
   Raised : (conv : ℕ) → Deed
   -- the oldest question that wasn't handed out yet was handed out
   HandedOut : Deed
+  -- the oldest connection to the authentication server that is to be given up was given up
+  DropTaken : Deed
   -- the replies to the reads that were settled stand behind the others of their connections, in the order in which the
   -- reads came
   Swept : Deed

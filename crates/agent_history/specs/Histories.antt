@@ -1,21 +1,21 @@
 -- A history of an agent, what it did, and what the agent answers after it. A history is a list of events, the newest
 -- first, so that what stands behind an event is the history before it. An entry is an event together with the number of
 -- the seat that made it; what is answered doesn't depend on seats.
-use Rattle.std.specs.Prelude.{ℕ, ◌+◌, List, [], ◌∷◌, length, map, Bool, true, false, not, ◌&&◌, nat_lt, Option, Some, None, if◌then◌else◌}
+use Rattle.std.specs.Prelude.{ℕ, ◌+◌, List, [], ◌∷◌, length, map, Bool, true, false, not, ◌&&◌, nat_lt, if◌then◌else◌}
 use Rattle.nine_messages.specs.declared.message.RMsg.{RMsg}
 use Rattle.nine_messages.specs.Messages.{r_frame}
 use Rattle.agent_history.specs.declared.event.Event.{Event}
 use Rattle.agent_history.specs.declared.event.Event.TheVariants.{Request, Hang, NoAnswer, NoRoom, Take, TakeAsk, Stop}
 use Rattle.agent_history.specs.declared.event.Event.TheVariants.{Answer as AnswerCame}
 use Rattle.agent_history.specs.declared.event.StepAnswer.{StepAnswer}
-use Rattle.agent_history.specs.declared.event.StepAnswer.TheVariants.{Done, Reply, NoReply, Gone, Ask, NoAsk, Stopped}
-use Rattle.agent_history.specs.Deeds.{Deed, OfReplies, OfConnection, HandedOut, Halted, Taken, Entered, Hung, was_opened, was_hung, is_halted, is_gone}
+use Rattle.agent_history.specs.declared.event.StepAnswer.TheVariants.{Done, Reply, NoReply, Gone, Ask, DropCall, NoAsk, Stopped}
+use Rattle.agent_history.specs.Deeds.{Deed, OfReplies, OfConnection, HandedOut, DropTaken, Halted, Taken, Entered, Hung, was_opened, was_hung, is_halted, is_gone}
 use Rattle.roles.specs.declared.need.Need.{Need}
-use Rattle.roles.specs.declared.need.Need.TheVariants.{Nothing, Key, Exchange}
+use Rattle.roles.specs.declared.need.Need.TheVariants.{Nothing, Key, Offers, Pick, Exchange}
 use Rattle.talks.specs.Calls.{Heard, Unheard, Roomless}
 use Rattle.talks.specs.Standings.{question_of}
 use Rattle.agent_history.specs.Replies.{swept, untaken}
-use Rattle.agent_history.specs.Conversations.{Question, asker, next_question, resumed, standing_of}
+use Rattle.agent_history.specs.Conversations.{Question, Due, NoneDue, DropDue, QuestionDue, asker, due, resumed, standing_of}
 use Rattle.agent_history.specs.Requests.{answered, call_of}
 
 -- an entry: who made it, and what happened
@@ -45,10 +45,11 @@ abbrev pub taking : ℕ → List RMsg → List Deed → List Deed
 taking conn [] done = done
 taking conn (reply ∷ rest) done = OfReplies conn Taken ∷ done
 
--- the oldest question that wasn't handed out yet is handed out, where there is one
-abbrev pub handing : Option Question → List Deed → List Deed
-handing None done = done
-handing (Some question) done = HandedOut ∷ done
+-- what is due is handed out, where something is
+abbrev pub handing : Due → List Deed → List Deed
+handing NoneDue done = done
+handing (DropDue drop) done = DropTaken ∷ done
+handing (QuestionDue question) done = HandedOut ∷ done
 
 -- the deeds after an event
 abbrev pub does : List Deed → Event → List Deed
@@ -58,7 +59,7 @@ does done (Hang at) = if was_opened done at && not (was_hung done at) then OfCon
 does done (AnswerCame call bytes) = swept (resumed (asker done call) (Heard bytes) done)
 does done (NoAnswer call) = swept (resumed (asker done call) Unheard done)
 does done (NoRoom call) = swept (resumed (asker done call) Roomless done)
-does done TakeAsk = handing (next_question done) done
+does done TakeAsk = handing (due done) done
 does done Stop = Halted ∷ done
 
 -- the deeds after an event of this number, counted from 1: none come after a stop, and the last event stops the agent
@@ -92,16 +93,20 @@ first_reply (reply ∷ rest) = (Reply, r_frame reply)
 abbrev pub asks : Question → Need → Answer
 asks question (Exchange request shape) = (Ask question.call question.conv shape, request)
 asks question (Key template) = (NoAsk, [])
+asks question (Offers template) = (NoAsk, [])
+asks question (Pick templates) = (NoAsk, [])
 asks question Nothing = (NoAsk, [])
 
-abbrev pub question_put : List Deed → Option Question → Answer
-question_put done None = (NoAsk, [])
-question_put done (Some question) = asks question (question_of (standing_of done question.conv))
+-- what is due is put out: a connection that is to be given up by its conversation
+abbrev pub put_out : List Deed → Due → Answer
+put_out done NoneDue = (NoAsk, [])
+put_out done (DropDue drop) = (DropCall drop.conv, [])
+put_out done (QuestionDue question) = asks question (question_of (standing_of done question.conv))
 
 -- what is answered to an event after some deeds
 abbrev pub answer_after : List Deed → Event → Answer
 answer_after done (Take at) = if is_gone done at then (Gone, []) else first_reply (untaken done at)
-answer_after done TakeAsk = if is_halted done then (Stopped, []) else question_put done (next_question done)
+answer_after done TakeAsk = if is_halted done then (Stopped, []) else put_out done (due done)
 answer_after done event = (Done, [])
 
 -- what the agent answers to an event after a history

@@ -31,7 +31,8 @@ pub enum Event {
     Take {
         conn: u64,
     },
-    /// The oldest question for the authentication server that wasn't taken yet is asked for.
+    /// The oldest that wasn't taken yet is asked for, of the questions for the authentication server and of the connections
+    /// to it that are needed no more.
     TakeAsk,
     /// The agent stops for good.
     Stop,
@@ -50,9 +51,9 @@ pub enum StepAnswer {
     Gone,
     /// A question of a conversation was put out.
     Ask { call: u64, conv: u64, shape: Shape },
-    /// A conversation needs the connection no more that it had opened.
+    /// A conversation needs the connection to the authentication server no more that it kept.
     DropCall { conv: u64 },
-    /// There is no question to take.
+    /// There is neither to take.
     NoAsk,
     /// The agent stopped.
     Stopped,

@@ -11,15 +11,16 @@ use Rattle.talks.specs.Standings.{question_of, standing}
 use Rattle.agent_history.specs.declared.event.StepAnswer.TheVariants.{Stopped}
 use Rattle.agent_history.specs.declared.event.Event.{Event}
 use Rattle.agent_history.specs.declared.event.Event.TheVariants.{Request, Hang, Answer, NoAnswer, NoRoom, Take, TakeAsk, Stop}
-use Rattle.agent_history.specs.Deeds.{Deed, OfFids, OfKeys, OfReplies, OfConnection, OfTalk, Raised, HandedOut, Swept, Halted, Versioned, Attached, Walked, Opened, Listed, Browsed, Clunked, Answered, Taken, Entered, Hung, fid_of, is_halted, was_hung, was_opened}
-use Rattle.agent_history.specs.Conversations.{Question, Speaker, asker, next_question, questions, resumed, speakers}
+use Rattle.agent_history.specs.Deeds.{Deed, OfFids, OfKeys, OfReplies, OfConnection, OfTalk, Raised, HandedOut, DropTaken, Swept, Halted, Versioned, Attached, Walked, Opened, Listed, Browsed, Clunked, Answered, Taken, Entered, Hung, fid_of, is_halted, was_hung, was_opened}
+use Rattle.agent_history.specs.Conversations.{Question, Speaker, asker, questions, resumed, speakers, stands, Due, NoneDue, DropDue, QuestionDue, due}
 use Rattle.agent_history.specs.Replies.{has_settled, replies, swept, taken, untaken}
 use Rattle.agent_history.specs.Requests.{Call, after_frame, answered, body_to, call_of, is_rpc, replied}
-use Rattle.agent_history.specs.Histories.{History, Answer as IsAnswer, answer, asks, deeds, does, entered, handing, most_events, question_put, taking}
-use Rattle.agent_laws.specs.Laws.{SameButSecrets, all_asked, all_open, asks_server, has_conversed, hidden_deed, stands}
+use Rattle.agent_history.specs.Histories.{History, Answer as IsAnswer, answer, asks, deeds, does, entered, handing, most_events, put_out, taking}
+use Rattle.agent_laws.specs.Laws.{SameButSecrets, all_asked, all_open, asks_server, has_conversed, hidden_deed}
 use Rattle.agent_laws.proofs.KindLaws.{KeepsOf, is_done}
 use Rattle.agent_laws.proofs.GrowLaws.{all_are_asked, conn_of, event_grows, on_its_own}
 use Rattle.agent_laws.proofs.SightLaws.{none_speaks, sight}
+use Rattle.agent_laws.proofs.DueLaws.{due_alike}
 use Rattle.agent_laws.proofs.SecretLaws.{body_to_alike, deeds_open, frame_alike}
 
 -- ---- what an event does to both
@@ -80,12 +81,10 @@ resumed_alike a b call came s none known =
     subst (λ (o : Option ℕ). SameButSecrets (swept (resumed (asker a call) came a)) (swept (resumed o came b))) (sym other)
     (subst (λ (o : Option ℕ). SameButSecrets (swept (resumed o came a)) (swept b)) (sym nobody) (swept_alike a b s))
 
-handing_alike : (o : Option Question) (a b : List Deed) → SameButSecrets a b → SameButSecrets (handing o a) (handing o b)
-handing_alike None a b s = s
-handing_alike (Some question) a b s = more_alike a b HandedOut refl refl s
-
-next_alike : (a b : List Deed) → SameButSecrets a b → next_question a ≡ next_question b
-next_alike a b s = ap (λ (qs : List Question). find (λ q. not q.handed) qs) (sight a b s).asking
+handing_alike : (o : Due) (a b : List Deed) → SameButSecrets a b → SameButSecrets (handing o a) (handing o b)
+handing_alike NoneDue a b s = s
+handing_alike (DropDue drop) a b s = more_alike a b DropTaken refl refl s
+handing_alike (QuestionDue question) a b s = more_alike a b HandedOut refl refl s
 
 entered_quiet : (at : ℕ) (done : List Deed) → has_conversed done ≡ false → has_conversed (entered at done) ≡ false
 entered_quiet at done none = by_cases (was_opened done at)
@@ -107,7 +106,7 @@ does_alike (Answer call bytes) a b s none known = resumed_alike a b call (calls.
 does_alike (NoAnswer call) a b s none known = resumed_alike a b call calls.Unheard s none known
 does_alike (NoRoom call) a b s none known = resumed_alike a b call calls.Roomless s none known
 does_alike TakeAsk a b s none known =
-    subst (λ (o : Option Question). SameButSecrets (handing (next_question a) a) (handing o b)) (next_alike a b s) (handing_alike (next_question a) a b s)
+    subst (λ (o : Due). SameButSecrets (handing (due a) a) (handing o b)) (due_alike a b s) (handing_alike (due a) a b s)
 
 -- ---- histories
 
@@ -142,6 +141,7 @@ quiet_more before conn done (OfConnection at deed) kind fits q = q
 quiet_more before conn done (OfTalk conv call) kind fits q = q
 quiet_more before conn done (Raised conv) kind fits q = q
 quiet_more before conn done HandedOut kind fits q = q
+quiet_more before conn done DropTaken kind fits q = q
 quiet_more before conn done Swept kind fits q = q
 quiet_more before conn done Halted kind fits q = q
 
@@ -155,18 +155,19 @@ events_alike (e ∷ more) A B none s =
     let t = events_alike more A B before s in
     two_alike (more ++ A) (more ++ B) e e t (does_alike e (deeds (more ++ A)) (deeds (more ++ B)) t.done before (all_are_asked (more ++ A)))
 
-question_alike : (a b : List Deed) (o : Option Question) → SameButSecrets a b → question_put a o ≡ question_put b o
-question_alike a b None s = refl
-question_alike a b (Some q) s = ap (λ (met : List calls.Call). asks q (question_of (standing met))) ((sight a b s).talking q.conv)
+put_alike : (a b : List Deed) (o : Due) → SameButSecrets a b → put_out a o ≡ put_out b o
+put_alike a b NoneDue s = refl
+put_alike a b (DropDue drop) s = refl
+put_alike a b (QuestionDue q) s = ap (λ (met : List calls.Call). asks q (question_of (standing met))) ((sight a b s).talking q.conv)
 
 answer_alike : (e : Event) (A B : History) → LookAlike A B → answer A e ≡ answer B e
 answer_alike (Take at) A B s =
     let seen = sight (deeds A) (deeds B) s.done in
     rw (seen.halted, seen.hung at, left_alike (deeds A) (deeds B) at s.done) refl
 answer_alike TakeAsk A B s =
-    ap (λ (b : Bool). cond b (Stopped, []) (question_put (deeds A) (next_question (deeds A)))) (sight (deeds A) (deeds B) s.done).halted
-    ∙ ap (λ (o : Option Question). cond (is_halted (deeds B)) (Stopped, []) (question_put (deeds A) o)) (next_alike (deeds A) (deeds B) s.done)
-    ∙ ap (λ (x : IsAnswer). cond (is_halted (deeds B)) (Stopped, []) x) (question_alike (deeds A) (deeds B) (next_question (deeds B)) s.done)
+    ap (λ (b : Bool). cond b (Stopped, []) (put_out (deeds A) (due (deeds A)))) (sight (deeds A) (deeds B) s.done).halted
+    ∙ ap (λ (o : Due). cond (is_halted (deeds B)) (Stopped, []) (put_out (deeds A) o)) (due_alike (deeds A) (deeds B) s.done)
+    ∙ ap (λ (x : IsAnswer). cond (is_halted (deeds B)) (Stopped, []) x) (put_alike (deeds A) (deeds B) (due (deeds B)) s.done)
 answer_alike (Request at frame word) A B s = refl
 answer_alike (Hang at) A B s = refl
 answer_alike (Answer call bytes) A B s = refl

@@ -4,8 +4,8 @@ use Rattle.std.specs.Prelude.{option_map, find}
 use Rattle.std.specs.List.{list_all, list_any, filter}
 use Rattle.std.proofs.lemmas.Bool.{eq-eqb, eqb-true, and_parts, and_from}
 use Rattle.agent_history.specs.Deeds.{Deed}
-use Rattle.agent_history.specs.Conversations.{Question, Speaker, asker, conv_of, hand_first, questions, speakers}
-use Rattle.agent_laws.specs.Laws.{all_asked, asks_server, stands}
+use Rattle.agent_history.specs.Conversations.{Question, Speaker, asker, conv_of, hand_first, questions, speakers, stands}
+use Rattle.agent_laws.specs.Laws.{all_asked, asks_server}
 
 -- ---- small steps
 

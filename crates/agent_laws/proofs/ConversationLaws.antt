@@ -11,7 +11,7 @@ use Rattle.file_tree.specs.declared.tree.FidState.{FidState}
 use Rattle.file_tree.specs.Tree.{file}
 use Rattle.file_tree.specs.Calls.{at_rest, is_open, node_of, opened}
 use Rattle.talks.specs.Calls as calls
-use Rattle.agent_history.specs.Deeds.{Deed, FidDeed, KeyDeed, OfFids, OfKeys, OfReplies, OfConnection, OfTalk, Raised, HandedOut, Swept, Halted, Versioned, Attached, Walked, Opened, Listed, Browsed, Clunked, Entered, Hung, fid_of, names}
+use Rattle.agent_history.specs.Deeds.{Deed, FidDeed, KeyDeed, OfFids, OfKeys, OfReplies, OfConnection, OfTalk, Raised, HandedOut, DropTaken, Swept, Halted, Versioned, Attached, Walked, Opened, Listed, Browsed, Clunked, Entered, Hung, fid_of, names}
 use Rattle.agent_history.specs.Conversations.{Question, Speaker, chosen_at, conv_of, hand_first, opened_talks, questions, raised, speakers}
 use Rattle.agent_history.specs.Requests.{is_rpc, most_talks}
 use Rattle.agent_history.specs.Histories.{History, deeds}
@@ -151,6 +151,7 @@ openers_more c done (OfConnection at Entered) kind fits h = h
 openers_more c done (OfTalk conv call) kind fits h = h
 openers_more c done (Raised conv) kind fits h = h
 openers_more c done HandedOut kind fits h = h
+openers_more c done DropTaken kind fits h = h
 openers_more c done Swept kind fits h = h
 openers_more c done Halted kind fits h = λ conn fid. refl
 
@@ -220,6 +221,7 @@ once_more c done (OfConnection at Entered) kind fits h = h.1
 once_more c done (OfTalk conv call) kind fits h = h.1
 once_more c done (Raised conv) kind fits h = h.1
 once_more c done HandedOut kind fits h = h.1
+once_more c done DropTaken kind fits h = h.1
 once_more c done Swept kind fits h = h.1
 once_more c done Halted kind fits h = tt
 
@@ -287,6 +289,7 @@ few_more c done (OfConnection at Entered) kind fits h = h
 few_more c done (OfTalk conv call) kind fits h = h
 few_more c done (Raised conv) kind fits h = h
 few_more c done HandedOut kind fits h = h
+few_more c done DropTaken kind fits h = h
 few_more c done Swept kind fits h = h
 few_more c done Halted kind fits h = omega arith
 
@@ -305,7 +308,7 @@ list_all_kept f p keep (x ∷ xs) h =
     step true e more = and_from (p (f x)) _ e more
     step false e more = more
 
-abbrev Rise : ℕ → List ℕ → Type 0
+abbrev pub Rise : ℕ → List ℕ → Type 0
 Rise top ns = rise_below top ns ≡ true
 
 -- its parts
@@ -314,7 +317,7 @@ pub record Rises (top n : ℕ) (ns : List ℕ) : Type 0 where
   pub above : list_all (ltb n) ns ≡ true
   pub rest : Rise top ns
 
-rise_parts : (top n : ℕ) (ns : List ℕ) → Rise top (n ∷ ns) → Rises top n ns
+pub rise_parts : (top n : ℕ) (ns : List ℕ) → Rise top (n ∷ ns) → Rises top n ns
 rise_parts top n ns h = by_cases (ltb n top) (list_all (ltb n) ns) (rise_below top ns) refl refl refl h
   where
     by_cases : (a b c : Bool) → ltb n top ≡ a → list_all (ltb n) ns ≡ b → rise_below top ns ≡ c → (a && b && c) ≡ true → Rises top n ns
@@ -348,17 +351,17 @@ rise_append f top (y ∷ xs) x e h =
     let lower = ltb-true (f y) top parts.below in
     rise_from (top + 1) (f y) (map f (xs ++ x ∷ [])) (record { below = lt-ltb (f y) (top + 1) (omega (arith, lower)); above = above_append f (f y) xs x parts.above (lt-ltb (f y) (f x) (omega (arith, lower, e))); rest = rise_append f top xs x e parts.rest })
 
-abbrev number : Speaker → ℕ
+abbrev pub number : Speaker → ℕ
 number s = s.conv
 
-abbrev SpeakersRise : List Deed → Type 0
+abbrev pub SpeakersRise : List Deed → Type 0
 SpeakersRise done = Rise (opened_talks done) (map number (speakers done))
 
 next_speaks : (r : Bool) (top : ℕ) (xs : List Speaker) (s : Speaker) → s.conv ≡ top → Rise top (map number xs) → Rise (cond r (top + 1) top) (map number (cond r (xs ++ s ∷ []) xs))
 next_speaks true top xs s e h = rise_append number top xs s e h
 next_speaks false top xs s e h = h
 
-speakers_more : (conn : ℕ) → KeepsOf (is_done conn) SpeakersRise
+pub speakers_more : (conn : ℕ) → KeepsOf (is_done conn) SpeakersRise
 speakers_more c done (OfFids at (Versioned msize)) kind fits h = rise_kept number (opened_talks done) (λ s. not (eqb s.conn at)) (speakers done) h
 speakers_more c done (OfConnection at Hung) kind fits h = rise_kept number (opened_talks done) (λ s. not (eqb s.conn at)) (speakers done) h
 speakers_more c done (OfFids at (Clunked f)) kind fits h = rise_kept number (opened_talks done) (λ s. not (eqb s.conn at && eqb s.fid f)) (speakers done) h
@@ -373,6 +376,7 @@ speakers_more c done (OfConnection at Entered) kind fits h = h
 speakers_more c done (OfTalk conv call) kind fits h = h
 speakers_more c done (Raised conv) kind fits h = h
 speakers_more c done HandedOut kind fits h = h
+speakers_more c done DropTaken kind fits h = h
 speakers_more c done Swept kind fits h = h
 speakers_more c done Halted kind fits h = refl
 
@@ -421,6 +425,7 @@ questions_more c done (OfReplies at deed) kind fits h = h
 questions_more c done (OfTalk conv call) kind fits h = met_rise done conv call h
 questions_more c done (Raised conv) kind fits h = rise_append call_of (raised done + 1) (questions done) (record { call = raised done + 1; conv = conv; handed = false }) refl h
 questions_more c done HandedOut kind fits h = subst (Rise (raised done + 1)) (sym (handed_same (questions done))) h
+questions_more c done DropTaken kind fits h = h
 questions_more c done Swept kind fits h = h
 questions_more c done Halted kind fits h = refl
 
@@ -446,6 +451,7 @@ searched_more c done (OfReplies at deed) kind fits h = h
 searched_more c done (OfConnection at deed) kind fits h = h
 searched_more c done (Raised conv) kind fits h = h
 searched_more c done HandedOut kind fits h = h
+searched_more c done DropTaken kind fits h = h
 searched_more c done Swept kind fits h = h
 searched_more c done Halted kind fits h = h
 

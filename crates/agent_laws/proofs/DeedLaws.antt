@@ -1,12 +1,12 @@
 -- What a deed on one connection leaves as it was on the others, and that what an event does to fids, keys and
 -- connections is done by deeds of its own connection.
-use Rattle.std.proofs.Common.{◌≡◌, ℕ, ◌+◌, List, [], ◌∷◌, Bool, true, false, Option, Some, None, eqb, not, refl, ap, ◌∙◌, arith}
+use Rattle.std.proofs.Common.{◌≡◌, ℕ, ◌+◌, List, [], ◌∷◌, Bool, true, false, eqb, not, refl, ap, ◌∙◌, arith}
 use Rattle.std.proofs.lemmas.Bool.{eqb-true, ne_eqb, not-true}
 use Rattle.agent_history.specs.declared.event.Event.{Event}
 use Rattle.agent_history.specs.declared.event.Event.TheVariants.{Request, Hang, Answer, NoAnswer, NoRoom, Take, TakeAsk, Stop}
-use Rattle.agent_history.specs.Deeds.{Deed, FidDeed, KeyDeed, ReplyDeed, ConnectionDeed, OfFids, OfKeys, OfReplies, OfConnection, OfTalk, Raised, HandedOut, Swept, Halted, Versioned, Attached, Walked, Opened, Listed, Browsed, Clunked, Edited, Switched, Answered, Awaited, Settled, Flushed, Taken, Entered, Hung, msize_of, fid_of, held_by, next_of, text_of, is_halted}
+use Rattle.agent_history.specs.Deeds.{Deed, FidDeed, KeyDeed, ReplyDeed, ConnectionDeed, OfFids, OfKeys, OfReplies, OfConnection, OfTalk, Raised, HandedOut, DropTaken, Swept, Halted, Versioned, Attached, Walked, Opened, Listed, Browsed, Clunked, Edited, Switched, Answered, Awaited, Settled, Flushed, Taken, Entered, Hung, msize_of, fid_of, held_by, next_of, text_of, is_halted}
 use Rattle.agent_history.specs.Requests.{Call, after_frame}
-use Rattle.agent_history.specs.Conversations.{Question, next_question}
+use Rattle.agent_history.specs.Conversations.{Due, NoneDue, DropDue, QuestionDue, due}
 use Rattle.agent_history.specs.Histories.{History, deeds, does, handing, has_stopped}
 use Rattle.agent_laws.specs.Laws.{Adds, all_asked, has_connection, is_of, is_of_talks, is_on}
 use Rattle.agent_laws.proofs.KindLaws.{KeepsIf, KeepsOf, done_by_asked, is_asked, is_done, is_told_so}
@@ -25,6 +25,7 @@ is_done_is_of conn (OfReplies at deed) e = refl
 is_done_is_of conn (OfTalk conv call) e = refl
 is_done_is_of conn (Raised conv) e = refl
 is_done_is_of conn HandedOut e = refl
+is_done_is_of conn DropTaken e = refl
 is_done_is_of conn Swept e = refl
 is_done_is_of conn Halted e = refl
 
@@ -58,6 +59,7 @@ told_is_of_talks (OfTalk conv call) e = refl
 told_is_of_talks (Raised conv) e = refl
 told_is_of_talks (OfReplies at deed) e = refl
 told_is_of_talks HandedOut e = refl
+told_is_of_talks DropTaken e = refl
 told_is_of_talks Swept e = refl
 told_is_of_talks Halted e = refl
 told_is_of_talks (OfFids at deed) e = absurd cc
@@ -70,9 +72,10 @@ told_adds Known before done deed kind fits h = (deed ∷ h.0, ap (λ (ds : List 
 stops_too : (before done : List Deed) → Adds is_of_talks before done → Adds is_of_talks before (Halted ∷ done)
 stops_too before done h = (Halted ∷ h.0, ap (λ (ds : List Deed). Halted ∷ ds) h.1, h.2)
 
-hands_out : (o : Option Question) (done : List Deed) → Adds is_of_talks done (handing o done)
-hands_out None done = adds_none is_of_talks done
-hands_out (Some question) done = (HandedOut ∷ [], refl, refl)
+hands_out : (o : Due) (done : List Deed) → Adds is_of_talks done (handing o done)
+hands_out NoneDue done = adds_none is_of_talks done
+hands_out (DropDue drop) done = (DropTaken ∷ [], refl, refl)
+hands_out (QuestionDue question) done = (HandedOut ∷ [], refl, refl)
 
 does_add : (e : Event) (done : List Deed) → has_connection e ≡ false → Adds is_of_talks done (does done e)
 does_add (Request at frame word) done none = absurd cc
@@ -82,7 +85,7 @@ does_add Stop done none = (Halted ∷ [], refl, refl)
 does_add (Answer number bytes) done none = answer_does (all_asked done ≡ true) (Adds is_of_talks done) (told_adds (all_asked done ≡ true) done) number bytes done (λ known. known) (adds_none is_of_talks done)
 does_add (NoAnswer number) done none = no_answer_does (all_asked done ≡ true) (Adds is_of_talks done) (told_adds (all_asked done ≡ true) done) number done (λ known. known) (adds_none is_of_talks done)
 does_add (NoRoom number) done none = no_room_does (all_asked done ≡ true) (Adds is_of_talks done) (told_adds (all_asked done ≡ true) done) number done (λ known. known) (adds_none is_of_talks done)
-does_add TakeAsk done none = hands_out (next_question done) done
+does_add TakeAsk done none = hands_out (due done) done
 
 pub others_add : (e : Event) (H : History) → has_connection e ≡ false → Adds is_of_talks (deeds H) (deeds (e ∷ H))
 others_add e H none = last_or_not (Adds is_of_talks (deeds H)) H e (stops_too (deeds H)) (adds_none is_of_talks (deeds H)) (does_add e (deeds H) none)
@@ -140,6 +143,7 @@ same_for (OfConnection at deed) before conn e = connection_same_for at deed befo
 same_for (OfTalk conv call) before conn e = record { msize = refl; fids = λ fid. refl; texts = λ fid. refl; nexts = λ fid. refl; held = refl }
 same_for (Raised conv) before conn e = record { msize = refl; fids = λ fid. refl; texts = λ fid. refl; nexts = λ fid. refl; held = refl }
 same_for HandedOut before conn e = record { msize = refl; fids = λ fid. refl; texts = λ fid. refl; nexts = λ fid. refl; held = refl }
+same_for DropTaken before conn e = record { msize = refl; fids = λ fid. refl; texts = λ fid. refl; nexts = λ fid. refl; held = refl }
 same_for Swept before conn e = record { msize = refl; fids = λ fid. refl; texts = λ fid. refl; nexts = λ fid. refl; held = refl }
 same_for Halted before conn e = absurd cc
 
@@ -167,6 +171,7 @@ same_more before at conn off done (OfConnection c deed) kind fits s = λ going. 
 same_more before at conn off done (OfTalk conv call) kind fits s = λ going. same_then before done conn (OfTalk conv call) (s going) (record { msize = refl; fids = λ fid. refl; texts = λ fid. refl; nexts = λ fid. refl; held = refl })
 same_more before at conn off done (Raised conv) kind fits s = λ going. same_then before done conn (Raised conv) (s going) (record { msize = refl; fids = λ fid. refl; texts = λ fid. refl; nexts = λ fid. refl; held = refl })
 same_more before at conn off done HandedOut kind fits s = λ going. same_then before done conn HandedOut (s going) (record { msize = refl; fids = λ fid. refl; texts = λ fid. refl; nexts = λ fid. refl; held = refl })
+same_more before at conn off done DropTaken kind fits s = λ going. same_then before done conn DropTaken (s going) (record { msize = refl; fids = λ fid. refl; texts = λ fid. refl; nexts = λ fid. refl; held = refl })
 same_more before at conn off done Swept kind fits s = λ going. same_then before done conn Swept (s going) (record { msize = refl; fids = λ fid. refl; texts = λ fid. refl; nexts = λ fid. refl; held = refl })
 same_more before at conn off done Halted kind fits s = λ going. absurd cc
 

@@ -22,9 +22,9 @@ use Rattle.talks.specs.Calls.{Found}
 use Rattle.talks.specs.Standings.{finds}
 use Rattle.agent_history.specs.declared.event.Event.{Event}
 use Rattle.agent_history.specs.declared.event.Event.TheVariants.{Request, Hang, Answer, NoAnswer, NoRoom, Take, TakeAsk, Stop}
-use Rattle.agent_history.specs.Deeds.{Deed, OfFids, OfKeys, OfReplies, OfConnection, OfTalk, Raised, HandedOut, Swept, Halted, Versioned, Attached, Walked, Opened, Listed, Browsed, Clunked, Answered, Flushed, Taken, Entered, Hung, fid_of, keys_of, was_hung, was_opened}
+use Rattle.agent_history.specs.Deeds.{Deed, OfFids, OfKeys, OfReplies, OfConnection, OfTalk, Raised, HandedOut, DropTaken, Swept, Halted, Versioned, Attached, Walked, Opened, Listed, Browsed, Clunked, Answered, Flushed, Taken, Entered, Hung, fid_of, keys_of, was_hung, was_opened}
 use Rattle.agent_history.specs.Replies.{has_settled, swept, untaken, waits_under}
-use Rattle.agent_history.specs.Conversations.{Question, asking, conv_of, next_question, standing_of}
+use Rattle.agent_history.specs.Conversations.{asking, conv_of, standing_of, Due, NoneDue, DropDue, QuestionDue, due}
 use Rattle.agent_history.specs.Requests.{Call, after, after_frame, after_granted, agreed, answered, body_to, call_of, comes_first, granted, is_rpc, reading, refusal, replied, walking}
 use Rattle.agent_history.specs.Histories.{History, deeds, does, entered, handing, taking}
 use Rattle.agent_laws.specs.Laws.{Adds, AllSearched, all_asked, is_edit, is_talk}
@@ -85,6 +85,7 @@ spoken_edits conn (OfConnection at deed) e = refl
 spoken_edits conn (OfTalk conv call) e = refl
 spoken_edits conn (Raised conv) e = refl
 spoken_edits conn HandedOut e = refl
+spoken_edits conn DropTaken e = refl
 spoken_edits conn Swept e = refl
 spoken_edits conn Halted e = refl
 
@@ -96,6 +97,7 @@ told_edits (OfConnection at deed) e = refl
 told_edits (OfTalk conv call) e = refl
 told_edits (Raised conv) e = refl
 told_edits HandedOut e = refl
+told_edits DropTaken e = refl
 told_edits Swept e = refl
 told_edits Halted e = refl
 
@@ -107,6 +109,7 @@ line_talks conn (OfReplies at deed) e = refl
 line_talks conn (OfConnection at deed) e = refl
 line_talks conn (Raised conv) e = refl
 line_talks conn HandedOut e = refl
+line_talks conn DropTaken e = refl
 line_talks conn Swept e = refl
 line_talks conn Halted e = refl
 
@@ -202,9 +205,10 @@ taking_apart : (at : ℕ) (left : List RMsg) (before done : List Deed) → Apart
 taking_apart at [] before done h = h
 taking_apart at (reply ∷ rest) before done h = one_plain before done (OfReplies at Taken) (refl, refl) h
 
-handing_apart : (o : Option Question) (done : List Deed) → Apart done (handing o done)
-handing_apart None done = inl (adds_none no_edit done)
-handing_apart (Some question) done = inl (HandedOut ∷ [], refl, refl)
+handing_apart : (o : Due) (done : List Deed) → Apart done (handing o done)
+handing_apart NoneDue done = inl (adds_none no_edit done)
+handing_apart (DropDue drop) done = inl (DropTaken ∷ [], refl, refl)
+handing_apart (QuestionDue question) done = inl (HandedOut ∷ [], refl, refl)
 
 event_apart : (e : Event) (done : List Deed) → Apart done (does done e)
 event_apart (Request at frame word) done =
@@ -220,7 +224,7 @@ event_apart Stop done = inl (Halted ∷ [], refl, refl)
 event_apart (Answer number bytes) done = inl (answer_does (all_asked done ≡ true) (Adds no_edit done) (told_adds (all_asked done ≡ true) done) number bytes done (λ known. known) (adds_none no_edit done))
 event_apart (NoAnswer number) done = inl (no_answer_does (all_asked done ≡ true) (Adds no_edit done) (told_adds (all_asked done ≡ true) done) number done (λ known. known) (adds_none no_edit done))
 event_apart (NoRoom number) done = inl (no_room_does (all_asked done ≡ true) (Adds no_edit done) (told_adds (all_asked done ≡ true) done) number done (λ known. known) (adds_none no_edit done))
-event_apart TakeAsk done = handing_apart (next_question done) done
+event_apart TakeAsk done = handing_apart (due done) done
 
 pub edits_or_talks : (e : Event) (H : History) → Adds no_edit (deeds H) (deeds (e ∷ H)) ⊎ Adds no_talk (deeds H) (deeds (e ∷ H))
 edits_or_talks e H = last_or_not (Apart (deeds H)) H e (λ done h. one_plain (deeds H) done Halted (refl, refl) h) (inl (adds_none no_edit (deeds H))) (event_apart e (deeds H))
@@ -244,6 +248,7 @@ searched_behind (OfReplies at deed) done h = h
 searched_behind (OfConnection at deed) done h = h
 searched_behind (Raised conv) done h = h
 searched_behind HandedOut done h = h
+searched_behind DropTaken done h = h
 searched_behind Swept done h = h
 searched_behind Halted done h = h
 
@@ -260,6 +265,7 @@ key_step (OfConnection at deed) done e = refl
 key_step (OfTalk conv call) done e = refl
 key_step (Raised conv) done e = refl
 key_step HandedOut done e = refl
+key_step DropTaken done e = refl
 key_step Swept done e = refl
 key_step Halted done e = refl
 

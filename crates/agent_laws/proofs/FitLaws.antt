@@ -31,10 +31,10 @@ use Rattle.rpc_file.specs.declared.answer.RpcAnswer.{RpcAnswer}
 use Rattle.talks.specs.Standings.{Phase, Resting, Waiting as IsStored, Seeking, OnConfirm, OnNeedkey, OnServer, Kept}
 use Rattle.agent_history.specs.declared.event.Event.{Event}
 use Rattle.agent_history.specs.declared.event.Event.TheVariants.{Request, Hang, Answer, NoAnswer, NoRoom, Take, TakeAsk, Stop}
-use Rattle.agent_history.specs.Deeds.{Deed, OfFids, OfKeys, OfReplies, OfConnection, OfTalk, Raised, HandedOut, Swept, Halted, Versioned, Attached, Walked, Opened, Listed, Browsed, Clunked, Answered, Awaited, Settled, Flushed, Taken, Entered, Hung, fid_of, keys_of, msize_of, was_hung, was_opened}
+use Rattle.agent_history.specs.Deeds.{Deed, OfFids, OfKeys, OfReplies, OfConnection, OfTalk, Raised, HandedOut, DropTaken, Swept, Halted, Versioned, Attached, Walked, Opened, Listed, Browsed, Clunked, Answered, Awaited, Settled, Flushed, Taken, Entered, Hung, fid_of, keys_of, msize_of, was_hung, was_opened}
 use Rattle.key_lists.specs.CtlLines.{lines_of, lines_fault}
 use Rattle.agent_history.specs.Replies.{Wait, fid_given_up, first_of, is_unsettled, replies, reply_in, settle_fid, settle_tag, settled_by, taken, untaken, waits}
-use Rattle.agent_history.specs.Conversations.{Question, conv_of, fits, next_question, standing_of, told}
+use Rattle.agent_history.specs.Conversations.{conv_of, fits, standing_of, told, Due, NoneDue, DropDue, QuestionDue, due}
 use Rattle.agent_history.specs.Requests.{Call, after_frame, answer_read, answered, body_for, body_to, call_of, carried, content_of, ctl_text, effective, granted, is_known, is_rpc, least_msize, most_msize, piece, proto_text, read_reply, replied, reply_of, tag_of, talk_read, write_reply, written}
 use Rattle.agent_history.specs.Histories.{History, deeds, does, entered, handing, taking}
 use Rattle.agent_laws.specs.Laws.{all_asked, gives_content, given, longest_reply, most_read, put_out, reply_to}
@@ -67,6 +67,7 @@ deed_agreed at done (OfConnection c Hung) own fits p = λ conn. either_agreed (e
 deed_agreed at done (OfTalk conv call) own fits p = p
 deed_agreed at done (Raised conv) own fits p = p
 deed_agreed at done HandedOut own fits p = p
+deed_agreed at done DropTaken own fits p = p
 deed_agreed at done Swept own fits p = p
 deed_agreed at done Halted own fits p = λ conn. tt
 
@@ -522,6 +523,7 @@ other_by_asked conn (OfConnection at deed) e = refl
 other_by_asked conn (OfTalk conv call) e = refl
 other_by_asked conn (Raised conv) e = refl
 other_by_asked conn HandedOut e = refl
+other_by_asked conn DropTaken e = refl
 other_by_asked conn Swept e = refl
 other_by_asked conn Halted e = refl
 
@@ -537,6 +539,7 @@ other_by_told (OfConnection at deed) e = refl
 other_by_told (OfTalk conv call) e = refl
 other_by_told (Raised conv) e = refl
 other_by_told HandedOut e = refl
+other_by_told DropTaken e = refl
 other_by_told Swept e = refl
 other_by_told Halted e = refl
 
@@ -600,6 +603,7 @@ deed_shorts done (OfConnection c Hung) own fits h = record {
 deed_shorts done (OfTalk conv call) own fits h = record { agreed = h.agreed; waiting = h.waiting; given = h.given }
 deed_shorts done (Raised conv) own fits h = record { agreed = h.agreed; waiting = h.waiting; given = h.given }
 deed_shorts done HandedOut own fits h = record { agreed = h.agreed; waiting = h.waiting; given = h.given }
+deed_shorts done DropTaken own fits h = record { agreed = h.agreed; waiting = h.waiting; given = h.given }
 deed_shorts done Swept own fits h = record {
   agreed = h.agreed;
   waiting = λ conn. filter_waiting (msize_of done conn) is_unsettled (waits done conn) (h.waiting conn);
@@ -651,9 +655,10 @@ taking_short : (at : ℕ) (left : List RMsg) (done : List Deed) → Shorts done 
 taking_short at [] done h = h
 taking_short at (reply ∷ rest) done h = deed_shorts done (OfReplies at Taken) refl tt h
 
-handing_short : (o : Option Question) (done : List Deed) → Shorts done → Shorts (handing o done)
-handing_short None done h = h
-handing_short (Some question) done h = deed_shorts done HandedOut refl tt h
+handing_short : (o : Due) (done : List Deed) → Shorts done → Shorts (handing o done)
+handing_short NoneDue done h = h
+handing_short (DropDue drop) done h = deed_shorts done DropTaken refl tt h
+handing_short (QuestionDue question) done h = deed_shorts done HandedOut refl tt h
 
 event_short : (e : Event) (done : List Deed) → all_asked done ≡ true → Shorts done → Shorts (does done e)
 event_short (Request at frame word) done known h = request_short done at frame word known h
@@ -663,7 +668,7 @@ event_short Stop done known h = deed_shorts done Halted refl tt h
 event_short (Answer call bytes) done known h = answer_does (Unit {0}) Shorts told_short_too call bytes done (λ x. known) h
 event_short (NoAnswer call) done known h = no_answer_does (Unit {0}) Shorts told_short_too call done (λ x. known) h
 event_short (NoRoom call) done known h = no_room_does (Unit {0}) Shorts told_short_too call done (λ x. known) h
-event_short TakeAsk done known h = handing_short (next_question done) done h
+event_short TakeAsk done known h = handing_short (due done) done h
 
 pub all_short : (H : History) → Shorts (deeds H)
 all_short [] = record { agreed = λ conn. tt; waiting = λ conn. tt; given = λ conn. tt }

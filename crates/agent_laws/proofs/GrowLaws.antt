@@ -31,12 +31,12 @@ use Rattle.rpc_file.specs.declared.answer.RpcAnswer.{RpcAnswer}
 use Rattle.rpc_file.specs.declared.request.RpcFault.{RpcFault}
 use Rattle.talks.specs.Calls as calls
 use Rattle.talks.specs.Standings.{Phase, Resting, Waiting, Seeking, OnConfirm, OnNeedkey, OnServer, Kept, Standing, finds, standing, then_stands}
-use Rattle.agent_history.specs.Deeds.{Deed, OfFids, OfKeys, OfReplies, OfConnection, OfTalk, Raised, HandedOut, Swept, Halted, names, next_of, Versioned, Attached, Walked, Opened, Listed, Browsed, Clunked, Answered, Awaited, Settled, Flushed, Taken, Entered, Hung, fid_of, holder_of, keys_of, msize_of, is_halted, was_hung, was_opened}
+use Rattle.agent_history.specs.Deeds.{Deed, OfFids, OfKeys, OfReplies, OfConnection, OfTalk, Raised, HandedOut, DropTaken, Swept, Halted, names, next_of, Versioned, Attached, Walked, Opened, Listed, Browsed, Clunked, Answered, Awaited, Settled, Flushed, Taken, Entered, Hung, fid_of, holder_of, keys_of, msize_of, is_halted, was_hung, was_opened}
 use Rattle.agent_history.specs.Replies.{Wait, is_unsettled, has_settled, swept, untaken, waits, waits_for, waits_under}
-use Rattle.agent_history.specs.Conversations.{Question, Speaker, asker, asking, conv_of, deliver_to, fits, give_to, met, next_question, of_speakers, questions, raising, reader_of, resumed, seeking, speaker_of, speakers, standing_of, talk, then_raised, then_took, told}
+use Rattle.agent_history.specs.Conversations.{Question, Speaker, asker, asking, conv_of, deliver_to, fits, give_to, met, of_speakers, questions, raising, reader_of, resumed, seeking, speaker_of, speakers, standing_of, talk, then_raised, then_took, told, stands, Due, NoneDue, DropDue, QuestionDue, due, then_sought, sought_once, seeking_all}
 use Rattle.agent_history.specs.Requests.{Call, Test, least_msize, most_msize, most_talks, most_waits, is_known, is_rpc, has_answer, is_resting, phase_in, phase_of, refusal, agreed, lets_read, is_elsewhere, waits_enough, walking, reading, reading_answer, reading_talk, carrying_out, effective, line_deed, lines_done, stored, after, granted_body, granted, lacks_version, repeats_tag, after_granted, after_frame, answered, comes_first, replied, body_to, call_of, is_over}
 use Rattle.agent_history.specs.Histories.{History, deeds, does, entered, handing, most_events, taking}
-use Rattle.agent_laws.specs.Laws.{all_asked, asks_server, is_on_server, most_read, stands}
+use Rattle.agent_laws.specs.Laws.{all_asked, asks_server, is_on_server, most_read}
 use Rattle.agent_laws.proofs.AskLaws.{all_append, all_kept, all_weaker, asker_is_asked, handed_asks, no_question, none_left, open_stands}
 use Rattle.agent_laws.proofs.KindLaws.{Fits, FitsIf, KeepsIf, KeepsOf, SizeFits, WaitFits, asked_of_said, is_asked, is_done, is_line, is_met, is_said, is_spoken, is_told_so, lines_of_asked, met_of_spoken, met_of_told, said_of_done, same_number, spoken_of_asked, told_of_said}
 
@@ -156,29 +156,36 @@ raising_grows Known P k conv (OnConfirm serial) done e speaks alone p = p
 raising_grows Known P k conv OnNeedkey done e speaks alone p = p
 raising_grows Known P k conv (Kept answer) done e speaks alone p = p
 
--- a key is searched for where one is needed
-abbrev searching : ℕ → List Deed → List Deed
-searching conv done = OfTalk conv (calls.Sought (finds (standing_of done conv) (asking done) (keys_of done))) ∷ done
-
 raised_then : (Known : Type 0) (P : List Deed → Type 0) → KeepsIf Known is_met P → (conv : ℕ) (done : List Deed)
     → (Known → stands done conv ≡ true) → (Known → list_any (λ q. eqb q.conv conv) (questions done) ≡ false) → P done → P (then_raised conv done)
 raised_then Known P k conv done speaks alone p = raising_grows Known P k conv (standing_of done conv).phase done refl speaks alone p
 
-sought_then : (Known : Type 0) (P : List Deed → Type 0) → KeepsIf Known is_met P → (conv : ℕ) (ph : Phase) (done : List Deed)
-    → (Known → stands done conv ≡ true) → (Known → list_any (λ q. eqb q.conv conv) (questions done) ≡ false) → P done → P (then_raised conv (seeking conv ph done))
-sought_then Known P k conv Seeking done speaks alone p =
-    raised_then Known P k conv (searching conv done) speaks alone (k done (OfTalk conv (calls.Sought (finds (standing_of done conv) (asking done) (keys_of done)))) refl refl p)
-sought_then Known P k conv Resting done speaks alone p = raised_then Known P k conv done speaks alone p
-sought_then Known P k conv (Waiting request) done speaks alone p = raised_then Known P k conv done speaks alone p
-sought_then Known P k conv (OnConfirm serial) done speaks alone p = raised_then Known P k conv done speaks alone p
-sought_then Known P k conv OnNeedkey done speaks alone p = raised_then Known P k conv done speaks alone p
-sought_then Known P k conv OnServer done speaks alone p = raised_then Known P k conv done speaks alone p
-sought_then Known P k conv (Kept answer) done speaks alone p = raised_then Known P k conv done speaks alone p
+-- what holds while a conversation that stands, and has no question, gets what it needs
+abbrev Going : (Known : Type 0) → (List Deed → Type 0) → ℕ → List Deed → Type 0
+Going Known P conv done = P done × (Known → stands done conv ≡ true) × (Known → list_any (λ q. eqb q.conv conv) (questions done) ≡ false)
+
+seeking_grows : (Known : Type 0) (P : List Deed → Type 0) → KeepsIf Known is_met P → (conv : ℕ) (ph : Phase) (done : List Deed) → Going Known P conv done → Going Known P conv (seeking conv ph done)
+seeking_grows Known P k conv Seeking done g = (k done (OfTalk conv (calls.Sought (finds (standing_of done conv) (asking done) (keys_of done)))) refl refl g.0, g.1, g.2)
+seeking_grows Known P k conv Resting done g = g
+seeking_grows Known P k conv (Waiting request) done g = g
+seeking_grows Known P k conv (OnConfirm serial) done g = g
+seeking_grows Known P k conv OnNeedkey done g = g
+seeking_grows Known P k conv OnServer done g = g
+seeking_grows Known P k conv (Kept answer) done g = g
+
+once_grows : (Known : Type 0) (P : List Deed → Type 0) → KeepsIf Known is_met P → (conv : ℕ) (done : List Deed) → Going Known P conv done → Going Known P conv (sought_once conv done)
+once_grows Known P k conv done g = seeking_grows Known P k conv (standing_of done conv).phase done g
+
+chain_grows : (Known : Type 0) (P : List Deed → Type 0) → KeepsIf Known is_met P → (starting : Bool) (conv : ℕ) (done : List Deed) → Going Known P conv done → Going Known P conv (seeking_all starting conv done)
+chain_grows Known P k true conv done g = once_grows Known P k conv (sought_once conv (sought_once conv done)) (once_grows Known P k conv (sought_once conv done) (once_grows Known P k conv done g))
+chain_grows Known P k false conv done g = once_grows Known P k conv done g
 
 -- what follows on a call
 follows : (Known : Type 0) (P : List Deed → Type 0) → KeepsIf Known is_met P → (conv : ℕ) (done : List Deed)
-    → (Known → stands done conv ≡ true) → (Known → list_any (λ q. eqb q.conv conv) (questions done) ≡ false) → P done → P (then_raised conv (seeking conv (standing_of done conv).phase done))
-follows Known P k conv done speaks alone p = sought_then Known P k conv (standing_of done conv).phase done speaks alone p
+    → (Known → stands done conv ≡ true) → (Known → list_any (λ q. eqb q.conv conv) (questions done) ≡ false) → P done → P (then_raised conv (then_sought conv done))
+follows Known P k conv done speaks alone p =
+    let g = chain_grows Known P k (standing_of done conv).starting conv done (p, speaks, alone) in
+    raised_then Known P k conv (then_sought conv done) g.1 g.2 g.0
 
 -- ---- reads of rpc
 
@@ -209,6 +216,7 @@ wait_stays Known conn tag fid count done (OfKeys at deed) kind fits w = absurd c
 wait_stays Known conn tag fid count done (OfReplies at deed) kind fits w = absurd cc
 wait_stays Known conn tag fid count done (OfConnection at deed) kind fits w = absurd cc
 wait_stays Known conn tag fid count done HandedOut kind fits w = absurd cc
+wait_stays Known conn tag fid count done DropTaken kind fits w = absurd cc
 wait_stays Known conn tag fid count done Swept kind fits w = absurd cc
 wait_stays Known conn tag fid count done Halted kind fits w = absurd cc
 
@@ -514,6 +522,7 @@ event_on conn event = Unit {0}
 
 abbrev pub is_take : Event → Bool
 is_take (Take at) = true
+is_take TakeAsk = true
 is_take event = false
 
 request_does : (Known : Type 0) (P : List Deed → Type 0) (at : ℕ) → KeepsIf Known (is_said at) P → (frame word : List ℕ) (done : List Deed) → (Known → all_asked done ≡ true) → P done → P (does done (Request at frame word))
@@ -530,9 +539,10 @@ take_does Known P at k done p =
 hang_does : (Known : Type 0) (P : List Deed → Type 0) (at : ℕ) → KeepsIf Known (is_said at) P → (done : List Deed) → P done → P (does done (Hang at))
 hang_does Known P at k done p = either_way P (was_opened done at && not (was_hung done at)) _ done (k done (OfConnection at Hung) (same_number at) tt p) p
 
-handing_does : (Known : Type 0) (P : List Deed → Type 0) (conn : ℕ) → KeepsIf Known (is_said conn) P → (o : Option Question) (done : List Deed) → P done → P (handing o done)
-handing_does Known P conn k None done p = p
-handing_does Known P conn k (Some question) done p = k done HandedOut refl tt p
+handing_does : (Known : Type 0) (P : List Deed → Type 0) (conn : ℕ) → KeepsIf Known (is_done conn) P → (o : Due) (done : List Deed) → P done → P (handing o done)
+handing_does Known P conn k NoneDue done p = p
+handing_does Known P conn k (DropDue drop) done p = k done DropTaken refl tt p
+handing_does Known P conn k (QuestionDue question) done p = k done HandedOut refl tt p
 
 -- what the authentication server's answer does, or that it didn't come
 pub answer_does : (Known : Type 0) (P : List Deed → Type 0) → KeepsIf Known is_told_so P → (number : ℕ) (bytes : List ℕ) (done : List Deed) → (Known → all_asked done ≡ true) → P done → P (does done (Answer number bytes))
@@ -555,7 +565,7 @@ said_does Known P conn k Stop done know on none p = k done Halted refl tt p
 said_does Known P conn k (Answer number bytes) done know on none p = answer_does Known P (told_of_said Known P conn k) number bytes done know p
 said_does Known P conn k (NoAnswer number) done know on none p = no_answer_does Known P (told_of_said Known P conn k) number done know p
 said_does Known P conn k (NoRoom number) done know on none p = no_room_does Known P (told_of_said Known P conn k) number done know p
-said_does Known P conn k TakeAsk done know on none p = handing_does Known P conn k (next_question done) done p
+said_does Known P conn k TakeAsk done know on none p = absurd cc
 
 pub event_does : (Known : Type 0) (P : List Deed → Type 0) (conn : ℕ) → KeepsIf Known (is_done conn) P → (e : Event) (done : List Deed) → (Known → all_asked done ≡ true) → event_on conn e → P done → P (does done e)
 event_does Known P conn k (Take at) done know on p = take_does Known P at (subst (λ (n : ℕ). KeepsIf Known (is_done n) P) (sym on) k) done p
@@ -565,7 +575,7 @@ event_does Known P conn k Stop done know on p = said_does Known P conn (said_of_
 event_does Known P conn k (Answer number bytes) done know on p = said_does Known P conn (said_of_done Known P conn k) (Answer number bytes) done know on refl p
 event_does Known P conn k (NoAnswer number) done know on p = said_does Known P conn (said_of_done Known P conn k) (NoAnswer number) done know on refl p
 event_does Known P conn k (NoRoom number) done know on p = said_does Known P conn (said_of_done Known P conn k) (NoRoom number) done know on refl p
-event_does Known P conn k TakeAsk done know on p = said_does Known P conn (said_of_done Known P conn k) TakeAsk done know on refl p
+event_does Known P conn k TakeAsk done know on p = handing_does Known P conn k (due done) done p
 
 -- what is done by an event, and a stop where it is the last
 pub last_or_not : (P : List Deed → Type 0) (H : History) (e : Event) → ((done : List Deed) → P done → P (Halted ∷ done)) → P (deeds H) → P (does (deeds H) e) → P (deeds (e ∷ H))
@@ -652,7 +662,7 @@ answer_asks done conv call h =
     and_from (stands done q.conv) _ both.0 (still_asks done conv call q.conv (eqb conv q.conv) (λ same. absurd (let no_way : true ≡ false = sym same ∙ other in cc)) both.1))
     (all_kept (asked_by done) (λ q. not (eqb q.conv conv)) (questions done) h)
 
-asked_more : (conn : ℕ) → KeepsOf (is_done conn) AllAsked
+pub asked_more : (conn : ℕ) → KeepsOf (is_done conn) AllAsked
 asked_more c done (OfFids at deed) kind fits h = speakers_leave done (λ q. stands (OfFids at deed ∷ done) q.conv) h
 asked_more c done (OfConnection at deed) kind fits h = speakers_leave done (λ q. stands (OfConnection at deed ∷ done) q.conv) h
 asked_more c done (OfKeys at deed) kind fits h = h
@@ -670,6 +680,7 @@ asked_more c done (OfTalk conv calls.Took) kind fits h = call_asks done conv cal
 asked_more c done (Raised conv) kind fits h =
     all_append (asked_by done) (questions done) _ h (and_from (stands done conv) (asks_server done conv) (fits.speaks tt) (ap is_on_server fits.phase))
 asked_more c done HandedOut kind fits h = handed_asks (λ n. stands done n && asks_server done n) (questions done) h
+asked_more c done DropTaken kind fits h = h
 asked_more c done Swept kind fits h = h
 asked_more c done Halted kind fits h = refl
 

@@ -8,7 +8,7 @@ use Rattle.attr_tuples.proofs.EqualityLemmas.{eqb_swap}
 use Rattle.file_tree.specs.declared.tree.FidState.{FidState}
 use Rattle.file_tree.specs.declared.tree.Node.TheVariants.{Root}
 use Rattle.file_tree.specs.Calls.{at_rest, opened}
-use Rattle.agent_history.specs.Deeds.{Deed, FidDeed, OfFids, OfKeys, OfReplies, OfConnection, OfTalk, Raised, HandedOut, Swept, Halted, Versioned, Attached, Walked, Opened, Listed, Browsed, Clunked, Edited, Switched, Entered, Hung, fid_of, held_by, one_less, one_more}
+use Rattle.agent_history.specs.Deeds.{Deed, FidDeed, OfFids, OfKeys, OfReplies, OfConnection, OfTalk, Raised, HandedOut, DropTaken, Swept, Halted, Versioned, Attached, Walked, Opened, Listed, Browsed, Clunked, Edited, Switched, Entered, Hung, fid_of, held_by, one_less, one_more}
 use Rattle.agent_history.specs.Histories.{History, deeds}
 use Rattle.agent_laws.specs.Laws.{AreHeld}
 use Rattle.agent_laws.proofs.DeedLaws.{SameFor, fids_same_for}
@@ -192,6 +192,7 @@ holds_deed conn at done (OfConnection c Hung) kind fits h = holds_hung conn c do
 holds_deed conn at done (OfTalk conv call) kind fits h = holds_same conn done (OfTalk conv call ∷ done) refl (λ f. refl) h
 holds_deed conn at done (Raised conv) kind fits h = holds_same conn done (Raised conv ∷ done) refl (λ f. refl) h
 holds_deed conn at done HandedOut kind fits h = holds_same conn done (HandedOut ∷ done) refl (λ f. refl) h
+holds_deed conn at done DropTaken kind fits h = holds_same conn done (DropTaken ∷ done) refl (λ f. refl) h
 holds_deed conn at done Swept kind fits h = holds_same conn done (Swept ∷ done) refl (λ f. refl) h
 holds_deed conn at done Halted kind fits h = holds_none conn (Halted ∷ done) refl (λ fid. refl)
 

@@ -13,11 +13,11 @@ use Rattle.key_lists.specs.Edits.{KeyEdit, Add, Delete}
 use Rattle.rpc_file.specs.declared.answer.RpcAnswer.{RpcAnswer}
 use Rattle.talks.specs.Calls as calls
 use Rattle.talks.specs.Standings.{OnServer, finds}
-use Rattle.agent_history.specs.Deeds.{Deed, OfFids, OfKeys, OfReplies, OfConnection, OfTalk, Raised, HandedOut, Swept, Halted, Versioned, Attached, Walked, Opened, Clunked, Edited, Switched, Answered, Awaited, Settled, Flushed, Taken, fid_of, holder_of, keys_of, msize_of}
+use Rattle.agent_history.specs.Deeds.{Deed, OfFids, OfKeys, OfReplies, OfConnection, OfTalk, Raised, HandedOut, DropTaken, Swept, Halted, Versioned, Attached, Walked, Opened, Clunked, Edited, Switched, Answered, Awaited, Settled, Flushed, Taken, fid_of, holder_of, keys_of, msize_of}
 use Rattle.agent_history.specs.Replies.{Wait, is_unsettled, waits, waits_for, waits_under}
-use Rattle.agent_history.specs.Conversations.{asking, fits, questions, speakers, standing_of, told}
+use Rattle.agent_history.specs.Conversations.{asking, fits, questions, speakers, standing_of, told, stands}
 use Rattle.agent_history.specs.Requests.{least_msize, most_msize, most_talks, most_waits, is_rpc}
-use Rattle.agent_laws.specs.Laws.{has_open, most_read, stands}
+use Rattle.agent_laws.specs.Laws.{has_open, most_read}
 
 -- ---- what was tested before a deed
 
@@ -127,12 +127,15 @@ is_done conn (OfReplies at (Settled tag body)) = true
 is_done conn (OfTalk conv call) = true
 is_done conn (Raised conv) = true
 is_done conn HandedOut = true
+is_done conn DropTaken = true
 is_done conn Swept = true
 is_done conn Halted = true
 
--- the same, but that no reply is taken
+-- the same, but that nothing is taken
 abbrev pub is_said : ℕ → Deed → Bool
 is_said conn (OfReplies at Taken) = false
+is_said conn HandedOut = false
+is_said conn DropTaken = false
 is_said conn deed = is_done conn deed
 
 -- a deed of this kind that fits keeps what holds
@@ -154,6 +157,7 @@ asked_by_spoken conn (OfFids at deed) e = absurd cc
 asked_by_spoken conn (OfKeys at deed) e = absurd cc
 asked_by_spoken conn (OfConnection at deed) e = absurd cc
 asked_by_spoken conn HandedOut e = absurd cc
+asked_by_spoken conn DropTaken e = absurd cc
 asked_by_spoken conn Swept e = absurd cc
 asked_by_spoken conn Halted e = absurd cc
 
@@ -165,6 +169,7 @@ spoken_by_met conn (OfKeys at deed) e = absurd cc
 spoken_by_met conn (OfReplies at deed) e = absurd cc
 spoken_by_met conn (OfConnection at deed) e = absurd cc
 spoken_by_met conn HandedOut e = absurd cc
+spoken_by_met conn DropTaken e = absurd cc
 spoken_by_met conn Swept e = absurd cc
 spoken_by_met conn Halted e = absurd cc
 
@@ -176,6 +181,7 @@ told_by_met (OfKeys at deed) e = absurd cc
 told_by_met (OfReplies at deed) e = absurd cc
 told_by_met (OfConnection at deed) e = absurd cc
 told_by_met HandedOut e = absurd cc
+told_by_met DropTaken e = absurd cc
 told_by_met Swept e = absurd cc
 told_by_met Halted e = absurd cc
 
@@ -192,6 +198,7 @@ said_by_told conn (OfReplies at (Flushed tag)) e = absurd cc
 said_by_told conn (OfReplies at Taken) e = absurd cc
 said_by_told conn (OfConnection at deed) e = absurd cc
 said_by_told conn HandedOut e = absurd cc
+said_by_told conn DropTaken e = absurd cc
 said_by_told conn Halted e = absurd cc
 
 pub done_by_said : (conn : ℕ) (deed : Deed) → is_said conn deed ≡ true → is_done conn deed ≡ true
@@ -205,7 +212,8 @@ done_by_said conn (OfReplies at Taken) e = absurd cc
 done_by_said conn (OfConnection at deed) e = e
 done_by_said conn (OfTalk conv call) e = e
 done_by_said conn (Raised conv) e = e
-done_by_said conn HandedOut e = e
+done_by_said conn HandedOut e = absurd cc
+done_by_said conn DropTaken e = absurd cc
 done_by_said conn Swept e = e
 done_by_said conn Halted e = e
 
@@ -221,6 +229,7 @@ said_by_asked conn (OfTalk conv call) e = e
 said_by_asked conn (Raised conv) e = e
 said_by_asked conn (OfConnection at deed) e = absurd cc
 said_by_asked conn HandedOut e = absurd cc
+said_by_asked conn DropTaken e = absurd cc
 said_by_asked conn Swept e = absurd cc
 said_by_asked conn Halted e = absurd cc
 
@@ -258,6 +267,7 @@ lines_of_asked Known P conn k done (OfConnection at deed) kind fits p = absurd c
 lines_of_asked Known P conn k done (OfTalk conv call) kind fits p = absurd cc
 lines_of_asked Known P conn k done (Raised conv) kind fits p = absurd cc
 lines_of_asked Known P conn k done HandedOut kind fits p = absurd cc
+lines_of_asked Known P conn k done DropTaken kind fits p = absurd cc
 lines_of_asked Known P conn k done Swept kind fits p = absurd cc
 lines_of_asked Known P conn k done Halted kind fits p = absurd cc
 

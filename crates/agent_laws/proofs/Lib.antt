@@ -14,6 +14,7 @@ mod FitLaws
 mod SpellLaws
 mod HiddenLaws
 mod SightLaws
+mod DueLaws
 mod SecretLaws
 mod AlikeLaws
 mod WriteLaws
@@ -21,3 +22,7 @@ mod ConversationLaws
 mod WaitLaws
 mod EditLaws
 mod PutLaws
+mod OverLaws
+mod DropLaws
+mod DropHistoryLaws
+mod RaiseLaws

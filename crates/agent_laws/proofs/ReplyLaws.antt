@@ -9,12 +9,13 @@ use Rattle.nine_messages.specs.Messages.{r_frame}
 use Rattle.agent_history.specs.declared.event.Event.{Event}
 use Rattle.agent_history.specs.declared.event.Event.TheVariants.{Request, Hang, Answer, NoAnswer, NoRoom, Take, TakeAsk, Stop}
 use Rattle.agent_history.specs.declared.event.StepAnswer.TheVariants.{Gone}
-use Rattle.agent_history.specs.Deeds.{Deed, OfFids, OfKeys, OfReplies, OfConnection, OfTalk, Raised, HandedOut, Swept, Halted, Answered, Awaited, Settled, Flushed, Taken, Entered, is_gone, is_halted, was_hung, was_opened}
+use Rattle.agent_history.specs.Deeds.{Deed, OfFids, OfKeys, OfReplies, OfConnection, OfTalk, Raised, HandedOut, DropTaken, Swept, Halted, Answered, Awaited, Settled, Flushed, Taken, Entered, is_gone, is_halted, was_hung, was_opened}
 use Rattle.agent_history.specs.Replies.{replies, reply_in, taken, untaken, waits}
-use Rattle.agent_history.specs.Histories.{History, answer, deeds, does, entered, first_reply, is_reply, most_events, taking}
+use Rattle.agent_history.specs.Conversations.{Due, NoneDue, DropDue, QuestionDue, due}
+use Rattle.agent_history.specs.Histories.{History, answer, deeds, does, entered, first_reply, handing, is_reply, most_events, taking}
 use Rattle.agent_laws.specs.Laws.{given, gives, put_out}
 use Rattle.agent_laws.proofs.KindLaws.{KeepsOf, is_said}
-use Rattle.agent_laws.proofs.GrowLaws.{conn_of, event_says, is_take, on_its_own}
+use Rattle.agent_laws.proofs.GrowLaws.{conn_of, event_says, is_take, last_or_not, on_its_own}
 use Rattle.agent_laws.proofs.HistoryLaws.{taken_given}
 
 -- ---- what a take gives
@@ -63,20 +64,30 @@ said_gives at n rs conn done (OfReplies c (Settled tag body)) kind fits g = g
 said_gives at n rs conn done (OfReplies c Taken) kind fits g = absurd cc
 said_gives at n rs conn done (OfTalk conv call) kind fits g = g
 said_gives at n rs conn done (Raised conv) kind fits g = g
-said_gives at n rs conn done HandedOut kind fits g = g
+said_gives at n rs conn done HandedOut kind fits g = absurd cc
+said_gives at n rs conn done DropTaken kind fits g = absurd cc
 said_gives at n rs conn done Swept kind fits g =
     let settled = reverse (filter_map reply_in (waits done conn)) in
     (g.0, (settled ++ g.1.0, ap (λ (xs : List RMsg). settled ++ xs) g.1.1 ∙ sym (append_assoc settled g.1.0 rs)))
 said_gives at n rs conn done Halted kind fits g = g
 
--- an event that is no take
+-- an event by which nothing is taken
 event_gives : (e : Event) (H : History) (conn : ℕ) → is_take e ≡ false → Given (taken (deeds H) conn) (replies (deeds H) conn) conn (deeds (e ∷ H))
 event_gives e H conn none = event_says (Given (taken (deeds H) conn) (replies (deeds H) conn) conn) (conn_of e) (said_gives (conn_of e) (taken (deeds H) conn) (replies (deeds H) conn) conn) e H (on_its_own e) none (given_same (deeds H) conn)
 
+-- and one that takes what is due
+handing_gives : (o : Due) (done : List Deed) (conn : ℕ) → Given (taken done conn) (replies done conn) conn (handing o done)
+handing_gives NoneDue done conn = given_same done conn
+handing_gives (DropDue drop) done conn = given_same done conn
+handing_gives (QuestionDue question) done conn = given_same done conn
+
+ask_gives : (H : History) (conn : ℕ) → Given (taken (deeds H) conn) (replies (deeds H) conn) conn (deeds (TakeAsk ∷ H))
+ask_gives H conn =
+    last_or_not (Given (taken (deeds H) conn) (replies (deeds H) conn) conn) H TakeAsk (λ done g. g) (given_same (deeds H) conn) (handing_gives (due (deeds H)) (deeds H) conn)
+
 -- the first ones are the same
-given_still : (e : Event) (H : History) (conn : ℕ) → is_take e ≡ false → given H conn ≡ take (taken (deeds H) conn) (reverse (replies (deeds H) conn)) → given H conn ≡ take (taken (deeds (e ∷ H)) conn) (reverse (replies (deeds (e ∷ H)) conn))
-given_still e H conn none h =
-    let g = event_gives e H conn none in
+given_still : (e : Event) (H : History) (conn : ℕ) → Given (taken (deeds H) conn) (replies (deeds H) conn) conn (deeds (e ∷ H)) → given H conn ≡ take (taken (deeds H) conn) (reverse (replies (deeds H) conn)) → given H conn ≡ take (taken (deeds (e ∷ H)) conn) (reverse (replies (deeds (e ∷ H)) conn))
+given_still e H conn g h =
     let n = taken (deeds H) conn in
     let rs = replies (deeds H) conn in
     h ∙ sym (ap (λ (k : ℕ). take k (reverse (replies (deeds (e ∷ H)) conn))) g.0
@@ -190,13 +201,13 @@ given_in_order (Take at ∷ H) conn =
     let t = take_takes H at conn in
     one_taken_more (eqb at conn && gives H conn) (taken (deeds H) conn) (reverse (replies (deeds H) conn)) (given H conn) (given_in_order H conn)
     ∙ rw (t.count, t.same) refl
-given_in_order (Request at frame word ∷ H) conn = given_still (Request at frame word) H conn refl (given_in_order H conn)
-given_in_order (Hang at ∷ H) conn = given_still (Hang at) H conn refl (given_in_order H conn)
-given_in_order (Answer call bytes ∷ H) conn = given_still (Answer call bytes) H conn refl (given_in_order H conn)
-given_in_order (NoAnswer call ∷ H) conn = given_still (NoAnswer call) H conn refl (given_in_order H conn)
-given_in_order (NoRoom call ∷ H) conn = given_still (NoRoom call) H conn refl (given_in_order H conn)
-given_in_order (TakeAsk ∷ H) conn = given_still TakeAsk H conn refl (given_in_order H conn)
-given_in_order (Stop ∷ H) conn = given_still Stop H conn refl (given_in_order H conn)
+given_in_order (Request at frame word ∷ H) conn = given_still (Request at frame word) H conn (event_gives (Request at frame word) H conn refl) (given_in_order H conn)
+given_in_order (Hang at ∷ H) conn = given_still (Hang at) H conn (event_gives (Hang at) H conn refl) (given_in_order H conn)
+given_in_order (Answer call bytes ∷ H) conn = given_still (Answer call bytes) H conn (event_gives (Answer call bytes) H conn refl) (given_in_order H conn)
+given_in_order (NoAnswer call ∷ H) conn = given_still (NoAnswer call) H conn (event_gives (NoAnswer call) H conn refl) (given_in_order H conn)
+given_in_order (NoRoom call ∷ H) conn = given_still (NoRoom call) H conn (event_gives (NoRoom call) H conn refl) (given_in_order H conn)
+given_in_order (TakeAsk ∷ H) conn = given_still TakeAsk H conn (ask_gives H conn) (given_in_order H conn)
+given_in_order (Stop ∷ H) conn = given_still Stop H conn (event_gives Stop H conn refl) (given_in_order H conn)
 
 -- with those that are left they are all
 pub given_and_left : (H : History) (conn : ℕ) → given H conn ++ untaken (deeds H) conn ≡ reverse (replies (deeds H) conn)

@@ -26,7 +26,7 @@ use Rattle.key_lists.specs.CtlLines.{CtlLine, OnKeys, Debug, carried_out, delete
 use Rattle.rpc_file.specs.Requests.{request_of as request_in}
 use Rattle.talks.specs.Calls as calls
 use Rattle.talks.specs.Standings.{standing}
-use Rattle.agent_history.specs.Deeds.{Deed, OfFids, OfKeys, OfReplies, OfConnection, OfTalk, Raised, HandedOut, Swept, Halted, Versioned, Attached, Walked, Opened, Listed, Browsed, Clunked, Edited, Switched, Flushed, fid_of, keys_of, msize_of}
+use Rattle.agent_history.specs.Deeds.{Deed, OfFids, OfKeys, OfReplies, OfConnection, OfTalk, Raised, HandedOut, DropTaken, Swept, Halted, Versioned, Attached, Walked, Opened, Listed, Browsed, Clunked, Edited, Switched, Flushed, fid_of, keys_of, msize_of}
 use Rattle.agent_history.specs.Conversations.{Speaker, conv_of}
 use Rattle.agent_history.specs.Requests.{Call, call_of, tag_of, after, after_frame, after_granted, agreed, body_for, body_to, content_of, effective, granted, granted_body, is_over, is_rpc, lines_done, phase_in, phase_of, read_reply, reading, reading_file, reading_talk, refusal, reply_of, stored, talk_read, walking, write_reply, writing, written}
 use Rattle.agent_history.specs.declared.event.Event.{Event}
@@ -54,6 +54,7 @@ fitting_open Known done (OfConnection at deed) fits = refl
 fitting_open Known done (OfTalk talker call) fits = refl
 fitting_open Known done (Raised talker) fits = refl
 fitting_open Known done HandedOut fits = refl
+fitting_open Known done DropTaken fits = refl
 fitting_open Known done Swept fits = refl
 fitting_open Known done Halted fits = refl
 

@@ -13,7 +13,7 @@ use Rattle.key_lists.specs.Lists.{added, deleted, tells_secret}
 use Rattle.key_lists.specs.Edits.{KeyEdit, Add, Delete}
 use Rattle.key_lists.specs.Listing.{list_text}
 use Rattle.talks.specs.Calls as calls
-use Rattle.agent_history.specs.Deeds.{Deed, OfFids, OfKeys, OfReplies, OfConnection, OfTalk, Raised, HandedOut, Swept, Halted, Versioned, Attached, Walked, Opened, Listed, Browsed, Clunked, Edited, Switched, Answered, Awaited, Settled, Flushed, Taken, Entered, Hung, fid_of, held_by, holder_of, is_halted, keys_of, msize_of, next_of, text_of, was_hung, was_opened, names}
+use Rattle.agent_history.specs.Deeds.{Deed, OfFids, OfKeys, OfReplies, OfConnection, OfTalk, Raised, HandedOut, DropTaken, Swept, Halted, Versioned, Attached, Walked, Opened, Listed, Browsed, Clunked, Edited, Switched, Answered, Awaited, Settled, Flushed, Taken, Entered, Hung, fid_of, held_by, holder_of, is_halted, keys_of, msize_of, next_of, text_of, was_hung, was_opened, names}
 use Rattle.agent_history.specs.Replies.{has_settled, replies, taken, waits}
 use Rattle.agent_history.specs.Conversations.{Speaker, conv_of, hand_first, of_speakers, opened_talks, questions, raised, speakers, talk}
 use Rattle.agent_history.specs.Requests.{is_rpc}
@@ -35,6 +35,7 @@ keys_hidden (OfConnection at deed ∷ done) o = keys_hidden done o
 keys_hidden (OfTalk talker call ∷ done) o = keys_hidden done o
 keys_hidden (Raised talker ∷ done) o = keys_hidden done o
 keys_hidden (HandedOut ∷ done) o = keys_hidden done o
+keys_hidden (DropTaken ∷ done) o = keys_hidden done o
 keys_hidden (Swept ∷ done) o = keys_hidden done o
 keys_hidden (Halted ∷ done) o = keys_hidden done o
 
@@ -62,6 +63,7 @@ msize_hidden (OfConnection at Hung ∷ done) conn = rw (msize_hidden done conn) 
 msize_hidden (OfTalk talker call ∷ done) conn = msize_hidden done conn
 msize_hidden (Raised talker ∷ done) conn = msize_hidden done conn
 msize_hidden (HandedOut ∷ done) conn = msize_hidden done conn
+msize_hidden (DropTaken ∷ done) conn = msize_hidden done conn
 msize_hidden (Swept ∷ done) conn = msize_hidden done conn
 msize_hidden (Halted ∷ done) conn = refl
 
@@ -86,6 +88,7 @@ fid_hidden (OfConnection at Hung ∷ done) conn fid = rw (fid_hidden done conn f
 fid_hidden (OfTalk talker call ∷ done) conn fid = fid_hidden done conn fid
 fid_hidden (Raised talker ∷ done) conn fid = fid_hidden done conn fid
 fid_hidden (HandedOut ∷ done) conn fid = fid_hidden done conn fid
+fid_hidden (DropTaken ∷ done) conn fid = fid_hidden done conn fid
 fid_hidden (Swept ∷ done) conn fid = fid_hidden done conn fid
 fid_hidden (Halted ∷ done) conn fid = refl
 
@@ -110,6 +113,7 @@ held_hidden (OfConnection at Hung ∷ done) conn = rw (held_hidden done conn) re
 held_hidden (OfTalk talker call ∷ done) conn = held_hidden done conn
 held_hidden (Raised talker ∷ done) conn = held_hidden done conn
 held_hidden (HandedOut ∷ done) conn = held_hidden done conn
+held_hidden (DropTaken ∷ done) conn = held_hidden done conn
 held_hidden (Swept ∷ done) conn = held_hidden done conn
 held_hidden (Halted ∷ done) conn = refl
 
@@ -134,6 +138,7 @@ next_hidden (OfConnection at Hung ∷ done) conn fid = rw (next_hidden done conn
 next_hidden (OfTalk talker call ∷ done) conn fid = next_hidden done conn fid
 next_hidden (Raised talker ∷ done) conn fid = next_hidden done conn fid
 next_hidden (HandedOut ∷ done) conn fid = next_hidden done conn fid
+next_hidden (DropTaken ∷ done) conn fid = next_hidden done conn fid
 next_hidden (Swept ∷ done) conn fid = next_hidden done conn fid
 next_hidden (Halted ∷ done) conn fid = refl
 
@@ -158,6 +163,7 @@ holder_hidden (OfConnection at Hung ∷ done) node = rw (holder_hidden done node
 holder_hidden (OfTalk talker call ∷ done) node = holder_hidden done node
 holder_hidden (Raised talker ∷ done) node = holder_hidden done node
 holder_hidden (HandedOut ∷ done) node = holder_hidden done node
+holder_hidden (DropTaken ∷ done) node = holder_hidden done node
 holder_hidden (Swept ∷ done) node = holder_hidden done node
 holder_hidden (Halted ∷ done) node = refl
 
@@ -182,6 +188,7 @@ waits_hidden (OfConnection at Hung ∷ done) conn = rw (waits_hidden done conn) 
 waits_hidden (OfTalk talker call ∷ done) conn = waits_hidden done conn
 waits_hidden (Raised talker ∷ done) conn = waits_hidden done conn
 waits_hidden (HandedOut ∷ done) conn = waits_hidden done conn
+waits_hidden (DropTaken ∷ done) conn = waits_hidden done conn
 waits_hidden (Swept ∷ done) conn = rw (waits_hidden done conn) refl
 waits_hidden (Halted ∷ done) conn = refl
 
@@ -206,6 +213,7 @@ settled_hidden (OfConnection at Hung ∷ done) = settled_hidden done
 settled_hidden (OfTalk talker call ∷ done) = settled_hidden done
 settled_hidden (Raised talker ∷ done) = settled_hidden done
 settled_hidden (HandedOut ∷ done) = settled_hidden done
+settled_hidden (DropTaken ∷ done) = settled_hidden done
 settled_hidden (Swept ∷ done) = refl
 settled_hidden (Halted ∷ done) = refl
 
@@ -230,6 +238,7 @@ replies_hidden (OfConnection at Hung ∷ done) conn = replies_hidden done conn
 replies_hidden (OfTalk talker call ∷ done) conn = replies_hidden done conn
 replies_hidden (Raised talker ∷ done) conn = replies_hidden done conn
 replies_hidden (HandedOut ∷ done) conn = replies_hidden done conn
+replies_hidden (DropTaken ∷ done) conn = replies_hidden done conn
 replies_hidden (Swept ∷ done) conn = rw (replies_hidden done conn, waits_hidden done conn) refl
 replies_hidden (Halted ∷ done) conn = replies_hidden done conn
 
@@ -254,6 +263,7 @@ taken_hidden (OfConnection at Hung ∷ done) conn = taken_hidden done conn
 taken_hidden (OfTalk talker call ∷ done) conn = taken_hidden done conn
 taken_hidden (Raised talker ∷ done) conn = taken_hidden done conn
 taken_hidden (HandedOut ∷ done) conn = taken_hidden done conn
+taken_hidden (DropTaken ∷ done) conn = taken_hidden done conn
 taken_hidden (Swept ∷ done) conn = taken_hidden done conn
 taken_hidden (Halted ∷ done) conn = taken_hidden done conn
 
@@ -278,6 +288,7 @@ opened_hidden (OfConnection at Hung ∷ done) conn = opened_hidden done conn
 opened_hidden (OfTalk talker call ∷ done) conn = opened_hidden done conn
 opened_hidden (Raised talker ∷ done) conn = opened_hidden done conn
 opened_hidden (HandedOut ∷ done) conn = opened_hidden done conn
+opened_hidden (DropTaken ∷ done) conn = opened_hidden done conn
 opened_hidden (Swept ∷ done) conn = opened_hidden done conn
 opened_hidden (Halted ∷ done) conn = opened_hidden done conn
 
@@ -302,6 +313,7 @@ hung_hidden (OfConnection at Hung ∷ done) conn = rw (hung_hidden done conn) re
 hung_hidden (OfTalk talker call ∷ done) conn = hung_hidden done conn
 hung_hidden (Raised talker ∷ done) conn = hung_hidden done conn
 hung_hidden (HandedOut ∷ done) conn = hung_hidden done conn
+hung_hidden (DropTaken ∷ done) conn = hung_hidden done conn
 hung_hidden (Swept ∷ done) conn = hung_hidden done conn
 hung_hidden (Halted ∷ done) conn = hung_hidden done conn
 
@@ -326,6 +338,7 @@ halted_hidden (OfConnection at Hung ∷ done) = halted_hidden done
 halted_hidden (OfTalk talker call ∷ done) = halted_hidden done
 halted_hidden (Raised talker ∷ done) = halted_hidden done
 halted_hidden (HandedOut ∷ done) = halted_hidden done
+halted_hidden (DropTaken ∷ done) = halted_hidden done
 halted_hidden (Swept ∷ done) = halted_hidden done
 halted_hidden (Halted ∷ done) = refl
 
@@ -350,6 +363,7 @@ text_hidden (OfConnection at Hung ∷ done) o conn fid = rw (text_hidden done o 
 text_hidden (OfTalk talker call ∷ done) o conn fid = text_hidden done o conn fid
 text_hidden (Raised talker ∷ done) o conn fid = text_hidden done o conn fid
 text_hidden (HandedOut ∷ done) o conn fid = text_hidden done o conn fid
+text_hidden (DropTaken ∷ done) o conn fid = text_hidden done o conn fid
 text_hidden (Swept ∷ done) o conn fid = text_hidden done o conn fid
 text_hidden (Halted ∷ done) o conn fid = refl
 
@@ -374,10 +388,11 @@ opened_talks_hidden (OfConnection at Hung ∷ done) = opened_talks_hidden done
 opened_talks_hidden (OfTalk talker call ∷ done) = opened_talks_hidden done
 opened_talks_hidden (Raised talker ∷ done) = opened_talks_hidden done
 opened_talks_hidden (HandedOut ∷ done) = opened_talks_hidden done
+opened_talks_hidden (DropTaken ∷ done) = opened_talks_hidden done
 opened_talks_hidden (Swept ∷ done) = opened_talks_hidden done
 opened_talks_hidden (Halted ∷ done) = opened_talks_hidden done
 
-speakers_hidden : (done : List Deed) → speakers (map hidden_deed done) ≡ speakers done
+pub speakers_hidden : (done : List Deed) → speakers (map hidden_deed done) ≡ speakers done
 speakers_hidden [] = refl
 speakers_hidden (OfFids at (Versioned msize) ∷ done) = rw (speakers_hidden done) refl
 speakers_hidden (OfFids at (Attached f) ∷ done) = speakers_hidden done
@@ -398,10 +413,11 @@ speakers_hidden (OfConnection at Hung ∷ done) = rw (speakers_hidden done) refl
 speakers_hidden (OfTalk talker call ∷ done) = speakers_hidden done
 speakers_hidden (Raised talker ∷ done) = speakers_hidden done
 speakers_hidden (HandedOut ∷ done) = speakers_hidden done
+speakers_hidden (DropTaken ∷ done) = speakers_hidden done
 speakers_hidden (Swept ∷ done) = speakers_hidden done
 speakers_hidden (Halted ∷ done) = refl
 
-talk_hidden : (done : List Deed) (conv : ℕ) → talk (map hidden_deed done) conv ≡ talk done conv
+pub talk_hidden : (done : List Deed) (conv : ℕ) → talk (map hidden_deed done) conv ≡ talk done conv
 talk_hidden [] conv = refl
 talk_hidden (OfFids at (Versioned msize) ∷ done) conv = talk_hidden done conv
 talk_hidden (OfFids at (Attached f) ∷ done) conv = talk_hidden done conv
@@ -422,10 +438,11 @@ talk_hidden (OfConnection at Hung ∷ done) conv = talk_hidden done conv
 talk_hidden (OfTalk talker call ∷ done) conv = rw (talk_hidden done conv) refl
 talk_hidden (Raised talker ∷ done) conv = talk_hidden done conv
 talk_hidden (HandedOut ∷ done) conv = talk_hidden done conv
+talk_hidden (DropTaken ∷ done) conv = talk_hidden done conv
 talk_hidden (Swept ∷ done) conv = talk_hidden done conv
 talk_hidden (Halted ∷ done) conv = talk_hidden done conv
 
-raised_hidden : (done : List Deed) → raised (map hidden_deed done) ≡ raised done
+pub raised_hidden : (done : List Deed) → raised (map hidden_deed done) ≡ raised done
 raised_hidden [] = refl
 raised_hidden (OfFids at (Versioned msize) ∷ done) = raised_hidden done
 raised_hidden (OfFids at (Attached f) ∷ done) = raised_hidden done
@@ -446,6 +463,7 @@ raised_hidden (OfConnection at Hung ∷ done) = raised_hidden done
 raised_hidden (OfTalk talker call ∷ done) = raised_hidden done
 raised_hidden (Raised talker ∷ done) = rw (raised_hidden done) refl
 raised_hidden (HandedOut ∷ done) = raised_hidden done
+raised_hidden (DropTaken ∷ done) = raised_hidden done
 raised_hidden (Swept ∷ done) = raised_hidden done
 raised_hidden (Halted ∷ done) = raised_hidden done
 
@@ -466,7 +484,7 @@ met_hidden conv calls.KeyTold done e = e
 met_hidden conv calls.Shut done e = e
 met_hidden conv calls.Took done e = e
 
-questions_hidden : (done : List Deed) → questions (map hidden_deed done) ≡ questions done
+pub questions_hidden : (done : List Deed) → questions (map hidden_deed done) ≡ questions done
 questions_hidden [] = refl
 questions_hidden (OfFids at deed ∷ done) = left_hidden (OfFids at deed) done (speakers_hidden (OfFids at deed ∷ done)) (questions_hidden done)
 questions_hidden (OfConnection at deed ∷ done) = left_hidden (OfConnection at deed) done (speakers_hidden (OfConnection at deed ∷ done)) (questions_hidden done)
@@ -476,6 +494,7 @@ questions_hidden (OfReplies at deed ∷ done) = questions_hidden done
 questions_hidden (OfTalk talker call ∷ done) = met_hidden talker call done (questions_hidden done)
 questions_hidden (Raised talker ∷ done) = rw (questions_hidden done, raised_hidden done) refl
 questions_hidden (HandedOut ∷ done) = ap hand_first (questions_hidden done)
+questions_hidden (DropTaken ∷ done) = questions_hidden done
 questions_hidden (Swept ∷ done) = questions_hidden done
 questions_hidden (Halted ∷ done) = refl
 
@@ -500,6 +519,7 @@ conversed_hidden (OfConnection at Hung ∷ done) = conversed_hidden done
 conversed_hidden (OfTalk talker call ∷ done) = conversed_hidden done
 conversed_hidden (Raised talker ∷ done) = conversed_hidden done
 conversed_hidden (HandedOut ∷ done) = conversed_hidden done
+conversed_hidden (DropTaken ∷ done) = conversed_hidden done
 conversed_hidden (Swept ∷ done) = conversed_hidden done
 conversed_hidden (Halted ∷ done) = conversed_hidden done
 
@@ -543,6 +563,7 @@ none_speaks (OfConnection at Hung ∷ done) e = ap (filter (λ (s : Speaker). no
 none_speaks (OfTalk talker call ∷ done) e = none_speaks done e
 none_speaks (Raised talker ∷ done) e = none_speaks done e
 none_speaks (HandedOut ∷ done) e = none_speaks done e
+none_speaks (DropTaken ∷ done) e = none_speaks done e
 none_speaks (Swept ∷ done) e = none_speaks done e
 none_speaks (Halted ∷ done) e = refl
 
@@ -566,6 +587,7 @@ open_hidden (OfConnection at deed ∷ done) = open_hidden done
 open_hidden (OfTalk talker call ∷ done) = open_hidden done
 open_hidden (Raised talker ∷ done) = open_hidden done
 open_hidden (HandedOut ∷ done) = open_hidden done
+open_hidden (DropTaken ∷ done) = open_hidden done
 open_hidden (Swept ∷ done) = open_hidden done
 open_hidden (Halted ∷ done) = open_hidden done
 

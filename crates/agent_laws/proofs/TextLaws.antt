@@ -19,11 +19,11 @@ use Rattle.talks.specs.Calls as calls
 use Rattle.talks.specs.Standings.{Phase, Resting, Waiting, Seeking, OnConfirm, OnNeedkey, OnServer, Kept}
 use Rattle.agent_history.specs.declared.event.Event.{Event}
 use Rattle.agent_history.specs.declared.event.Event.TheVariants.{Request, Hang, Answer, NoAnswer, NoRoom, Take, TakeAsk, Stop}
-use Rattle.agent_history.specs.Deeds.{Deed, FidDeed, OfFids, OfKeys, OfReplies, OfConnection, OfTalk, Raised, HandedOut, Swept, Halted, Versioned, Attached, Walked, Opened, Listed, Browsed, Clunked, Edited, Switched, Entered, Hung, fid_of, is_halted, keys_of, msize_of, text_of, was_hung, was_opened}
+use Rattle.agent_history.specs.Deeds.{Deed, FidDeed, OfFids, OfKeys, OfReplies, OfConnection, OfTalk, Raised, HandedOut, DropTaken, Swept, Halted, Versioned, Attached, Walked, Opened, Listed, Browsed, Clunked, Edited, Switched, Entered, Hung, fid_of, is_halted, keys_of, msize_of, text_of, was_hung, was_opened}
 use Rattle.nine_messages.specs.declared.message.RMsg.{RMsg}
 use Rattle.key_lists.specs.CtlLines.{carried_out, lines_of}
 use Rattle.agent_history.specs.Replies.{Wait, has_settled, swept, untaken}
-use Rattle.agent_history.specs.Conversations.{Question, Speaker, asker, conv_of, deliver_to, fits, give_to, met, next_question, raising, reader_of, resumed, seeking, speaker_of, standing_of, then_sought, then_took}
+use Rattle.agent_history.specs.Conversations.{Speaker, asker, conv_of, deliver_to, fits, give_to, met, raising, reader_of, resumed, seeking, speaker_of, standing_of, then_sought, then_took, Due, NoneDue, DropDue, QuestionDue, due, sought_once, seeking_all}
 use Rattle.agent_history.specs.Requests.{Call, after, after_frame, after_granted, answered, body_to, call_of, carried, carrying_out, ctl_text, effective, granted, is_rpc, lines_done, piece, read_reply, reading, reading_answer, reading_talk, replied, reply_of, stored, walking}
 use Rattle.agent_history.specs.Histories.{History, deeds, does, entered, handing, most_events, taking}
 use Rattle.agent_laws.specs.Laws.{StoodOnce, sets_text}
@@ -76,6 +76,7 @@ line_sets_none before at conn fid done (OfConnection c deed) line fits e = absur
 line_sets_none before at conn fid done (OfTalk conv call) line fits e = absurd cc
 line_sets_none before at conn fid done (Raised conv) line fits e = absurd cc
 line_sets_none before at conn fid done HandedOut line fits e = absurd cc
+line_sets_none before at conn fid done DropTaken line fits e = absurd cc
 line_sets_none before at conn fid done Swept line fits e = absurd cc
 line_sets_none before at conn fid done Halted line fits e = absurd cc
 
@@ -105,10 +106,17 @@ seeking_finds conv (OnConfirm serial) done conn fid = refl
 seeking_finds conv OnNeedkey done conn fid = refl
 seeking_finds conv (Kept answer) done conn fid = refl
 
+once_finds : (conv : ℕ) (done : List Deed) (conn fid : ℕ) → text_of (sought_once conv done) conn fid ≡ text_of done conn fid
+once_finds conv done conn fid = seeking_finds conv (standing_of done conv).phase done conn fid
+
+chain_finds : (starting : Bool) (conv : ℕ) (done : List Deed) (conn fid : ℕ) → text_of (seeking_all starting conv done) conn fid ≡ text_of done conn fid
+chain_finds true conv done conn fid = once_finds conv (sought_once conv (sought_once conv done)) conn fid ∙ once_finds conv (sought_once conv done) conn fid ∙ once_finds conv done conn fid
+chain_finds false conv done conn fid = once_finds conv done conn fid
+
 met_finds : (conv : ℕ) (call : calls.Call) (done : List Deed) (conn fid : ℕ) → text_of (met conv call done) conn fid ≡ text_of done conn fid
 met_finds conv call done conn fid =
     let one = OfTalk conv call ∷ done in
-    raising_finds conv (standing_of (then_sought conv one) conv).phase (then_sought conv one) conn fid ∙ seeking_finds conv (standing_of one conv).phase one conn fid
+    raising_finds conv (standing_of (then_sought conv one) conv).phase (then_sought conv one) conn fid ∙ chain_finds (standing_of one conv).starting conv one conn fid
 
 took_finds : (conv count : ℕ) (answer : RpcAnswer) (done : List Deed) (conn fid : ℕ) → text_of (then_took conv count answer done) conn fid ≡ text_of done conn fid
 took_finds conv count answer done conn fid = by_cases (fits count answer)
@@ -214,9 +222,10 @@ told_finds (Some conv) call done conn fid =
 resumed_finds : (before done : List Deed) (conn fid : ℕ) → text_of done conn fid ≡ text_of before conn fid → Finds before conn fid (text_of (swept done) conn fid)
 resumed_finds before done conn fid e = swept_finds (has_settled done) before done conn fid (inl e)
 
-handing_finds : (o : Option Question) (done : List Deed) (conn fid : ℕ) → Finds done conn fid (text_of (handing o done) conn fid)
-handing_finds None done conn fid = stays done conn fid
-handing_finds (Some question) done conn fid = stays done conn fid
+handing_finds : (o : Due) (done : List Deed) (conn fid : ℕ) → Finds done conn fid (text_of (handing o done) conn fid)
+handing_finds NoneDue done conn fid = stays done conn fid
+handing_finds (DropDue drop) done conn fid = stays done conn fid
+handing_finds (QuestionDue question) done conn fid = stays done conn fid
 
 does_finds : (done : List Deed) (e : Event) (conn fid : ℕ) → Finds done conn fid (text_of (does done e) conn fid)
 does_finds done (Request at frame word) conn fid =
@@ -233,7 +242,7 @@ does_finds done Stop conn fid = inr (inl refl)
 does_finds done (Answer call bytes) conn fid = resumed_finds done (resumed (asker done call) (calls.Heard bytes) done) conn fid (told_finds (asker done call) (calls.Heard bytes) done conn fid)
 does_finds done (NoAnswer call) conn fid = resumed_finds done (resumed (asker done call) calls.Unheard done) conn fid (told_finds (asker done call) calls.Unheard done conn fid)
 does_finds done (NoRoom call) conn fid = resumed_finds done (resumed (asker done call) calls.Roomless done) conn fid (told_finds (asker done call) calls.Roomless done conn fid)
-does_finds done TakeAsk conn fid = handing_finds (next_question done) done conn fid
+does_finds done TakeAsk conn fid = handing_finds (due done) done conn fid
 
 -- ---- histories
 
@@ -298,6 +307,7 @@ text_same (OfConnection at Hung) done conn fid e = rw e refl
 text_same (OfTalk conv call) done conn fid e = refl
 text_same (Raised conv) done conn fid e = refl
 text_same HandedOut done conn fid e = refl
+text_same DropTaken done conn fid e = refl
 text_same Swept done conn fid e = refl
 text_same Halted done conn fid e = absurd cc
 

@@ -16,9 +16,9 @@ use Rattle.talks.specs.Calls as calls
 use Rattle.talks.specs.Standings.{Phase, Resting, Waiting as IsStored, Seeking, OnConfirm, OnNeedkey, OnServer, Kept}
 use Rattle.agent_history.specs.declared.event.Event.{Event}
 use Rattle.agent_history.specs.declared.event.Event.TheVariants.{Request, Hang, Answer, NoAnswer, NoRoom, Take, TakeAsk, Stop}
-use Rattle.agent_history.specs.Deeds.{Deed, OfFids, OfKeys, OfReplies, OfConnection, OfTalk, Raised, HandedOut, Swept, Halted, Versioned, Attached, Walked, Opened, Listed, Browsed, Clunked, Answered, Awaited, Settled, Flushed, Taken, Entered, Hung, fid_of, names, was_hung, was_opened}
+use Rattle.agent_history.specs.Deeds.{Deed, OfFids, OfKeys, OfReplies, OfConnection, OfTalk, Raised, HandedOut, DropTaken, Swept, Halted, Versioned, Attached, Walked, Opened, Listed, Browsed, Clunked, Answered, Awaited, Settled, Flushed, Taken, Entered, Hung, fid_of, names, was_hung, was_opened}
 use Rattle.agent_history.specs.Replies.{Wait, fid_given_up, first_of, has_settled, is_unsettled, settle_fid, settle_tag, settled_by, swept, untaken, waits, waits_for, waits_under}
-use Rattle.agent_history.specs.Conversations.{Question, asker, next_question, resumed, conv_of, met, raising, seeking, standing_of, then_sought}
+use Rattle.agent_history.specs.Conversations.{asker, resumed, conv_of, met, raising, seeking, standing_of, then_sought, Due, NoneDue, DropDue, QuestionDue, due, sought_once, seeking_all}
 use Rattle.agent_history.specs.Requests.{Call, answered, body_for, body_to, call_of, granted, is_rpc, reply_of, after, after_frame, after_granted, answer_read, carried, carrying_out, is_resting, phase_in, reading, reading_answer, reading_talk, refusal, talk_read}
 use Rattle.agent_history.specs.Histories.{History, deeds, does, entered, handing, taking}
 use Rattle.agent_laws.specs.Laws.{AreWaiting, has_open, reads_rpc, AllTold}
@@ -46,9 +46,10 @@ taking_settles : (at : ℕ) (left : List RMsg) (done : List Deed) → NoneSettle
 taking_settles at [] done h = h
 taking_settles at (reply ∷ rest) done h = h
 
-handing_settles : (o : Option Question) (done : List Deed) → NoneSettled done → NoneSettled (handing o done)
-handing_settles None done h = h
-handing_settles (Some question) done h = h
+handing_settles : (o : Due) (done : List Deed) → NoneSettled done → NoneSettled (handing o done)
+handing_settles NoneDue done h = h
+handing_settles (DropDue drop) done h = h
+handing_settles (QuestionDue question) done h = h
 
 event_settles : (e : Event) (done : List Deed) → NoneSettled done → NoneSettled (does done e)
 event_settles (Request at frame word) done h = either_way NoneSettled (was_hung done at) done _ h (swept_settles (answered (entered at done) (call_of at frame word) frame))
@@ -58,7 +59,7 @@ event_settles Stop done h = refl
 event_settles (Answer number bytes) done h = swept_settles (resumed (asker done number) (calls.Heard bytes) done)
 event_settles (NoAnswer number) done h = swept_settles (resumed (asker done number) calls.Unheard done)
 event_settles (NoRoom number) done h = swept_settles (resumed (asker done number) calls.Roomless done)
-event_settles TakeAsk done h = handing_settles (next_question done) done h
+event_settles TakeAsk done h = handing_settles (due done) done h
 
 pub none_settled : (H : History) → has_settled (deeds H) ≡ false
 none_settled [] = refl
@@ -290,6 +291,7 @@ well_more c done (OfConnection at Entered) kind fits h = h
 well_more c done (OfTalk conv call) kind fits h = h
 well_more c done (Raised conv) kind fits h = h
 well_more c done HandedOut kind fits h = h
+well_more c done DropTaken kind fits h = h
 well_more c done Swept kind fits h = λ conn. kept_well (opens_rpc done conn) is_unsettled (waits done conn) (h conn)
 well_more c done Halted kind fits h = λ conn. none_well (λ fid. false)
 
@@ -335,6 +337,7 @@ told_more c done (OfConnection at deed) kind fits h = h.1
 told_more c done (OfTalk conv call) kind fits h = h.1
 told_more c done (Raised conv) kind fits h = h.1
 told_more c done HandedOut kind fits h = h.1
+told_more c done DropTaken kind fits h = h.1
 told_more c done Swept kind fits h = h.1
 told_more c done Halted kind fits h = h.1
 
@@ -415,6 +418,7 @@ known_more c done (OfConnection at Entered) kind fits h = h
 known_more c done (OfTalk conv call) kind fits h = h
 known_more c done (Raised conv) kind fits h = h
 known_more c done HandedOut kind fits h = h
+known_more c done DropTaken kind fits h = h
 known_more c done Swept kind fits h = λ e conn. only_kept is_unsettled (waits done conn)
 known_more c done Halted kind fits h = λ e conn. refl
 
@@ -491,10 +495,17 @@ seeking_waits conv (OnConfirm serial) done conn = refl
 seeking_waits conv OnNeedkey done conn = refl
 seeking_waits conv (Kept answer) done conn = refl
 
+once_waits : (conv : ℕ) (done : List Deed) (conn : ℕ) → waits (sought_once conv done) conn ≡ waits done conn
+once_waits conv done conn = seeking_waits conv (standing_of done conv).phase done conn
+
+chain_waits : (starting : Bool) (conv : ℕ) (done : List Deed) (conn : ℕ) → waits (seeking_all starting conv done) conn ≡ waits done conn
+chain_waits true conv done conn = once_waits conv (sought_once conv (sought_once conv done)) conn ∙ once_waits conv (sought_once conv done) conn ∙ once_waits conv done conn
+chain_waits false conv done conn = once_waits conv done conn
+
 met_waits : (conv : ℕ) (call : calls.Call) (done : List Deed) (conn : ℕ) → waits (met conv call done) conn ≡ waits done conn
 met_waits conv call done conn =
     let one = OfTalk conv call ∷ done in
-    raising_waits conv (standing_of (then_sought conv one) conv).phase (then_sought conv one) conn ∙ seeking_waits conv (standing_of one conv).phase one conn
+    raising_waits conv (standing_of (then_sought conv one) conv).phase (then_sought conv one) conn ∙ chain_waits (standing_of one conv).starting conv one conn
 
 carrying_waits : (conv : ℕ) (word : List ℕ) (ph : Phase) (done : List Deed) (conn : ℕ) → waits (carrying_out conv word ph done) conn ≡ waits done conn
 carrying_waits conv word (IsStored request) done conn = met_waits conv (calls.CarriedOut word) done conn

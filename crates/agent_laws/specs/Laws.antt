@@ -17,6 +17,9 @@ use Rattle.file_tree.specs.Calls.{is_open, node_of}
 use Rattle.key_lists.specs.Lists.{KeyList, add_fault, tells_secret}
 use Rattle.key_lists.specs.Edits.{KeyEdit, Add, Delete}
 use Rattle.key_lists.specs.Listing.{list_text}
+use Rattle.wire_base.specs.declared.shape.Shape.{Shape}
+use Rattle.agent_history.specs.declared.event.StepAnswer.{StepAnswer}
+use Rattle.agent_history.specs.declared.event.StepAnswer.TheVariants.{Ask}
 use Rattle.agent_history.specs.declared.event.Event.{Event}
 use Rattle.agent_history.specs.declared.event.Event.TheVariants.{Request, Hang, Take}
 use Rattle.rpc_file.specs.declared.answer.RpcAnswer.{RpcAnswer}
@@ -25,7 +28,7 @@ use Rattle.talks.specs.Standings.{Phase, OnServer, finds}
 use Rattle.agent_history.specs.Deeds.{Deed, OfFids, OfKeys, OfConnection, OfTalk, Halted, Versioned, Attached, Walked, Opened, Listed, Clunked, Edited, Hung, fid_of, held_by, keys_of, msize_of, names, OfReplies, Settled}
 use Rattle.key_lists.specs.CtlLines.{OnKeys, after_lines, line_over, lines_fault, read_line}
 use Rattle.agent_history.specs.Replies.{Wait, is_unsettled, untaken, waits}
-use Rattle.agent_history.specs.Conversations.{asking, questions, speakers, standing_of, Speaker, told}
+use Rattle.agent_history.specs.Conversations.{asking, questions, standing_of, Speaker, told, stands}
 use Rattle.agent_history.specs.Requests.{Call, body_to, call_of, is_rpc, least_msize, most_waits, tag_of}
 use Rattle.agent_history.specs.Histories.{History, deeds, answer, is_reply}
 
@@ -58,6 +61,11 @@ is_talk deed = false
 -- some deeds of this kind came to those that were done before, and nothing else changed
 abbrev pub Adds : (Deed → Bool) → List Deed → List Deed → Type 0
 Adds kind before after = (more : List Deed) × (after ≡ more ++ before) × (list_all kind more ≡ true)
+
+-- whether an event is a request
+abbrev pub is_request : Event → Bool
+is_request (Request at frame word) = true
+is_request event = false
 
 -- whether an event is a request, a take or a hang
 abbrev pub has_connection : Event → Bool
@@ -148,13 +156,19 @@ has_conversed (deed ∷ before) = has_conversed before
 
 -- ---- conversations
 
--- the conversation of a number stands
-abbrev pub stands : List Deed → ℕ → Bool
-stands done conv = list_any (λ s. s.conv == conv) (speakers done)
-
 -- two are held by one fid of one connection
 abbrev pub is_same_place : Speaker → Speaker → Bool
 is_same_place a b = a.conn == b.conn && a.fid == b.fid
+
+-- the shape of what is put out as a question of a conversation, if one is
+abbrev pub asked_by : ℕ → StepAnswer → Option Shape → Option Shape
+asked_by conv (Ask call at shape) earlier = if at == conv then Some shape else earlier
+asked_by conv other earlier = earlier
+
+-- that of its last question that was put out
+abbrev pub last_asked : History → ℕ → Option Shape
+last_asked [] conv = None
+last_asked (event ∷ before) conv = asked_by conv (answer before event).0 (last_asked before conv)
 
 -- it waits for the authentication server
 abbrev pub is_on_server : Phase → Bool

@@ -18,15 +18,16 @@ use Rattle.key_lists.specs.CtlLines.{after_lines, carried_out, lines_fault}
 use Rattle.talks.specs.Calls.{Found, Sought}
 use Rattle.talks.specs.Standings.{finds}
 use Rattle.agent_history.specs.declared.event.Event.{Event}
-use Rattle.agent_history.specs.declared.event.Event.TheVariants.{Take, TakeAsk}
-use Rattle.agent_history.specs.declared.event.StepAnswer.TheVariants.{Ask}
+use Rattle.agent_history.specs.declared.event.Event.TheVariants.{Take, TakeAsk, Request}
+use Rattle.agent_history.specs.declared.event.StepAnswer.TheVariants.{Ask, DropCall, NoAsk}
 use Rattle.wire_base.specs.declared.shape.Shape.{Shape}
+use Rattle.wire_base.specs.declared.shape.Shape.TheVariants.{Challenge}
 use Rattle.agent_history.specs.Deeds.{Deed, KeyDeed, OfFids, OfKeys, Listed, edits_of, fid_of, held_by, holder_of, keys_of, msize_of, next_of, text_of, OfTalk}
 use Rattle.agent_history.specs.Replies.{has_settled, replies, taken, untaken, waits}
-use Rattle.agent_history.specs.Conversations.{chosen_at, conv_of, opened_talks, questions, raised, speakers, asking, standing_of, Question, next_question}
+use Rattle.agent_history.specs.Conversations.{chosen_at, conv_of, opened_talks, questions, raised, speakers, asking, standing_of, Question, Drop, NoneDue, DropDue, QuestionDue, due}
 use Rattle.agent_history.specs.Requests.{Call, after_frame, body_to, effective, granted, least_msize, lines_done, most_msize, most_talks, piece, reply_of}
 use Rattle.agent_history.specs.Histories.{History, answer, deeds, does, has_stopped}
-use Rattle.agent_laws.specs.Laws.{AddAlike, Adds, AllSearched, AreHeld, AreWaiting, HasFirstRefused, IsFirstRefused, SameButSecrets, StoodOnce, all_asked, all_open, given, gives, gives_content, has_connection, has_conversed, has_open, hidden_deed, is_of, is_of_talks, is_on, longest_reply, may_err_and_act, none_concerns, none_sets_text, put_out, reads_rpc, reply_to, rise_below, AllTold, is_same_place, is_edit, is_talk}
+use Rattle.agent_laws.specs.Laws.{AddAlike, Adds, AllSearched, AreHeld, AreWaiting, HasFirstRefused, IsFirstRefused, SameButSecrets, StoodOnce, all_asked, all_open, given, gives, gives_content, has_connection, has_conversed, has_open, hidden_deed, is_of, is_of_talks, is_on, longest_reply, may_err_and_act, none_concerns, none_sets_text, put_out, reads_rpc, reply_to, rise_below, AllTold, is_same_place, is_edit, is_talk, last_asked, is_request}
 
 -- ---- keys are the lines in order
 
@@ -229,8 +230,28 @@ abbrev pub QuestionsRise : Type 0
 QuestionsRise = (history : History) → rise_below (raised (deeds history) + 1) (map (λ q. q.call) (questions (deeds history))) ≡ true
 
 abbrev pub QuestionsArePut : Type 0
-QuestionsArePut = (history : History) (question : Question) → has_stopped history ≡ false → next_question (deeds history) ≡ Some question
+QuestionsArePut = (history : History) (question : Question) → has_stopped history ≡ false → due (deeds history) ≡ QuestionDue question
     → (request : List ℕ) × (shape : Shape) × (answer history TakeAsk ≡ (Ask question.call question.conv shape, request))
+
+abbrev pub RequestsRaiseOne : Type 0
+RequestsRaiseOne = (history : History) (conn : ℕ) (frame word : List ℕ) → raised (deeds (Request conn frame word ∷ history)) ≤ raised (deeds history) + 1
+
+abbrev pub OthersRaiseNone : Type 0
+OthersRaiseNone = (event : Event) (history : History) → is_request event ≡ false → raised (deeds (event ∷ history)) ≡ raised (deeds history)
+
+-- ---- connections that are given up
+
+abbrev pub DropsArePut : Type 0
+DropsArePut = (history : History) (drop : Drop) → has_stopped history ≡ false → due (deeds history) ≡ DropDue drop → answer history TakeAsk ≡ (DropCall drop.conv, [])
+
+abbrev pub NothingIsPut : Type 0
+NothingIsPut = (history : History) → has_stopped history ≡ false → due (deeds history) ≡ NoneDue → answer history TakeAsk ≡ (NoAsk, [])
+
+abbrev pub DropsComeOnce : Type 0
+DropsComeOnce = (history more : History) (conv : ℕ) → answer history TakeAsk ≡ (DropCall conv, []) → answer (more ++ TakeAsk ∷ history) TakeAsk ≡ (DropCall conv, []) → ⊥
+
+abbrev pub DropsFollowChallenges : Type 0
+DropsFollowChallenges = (history : History) (conv : ℕ) → answer history TakeAsk ≡ (DropCall conv, []) → last_asked history conv ≡ Some Challenge
 
 -- ---- a search is over the keys of its moment
 

@@ -1,5 +1,5 @@
 // Laws of the definitions, each the contract of a function that does nothing.
-ghost use Rattle.agent_laws.specs.Sentences.{ActsOnItsConnection, AgreedBetween, ChangesItsOwn, ChosenStays, CountsHide, DeedsHide, EditsOrTalks, ErrorChangesNothing, EventLeavesFid, FidStays, FidsHeldAreCounted, FidsHide, FirstIsFound, FirstIsTold, FramesFit, FramesPutOut, FrontStands, GivenAndLeft, GivenInOrder, HolderOpened, HoldersHide, IsOpenOnce, KeysAreTheLines, LeftAfterTake, ListHides, ListedStays, NextsHide, NoAnswerTells, NoneDeletesBySecret, OnlyReadsWait, OpenerHolds, OpenersSpeak, OpenersSpeakOnce, OthersChangeNone, OthersFit, OthersLeaveCounts, OthersLeaveFids, OthersLeaveNexts, OthersLeaveSizes, OthersLeaveTexts, QuestionsAreAsked, QuestionsArePut, QuestionsRise, ReadsStood, ReadsWait, RefusedChangesNothing, RefusedIsTold, RepliesHide, ReplyFits, ReplyIsRead, ReplyIsValid, SearchesAreOfTheMoment, SearchesKeysBefore, SettledAreSwept, SettledAreTold, SizesHide, SpeakersAreFew, SpeakersRise, TextsHide, TextsStood, ToldIsAgreed, WaitsBehind, WriteMakesKeys, WritesAlike, WritesToldAlike};
+ghost use Rattle.agent_laws.specs.Sentences.{ActsOnItsConnection, AgreedBetween, ChangesItsOwn, ChosenStays, CountsHide, DeedsHide, DropsArePut, DropsComeOnce, DropsFollowChallenges, EditsOrTalks, ErrorChangesNothing, EventLeavesFid, FidStays, FidsHeldAreCounted, FidsHide, FirstIsFound, FirstIsTold, FramesFit, FramesPutOut, FrontStands, GivenAndLeft, GivenInOrder, HolderOpened, HoldersHide, IsOpenOnce, KeysAreTheLines, LeftAfterTake, ListHides, ListedStays, NextsHide, NoAnswerTells, NoneDeletesBySecret, NothingIsPut, OnlyReadsWait, OpenerHolds, OpenersSpeak, OpenersSpeakOnce, OthersChangeNone, OthersFit, OthersLeaveCounts, OthersLeaveFids, OthersLeaveNexts, OthersLeaveSizes, OthersLeaveTexts, OthersRaiseNone, QuestionsAreAsked, QuestionsArePut, QuestionsRise, ReadsStood, ReadsWait, RefusedChangesNothing, RefusedIsTold, RepliesHide, ReplyFits, ReplyIsRead, ReplyIsValid, RequestsRaiseOne, SearchesAreOfTheMoment, SearchesKeysBefore, SettledAreSwept, SettledAreTold, SizesHide, SpeakersAreFew, SpeakersRise, TextsHide, TextsStood, ToldIsAgreed, WaitsBehind, WriteMakesKeys, WritesAlike, WritesToldAlike};
 
 /// The keys are those of the accepted lines of ctl, in order: of lines that are the same in public the last one alone
 /// stands, at its own place, and none that a later line deleted.
@@ -126,12 +126,25 @@ pub fn a_conversation_stands_while_rpc_is_open()
 {}
 
 /// Each question for the authentication server is of a conversation that stands and waits for the answer. Their numbers
-/// rise in the order in which they were raised, so that none is used twice. Where one wasn't handed out yet, a take of a
-/// question puts the oldest out, under its number and its conversation's.
+/// rise in the order in which they were raised, so that none is used twice. Where one is due, a take of a question puts it
+/// out, under its number and its conversation's. A request raises one at most, and no other event any, so that a loop of
+/// takes and answers ends.
 pub fn a_question_is_of_a_conversation_that_waits()
     ensures asked { QuestionsAreAsked }
     ensures numbers { QuestionsRise }
     ensures put { QuestionsArePut }
+    ensures one { RequestsRaiseOne }
+    ensures others { OthersRaiseNone }
+{}
+
+/// A connection to the authentication server that a conversation kept is put out by a take of a question where it is due,
+/// and where nothing is due the take says so. It is put out at most once for a conversation, and only for one whose question
+/// for a challenge was the last of its questions that were put out.
+pub fn a_connection_is_given_up_once()
+    ensures put { DropsArePut }
+    ensures nothing { NothingIsPut }
+    ensures once { DropsComeOnce }
+    ensures behind { DropsFollowChallenges }
 {}
 
 /// A search finds what is found among the keys of the moment at which it is made. No event both edits keys and lets a

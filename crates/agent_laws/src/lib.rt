@@ -5,7 +5,7 @@
 mod laws;
 
 pub use laws::{
-    a_conversation_stands_while_rpc_is_open, a_fid_held_counts,
+    a_connection_is_given_up_once, a_conversation_stands_while_rpc_is_open, a_fid_held_counts,
     a_fid_stays_until_a_deed_that_concerns_it, a_question_is_of_a_conversation_that_waits,
     a_read_waits_for_an_answer_of_rpc, a_refused_request_changes_nothing,
     a_reply_fits_what_was_agreed, a_reply_is_taken_once, a_request_acts_on_its_connection,

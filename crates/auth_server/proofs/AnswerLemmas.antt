@@ -1,18 +1,17 @@
 -- A request that is whole and answered, and where its answering stops.
-use Rattle.std.proofs.Common.{◌≡◌, ◌↔◌, ℕ, ◌+◌, ◌<◌, ◌≤◌, List, [], ◌∷◌, ◌++◌, Bool, true, false, length, Option, None, Some, Result, Ok, Err, refl, sym, ap, subst, ◌∙◌, append_assoc, append-nil, length-append, inl, inr, arith}
+use Rattle.std.proofs.Common.{◌≡◌, ◌↔◌, ℕ, ◌+◌, ◌<◌, List, [], ◌∷◌, ◌++◌, Bool, true, false, length, Option, Some, refl, sym, ap, subst, ◌∙◌, append_assoc, append-nil, length-append, arith}
 use Rattle.std.specs.Io.KnownBytes.{Consumes}
-use Rattle.std.proofs.lemmas.Bool.{cases_Bool, leb-false}
+use Rattle.std.proofs.lemmas.Bool.{leb-false}
 use Rattle.wire_streams.specs.Streams.{Gains}
 use Rattle.wire_streams.specs.Whole.{GainsFront}
 use Rattle.wire_streams.proofs.StreamLemmas.{Gains-trans}
-use Rattle.auth_server.specs.declared.server.AsStep.{AsStep}
-use Rattle.auth_server.specs.declared.server.AsStep.TheVariants.{Replied, TooManyWrong}
+use Rattle.auth_server.specs.declared.session.AsStep.TheVariants.{Replied, TooManyWrong}
 use Rattle.auth_server.specs.Requests.{Asked, Challenge, asked_so, kind_of, needed}
 use Rattle.auth_server.specs.Answers.{Knowledge, answer, held, is_over, most_wrong, wrong}
 use Rattle.auth_server.specs.Standing.{Standing, StandsFor}
-use Rattle.auth_server.specs.Sessions.{DrawsAll, DrawsFew, Follows, IsSession, answers_of, bytes_of, words_of}
+use Rattle.auth_server.specs.Sessions.{DrawsAll, DrawsFew, answers_of, bytes_of, words_of}
 use Rattle.auth_server.specs.Serving.{Answers, AnswersFront, EndsWrong, LacksMemory, LacksWords, Moment, Reads, moment}
-use Rattle.auth_server.specs.Steps.{HasAnswered, Incoming, Received}
+use Rattle.auth_server.specs.Steps.{HasAnswered, Received}
 use Rattle.auth_server.proofs.DrawLemmas.{drawn_more}
 
 -- a session that hasn't come to its end has few wrong answers

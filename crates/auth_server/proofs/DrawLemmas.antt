@@ -1,5 +1,5 @@
 -- Words drawn one after the other.
-use Rattle.std.proofs.Common.{◌≡◌, ℕ, ◌<◌, List, [], ◌∷◌, ◌++◌, length, Option, None, Some, Result, Ok, Err, refl, sym, ap, subst, ◌∙◌, append_assoc, append-nil, arith}
+use Rattle.std.proofs.Common.{ℕ, List, [], ◌∷◌, ◌++◌, Option, None, Some, Ok, Err, refl, sym, ap, ◌∙◌, append_assoc, arith}
 use Rattle.wire_streams.specs.declared.words.WordFault.{WordFault}
 use Rattle.wire_streams.specs.Words.{Draws}
 use Rattle.auth_server.specs.Sessions.{DrawsAll, DrawsFew}

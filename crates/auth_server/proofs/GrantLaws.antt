@@ -1,9 +1,8 @@
 -- Every grant has one form, whatever the tables say.
-use Rattle.std.proofs.Common.{◌≡◌, ℕ, ◌+◌, ◌<◌, ◌≤◌, List, [], ◌∷◌, ◌++◌, Bool, true, false, cond, eqb, length, take, drop, Option, Some, None, Ok, refl, sym, ap, ◌∙◌, length-append, length-drop, inl, inr, arith}
+use Rattle.std.proofs.Common.{◌≡◌, ℕ, ◌<◌, List, [], ◌∷◌, ◌++◌, Bool, true, false, eqb, length, drop, Option, Some, None, Ok, refl, sym, ap, ◌∙◌, length-append, length-drop, arith}
 use Rattle.std.proofs.lemmas.Bool.{cond-true, eq-eqb}
 use Rattle.std.proofs.lemmas.List.{length-take, length-take-le}
 use Rattle.wire_base.specs.Names.{name_field}
-use Rattle.seal_mode.specs.Sealing.{sealed}
 use Rattle.seal_mode.proofs.SealLaws.{length-sealed}
 use Rattle.ticket_codec.specs.declared.request.TicketReq.{TicketReq}
 use Rattle.ticket_codec.specs.declared.ticket.Ticket.{Ticket}
@@ -13,8 +12,9 @@ use Rattle.ticket_codec.specs.Ticket.{ticket_text}
 use Rattle.ticket_codec.proofs.FieldLaws.{length-name_field}
 use Rattle.ticket_codec.proofs.RequestLaws.{request_layout}
 use Rattle.auth_tables.specs.Keys.{UserKey}
-use Rattle.auth_server.specs.Requests.{Asked, Challenge, auth_treq}
-use Rattle.auth_server.specs.Answers.{HasKeys, HasWords, IsGrant, Knowledge, answer, answer_to, grant, granted_key, held, key_or, mail_answer, shared_key, ticket, tickets, word, word_key}
+use Rattle.wire_base.specs.Kinds.{ticket_request}
+use Rattle.auth_server.specs.Requests.{Asked}
+use Rattle.auth_server.specs.Answers.{HasKeys, HasWords, IsGrant, Knowledge, answer, answer_to, grant, granted_key, held, judged, key_or, mail_answer, shared_key, ticket, tickets, word, word_key}
 
 -- ---- lengths
 
@@ -81,13 +81,13 @@ grant_form known words r request keys has is =
           (eight_bytes request r is) (short_name 85 request r.hostid is.hostid) (short_name 113 request r.uid is.uid) (seven_of_word (word 0 words) (has.eight 0 (omega arith)));
     }
 
-granted : (known : Knowledge) (before : List Asked) (asked : Asked) (r : TicketReq) → request_of asked.request ≡ Ok r → r.kind ≡ auth_treq → answer known before asked ≡ grant known asked.words r
+granted : (known : Knowledge) (before : List Asked) (asked : Asked) (r : TicketReq) → request_of asked.request ≡ Ok r → r.kind ≡ ticket_request → answer known before asked ≡ grant known asked.words r
 unfolding answer
 granted known before asked r read kind =
     ap (answer_to known asked (held known before)) read
-    ∙ cond-true (eqb r.kind auth_treq) (grant known asked.words r) (mail_answer known asked r (held known before)) (eq-eqb r.kind auth_treq kind)
+    ∙ cond-true (eqb r.kind ticket_request) (grant known asked.words r) (mail_answer known asked r (judged known asked r (held known before))) (eq-eqb r.kind ticket_request kind)
 
-pub is_grant : (known : Knowledge) (before : List Asked) (asked : Asked) (r : TicketReq) → HasKeys known → HasWords asked.words → request_of asked.request ≡ Ok r → r.kind ≡ auth_treq → IsGrant r asked.words (answer known before asked)
+pub is_grant : (known : Knowledge) (before : List Asked) (asked : Asked) (r : TicketReq) → HasKeys known → HasWords asked.words → request_of asked.request ≡ Ok r → r.kind ≡ ticket_request → IsGrant r asked.words (answer known before asked)
 is_grant known before asked r keys has read kind =
     let form = grant_form known asked.words r asked.request keys has ((request_layout asked.request r).0 read) in
     let is = granted known before asked r read kind in

@@ -5,5 +5,7 @@ pub mod DrawLemmas
 pub mod AnswerLemmas
 pub mod ServeLemmas
 pub mod SessionLaws
+pub mod ToldLaws
 pub mod CompleteLaws
+pub mod SpentLaws
 pub mod GrantLaws

@@ -1,12 +1,12 @@
 -- What the reads of a request leave.
-use Rattle.std.proofs.Common.{◌≡◌, ℕ, zero, suc, ◌+◌, ◌-◌, ◌<◌, ◌≤◌, List, [], ◌∷◌, ◌++◌, false, length, Option, None, Some, refl, sym, ap, subst, ◌∙◌, append_assoc, inl, inr, arith}
-use Rattle.std.specs.Io.KnownBytes.{Consumes, IsAtEnd}
+use Rattle.std.proofs.Common.{◌≡◌, ℕ, ◌+◌, ◌<◌, ◌≤◌, List, [], ◌∷◌, ◌++◌, length, Option, None, refl, sym, ap, subst, ◌∙◌, append_assoc, arith}
+use Rattle.std.specs.Io.KnownBytes.{Consumes}
 use Rattle.std.proofs.KnownBytes.{Consumes-trans}
 use Rattle.auth_server.specs.Requests.{Asked, Challenge, kind_of, needed}
 use Rattle.auth_server.specs.Answers.{Knowledge, held}
 use Rattle.auth_server.specs.Standing.{Standing}
-use Rattle.auth_server.specs.Sessions.{IsPart, IsUnfinished, bytes_of}
-use Rattle.auth_server.specs.Serving.{Answers, Floods, MeetsUnknown, Moment, Reads, moment, most_input}
+use Rattle.auth_server.specs.Sessions.{IsUnfinished, bytes_of}
+use Rattle.auth_server.specs.Serving.{Answers, Floods, MeetsUnknown, Moment, moment, most_input}
 use Rattle.auth_server.specs.Steps.{Incoming, Received}
 
 -- one piece, and a byte at its head

@@ -1,9 +1,9 @@
 -- A client, from its first request to the end of its input.
-use Rattle.std.proofs.Common.{◌≡◌, ℕ, ◌+◌, ◌<◌, ◌≤◌, List, [], ◌++◌, Bool, true, false, cond, ◌&&◌, eqb, length, Option, None, Some, refl, sym, ap, subst, ◌∙◌, append-nil, arith}
+use Rattle.std.proofs.Common.{◌≡◌, ℕ, ◌+◌, ◌<◌, ◌≤◌, List, [], ◌++◌, Bool, true, false, cond, ◌&&◌, length, Option, None, Some, refl, sym, subst, ◌∙◌, arith}
 use Rattle.std.specs.Io.KnownBytes.{Consumes, IsAtEnd}
 use Rattle.std.proofs.KnownBytes.{Consumes-nil}
 use Rattle.wire_streams.proofs.StreamLemmas.{Gains-nil}
-use Rattle.auth_server.specs.Requests.{Asked, Challenge, is_for, is_mail, is_served, kind_of, needed}
+use Rattle.auth_server.specs.Requests.{Asked, Challenge, is_for, is_mail, is_served, needed}
 use Rattle.auth_server.specs.Answers.{Knowledge}
 use Rattle.auth_server.specs.Standing.{Standing, StandsFor}
 use Rattle.auth_server.specs.Sessions.{bytes_of}

@@ -1,8 +1,8 @@
 -- A stream and its words have one session: of two that begin them one goes on from the other.
-use Rattle.std.proofs.Common.{◌≡◌, ◌⊎◌, ℕ, zero, ◌+◌, ◌<◌, ◌≤◌, List, [], ◌∷◌, ◌++◌, Bool, true, false, length, take, Option, Some, None, refl, sym, ap, subst, ◌∙◌, append_assoc, append-nil, length-append, inl, inr, arith}
+use Rattle.std.proofs.Common.{◌≡◌, ◌⊎◌, ℕ, ◌<◌, List, [], ◌∷◌, ◌++◌, length, Some, refl, sym, ap, subst, ◌∙◌, append_assoc, append-nil, inl, inr, arith}
 use Rattle.std.proofs.lemmas.List.{append_cancel_left}
-use Rattle.auth_server.specs.Requests.{Asked, Challenge, asked_so, kind_of, needed}
-use Rattle.auth_server.specs.Answers.{Knowledge, held, is_over}
+use Rattle.auth_server.specs.Requests.{Asked, asked_so, kind_of, needed}
+use Rattle.auth_server.specs.Answers.{Knowledge, held}
 use Rattle.auth_server.specs.Sessions.{Follows, GoesOnFrom, IsSession, bytes_of, words_of}
 use Rattle.auth_server.proofs.ServeLemmas.{needs_some}
 

@@ -2,7 +2,7 @@
 -- form of a challenge, what stands in for keys that aren't known, the end with the fifth wrong answer and the texts of
 -- errors are this project's. An answer depends on the requests before it in the session, and on nothing else that was
 -- kept: a session is the list of its requests, the newest first.
-use Rattle.std.specs.Prelude.{◌≡◌, ℕ, ◌+◌, ◌-◌, ◌<◌, List, [], ◌∷◌, ◌++◌, Bool, true, false, ◌==◌, nat_le, length, take, drop, replicate, codes, Option, Some, None, Result, Ok, Err, if◌then◌else◌}
+use Rattle.std.specs.Prelude.{◌≡◌, ℕ, ◌+◌, ◌-◌, ◌<◌, List, [], ◌∷◌, ◌++◌, Bool, false, ◌==◌, nat_le, length, take, drop, replicate, codes, Option, Some, None, Result, Ok, Err, if◌then◌else◌}
 use Rattle.std.specs.List.{slice_index_or}
 use Rattle.std.specs.Str.{bytes_eq}
 use Rattle.std.specs.Fmt.{decimal}
@@ -15,7 +15,10 @@ use Rattle.ticket_codec.specs.Request.{request_of}
 use Rattle.ticket_codec.specs.Ticket.{ticket_text}
 use Rattle.ticket_codec.specs.Authenticator.{authenticator_text}
 use Rattle.auth_tables.specs.Keys.{UserKey}
-use Rattle.auth_server.specs.Requests.{Asked, Challenge, auth_treq, auth_apop, is_for}
+use Rattle.wire_base.specs.Kinds.{ticket_request, apop_request, answer_ok, answer_error, answer_counted, server_ticket, client_ticket, client_authenticator}
+use Rattle.auth_server.specs.Requests.{Asked, Challenge}
+use Rattle.auth_server.specs.declared.session.Verdict.{Verdict}
+use Rattle.auth_server.specs.declared.session.Verdict.TheVariants.{First, Right, Wrong}
 
 -- What the server knows: its domain, the key of each user that has one, and which host may speak for which user.
 pub record Knowledge : Type 0 where
@@ -52,17 +55,17 @@ shared_key words = word_key (word 0 words)
 
 -- ---- records
 
--- a ticket, sealed under a key: 64 is the server's, 65 the client's
+-- a ticket, sealed under a key; its number says for whom it is
 abbrev pub ticket : ℕ → List ℕ → List ℕ → List ℕ → List ℕ → List ℕ → List ℕ
 ticket num chal cuid suid shared key = sealed key (ticket_text (record { num = num; chal = chal; cuid = cuid; suid = suid; key = record { 0 = shared } }))
 
 -- the two tickets of a grant, under their byte
 unfoldable pub tickets : TicketReq → List ℕ → List ℕ → List ℕ → List ℕ
-tickets r shared hosts servers = 4 ∷ [] ++ ticket 65 r.chal r.hostid r.uid shared hosts ++ ticket 64 r.chal r.hostid r.uid shared servers
+tickets r shared hosts servers = answer_ok ∷ [] ++ ticket client_ticket r.chal r.hostid r.uid shared hosts ++ ticket server_ticket r.chal r.hostid r.uid shared servers
 
 -- an error and its text, with NULs to 64 bytes
 unfoldable pub refusal : List ℕ → List ℕ
-refusal text = 5 ∷ [] ++ text ++ replicate (64 - length text) 0
+refusal text = answer_error ∷ [] ++ text ++ replicate (64 - length text) 0
 
 -- ---- a ticket request
 
@@ -77,17 +80,21 @@ grant known words r =
 
 -- ---- challenges
 
--- the text of a challenge: the first word in digits, at the server's domain
-unfoldable pub challenge_text : Knowledge → List (List ℕ) → List ℕ
-challenge_text known words = codes "<" ++ encode_lower (word 0 words) ++ codes "@" ++ known.dom ++ codes ">"
+-- the text of a challenge: a word in digits, at a domain
+unfoldable pub challenge_at : List ℕ → List ℕ → List ℕ
+challenge_at word dom = codes "<" ++ encode_lower word ++ codes "@" ++ dom ++ codes ">"
+
+-- the challenge that a request for one is given: the first word, at the server's domain
+abbrev pub challenge_text : Knowledge → List (List ℕ) → List ℕ
+challenge_text known words = challenge_at (word 0 words) known.dom
 
 -- a challenge under its byte, behind its length in decimal with blanks to five bytes
 unfoldable pub challenge_answer : List ℕ → List ℕ
-challenge_answer text = 9 ∷ [] ++ decimal (length text) ++ replicate (5 - length (decimal (length text))) 32 ++ text
+challenge_answer text = answer_counted ∷ [] ++ decimal (length text) ++ replicate (5 - length (decimal (length text))) 32 ++ text
 
 -- the digits that answer a challenge of a kind under a password
 abbrev pub digits_for : ℕ → List ℕ → List ℕ → List ℕ
-digits_for kind challenge password = if kind == auth_apop then apop_digits challenge password else cram_digits challenge password
+digits_for kind challenge password = if kind == apop_request then apop_digits challenge password else cram_digits challenge password
 
 -- whether digits answer a challenge under a password, if there is one
 abbrev pub are_digits : ℕ → List ℕ → List ℕ → Option (List ℕ) → Bool
@@ -103,43 +110,55 @@ password_of (Some key) = key.password
 abbrev pub is_right : Knowledge → List ℕ → TicketReq → List ℕ → Bool
 is_right known request r challenge = are_digits r.kind challenge (drop 141 request) (password_of (known.key r.uid))
 
--- the vouch for a right answer: a ticket for the server named, and an authenticator under the key in it
-unfoldable pub vouch : Knowledge → List (List ℕ) → TicketReq → List ℕ
-vouch known words r =
-    4 ∷ [] ++ ticket 64 r.chal r.uid r.uid (shared_key words) (server_key known words r.authid)
-    ++ sealed (shared_key words) (authenticator_text (record { num = 67; chal = r.chal; id = 0 }))
+-- a vouch for a user: a ticket for the server named, which names the user as both, and an authenticator under the key in it
+unfoldable pub vouch_text : TicketReq → List ℕ → List ℕ → List ℕ
+vouch_text r shared servers =
+    answer_ok ∷ [] ++ ticket server_ticket r.chal r.uid r.uid shared servers
+    ++ sealed shared (authenticator_text (record { num = client_authenticator; chal = r.chal; id = 0 }))
+
+-- the vouch for a right answer
+abbrev pub vouch : Knowledge → List (List ℕ) → TicketReq → List ℕ
+vouch known words r = vouch_text r (shared_key words) (server_key known words r.authid)
 
 -- ---- what a session holds, by its requests
 
--- the challenge that is held after a mail request, by the one that was held before: a first request has one given out,
--- in place of one of the other kind; a right answer uses it up, and a wrong one leaves it
-abbrev pub held_mail : Knowledge → Asked → TicketReq → Option Challenge → Option Challenge
-held_mail known asked r None = Some (record { kind = r.kind; text = challenge_text known asked.words })
-held_mail known asked r (Some challenge) = if challenge.kind == r.kind then (if is_right known asked.request r challenge.text then None else Some challenge) else Some (record { kind = r.kind; text = challenge_text known asked.words })
+-- what a mail request is to the challenge that is held: a first one where none is held for its kind, and else one that
+-- answers it, rightly or wrongly
+abbrev pub judged : Knowledge → Asked → TicketReq → Option Challenge → Verdict
+judged known asked r None = First
+judged known asked r (Some challenge) = if challenge.kind == r.kind then (if is_right known asked.request r challenge.text then Right else Wrong) else First
+
+-- the challenge that is held after it: a first request has one given out, in place of one of the other kind; a right
+-- answer uses it up, and a wrong one leaves it
+abbrev pub held_mail : Knowledge → Asked → TicketReq → Option Challenge → Verdict → Option Challenge
+held_mail known asked r held First = Some (record { kind = r.kind; text = challenge_text known asked.words })
+held_mail known asked r held Right = None
+held_mail known asked r held Wrong = held
 
 -- the same after any request: one with a bad field, and a ticket request, change nothing
 abbrev pub held_after : Knowledge → Asked → Option Challenge → Result TicketReq FieldFault → Option Challenge
 held_after known asked held (Err fault) = held
-held_after known asked held (Ok r) = if r.kind == auth_treq then held else held_mail known asked r held
+held_after known asked held (Ok r) = if r.kind == ticket_request then held else held_mail known asked r held (judged known asked r held)
 
 -- the challenge that a session holds
 abbrev pub held : Knowledge → List Asked → Option Challenge
 held known [] = None
 held known (asked ∷ before) = held_after known asked (held known before) (request_of asked.request)
 
--- whether an answer to a challenge is wrong
-abbrev pub wrong_mail : Knowledge → Asked → TicketReq → Option Challenge → Bool
-wrong_mail known asked r None = false
-wrong_mail known asked r (Some challenge) = if challenge.kind == r.kind then (if is_right known asked.request r challenge.text then false else true) else false
+-- how many wrong answers a mail request is, and any request
+abbrev pub wrong_mail : Verdict → ℕ
+wrong_mail First = 0
+wrong_mail Right = 0
+wrong_mail Wrong = 1
 
-abbrev pub is_wrong : Knowledge → Asked → Option Challenge → Result TicketReq FieldFault → Bool
-is_wrong known asked held (Err fault) = false
-is_wrong known asked held (Ok r) = if r.kind == auth_treq then false else wrong_mail known asked r held
+abbrev pub wrong_by : Knowledge → Asked → Option Challenge → Result TicketReq FieldFault → ℕ
+wrong_by known asked held (Err fault) = 0
+wrong_by known asked held (Ok r) = if r.kind == ticket_request then 0 else wrong_mail (judged known asked r held)
 
 -- how many wrong answers a session has
 abbrev pub wrong : Knowledge → List Asked → ℕ
 wrong known [] = 0
-wrong known (asked ∷ before) = wrong known before + (if is_wrong known asked (held known before) (request_of asked.request) then 1 else 0)
+wrong known (asked ∷ before) = wrong known before + wrong_by known asked (held known before) (request_of asked.request)
 
 -- how many wrong answers end a session
 abbrev pub most_wrong : ℕ
@@ -151,16 +170,16 @@ is_over known session = nat_le most_wrong (wrong known session)
 
 -- ---- the answer
 
--- the answer to a mail request, by the challenge held
-abbrev pub mail_answer : Knowledge → Asked → TicketReq → Option Challenge → List ℕ
-mail_answer known asked r None = challenge_answer (challenge_text known asked.words)
-mail_answer known asked r (Some challenge) =
-    if challenge.kind == r.kind then (if is_right known asked.request r challenge.text then vouch known asked.words r else refusal (codes "bad response"))
-    else challenge_answer (challenge_text known asked.words)
+-- the answer to a mail request: a challenge, a vouch, or a refusal
+abbrev pub mail_answer : Knowledge → Asked → TicketReq → Verdict → List ℕ
+mail_answer known asked r First = challenge_answer (challenge_text known asked.words)
+mail_answer known asked r Right = vouch known asked.words r
+mail_answer known asked r Wrong = refusal (codes "bad response")
 
+-- the answer to any request, by the challenge that is held
 abbrev pub answer_to : Knowledge → Asked → Option Challenge → Result TicketReq FieldFault → List ℕ
 answer_to known asked held (Err fault) = refusal (codes "bad request")
-answer_to known asked held (Ok r) = if r.kind == auth_treq then grant known asked.words r else mail_answer known asked r held
+answer_to known asked held (Ok r) = if r.kind == ticket_request then grant known asked.words r else mail_answer known asked r (judged known asked r held)
 
 -- the answer to a request, by those before it
 unfoldable pub answer : Knowledge → List Asked → Asked → List ℕ

@@ -1,24 +1,15 @@
 -- The requests of a client to the authentication server, after authsrv(6) of the Plan 9 manual: which kinds there are,
 -- and how long a request is.
-use Rattle.std.specs.Prelude.{ℕ, List, [], Bool, true, false, ◌&&◌, ◌||◌, ◌==◌, slice_index, Option, Some, None, if◌then◌else◌}
+use Rattle.wire_base.specs.Kinds.{ticket_request, apop_request, cram_request}
+use Rattle.std.specs.Prelude.{ℕ, List, Bool, false, ◌&&◌, ◌||◌, ◌==◌, slice_index, Option, Some, None, if◌then◌else◌}
 
--- a ticket request, and requests for a challenge of APOP and of CRAM and to check its answer
-abbrev pub auth_treq : ℕ
-auth_treq = 1
-
-abbrev pub auth_apop : ℕ
-auth_apop = 7
-
-abbrev pub auth_cram : ℕ
-auth_cram = 12
-
--- a kind of request that is for a challenge, or to check its answer
+-- a kind of request that is for a challenge, or answers it: that of a mail server
 abbrev pub is_mail : ℕ → Bool
-is_mail kind = kind == auth_apop || kind == auth_cram
+is_mail kind = kind == apop_request || kind == cram_request
 
--- the kinds that are served today
+-- the kinds that are served
 abbrev pub is_served : ℕ → Bool
-is_served kind = kind == auth_treq
+is_served kind = kind == ticket_request || is_mail kind
 
 -- A request as it came, and the words of eight bytes that were drawn for it, the first of them first.
 pub record Asked : Type 0 where
@@ -42,7 +33,7 @@ abbrev pub is_for : ℕ → Option Challenge → Bool
 is_for kind None = false
 is_for kind (Some challenge) = challenge.kind == kind
 
--- how many bytes a request has that begins with a kind: a ticket request, and behind it 32 digits where it is to check
--- the answer to a challenge that is held; none where no request of that kind is served
+-- how many bytes a request has that begins with a kind: 141, and 32 digits behind these where it answers a challenge that
+-- is held; none where no request of that kind is served
 abbrev pub needed : Option Challenge → ℕ → Option ℕ
 needed held kind = if is_served kind then Some (if is_mail kind && is_for kind held then 173 else 141) else None

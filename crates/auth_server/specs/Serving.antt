@@ -4,9 +4,9 @@ use Rattle.std.specs.Prelude.{◌≡◌, ℕ, ◌+◌, ◌<◌, ◌≤◌, List,
 use Rattle.std.specs.Io.KnownBytes.{Consumes, IsAtEnd}
 use Rattle.wire_streams.specs.Streams.{Gains}
 use Rattle.wire_streams.specs.Whole.{GainsFront}
-use Rattle.auth_server.specs.Requests.{Asked, asked_so, kind_of, needed}
+use Rattle.auth_server.specs.Requests.{Asked, kind_of, needed}
 use Rattle.auth_server.specs.Answers.{Knowledge, held, is_over}
-use Rattle.auth_server.specs.Sessions.{Follows, IsSession, IsPart, IsUnfinished, DrawsAll, answers_of, bytes_of, words_of}
+use Rattle.auth_server.specs.Sessions.{IsSession, IsPart, IsUnfinished, DrawsAll, answers_of, bytes_of, words_of}
 use Rattle.auth_server.specs.declared.serve.AuthEnd.{AuthEnd}
 use Rattle.auth_server.specs.declared.serve.AuthEnd.TheVariants.{End, UnknownType, Torn, TooManyWrong, ReadFault, WriteFault, WordFault, Flood, NoMemory}
 
@@ -137,4 +137,16 @@ pub record IsServable (known : Knowledge) (before : Moment) : Type 0 where
   pub goes_on : is_over known requests ≡ false
   pub few : length (bytes_of requests) ≤ most_input
   pub left : before.left ≡ Some (bytes_of requests)
+  pub to_come : before.to_come ≡ Some (words_of requests ++ later)
+
+-- the client's bytes are told, they begin with a session that five wrong answers end, and that isn't too many; and its words
+-- are told to come
+pub record IsSpent (known : Knowledge) (before : Moment) : Type 0 where
+  pub requests : List Asked
+  pub behind : List ℕ
+  pub later : List (List ℕ)
+  pub session : IsSession known requests
+  pub over : is_over known requests ≡ true
+  pub few : length (bytes_of requests) ≤ most_input
+  pub left : before.left ≡ Some (bytes_of requests ++ behind)
   pub to_come : before.to_come ≡ Some (words_of requests ++ later)

@@ -1,5 +1,5 @@
 -- Words for the steps of the code. No public contract cites them.
-use Rattle.std.specs.Prelude.{◌≡◌, ◌<◌, ◌≤◌, ℕ, List, [], ◌++◌, false, length, codes, Option, Some, Result, Ok, Err}
+use Rattle.std.specs.Prelude.{◌≡◌, ◌+◌, ◌<◌, ◌≤◌, ℕ, List, [], ◌++◌, false, length, Option, Some, Result}
 use Rattle.std.specs.Io.KnownBytes.{Consumes, IsAtEnd, Keeps}
 use Rattle.wire_streams.specs.declared.source.Got.{Got}
 use Rattle.wire_streams.specs.declared.source.Got.TheVariants.{Bytes, End, Failed}
@@ -10,15 +10,20 @@ use Rattle.auth_server.specs.declared.serve.AuthEnd.TheVariants as e
 use Rattle.auth_server.specs.declared.serve.Progress.{Progress}
 use Rattle.auth_server.specs.declared.serve.Progress.TheVariants.{Whole, Part, Ended}
 use Rattle.auth_server.specs.Requests.{Asked, kind_of, needed}
-use Rattle.auth_server.specs.Answers.{Knowledge, grant, is_over, refusal}
+use Rattle.auth_server.specs.Answers.{Knowledge, held_after, held_mail, is_over, judged, wrong_by, wrong_mail}
 use Rattle.auth_server.specs.Standing.{Standing, StandsFor}
 use Rattle.auth_server.specs.Sessions.{IsUnfinished, bytes_of}
 use Rattle.auth_server.specs.Serving.{Moment, Answers}
 
--- the answer to a ticket request, by what is read of it
-abbrev pub treq_answer : Knowledge → List (List ℕ) → Result TicketReq FieldFault → List ℕ
-treq_answer known words (Err fault) = refusal (codes "bad request")
-treq_answer known words (Ok r) = grant known words r
+-- what a request makes of a session, by what is read of it: what is held after it, and its wrong answers more
+pub record Moves (known : Knowledge) (asked : Asked) (old new : Standing) (read : Result TicketReq FieldFault) : Type 0 where
+  pub held : new.held ≡ held_after known asked old.held read
+  pub wrong : new.wrong ≡ old.wrong + wrong_by known asked old.held read
+
+-- the same of a mail request
+pub record MailMoves (known : Knowledge) (asked : Asked) (r : TicketReq) (old new : Standing) : Type 0 where
+  pub held : new.held ≡ held_mail known asked r old.held (judged known asked r old.held)
+  pub wrong : new.wrong ≡ old.wrong + wrong_mail (judged known asked r old.held)
 
 -- ---- the request that is being read
 

@@ -2,7 +2,8 @@
 ghost use Rattle.std.specs.Prelude.{◌≡◌, ◌⊎◌, ◌++◌, ℕ, List, Ok};
 ghost use Rattle.ticket_codec.specs.declared.request.TicketReq.{TicketReq};
 ghost use Rattle.ticket_codec.specs.Request.{request_of};
-ghost use Rattle.auth_server.specs.Requests.{Asked, auth_treq};
+ghost use Rattle.wire_base.specs.Kinds.{ticket_request};
+ghost use Rattle.auth_server.specs.Requests.{Asked};
 ghost use Rattle.auth_server.specs.Answers.{HasKeys, HasWords, IsGrant, Knowledge, answer};
 ghost use Rattle.auth_server.specs.Sessions.{GoesOnFrom, IsSession, bytes_of, words_of};
 
@@ -21,6 +22,6 @@ pub fn a_stream_has_one_session()
 pub fn every_ticket_request_gets_two_tickets()
     ensures { (known : Knowledge) (before : List Asked) (asked : Asked) (r : TicketReq)
         → HasKeys known → HasWords asked.words
-        → request_of asked.request ≡ Ok r → r.kind ≡ auth_treq
+        → request_of asked.request ≡ Ok r → r.kind ≡ ticket_request
         → IsGrant r asked.words (answer known before asked) }
 {}

@@ -7,12 +7,13 @@ ghost use Rattle.auth_server.specs.Requests.{Asked, asked_so, kind_of, needed};
 ghost use Rattle.auth_server.specs.Answers.{most_wrong};
 ghost use Rattle.auth_server.specs.Standing.{knowledge};
 ghost use Rattle.auth_server.specs.Sessions.{DrawsAll, DrawsFew, IsPart, IsUnfinished};
-ghost use Rattle.auth_server.specs.Serving.{EndsSo, IsServable, Moment, moment, most_input};
+ghost use Rattle.auth_server.specs.Serving.{EndsSo, IsServable, IsSpent, Moment, moment, most_input};
 ghost use Rattle.auth_server.specs.Steps.{HasAnswered, IsAnswerEnd, IsReadEnd, Progressed, Received};
 ghost use Rattle.auth_server.specs.declared.serve.Progress.TheVariants.{Whole, Part, Ended};
 
 use crate::incoming::Incoming;
-use crate::server::{AsStep, AuthCore, Session};
+use crate::server::AuthCore;
+use crate::session::{AsStep, Session};
 use std::alloc::Global;
 use wire_base::{Bytes, NoMemory};
 use wire_streams::{Got, Sink, Source, WordFault, Words, WriteFault, write_all};
@@ -382,6 +383,14 @@ pub fn serve_auth<R: Source, W: Sink, G: Words>(
         → (Rose (W.faults sink.old) (W.faults sink.new) → ⊥)
         → (Rose (G.faults words.old) (G.faults words.new) → ⊥)
         → (result ≡ AuthEnd.End) ⊎ (result ≡ AuthEnd.NoMemory) }
+
+    // And what is told to begin with five wrong answers is served to the fifth.
+    ensures spent { IsSpent (knowledge core.now)
+        (moment (R.left source.old) (G.to_come words.old) (W.holds sink.old))
+        → (Rose (R.faults source.old) (R.faults source.new) → ⊥)
+        → (Rose (W.faults sink.old) (W.faults sink.new) → ⊥)
+        → (Rose (G.faults words.old) (G.faults words.new) → ⊥)
+        → (result ≡ AuthEnd.TooManyWrong) ⊎ (result ≡ AuthEnd.NoMemory) }
 {
     serve_client(alloc, core, source, sink, words)
 }

@@ -1,53 +1,19 @@
 // The server as a function of a session's requests, without the outside.
-ghost use Rattle.std.specs.Prelude.{◌≡◌, ◌≤◌, length};
-ghost use Rattle.auth_server.specs.Answers.{refusal, ticket, tickets, word_key};
-
+use crate::records::{
+    give_challenge, refuse, word_key, write_challenge, write_tickets, write_vouch,
+};
+use crate::session::{AsStep, Challenge, Session, Verdict, digits_for};
 use auth_tables::{KeyTable, SpeaksTable};
 use seal_mode::Key7;
 use std::marker::Model;
-use ticket_codec::{
-    AUTH_ERR, AUTH_OK, AUTH_TC, AUTH_TREQ, AUTH_TS, RecordWriter, Ticket, TicketReq, read_req,
-    seal_ticket,
-};
+use ticket_codec::{AUTH_APOP, AUTH_CRAM, AUTH_TREQ, TicketReq, read_req};
 use wire_base::{Bytes, NoMemory, Text};
 
-/// How many bytes a ticket request has.
+/// How many bytes a request has, without the digits that answer a challenge.
 const REQUEST_BYTES: usize = 141;
 
-/// What a step of a session came to.
-#[derive(Clone, Copy, Debug, PartialEq, Eq)]
-pub enum AsStep {
-    /// The request was answered.
-    Replied,
-    /// It was answered, and was the session's fifth wrong answer, which ends it.
-    TooManyWrong,
-}
-
-/// One client's session. It holds no challenge and has no wrong answer as long as no mail request is served.
-#[derive(Drop)]
-pub struct Session {}
-
-impl Model for Session {
-    ghost use Rattle.std.specs.Prelude.{None};
-    ghost use Rattle.auth_server.specs.Standing.{Standing};
-
-    ghost Value = { Standing };
-
-    ghost view = { λ _. record { held = None; wrong = 0 } };
-}
-
-impl Session {
-    ghost use Rattle.std.specs.Prelude.{[], List};
-    ghost use Rattle.auth_server.specs.Answers.{Knowledge};
-    ghost use Rattle.auth_server.specs.Standing.{StandsFor};
-
-    /// A session without requests.
-    pub fn new() -> Session
-        ensures { (known : Knowledge) → StandsFor known [] result }
-    {
-        Session {}
-    }
-}
+/// How many digits answer a challenge.
+const DIGITS: usize = 32;
 
 /// What the server knows. It has no Debug, which would print secrets.
 #[derive(Drop)]
@@ -58,23 +24,26 @@ pub struct AuthCore {
 }
 
 impl Model for AuthCore {
+    ghost use Rattle.std.specs.Prelude.{◌≡◌, true};
+    ghost use Rattle.attr_tuples.specs.Forms.{is_dom};
     ghost use Rattle.auth_server.specs.Standing.{Server};
 
     ghost Value = { Server };
 
     ghost view = { λ c. record { dom = c.dom; keys = c.keys; speaks = c.speaks } };
+
+    ghost invariant = { λ c. is_dom c.dom ≡ true };
 }
 
 impl AuthCore {
-    ghost use Rattle.std.specs.Prelude.{◌≡◌, ◌<◌, ◌↔◌, ◌∷◌, ◌++◌, List, Some, true, length, IfOk, OnErr, OnOk, if◌then◌else◌};
+    ghost use Rattle.std.specs.Prelude.{◌≡◌, ◌<◌, ◌≤◌, ◌↔◌, ◌∷◌, ◌++◌, ℕ, List, Some, true, length, IfOk, OnErr, OnOk};
     ghost use Rattle.attr_tuples.specs.Forms.{is_dom};
     ghost use Rattle.auth_tables.specs.Keys.{key_of};
-    ghost use Rattle.auth_tables.specs.Speaks.{may_speak, names_of};
     ghost use Rattle.auth_server.specs.Requests.{Asked, asked_so, kind_of, needed};
-    ghost use Rattle.auth_server.specs.Answers.{answer, grant, is_over, granted_key, most_wrong, word_key};
+    ghost use Rattle.auth_server.specs.Answers.{answer, answer_to, are_digits, grant, granted_key, is_over, judged, mail_answer, most_wrong, password_of, vouch};
     ghost use Rattle.ticket_codec.specs.Request.{request_of};
     ghost use Rattle.auth_server.specs.Standing.{StandsFor, knowledge};
-    ghost use Rattle.auth_server.specs.Steps.{treq_answer};
+    ghost use Rattle.auth_server.specs.Steps.{MailMoves, Moves};
 
     /// The server of a domain, with what it knows of users and hosts. It takes no memory.
     pub fn new(dom: Text, keys: KeyTable, speaks: SpeaksTable) -> AuthCore
@@ -91,6 +60,8 @@ impl AuthCore {
     {
         match kind {
             AUTH_TREQ => Some(REQUEST_BYTES),
+            AUTH_APOP | AUTH_CRAM if session.holds(kind) => Some(REQUEST_BYTES + DIGITS),
+            AUTH_APOP | AUTH_CRAM => Some(REQUEST_BYTES),
             _ => None,
         }
     }
@@ -120,30 +91,122 @@ impl AuthCore {
             → StandsFor (knowledge self.now) before session.old
             → step ≡ AsStep.TooManyWrong
             ↔ is_over (knowledge self.now) (asked_so request.now words.now ∷ before) ≡ true) }
+        ensures replied { IfOk result (λ step. step ≡ AsStep.Replied
+            → session.new.wrong < most_wrong) }
 
         ensures err { OnErr result (out.new ≡ out.old) }
         ensures unchanged { OnErr result (session.new ≡ session.old) }
     {
-        let _session = session;
-        self.answer_treq(request, words, out)?;
-        Ok(AsStep::Replied)
+        self.answer_next(session, request, words, out)?;
+        Ok(session.last_step())
     }
 
-    // Appends the answer to a ticket request.
-    fn answer_treq(
+    // Appends the answer to the next request.
+    fn answer_next(
         &self,
+        session: &mut Session,
         request: &[u8],
         words: &[[u8; 8]; 3],
         out: &mut Bytes,
     ) -> Result<(), NoMemory>
-        ensures ok { OnOk result (out.new
-            ≡ out.old ++ treq_answer (knowledge self.now) words.now (request_of request.now)) }
+        requires whole { needed session.old.held (kind_of request.now) ≡ Some (length request.now) }
+        requires goes_on { session.old.wrong < most_wrong }
+        ensures answer { OnOk result (out.new ≡ out.old ++ answer_to (knowledge self.now)
+            (asked_so request.now words.now) session.old.held (request_of request.now)) }
+        ensures moves { OnOk result (Moves (knowledge self.now) (asked_so request.now words.now)
+            session.old session.new (request_of request.now)) }
         ensures err { OnErr result (out.new ≡ out.old) }
+        ensures unchanged { OnErr result (session.new ≡ session.old) }
     {
         match read_req(request) {
-            Ok(asked) => out.append(&self.grant(&asked, words)),
+            Ok(asked) if asked.kind == AUTH_TREQ => out.append(&self.grant(&asked, words)),
+            Ok(asked) => self.answer_mail(session, &asked, request, words, out),
             Err(_) => out.append(&refuse(b"bad request")),
         }
+    }
+
+    // Appends the answer to a request of a mail server.
+    fn answer_mail(
+        &self,
+        session: &mut Session,
+        asked: &TicketReq,
+        request: &[u8],
+        words: &[[u8; 8]; 3],
+        out: &mut Bytes,
+    ) -> Result<(), NoMemory>
+        requires whole { 141 ≤ length request.now }
+        requires goes_on { session.old.wrong < most_wrong }
+        ensures answer { OnOk result (out.new ≡ out.old ++ mail_answer (knowledge self.now)
+            (asked_so request.now words.now) asked.now (judged (knowledge self.now)
+            (asked_so request.now words.now) asked.now session.old.held)) }
+        ensures moves { OnOk result (MailMoves (knowledge self.now) (asked_so request.now words.now)
+            asked.now session.old session.new) }
+        ensures err { OnErr result (out.new ≡ out.old) }
+        ensures unchanged { OnErr result (session.new ≡ session.old) }
+    {
+        match self.judge(session, asked, request) {
+            Verdict::First => {
+                let text = write_challenge(&words[0], self.dom.as_slice());
+                out.append(give_challenge(text.written()).written())?;
+                session.hold(Challenge {
+                    kind: asked.kind,
+                    text,
+                });
+            }
+            Verdict::Right => {
+                out.append(&self.vouch(asked, words))?;
+                session.give_up();
+            }
+            Verdict::Wrong => {
+                out.append(&refuse(b"bad response"))?;
+                session.count_wrong();
+            }
+        }
+        Ok(())
+    }
+
+    // What a request of a mail server is to the challenge that its session holds.
+    fn judge(&self, session: &Session, asked: &TicketReq, request: &[u8]) -> Verdict
+        requires { 141 ≤ length request.now }
+        ensures { (words : List (List ℕ)) → result ≡ judged (knowledge self.now)
+            (asked_so request.now words) asked.now session.now.held }
+    {
+        match &session.held {
+            None => Verdict::First,
+            Some(challenge) if challenge.kind != asked.kind => Verdict::First,
+            Some(challenge) => {
+                let (_, digits) = request.split_at(REQUEST_BYTES);
+                if self.are_digits(asked, challenge.text.written(), digits) {
+                    Verdict::Right
+                } else {
+                    Verdict::Wrong
+                }
+            }
+        }
+    }
+
+    // Whether digits answer a challenge under the password of the user that a request names, if he has one.
+    fn are_digits(&self, asked: &TicketReq, challenge: &[u8], digits: &[u8]) -> bool
+        ensures { result ≡ are_digits asked.now.kind challenge.now digits.now
+            (password_of (key_of asked.now.uid self.now.keys)) }
+    {
+        let Some(key) = self.keys.find(asked.uid.text()) else {
+            return false;
+        };
+        match key.password() {
+            None => false,
+            Some(password) => {
+                digits == digits_for(asked.kind, challenge, password.as_slice()).as_slice()
+            }
+        }
+    }
+
+    // The vouch that a right answer is answered with.
+    fn vouch(&self, asked: &TicketReq, words: &[[u8; 8]; 3]) -> [u8; 86]
+        ensures { result ≡ vouch (knowledge self.now) words.now asked.now }
+    {
+        let servers = self.granted_key(true, asked.authid.text(), &words[1]);
+        write_vouch(asked, word_key(&words[0]), &servers)
     }
 
     // The grant that a ticket request is answered with.
@@ -168,51 +231,4 @@ impl AuthCore {
             _ => word_key(word),
         }
     }
-}
-
-// The key that a word stands for.
-fn word_key(word: &[u8; 8]) -> Key7
-    ensures { result.0 ≡ word_key word.now }
-{
-    let [a, b, c, d, e, f, g, _] = *word;
-    Key7([a, b, c, d, e, f, g])
-}
-
-// The two tickets of a grant, under their byte.
-#[tactic(auto, unfolding(crate::specs::Answers::tickets))]
-fn write_tickets(asked: &TicketReq, shared: Key7, hosts: &Key7, servers: &Key7) -> [u8; 145]
-    ensures { result ≡ tickets asked.now shared.0 hosts.now.0 servers.now.0 }
-{
-    let mut out = RecordWriter::<145>::new();
-    out.put(&[AUTH_OK]);
-    out.put(&seal_for(AUTH_TC, asked, shared, hosts));
-    out.put(&seal_for(AUTH_TS, asked, shared, servers));
-    out.finish()
-}
-
-// The ticket for one of the two.
-fn seal_for(num: u8, asked: &TicketReq, shared: Key7, key: &Key7) -> [u8; 72]
-    ensures { result ≡ ticket num asked.now.chal asked.now.hostid asked.now.uid shared.0 key.now.0 }
-{
-    let ticket = Ticket {
-        num,
-        chal: asked.chal,
-        cuid: asked.hostid,
-        suid: asked.uid,
-        key: shared,
-    };
-    seal_ticket(&ticket, key)
-}
-
-// An error and its text, with NULs to 64 bytes.
-#[tactic(auto, unfolding(crate::specs::Answers::refusal))]
-fn refuse(text: &[u8]) -> [u8; 65]
-    requires { length text.now ≤ 64 }
-    ensures { result ≡ refusal text.now }
-{
-    let mut out = RecordWriter::<65>::new();
-    out.put(&[AUTH_ERR]);
-    out.put(text);
-    out.put_nuls(64 - text.len());
-    out.finish()
 }

@@ -172,7 +172,7 @@ fn speaks_of(alloc: Global, file: &str) -> Result<SpeaksTable, Fail> {
 }
 
 // The server of domain x with these tables.
-fn core_of(alloc: Global, keys: &str, speaks: &str) -> Result<AuthCore, Fail> {
+pub(crate) fn core_of(alloc: Global, keys: &str, speaks: &str) -> Result<AuthCore, Fail> {
     let dom = Text::from_slice(alloc, b"x")?.ok_or("no text")?;
     if !is_dom(dom.as_slice()) {
         return Err("no domain".into());
@@ -190,7 +190,7 @@ fn words_of(alloc: Global, count: usize) -> Result<Vec<[u8; 8]>, Fail> {
 }
 
 // What a client that sends these bytes gets, and how it ends, where the calls of these numbers fail.
-fn expect_end(
+pub(crate) fn expect_end(
     rt: &impl Abort,
     alloc: Global,
     name: &str,
@@ -202,7 +202,7 @@ fn expect_end(
 ) -> Result<(), Fail> {
     let mut source = MemSource::new(input.to_vec(alloc)?, [failed_read].to_vec(alloc)?);
     let mut sink = MemSink::new(Vec::new(alloc), [failed_write].to_vec(alloc)?);
-    let mut words = MemWords::new(words_of(alloc, 8)?, [failed_word].to_vec(alloc)?);
+    let mut words = MemWords::new(words_of(alloc, 10)?, [failed_word].to_vec(alloc)?);
     let ended = serve_auth(alloc, core, &mut source, &mut sink, &mut words);
     assert_eq!(rt; ended, end, "{name}");
     assert_eq!(rt; sink.content(), written, "{name}");
@@ -361,7 +361,7 @@ fn unknown_kinds_end_a_session(rt: HostRuntime) -> Result<(), Fail> {
     let alloc = rt.alloc();
     let core = core_of(alloc, KEYS, SPEAKS)?;
     let (request, answer) = (ANSWERS[0].1.as_slice(), ANSWERS[0].2.as_slice());
-    for kind in [0, 2, 3, 7, 12, 65, 255] {
+    for kind in [0, 2, 3, 6, 8, 11, 13, 65, 255] {
         let none = (0, 0, 0);
         let end = AuthEnd::UnknownType { at: 0, kind };
         expect_end(&rt, alloc, "alone", &core, &[kind], none, end, b"")?;

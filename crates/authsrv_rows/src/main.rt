@@ -22,8 +22,11 @@ struct Row {
     client: &'static str,
 }
 
+/// How many requests a client sends at most, of those that are answered.
+const MOST_REQUESTS: usize = 6;
+
 /// The last one's status is that of the process.
-static ROWS: [Row; 6] = [
+static ROWS: [Row; 8] = [
     Row {
         name: "a grant",
         keys: "keys",
@@ -41,6 +44,18 @@ static ROWS: [Row; 6] = [
         keys: "keys",
         speaks: "speaks",
         client: "refused",
+    },
+    Row {
+        name: "a login by APOP",
+        keys: "keys",
+        speaks: "speaks",
+        client: "apop",
+    },
+    Row {
+        name: "five wrong answers",
+        keys: "keys",
+        speaks: "speaks",
+        client: "guesses",
     },
     Row {
         name: "a part of a request",
@@ -62,7 +77,7 @@ static ROWS: [Row; 6] = [
     },
 ];
 
-/// The words that are drawn for a client's first request.
+/// The words that are drawn for each of a client's requests.
 const WORDS: [[u8; 8]; 3] = [
     [0x10, 0x11, 0x12, 0x13, 0x14, 0x15, 0x16, 0x17],
     [0x20, 0x21, 0x22, 0x23, 0x24, 0x25, 0x26, 0x27],
@@ -83,6 +98,15 @@ fn words_of(alloc: Global, row: &Row) -> anyhow::Result<TextList> {
     Ok(words)
 }
 
+// The words that are drawn for a client.
+fn drawn(alloc: Global) -> anyhow::Result<Vec<[u8; 8]>> {
+    let mut words = Vec::new(alloc);
+    for _ in 0..MOST_REQUESTS {
+        words.extend_from_slice(&WORDS)?;
+    }
+    Ok(words)
+}
+
 // Serves a client; its answers go to standard output.
 fn serve(rt: &HostRuntime, row: &Row) -> anyhow::Result<Status>
     ensures { IfOk result (λ status. is_printable status ≡ true) }
@@ -93,7 +117,7 @@ fn serve(rt: &HostRuntime, row: &Row) -> anyhow::Result<Status>
     let mut keys = ReadSource::new(File::open(rt, row.keys)?);
     let mut speaks = ReadSource::new(File::open(rt, row.speaks)?);
     let mut dialer = MemDialer::new(alloc, Vec::new(alloc), Vec::new(alloc));
-    let mut drawn = MemWords::new(WORDS.to_vec(alloc)?, Vec::new(alloc));
+    let mut rand = MemWords::new(drawn(alloc)?, Vec::new(alloc));
     Ok(run_command(
         alloc,
         words.as_slice(),
@@ -102,7 +126,7 @@ fn serve(rt: &HostRuntime, row: &Row) -> anyhow::Result<Status>
         &mut speaks,
         &mut WriteSink::new(rt.stdout()),
         &mut dialer,
-        &mut drawn,
+        &mut rand,
     ))
 }
 

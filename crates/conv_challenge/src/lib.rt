@@ -5,6 +5,8 @@
 
 mod client;
 mod conv;
+#[cfg(test)]
+mod messages;
 mod moves;
 mod need;
 mod numbers;
@@ -14,6 +16,8 @@ mod server;
 mod stage;
 mod start;
 mod step;
+#[cfg(test)]
+mod tests;
 
 pub use conv::ChConv;
 pub use stage::{MOST_CHALLENGE, Proto, Side, Stage};

@@ -515,7 +515,7 @@ fn check_need<M: Machine>(
             assert_eq!(rt; out.as_slice(), wanted);
         }
         Need::Exchange { request, .. } => assert_eq!(rt; request.as_slice(), wanted),
-        Need::Nothing => panic!(rt; "nothing is needed"),
+        Need::Nothing | Need::Offers(_) | Need::Pick(_) => panic!(rt; "it isn't needed"),
     }
     Ok(())
 }

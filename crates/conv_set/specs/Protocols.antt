@@ -1,12 +1,13 @@
 -- What the role of a conversation says, whatever its protocol: each question is asked of the role that the start's template
 -- names. p9any chooses a domain of p9sk1, which is spoken then.
-use Rattle.std.specs.Prelude.{ℕ, List, codes, Bool, Option, if◌then◌else◌}
+use Rattle.std.specs.Prelude.{ℕ, List, codes, Bool, true, false, Option, if◌then◌else◌}
 use Rattle.attr_tuples.specs.declared.attr.Attr.{Attr}
 use Rattle.roles.specs.declared.answer.Gave.{Gave}
 use Rattle.roles.specs.declared.answer.StartFault.{StartFault}
 use Rattle.roles.specs.declared.need.Need.{Need}
 use Rattle.roles.specs.declared.need.Outcome.{Outcome}
 use Rattle.roles.specs.Starts.{Start, fault_of, says, start_fault}
+use Rattle.roles.specs.declared.need.Outcome.TheVariants.{Running, Accepted, Finished, Broken}
 use Rattle.roles.specs.Talks.{Call}
 use Rattle.roles.specs.Courses as sk
 use Rattle.conv_p9any.specs.Inner.{Inner}
@@ -82,3 +83,10 @@ has_ended_by Mail start talk = mail.ended_after start talk
 
 abbrev pub has_ended : Start → List Call → Bool
 has_ended start talk = has_ended_by (protocol_of start.template) start talk
+
+-- it has come to its end
+abbrev pub is_over : Outcome → Bool
+is_over Running = false
+is_over (Accepted info) = true
+is_over Finished = true
+is_over (Broken cause) = true

@@ -5,10 +5,11 @@ use Rattle.roles.specs.Answers.{IsOffers, IsPick}
 use Rattle.roles.specs.Starts.{Start}
 use Rattle.roles.specs.Talks.{Call, offered, picked}
 use Rattle.conv_p9sk1.specs.Standing as sk
+use Rattle.conv_p9any.specs.Standing as any
 use Rattle.conv_challenge.specs.Standing as mail
 use Rattle.conv_set.specs.declared.conv.Conv.{Conv}
 use Rattle.conv_set.specs.declared.conv.Conv.TheVariants as c
-use Rattle.conv_set.specs.Protocols.{Protocol, P9sk1, P9any, Mail, answers, needs, protocol_of}
+use Rattle.conv_set.specs.Protocols.{Protocol, P9sk1, P9any, Mail, answers, needs, p9sk1, protocol_of}
 
 -- the template names this protocol, and its machine stands for both
 abbrev pub In : {M : Type 0} → Protocol → (M → Start → List Call → Type 0) → M → Start → List Call → Type 0
@@ -16,6 +17,7 @@ In p stands m start talk = (protocol_of start.template ≡ p) × stands m start 
 
 abbrev pub Stands : Conv → Start → List Call → Type 0
 Stands (c.P9sk1 m) start talk = In P9sk1 sk.Stands m start talk
+Stands (c.P9any m) start talk = In P9any (any.Stands sk.Stands p9sk1) m start talk
 Stands (c.Mail m) start talk = In Mail mail.Stands m start talk
 
 -- where offers are needed, it is answered so, and they are met

@@ -6,6 +6,7 @@ ghost use Rattle.conv_set.specs.Protocols.{protocol_of};
 
 use attr_tuples::Tuple;
 use conv_challenge::ChConv;
+use conv_p9any::AnyConv;
 use conv_p9sk1::SkConv;
 use roles::{Gave, Machine, Need, Outcome, SkKey, StartFault, says};
 use std::alloc::Global;
@@ -15,6 +16,8 @@ use wire_base::{Bytes, Text};
 #[derive(Drop)]
 pub enum Conv {
     P9sk1(SkConv),
+    /// A domain of p9sk1 is chosen, and then that is spoken.
+    P9any(AnyConv<SkConv>),
     /// APOP or CRAM.
     Mail(ChConv),
 }
@@ -35,7 +38,9 @@ fn find_protocol(template: &Tuple) -> Protocol
     let proto = b"proto".as_slice();
     if says(template, proto, b"p9any".as_slice()) {
         Protocol::P9any
-    } else if says(template, proto, b"apop".as_slice()) || says(template, proto, b"cram".as_slice()) {
+    } else if says(template, proto, b"apop".as_slice())
+        || says(template, proto, b"cram".as_slice())
+    {
         Protocol::Mail
     } else {
         Protocol::P9sk1
@@ -49,6 +54,7 @@ impl Conv {
         ensures kept { KeepsOffered self.old self.new list }
     {
         match self {
+            Conv::P9any(machine) => machine.with_offers(list),
             Conv::P9sk1(_) | Conv::Mail(_) => Gave::Wait,
         }
     }
@@ -59,6 +65,7 @@ impl Conv {
         ensures kept { KeepsPicked self.old self.new place }
     {
         match self {
+            Conv::P9any(machine) => machine.with_pick(place),
             Conv::P9sk1(_) | Conv::Mail(_) => Gave::Wait,
         }
     }
@@ -86,13 +93,14 @@ impl Machine for Conv {
         match find_protocol(template) {
             Protocol::P9sk1 => Ok(Conv::P9sk1(SkConv::start(alloc, template, word)?)),
             Protocol::Mail => Ok(Conv::Mail(ChConv::start(alloc, template, word)?)),
-            Protocol::P9any => Err(StartFault::NoMemory),
+            Protocol::P9any => Ok(Conv::P9any(AnyConv::start(alloc, template, word)?)),
         }
     }
 
     fn give(&mut self, alloc: Global, bytes: &[u8]) -> Gave {
         match self {
             Conv::P9sk1(machine) => machine.give(alloc, bytes),
+            Conv::P9any(machine) => machine.give(alloc, bytes),
             Conv::Mail(machine) => machine.give(alloc, bytes),
         }
     }
@@ -100,6 +108,7 @@ impl Machine for Conv {
     fn get(&mut self, out: &mut Bytes) -> Gave {
         match self {
             Conv::P9sk1(machine) => machine.get(out),
+            Conv::P9any(machine) => machine.get(out),
             Conv::Mail(machine) => machine.get(out),
         }
     }
@@ -107,6 +116,7 @@ impl Machine for Conv {
     fn need(&self) -> &Need {
         match self {
             Conv::P9sk1(machine) => machine.need(),
+            Conv::P9any(machine) => machine.need(),
             Conv::Mail(machine) => machine.need(),
         }
     }
@@ -114,6 +124,7 @@ impl Machine for Conv {
     fn with_key(&mut self, alloc: Global, key: &SkKey, password: Option<&Text>) -> Gave {
         match self {
             Conv::P9sk1(machine) => machine.with_key(alloc, key, password),
+            Conv::P9any(machine) => machine.with_key(alloc, key, password),
             Conv::Mail(machine) => machine.with_key(alloc, key, password),
         }
     }
@@ -121,6 +132,7 @@ impl Machine for Conv {
     fn with_answer(&mut self, alloc: Global, answer: &[u8]) -> Gave {
         match self {
             Conv::P9sk1(machine) => machine.with_answer(alloc, answer),
+            Conv::P9any(machine) => machine.with_answer(alloc, answer),
             Conv::Mail(machine) => machine.with_answer(alloc, answer),
         }
     }
@@ -128,6 +140,7 @@ impl Machine for Conv {
     fn without_answer(&mut self) -> Gave {
         match self {
             Conv::P9sk1(machine) => machine.without_answer(),
+            Conv::P9any(machine) => machine.without_answer(),
             Conv::Mail(machine) => machine.without_answer(),
         }
     }
@@ -135,6 +148,7 @@ impl Machine for Conv {
     fn without_room(&mut self) -> Gave {
         match self {
             Conv::P9sk1(machine) => machine.without_room(),
+            Conv::P9any(machine) => machine.without_room(),
             Conv::Mail(machine) => machine.without_room(),
         }
     }
@@ -142,6 +156,7 @@ impl Machine for Conv {
     fn undo_need(&mut self) {
         match self {
             Conv::P9sk1(machine) => machine.undo_need(),
+            Conv::P9any(machine) => machine.undo_need(),
             Conv::Mail(machine) => machine.undo_need(),
         }
     }
@@ -149,6 +164,7 @@ impl Machine for Conv {
     fn outcome(&self) -> Outcome {
         match self {
             Conv::P9sk1(machine) => machine.outcome(),
+            Conv::P9any(machine) => machine.outcome(),
             Conv::Mail(machine) => machine.outcome(),
         }
     }
@@ -156,6 +172,7 @@ impl Machine for Conv {
     fn has_ended(&self) -> bool {
         match self {
             Conv::P9sk1(machine) => machine.has_ended(),
+            Conv::P9any(machine) => machine.has_ended(),
             Conv::Mail(machine) => machine.has_ended(),
         }
     }

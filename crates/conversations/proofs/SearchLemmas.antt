@@ -110,6 +110,15 @@ unsearched c asking list s rests fits = subst (λ (test : Bool). Fits c (if test
 
 -- ---- which thing is needed
 
+other_key : w.Key ≡ w.Nothing → ⊥
+other_key e = cc
+
+other_offers : w.Offers ≡ w.Nothing → ⊥
+other_offers e = cc
+
+other_pick : w.Pick ≡ w.Nothing → ⊥
+other_pick e = cc
+
 pub wants_key : (need : Need) → w.Key ≡ wanted_in need → IsKey need
 wants_key Nothing e = absurd (cc)
 wants_key (Key template) e = tt
@@ -152,3 +161,12 @@ thrice old first second third asking list starting a b c = λ s fits.
 pub no_start : (old new : Conversation) (asking : Asking) (list : KeyList) → old.starting ≡ false → Turns old new (searched_once asking list) → Turns old new (searched asking list)
 no_start old new asking list starting a = λ s fits.
     subst (λ (test : Bool). Fits new (if test then searched_once asking list (searched_once asking list (searched_once asking list s)) else searched_once asking list s)) (sym starting ∙ fits.carries.starting) (a s fits)
+
+pub key_some : (need : Need) → w.Key ≡ wanted_in need → wanted_in need ≡ w.Nothing → ⊥
+key_some need key nothing = other_key (key ∙ nothing)
+
+pub offers_some : (need : Need) → w.Offers ≡ wanted_in need → wanted_in need ≡ w.Nothing → ⊥
+offers_some need offers nothing = other_offers (offers ∙ nothing)
+
+pub pick_some : (need : Need) → w.Pick ≡ wanted_in need → wanted_in need ≡ w.Nothing → ⊥
+pick_some need pick nothing = other_pick (pick ∙ nothing)

@@ -470,7 +470,12 @@ impl Conversation {
     }
 
     // As often as one search may lead to another.
-    fn search_start(&mut self, alloc: Global, ring: &KeyRing, asking: Asking) -> Result<(), NoMemory>
+    fn search_start(
+        &mut self,
+        alloc: Global,
+        ring: &KeyRing,
+        asking: Asking,
+    ) -> Result<(), NoMemory>
         requires { self.old.starting ≡ true }
         ensures met { OnOk result (Turns self.old self.new (searched asking ring.now)) }
         ensures starting { self.new.starting ≡ self.old.starting }
@@ -675,6 +680,7 @@ impl Conversation {
 fn take_back(starting: bool, begun: &mut Option<Begun>)
     ensures taken { (b : Option Beginning) → BothBegun begun.old b
         → BothBegun begun.new (taken_back starting b) }
+    ensures dropped { starting ≡ true → begun.new ≡ None }
     ensures back { starting ≡ false → (b : Beginning) (move : Move)
         → needs b.start b.moves ≡ Nothing → IsKey (needs b.start (move ∷ b.moves))
         → BothBegun begun.old (Some (with_move b move)) → BothBegun begun.new (Some b) }

@@ -8,7 +8,7 @@ use rpc_file::{Request, print_answer};
 use std::alloc::Global;
 use std::process::Abort;
 use std::test::Fail;
-use talks::{Asking, Found};
+use talks::Asking;
 use wire_base::{Bytes, Shape};
 
 const WORD: [u8; 8] = *b"\x01#Eg\x89\xab\xcd\xef";
@@ -102,7 +102,7 @@ static REFUSED: [Row; 16] = [
         b"",
     ),
     (
-        Request::Start(b"proto=p9any role=client"),
+        Request::Start(b"proto=p9sk2 role=client"),
         b"error unknown proto",
         b"",
     ),
@@ -226,22 +226,16 @@ fn requests_are_refused(rt: HostRuntime) -> Result<(), Fail> {
     Ok(())
 }
 
-// A client whose request for a key was carried out.
-fn seek(alloc: Global, client: &mut Conversation) -> Result<(), Fail> {
+// A client whose request for a key was carried out, where its user can be asked.
+fn seek(alloc: Global, client: &mut Conversation, ring: &KeyRing) -> Result<(), Fail> {
     client.store(alloc, Request::Start(b"proto=p9sk1 role=client"))?;
-    client.carry_out(alloc, WORD)?;
+    client.perform(alloc, WORD, ring, OPEN)?;
     client.take_answer();
     client.store(alloc, Request::Read)?;
-    client.carry_out(alloc, WORD)?;
+    client.perform(alloc, WORD, ring, OPEN)?;
     client.take_answer();
     client.store(alloc, Request::Write(REQUEST))?;
-    client.carry_out(alloc, WORD)?;
-    Ok(())
-}
-
-fn look_for_key(alloc: Global, client: &mut Conversation, ring: &KeyRing) -> Result<(), Fail> {
-    let found = client.find_key(alloc, ring, OPEN);
-    client.sought(alloc, found)?;
+    client.perform(alloc, WORD, ring, OPEN)?;
     Ok(())
 }
 
@@ -260,15 +254,12 @@ fn check_consent(
     client: &mut Conversation,
     ring: &KeyRing,
 ) -> Result<(), Fail> {
-    seek(alloc, client)?;
-    assert!(rt; client.seeks());
+    seek(alloc, client, ring)?;
+    assert!(rt; !client.seeks());
     check_asked(rt, alloc, client)?;
-    look_for_key(alloc, client, ring)?;
     client.consented(true)?;
-    look_for_key(alloc, client, ring)?;
-    assert!(rt; matches!(client.question(), Some((asked, Shape::Tickets)) if asked == QUESTION));
-    client.unheard();
-    check_answer(rt, alloc, client, b"error no server", b"")
+    assert!(rt; client.seeks());
+    Ok(())
 }
 
 #[test]
@@ -278,37 +269,42 @@ fn a_user_is_asked(rt: HostRuntime) -> Result<(), Fail> {
     check_consent(&rt, rt.alloc(), &mut client, &ring)
 }
 
-fn check_needkey(
+// The file by which the user is asked is closed.
+fn check_shut(
     rt: &impl Abort,
     alloc: Global,
     client: &mut Conversation,
     ring: &KeyRing,
+    wanted: &[u8],
 ) -> Result<(), Fail> {
-    seek(alloc, client)?;
-    client.sought(alloc, Found::AsksKey)?;
-    client.key_told();
-    client.seek_on(alloc, ring, OPEN)?;
-    client.roomless();
-    check_answer(rt, alloc, client, b"error out of memory", b"")
-}
-
-#[test]
-fn a_user_is_asked_for_a_key(rt: HostRuntime) -> Result<(), Fail> {
-    let ring = ring_of(rt.alloc(), ANN)?;
-    let mut client = Conversation::new(rt.alloc());
-    check_needkey(&rt, rt.alloc(), &mut client, &ring)
-}
-
-fn check_shut(rt: &impl Abort, alloc: Global, client: &mut Conversation) -> Result<(), Fail> {
-    seek(alloc, client)?;
-    client.sought(alloc, Found::AsksKey)?;
+    seek(alloc, client, ring)?;
     client.shut();
-    let wanted = b"needkey proto=p9sk1 dom=x user? !password?";
     check_answer(rt, alloc, client, wanted, b"")
 }
 
 #[test]
 fn a_user_is_asked_in_vain(rt: HostRuntime) -> Result<(), Fail> {
-    let mut client = Conversation::new(rt.alloc());
-    check_shut(&rt, rt.alloc(), &mut client)
+    let alloc = rt.alloc();
+    let mut client = Conversation::new(alloc);
+    let denied = b"error confirmation denied";
+    check_shut(&rt, alloc, &mut client, &ring_of(alloc, ANN_ASKED)?, denied)?;
+    let mut client = Conversation::new(alloc);
+    let wanted = b"needkey proto=p9sk1 dom=x user? !password?";
+    check_shut(&rt, alloc, &mut client, &KeyRing::new(alloc), wanted)
+}
+
+// The authentication server wasn't reached, or there was no memory for its answer.
+#[test]
+fn a_server_does_not_answer(rt: HostRuntime) -> Result<(), Fail> {
+    let alloc = rt.alloc();
+    let ring = ring_of(alloc, ANN)?;
+    let mut client = Conversation::new(alloc);
+    seek(alloc, &mut client, &ring)?;
+    assert!(rt; matches!(client.question(), Some((asked, Shape::Tickets)) if asked == QUESTION));
+    client.unheard();
+    check_answer(&rt, alloc, &mut client, b"error no server", b"")?;
+    let mut client = Conversation::new(alloc);
+    seek(alloc, &mut client, &ring)?;
+    client.roomless();
+    check_answer(&rt, alloc, &mut client, b"error out of memory", b"")
 }

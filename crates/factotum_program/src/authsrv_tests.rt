@@ -24,6 +24,12 @@ const ANSWER: &[u8; 145] = b"\x04\
     \xc6w\x01<\x14\xf2\x92\":{\xb2b\x07>\xea#@\x84G<\x11\x8a'\xb1\
     \xe2\x85,:\xbd\xc9\xaeyK$\x90\xefV\xf5\x85\xa9\x8ayO\x16f\xf6\x93-";
 
+// The challenge that a mail server gets for the words below, and what it is told of a wrong answer.
+const CHALLENGE: &[u8; 26] = b"\x0920   <1011121314151617@x>";
+
+const BAD_RESPONSE: &[u8; 65] =
+    b"\x05bad response\0\0\0\0\0\0\0\0\0\0\0\0\0\0\0\0\0\0\0\0\0\0\0\0\0\0\0\0\0\0\0\0\0\0\0\0\0\0\0\0\0\0\0\0\0\0\0\0\0\0\0\0";
+
 const WORDS: [[u8; 8]; 3] = [
     [0x10, 0x11, 0x12, 0x13, 0x14, 0x15, 0x16, 0x17],
     [0x20, 0x21, 0x22, 0x23, 0x24, 0x25, 0x26, 0x27],
@@ -61,11 +67,12 @@ const FILES: Files<'static> = Files {
     speaks: b"# all but bob\nhostid=h uid=!bob uid=*\n",
 };
 
-// The words of two requests.
+// The words of six requests.
 fn drawn(alloc: Global) -> Result<Vec<[u8; 8]>, Fail> {
     let mut words = Vec::new(alloc);
-    words.extend_from_slice(&WORDS)?;
-    words.extend_from_slice(&WORDS)?;
+    for _ in 0..6 {
+        words.extend_from_slice(&WORDS)?;
+    }
     Ok(words)
 }
 
@@ -140,14 +147,14 @@ fn clients_end(rt: HostRuntime) -> Result<(), Fail> {
             Status::AsEnded(AuthEnd::UnknownType { at: 141, kind: 0 }),
         ),
         (
-            "a mail request",
-            b"\x07bootes",
-            Status::AsEnded(AuthEnd::UnknownType { at: 141, kind: 7 }),
+            "a change of a password",
+            b"\x03bootes",
+            Status::AsEnded(AuthEnd::UnknownType { at: 141, kind: 3 }),
         ),
         (
-            "another",
-            b"\x0c",
-            Status::AsEnded(AuthEnd::UnknownType { at: 141, kind: 12 }),
+            "a part of a mail request",
+            b"\x07bootes",
+            Status::Torn { at: 141 },
         ),
         (
             "a part of a request",
@@ -168,6 +175,37 @@ fn clients_end(rt: HostRuntime) -> Result<(), Fail> {
         )?;
     }
     Ok(())
+}
+
+// A mail server that answers its challenge wrongly so often, and how it ends.
+fn expect_guesses(
+    rt: &impl Abort,
+    alloc: Global,
+    name: &str,
+    kind: u8,
+    guesses: usize,
+    status: Status,
+) -> Result<(), Fail> {
+    let (mut asks, mut answers) = (Vec::new(alloc), Vec::new(alloc));
+    let mut request = *REQUEST;
+    request[0] = kind;
+    asks.extend_from_slice(&request)?;
+    answers.extend_from_slice(CHALLENGE)?;
+    for _ in 0..guesses {
+        asks.extend_from_slice(&request)?;
+        asks.extend_from_slice(&[b'0'; 32])?;
+        answers.extend_from_slice(BAD_RESPONSE)?;
+    }
+    expect_authsrv(rt, alloc, name, FILES, &asks, NONE, status, &answers)
+}
+
+#[test]
+fn the_fifth_wrong_answer_ends_a_client(rt: HostRuntime) -> Result<(), Fail> {
+    let alloc = rt.alloc();
+    let over = Status::AsEnded(AuthEnd::TooManyWrong);
+    expect_guesses(&rt, alloc, "four of APOP", 7, 4, Status::Fine)?;
+    expect_guesses(&rt, alloc, "five of APOP", 7, 5, over)?;
+    expect_guesses(&rt, alloc, "five of CRAM", 12, 5, over)
 }
 
 #[test]

@@ -1,8 +1,8 @@
-use Rattle.std.proofs.Common.{◌≡◌, ◌++◌, List, ap, sym, ◌∙◌}
+use Rattle.std.proofs.Common.{◌++◌, ap, ◌∙◌}
 use Rattle.std.proofs.lemmas.Result.{err_from_is_err_and}
 use Rattle.auth_server.specs.Answers.{answer}
-use Rattle.auth_server.specs.Requests.{Asked, asked_so}
-use Rattle.auth_server.specs.Standing.{StandsFor, knowledge}
+use Rattle.auth_server.specs.Requests.{asked_so}
+use Rattle.auth_server.specs.Standing.{knowledge}
 use Rattle.auth_server.proofs.AnswerLemmas.{answers_front, ends_wrong, lacks_memory}
 use Rattle.auth_server.proofs.serve.answer_request.Goals as goal
 

@@ -1,4 +1,4 @@
-use Rattle.std.proofs.Common.{◌≡◌, ◌<◌, ◌≤◌, ◌+◌, ap, length, sym, subst, ◌∙◌, arith, length-append}
+use Rattle.std.proofs.Common.{◌≡◌, ◌<◌, ◌+◌, ap, length, sym, subst, ◌∙◌, arith, length-append}
 use Rattle.std.proofs.lemmas.Result.{IfErr-weaker}
 use Rattle.auth_server.specs.Serving.{EndsSo, moment, most_input}
 use Rattle.auth_server.specs.Standing.{knowledge}

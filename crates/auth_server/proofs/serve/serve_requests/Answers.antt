@@ -1,5 +1,6 @@
 use Rattle.std.proofs.Common.{◌≡◌, ◌<◌, ◌+◌, arith, length, refl, sym, ap, subst, ◌∙◌}
 use Rattle.std.proofs.lemmas.Result.{err_from_is_err_and}
+use Rattle.auth_server.specs.Requests.{kind_of}
 use Rattle.auth_server.specs.Serving.{moment}
 use Rattle.auth_server.specs.Standing.{knowledge}
 use Rattle.auth_server.specs.Steps.{HasAnswered}
@@ -10,7 +11,7 @@ pub requests-init : goal.requests-init
 requests-init g c =
     let first = ap (λ i. i.at) c.new-incoming.ensures in
     record {
-      answered = none_answered (knowledge c.args.core.now) _ c.new-session.result c.new-incoming.result (c.new-session.ensures _) first;
+      answered = none_answered (knowledge c.args.core.now) _ c.new-session.result c.new-incoming.result (c.new-session.ensures.stands _) first;
       new = ap (λ i. i.bytes) c.new-incoming.ensures;
       few = omega (arith, first);
       reads = omega arith;
@@ -38,7 +39,7 @@ requests-smaller g c =
     let incoming = c.read_request.new.incoming in
     let new = at_parts known before _ a.requests c.requests.session (record { at = c.requests.incoming.at; bytes = _ }) c.requests.incoming.at c.requests.incoming.bytes refl (sym c.requests.invariant.new) a.received in
     let whole = c.in_ok-read_request.ensures.received before (g.G.Words.to_come c.requests.words) (g.W.Sink.holds c.requests.sink) a.requests new in
-    let some : 0 < length incoming.bytes = needs_some _ _ _ (c.in_ok-read_request.ensures.whole c.if-branch.true) in
+    let some : 0 < length incoming.bytes = needs_some c.requests.session.held (kind_of incoming.bytes) (length incoming.bytes) (c.in_ok-read_request.ensures.whole c.if-branch.true) in
     let next : c.next.new.self.at ≡ incoming.at + length incoming.bytes = ap (λ i. i.at) c.next.ensures in
     omega (arith, some, next, whole.place, a.received.place, c.in_ok-read_request.ensures.few)
 
