@@ -131,19 +131,19 @@ given_alike keep kept keeps stays alike (s ∷ xs) m =
 
 -- what is left of those that a relation of deeds tells of
 record Parts (done after : List Deed) (keep : Speaker → Bool) : Type 0 where
-  pub keeps : (q : ℕ) → keeps after q ≡ (keeps done q && is_among (filter keep (speakers done)) q)
-  pub stands : (q : ℕ) → stands after q ≡ is_among (filter keep (speakers done)) q
+  pub kept : (q : ℕ) → keeps after q ≡ (keeps done q && is_among (filter keep (speakers done)) q)
+  pub standing : (q : ℕ) → stands after q ≡ is_among (filter keep (speakers done)) q
   pub talks : (q : ℕ) → talk after q ≡ talk done q
-  pub drops : drops after ≡ drops done ++ map (λ s. drop_of done s.conv) (filter (λ s. keeps done s.conv && not (keeps done s.conv && is_among (filter keep (speakers done)) s.conv)) (speakers done))
+  pub given : drops after ≡ drops done ++ map (λ s. drop_of done s.conv) (filter (λ s. keeps done s.conv && not (keeps done s.conv && is_among (filter keep (speakers done)) s.conv)) (speakers done))
 
 parted_keeps : (done after : List Deed) (keep : Speaker → Bool) (c : Calls) → Parts done after keep → Keeps done c → Keeps after (parted keep (raised done) (speakers done) c)
 parted_keeps done after keep c p k = record {
-  kept = λ q. parted_kept keep (raised done) (speakers done) c q ∙ (ap (λ (b : Bool). b && not (list_any (leaving keep q) (speakers done))) (k.kept q) ∙ (here q (keeps done q) refl (list_any (leaving keep q) (speakers done)) refl ∙ sym (p.keeps q)));
+  kept = λ q. parted_kept keep (raised done) (speakers done) c q ∙ (ap (λ (b : Bool). b && not (list_any (leaving keep q) (speakers done))) (k.kept q) ∙ (here q (keeps done q) refl (list_any (leaving keep q) (speakers done)) refl ∙ sym (p.kept q)));
   drops = parted_drops keep (raised done) (speakers done) c apart
       ∙ (ap (λ (ds : List Drop). ds ++ map (drop_at (raised done)) (filter (λ s. not (keep s) && is_kept c.kept s.conv) (speakers done))) k.drops
       ∙ (ap (λ (ss : List Speaker). drops done ++ map (drop_at (raised done)) ss) (given_alike keep (λ q. is_kept c.kept q) (λ q. keeps done q) (λ q. is_among (filter keep (speakers done)) q) k.kept (speakers done) (stay_matches keep (speakers done) apart))
-      ∙ sym p.drops));
-  alive = λ q e. lives q (keeps done q) refl (is_among (filter keep (speakers done)) q) refl (sym (p.keeps q) ∙ e);
+      ∙ sym p.given));
+  alive = λ q e. lives q (keeps done q) refl (is_among (filter keep (speakers done)) q) refl (sym (p.kept q) ∙ e);
 }
   where
     apart : Apart (speakers done)
@@ -157,7 +157,7 @@ parted_keeps done after keep c p k = record {
     lives : (q : ℕ) (b : Bool) → keeps done q ≡ b → (stays : Bool) → is_among (filter keep (speakers done)) q ≡ stays → (b && stays) ≡ true → IsAlive after q
     lives q true keeping true there e =
         let was = k.alive q keeping in
-        record { stands = p.stands q ∙ there; runs = rw (p.talks q) was.runs }
+        record { stands = p.standing q ∙ there; runs = rw (p.talks q) was.runs }
     lives q true keeping false there e = absurd (false≢true e)
     lives q false keeping stays there e = absurd (false≢true e)
 
@@ -171,14 +171,14 @@ left_keeps done after who keep every p behind xs c new b e f k =
 pub clunked_keeps : (done : List Deed) (conn fid behind : ℕ) (xs : List HeldSpeaker) (c new : Calls) → behind ≡ raised done → map speaker_of xs ≡ speakers done → new ≡ left (l.Fid conn fid) behind xs c → Keeps done c → Keeps (OfFids conn (Clunked fid) ∷ done) new
 clunked_keeps done conn fid behind xs c new b e f k =
     left_keeps done (OfFids conn (Clunked fid) ∷ done) (l.Fid conn fid) (λ s. not (eqb s.conn conn && eqb s.fid fid)) (λ s. refl)
-    (record { keeps = λ q. refl; stands = λ q. refl; talks = λ q. refl; drops = refl }) behind xs c new b e f k
+    (record { kept = λ q. refl; standing = λ q. refl; talks = λ q. refl; given = refl }) behind xs c new b e f k
 
 pub versioned_keeps : (done : List Deed) (conn : ℕ) (msize : Option ℕ) (behind : ℕ) (xs : List HeldSpeaker) (c new : Calls) → behind ≡ raised done → map speaker_of xs ≡ speakers done → new ≡ left (l.Connection conn) behind xs c → Keeps done c → Keeps (OfFids conn (Versioned msize) ∷ done) new
 versioned_keeps done conn msize behind xs c new b e f k =
     left_keeps done (OfFids conn (Versioned msize) ∷ done) (l.Connection conn) (λ s. not (eqb s.conn conn)) (λ s. refl)
-    (record { keeps = λ q. refl; stands = λ q. refl; talks = λ q. refl; drops = refl }) behind xs c new b e f k
+    (record { kept = λ q. refl; standing = λ q. refl; talks = λ q. refl; given = refl }) behind xs c new b e f k
 
 pub hung_keeps : (done : List Deed) (conn behind : ℕ) (xs : List HeldSpeaker) (c new : Calls) → behind ≡ raised done → map speaker_of xs ≡ speakers done → new ≡ left (l.Connection conn) behind xs c → Keeps done c → Keeps (OfConnection conn Hung ∷ done) new
 hung_keeps done conn behind xs c new b e f k =
     left_keeps done (OfConnection conn Hung ∷ done) (l.Connection conn) (λ s. not (eqb s.conn conn)) (λ s. refl)
-    (record { keeps = λ q. refl; stands = λ q. refl; talks = λ q. refl; drops = refl }) behind xs c new b e f k
+    (record { kept = λ q. refl; standing = λ q. refl; talks = λ q. refl; given = refl }) behind xs c new b e f k

@@ -1,12 +1,12 @@
 -- When the connections that are kept, and those that are to be given up, are those that a list of deeds tells of.
-use Rattle.std.specs.Prelude.{◌≡◌, ◌<◌, ℕ, List, [], length, Bool, true, false, Option, Some}
+use Rattle.std.specs.Prelude.{◌≡◌, ◌<◌, ℕ, List, [], length, Bool, true, false, Option, Some, None}
 use Rattle.talks.specs.Standings.{outcome_of}
 use Rattle.agent_history.specs.Deeds.{Deed}
 use Rattle.agent_history.specs.Conversations as told
 use Rattle.agent_history.specs.Conversations.{Due, NoneDue, DropDue, QuestionDue, drops, is_end, keeps, stands, standing_of}
 use Rattle.agent_talks.specs.Kept.{question_of, unasked}
 use Rattle.agent_talks.specs.Speaks.{Speak}
-use Rattle.kept_calls.specs.Calls.{Calls, drop_of, is_kept}
+use Rattle.kept_calls.specs.Calls.{Calls, drop_of, ended_if, is_kept}
 use Rattle.kept_calls.specs.declared.due.Due.{Due as HeldDue}
 use Rattle.kept_calls.specs.declared.due.Due.TheVariants as d
 use Rattle.kept_calls.specs.declared.keeping.KeepingTalks.{KeepingTalks}
@@ -33,6 +33,14 @@ pub record Converses (done : List Deed) (k : KeepingTalks) : Type 0 where
 -- whatever the deeds were, they are still those that they tell of
 abbrev pub SameConverses : KeepingTalks → KeepingTalks → Type 0
 SameConverses old new = (done : List Deed) → Converses done old → Converses done new
+
+-- of the code alone: a conversation gives up the connection that it keeps, if it has come to its end; where one is meant
+abbrev pub EndsOver : ℕ → ℕ → KeepingTalks → KeepingTalks → Type 0
+EndsOver conv behind old new = (done : List Deed) → stands done conv ≡ true → Speak done old.talks → new.calls ≡ ended_if (is_over_at done conv) conv behind old.calls
+
+abbrev pub EndsAsker : Option ℕ → ℕ → KeepingTalks → KeepingTalks → Type 0
+EndsAsker None behind old new = new.calls ≡ old.calls
+EndsAsker (Some conv) behind old new = EndsOver conv behind old new
 
 -- ---- what is due
 

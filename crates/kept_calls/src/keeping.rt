@@ -10,8 +10,7 @@ ghost use Rattle.agent_history.specs.Requests.{carried};
 ghost use Rattle.agent_talks.specs.Kept.{is_asked, questions_in, unasked};
 ghost use Rattle.agent_talks.specs.Speaks.{IsReady, Speak, met_by};
 ghost use Rattle.agent_talks.specs.Tells.{IsShort, TellsBy};
-ghost use Rattle.kept_calls.specs.Calls.{ended_if};
-ghost use Rattle.kept_calls.specs.Keeps.{Converses, SameConverses, is_over_at};
+ghost use Rattle.kept_calls.specs.Keeps.{Converses, EndsAsker, EndsOver, SameConverses, is_over_at};
 
 use crate::kept::KeptCalls;
 use agent_talks::{Leaving, Talks, Told};

@@ -9,5 +9,5 @@ mod kept;
 mod tests;
 
 pub use due::Due;
-pub use kept::{GivenUp, KeptCalls};
 pub use keeping::KeepingTalks;
+pub use kept::{GivenUp, KeptCalls};
