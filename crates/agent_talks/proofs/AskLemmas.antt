@@ -16,7 +16,7 @@ use Rattle.agent_talks.specs.Kept.{question_of}
 use Rattle.agent_talks.specs.Speaks.{OnServerNow, Speak, asks_for, met_by}
 use Rattle.agent_talks.specs.Changes.{Ended, Hands}
 use Rattle.conversations.proofs.WaitLaws.{heard_rests, unheard_rests, roomless_rests}
-use Rattle.agent_talks.proofs.StandLemmas.{asker_asks, filter_map_same, find_map, handed_asks, hands_none, left_asks, other_way, same}
+use Rattle.agent_talks.proofs.StandLemmas.{asker_asks, filter_map_same, find_map, handed_asks, left_asks, other_way, same}
 use Rattle.agent_talks.proofs.SpeakLemmas.{AllAsked, met_speak}
 
 -- ---- which they are

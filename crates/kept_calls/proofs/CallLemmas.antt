@@ -1,8 +1,8 @@
 -- The conversations that keep a connection, after each change.
-use Rattle.std.proofs.Common.{◌≡◌, ℕ, ◌+◌, ◌≤◌, List, [], ◌∷◌, ◌++◌, length, Bool, true, false, cond, eqb, not, ◌&&◌, ◌||◌, refl, sym, ap, ◌∙◌, inl, inr, arith}
-use Rattle.std.proofs.lemmas.Bool.{cases_Bool, eq-eqb, eqb-true, false≢true}
+use Rattle.std.proofs.Common.{◌≡◌, ℕ, ◌+◌, ◌≤◌, List, [], ◌∷◌, ◌++◌, length, Bool, true, false, cond, eqb, not, ◌&&◌, ◌||◌, refl, ap, ◌∙◌, arith}
+use Rattle.std.proofs.lemmas.Bool.{eq-eqb, eqb-true, false≢true}
 use Rattle.agent_history.specs.Conversations.{Drop}
-use Rattle.kept_calls.specs.Calls.{Calls, begun, ended, ended_if, is_kept, others, used}
+use Rattle.kept_calls.specs.Calls.{Calls, begun, ended, ended_if, is_kept, others}
 
 pub same : (n : ℕ) → eqb n n ≡ true
 same n = eq-eqb n n refl
@@ -52,6 +52,13 @@ one_fewer (n ∷ kept) conv is = step (eqb n conv) is (fewer kept conv) (one_few
     step : (b : Bool) → (b || is_kept kept conv) ≡ true → length (others conv kept) ≤ length kept → (is_kept kept conv ≡ true → length (others conv kept) + 1 ≤ length kept) → length (cond (not b) (n ∷ others conv kept) (others conv kept)) + 1 ≤ length (n ∷ kept)
     step true is le more = omega (arith, le)
     step false is le more = let less : length (others conv kept) + 1 ≤ length kept = more is in omega (arith, less)
+
+-- the same of lists whose lengths are known
+pub one_fewer_in : (old new : List ℕ) (conv before after : ℕ) → before ≡ length old → after ≡ length new → new ≡ others conv old → is_kept old conv ≡ true → after + 1 ≤ before
+one_fewer_in old new conv before after e f same is =
+    let less : length (others conv old) + 1 ≤ length old = one_fewer old conv is in
+    let count : length new ≡ length (others conv old) = ap (λ (ns : List ℕ). length ns) same in
+    omega (arith, e, f, less, count)
 
 -- ---- with one more
 

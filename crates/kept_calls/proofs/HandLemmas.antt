@@ -2,14 +2,12 @@
 use Rattle.std.proofs.Common.{◌≡◌, ◌<◌, ℕ, List, [], ◌∷◌, length, Bool, true, false, cond, eqb, not, ◌||◌, Option, Some, None, refl, sym, ap, subst, ◌∙◌, arith}
 use Rattle.std.specs.Prelude.{find}
 use Rattle.std.proofs.lemmas.Bool.{eq-eqb, eqb-true, false≢true}
-use Rattle.roles.specs.declared.need.Need.{Need}
-use Rattle.roles.specs.declared.need.Need.TheVariants.{Nothing}
 use Rattle.talks.specs.Standings.{question_of}
 use Rattle.agent_history.specs.Deeds.{Deed, HandedOut}
-use Rattle.agent_history.specs.Conversations.{Drop, Due, Question, asks_challenge, due_of, first_due, keeps, kept_by, next_question, questions, stands, standing_of}
+use Rattle.agent_history.specs.Conversations.{Drop, Question, asks_challenge, due_of, first_due, keeps, kept_by, next_question, questions, stands, standing_of}
 use Rattle.agent_talks.specs.declared.held.Talks.{Talks}
 use Rattle.agent_talks.specs.Speaks.{Speak, asks_for}
-use Rattle.kept_calls.specs.Calls.{Calls, begun, first_of, handed, is_kept, used}
+use Rattle.kept_calls.specs.Calls.{Calls, first_of, handed, is_kept}
 use Rattle.kept_calls.specs.Keeps.{IsAlive, Keeps, is_over_at}
 use Rattle.kept_calls.proofs.CallLemmas.{begun_drops, begun_others, begun_self, without_others, without_self}
 use Rattle.kept_calls.proofs.SeekLemmas.{over_needs}

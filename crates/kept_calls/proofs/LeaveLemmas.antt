@@ -1,7 +1,7 @@
 -- The conversations of those who leave give up the connections that they keep, in the order in which they stand.
-use Rattle.std.proofs.Common.{◌≡◌, ℕ, List, [], ◌∷◌, ◌++◌, map, filter, Bool, true, false, cond, eqb, not, ◌&&◌, ◌||◌, Option, refl, sym, ap, subst, ◌∙◌, inl, inr, append-nil, append-assoc}
+use Rattle.std.proofs.Common.{◌≡◌, ℕ, List, [], ◌∷◌, ◌++◌, map, filter, Bool, true, false, cond, eqb, not, ◌&&◌, ◌||◌, Option, refl, sym, ap, subst, ◌∙◌, append-nil, append_assoc}
 use Rattle.std.specs.List.{list_any}
-use Rattle.std.proofs.lemmas.Bool.{cases_Bool, eq-eqb, eqb-true, false≢true}
+use Rattle.std.proofs.lemmas.Bool.{eqb-true, false≢true}
 use Rattle.agent_history.specs.Deeds.{Deed, OfFids, OfConnection, Versioned, Clunked, Hung}
 use Rattle.agent_history.specs.Conversations.{Drop, Speaker, drop_of, drops, keeps, raised, speakers, stands, talk}
 use Rattle.agent_talks.specs.declared.speaker.Speaker.{Speaker as HeldSpeaker}
@@ -59,33 +59,35 @@ drop_at behind s = record { conv = s.conv; behind = behind }
 others_alike : (keep : Speaker → Bool) (n : ℕ) (one two : List ℕ) → ((q : ℕ) → eqb n q ≡ false → is_kept one q ≡ is_kept two q) → (xs : List Speaker) → is_among xs n ≡ false
     → filter (λ s. not (keep s) && is_kept one s.conv) xs ≡ filter (λ s. not (keep s) && is_kept two s.conv) xs
 others_alike keep n one two alike [] off = refl
-others_alike keep n one two alike (s ∷ xs) off = here (eqb s.conv n) refl off
+others_alike keep n one two alike (s ∷ xs) off = here (eqb s.conv n) refl off (λ none. others_alike keep n one two alike xs none)
   where
-    here : (b : Bool) → eqb s.conv n ≡ b → (b || is_among xs n) ≡ false → filter (λ t. not (keep t) && is_kept one t.conv) (s ∷ xs) ≡ filter (λ t. not (keep t) && is_kept two t.conv) (s ∷ xs)
-    here true e none = absurd (false≢true (sym none))
-    here false e none =
+    here : (b : Bool) → eqb s.conv n ≡ b → (b || is_among xs n) ≡ false → (is_among xs n ≡ false → filter (λ t. not (keep t) && is_kept one t.conv) xs ≡ filter (λ t. not (keep t) && is_kept two t.conv) xs)
+        → filter (λ t. not (keep t) && is_kept one t.conv) (s ∷ xs) ≡ filter (λ t. not (keep t) && is_kept two t.conv) (s ∷ xs)
+    here true e none more = absurd (false≢true (sym none))
+    here false e none more =
         ap (λ (b : Bool). cond (not (keep s) && b) (s ∷ filter (λ t. not (keep t) && is_kept one t.conv) xs) (filter (λ t. not (keep t) && is_kept one t.conv) xs)) (alike s.conv (other_way s.conv n e))
-        ∙ ap (λ (ys : List Speaker). cond (not (keep s) && is_kept two s.conv) (s ∷ ys) ys) (others_alike keep n one two alike xs none)
+        ∙ ap (λ (ys : List Speaker). cond (not (keep s) && is_kept two s.conv) (s ∷ ys) ys) (more none)
 
 parted_drops : (keep : Speaker → Bool) (behind : ℕ) (xs : List Speaker) (c : Calls) → Apart xs → (parted keep behind xs c).drops ≡ c.drops ++ map (drop_at behind) (filter (λ s. not (keep s) && is_kept c.kept s.conv) xs)
 parted_drops keep behind [] c apart = sym (append-nil c.drops)
-parted_drops keep behind (s ∷ xs) c apart = here (keep s)
+parted_drops keep behind (s ∷ xs) c apart = here (keep s) (parted_drops keep behind xs c apart.1) (parted_drops keep behind xs (ended s.conv behind c) apart.1)
   where
-    rest : Calls → List Drop
-    rest d = map (drop_at behind) (filter (λ t. not (keep t) && is_kept d.kept t.conv) xs)
+    chosen : Calls → List Speaker
+    chosen d = filter (λ t. not (keep t) && is_kept d.kept t.conv) xs
 
-    gone : (k : Bool) → is_kept c.kept s.conv ≡ k → (ended s.conv behind c).drops ++ rest (ended s.conv behind c) ≡ c.drops ++ map (drop_at behind) (cond k (s ∷ filter (λ t. not (keep t) && is_kept c.kept t.conv) xs) (filter (λ t. not (keep t) && is_kept c.kept t.conv) xs))
-    gone k e =
+    append : (k : Bool) → cond k (c.drops ++ drop_at behind s ∷ []) c.drops ++ map (drop_at behind) (chosen c) ≡ c.drops ++ map (drop_at behind) (cond k (s ∷ chosen c) (chosen c))
+    append true = append_assoc c.drops (drop_at behind s ∷ []) (map (drop_at behind) (chosen c))
+    append false = refl
+
+    gone : (ended s.conv behind c).drops ++ map (drop_at behind) (chosen (ended s.conv behind c)) ≡ c.drops ++ map (drop_at behind) (cond (is_kept c.kept s.conv) (s ∷ chosen c) (chosen c))
+    gone =
         ap (λ (ys : List Speaker). (ended s.conv behind c).drops ++ map (drop_at behind) ys) (others_alike keep s.conv (ended s.conv behind c).kept c.kept (λ q off. ended_others c s.conv behind q off) xs apart.0)
-        ∙ (ap (λ (ds : List Drop). ds ++ rest c) (ended_drops c s.conv behind ∙ ap (λ (b : Bool). cond b (c.drops ++ drop_at behind s ∷ []) c.drops) e) ∙ append k)
-      where
-        append : (k : Bool) → cond k (c.drops ++ drop_at behind s ∷ []) c.drops ++ rest c ≡ c.drops ++ map (drop_at behind) (cond k (s ∷ filter (λ t. not (keep t) && is_kept c.kept t.conv) xs) (filter (λ t. not (keep t) && is_kept c.kept t.conv) xs))
-        append true = append-assoc c.drops (drop_at behind s ∷ []) (rest c)
-        append false = refl
+        ∙ (ap (λ (ds : List Drop). ds ++ map (drop_at behind) (chosen c)) (ended_drops c s.conv behind) ∙ append (is_kept c.kept s.conv))
 
-    here : (k : Bool) → (parted keep behind xs (ended_if (not k) s.conv behind c)).drops ≡ c.drops ++ map (drop_at behind) (cond (not k && is_kept c.kept s.conv) (s ∷ filter (λ t. not (keep t) && is_kept c.kept t.conv) xs) (filter (λ t. not (keep t) && is_kept c.kept t.conv) xs))
-    here true = parted_drops keep behind xs c apart.1
-    here false = parted_drops keep behind xs (ended s.conv behind c) apart.1 ∙ gone (is_kept c.kept s.conv) refl
+    here : (k : Bool) → (parted keep behind xs c).drops ≡ c.drops ++ map (drop_at behind) (chosen c) → (parted keep behind xs (ended s.conv behind c)).drops ≡ (ended s.conv behind c).drops ++ map (drop_at behind) (chosen (ended s.conv behind c))
+        → (parted keep behind xs (ended_if (not k) s.conv behind c)).drops ≡ c.drops ++ map (drop_at behind) (cond (not k && is_kept c.kept s.conv) (s ∷ chosen c) (chosen c))
+    here true stays leaves = stays
+    here false stays leaves = leaves ∙ gone
 
 -- ---- those who stay still stand
 
@@ -96,11 +98,11 @@ Matches keep stays (s ∷ xs) = (stays s.conv ≡ keep s) × Matches keep stays 
 
 matches_more : (keep : Speaker → Bool) (stays still : ℕ → Bool) (n : ℕ) → ((q : ℕ) → eqb n q ≡ false → still q ≡ stays q) → (xs : List Speaker) → is_among xs n ≡ false → Matches keep stays xs → Matches keep still xs
 matches_more keep stays still n alike [] off m = tt
-matches_more keep stays still n alike (s ∷ xs) off m = here (eqb s.conv n) refl off
+matches_more keep stays still n alike (s ∷ xs) off m = here (eqb s.conv n) refl off (λ none. matches_more keep stays still n alike xs none m.1)
   where
-    here : (b : Bool) → eqb s.conv n ≡ b → (b || is_among xs n) ≡ false → Matches keep still (s ∷ xs)
-    here true e none = absurd (false≢true (sym none))
-    here false e none = (alike s.conv (other_way s.conv n e) ∙ m.0, matches_more keep stays still n alike xs none m.1)
+    here : (b : Bool) → eqb s.conv n ≡ b → (b || is_among xs n) ≡ false → (is_among xs n ≡ false → Matches keep still xs) → Matches keep still (s ∷ xs)
+    here true e none more = absurd (false≢true (sym none))
+    here false e none more = (alike s.conv (other_way s.conv n e) ∙ m.0, more none)
 
 stay_matches : (keep : Speaker → Bool) (xs : List Speaker) → Apart xs → Matches keep (λ q. is_among (filter keep xs) q) xs
 stay_matches keep [] apart = tt

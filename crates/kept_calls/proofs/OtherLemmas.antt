@@ -1,11 +1,11 @@
 -- Deeds by which no conversation gives up a connection leave the connections as they are.
-use Rattle.std.proofs.Common.{◌≡◌, ℕ, List, [], ◌∷◌, ◌++◌, filter, map, Bool, true, false, cond, eqb, ◌&&◌, ◌||◌, not, refl, sym, ap, subst, ◌∙◌, append-nil}
+use Rattle.std.proofs.Common.{◌≡◌, ℕ, List, [], ◌∷◌, ◌++◌, filter, map, Bool, true, false, cond, ◌&&◌, not, refl, sym, ap, ◌∙◌, append-nil}
 use Rattle.std.proofs.lemmas.Bool.{false≢true}
 use Rattle.file_tree.specs.declared.tree.Node.{Node}
 use Rattle.file_tree.specs.declared.tree.Node.TheVariants.{Rpc}
 use Rattle.key_lists.specs.CtlLines.{CtlLine}
 use Rattle.agent_history.specs.Deeds.{Deed, FidDeed, KeyDeed, ReplyDeed, OfFids, OfKeys, OfReplies, OfConnection, DropTaken, Swept, Attached, Walked, Opened, Listed, Browsed, Entered, fid_of, names, was_opened}
-use Rattle.agent_history.specs.Conversations.{Drop, Speaker, drop_of, drops, gives_up, keeps, opened_talks, speakers, stands, talk}
+use Rattle.agent_history.specs.Conversations.{Drop, Speaker, drop_of, drops, keeps, opened_talks, speakers, stands, talk}
 use Rattle.agent_history.specs.Histories.{entered}
 use Rattle.agent_history.specs.Replies.{has_settled, swept}
 use Rattle.agent_history.specs.Requests.{line_deed, lines_done}
@@ -13,9 +13,8 @@ use Rattle.agent_talks.specs.Speaks.{is_among}
 use Rattle.agent_talks.proofs.OtherLemmas as talks
 use Rattle.agent_talks.proofs.StandLemmas.{among_last}
 use Rattle.kept_calls.specs.Calls.{Calls, none_kept, taken}
-use Rattle.kept_calls.specs.Keeps.{Converses, IsAlive, Keeps}
+use Rattle.kept_calls.specs.Keeps.{Converses, Keeps}
 use Rattle.kept_calls.specs.declared.keeping.KeepingTalks.{KeepingTalks}
-use Rattle.kept_calls.proofs.CallLemmas.{and_on}
 
 pub none_keeps : Keeps [] none_kept
 none_keeps = record { kept = λ q. refl; drops = refl; alive = λ q e. absurd (false≢true e) }

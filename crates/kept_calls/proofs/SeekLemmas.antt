@@ -1,6 +1,6 @@
 -- A conversation that seeks something among the keys isn't at its end, and neither a request that is written nor an answer
 -- that is read brings it there.
-use Rattle.std.proofs.Common.{◌≡◌, ℕ, List, ◌∷◌, Bool, true, false, Option, Some, None, refl, sym, ap, subst, ◌∙◌}
+use Rattle.std.proofs.Common.{◌≡◌, ℕ, List, Bool, true, false, Option, Some, None, refl, sym, ap, ◌∙◌}
 use Rattle.std.specs.Prelude.{option_map}
 use Rattle.std.proofs.lemmas.Bool.{false≢true}
 use Rattle.attr_tuples.specs.declared.attr.Attr.{Attr}
@@ -15,10 +15,10 @@ use Rattle.roles.specs.Talks.{Call as Move}
 use Rattle.rpc_file.specs.Requests.{RpcRequest, starts, reads, writes, asks_info, asks_attributes}
 use Rattle.rpc_file.specs.declared.answer.RpcAnswer.{RpcAnswer}
 use Rattle.rpc_file.specs.declared.answer.RpcAnswer.TheVariants as a
-use Rattle.conv_set.specs.Protocols.{answers, ends, is_over, needs, puts, refuses}
+use Rattle.conv_set.specs.Protocols.{answers, ends, needs, puts, refuses}
 use Rattle.conv_set.proofs.EndLaws.{none_at_the_end}
 use Rattle.talks.specs.Answers.{attributes, move_answer}
-use Rattle.talks.specs.Calls.{Call, Found, Chosen, AsksConsent, AsksKey, Denied, NoneServes, Offered, Picked, Stored, Sought, Took}
+use Rattle.talks.specs.Calls.{Found, Chosen, AsksConsent, AsksKey, Denied, NoneServes, Offered, Picked, Stored, Sought, Took}
 use Rattle.talks.specs.Standings.{Begun, Phase, Resting, Waiting, Seeking, OnConfirm, OnNeedkey, OnServer, Kept, Standing, answered, begin, begin_once, carried_out, if_begun, is_for, made, make_move, moved, need_in, outcome_of, outcome_unless, phase_after, sought, sought_if, start_by, started, then_stands, waits_for_user, with_key, with_move}
 use Rattle.conversations.specs.Shown.{is_seeking}
 use Rattle.agent_history.specs.Conversations.{is_end}
@@ -113,7 +113,7 @@ seeks_waits OnServer e = e
 seeks_waits (Kept answer) e = e
 
 pub starting_quiet : (s : Standing) → s.starting ≡ true → is_seeking s.phase ≡ true → is_end (outcome_of s) ≡ false
-starting_quiet s starts e = rw (starts, seeks_waits s.phase e) refl
+starting_quiet s begins e = rw (begins, seeks_waits s.phase e) refl
 
 key_starting : (s : Standing) (key : KeyEntry) (begun : Option Begun) → (with_key s key begun).starting ≡ s.starting
 key_starting s key None = refl

@@ -1,16 +1,16 @@
 -- A conversation that has come to its end, by what it met, gives up the connection that it keeps.
-use Rattle.std.proofs.Common.{◌≡◌, ℕ, List, [], ◌∷◌, ◌++◌, Bool, true, false, cond, eqb, not, ◌&&◌, Option, Some, None, refl, sym, ap, subst, ◌∙◌}
+use Rattle.std.proofs.Common.{◌≡◌, ℕ, List, [], ◌∷◌, ◌++◌, Bool, true, false, cond, eqb, not, ◌&&◌, refl, sym, ap, subst, ◌∙◌}
 use Rattle.std.proofs.lemmas.Bool.{eqb-true, false≢true}
 use Rattle.rpc_file.specs.declared.answer.RpcAnswer.{RpcAnswer}
 use Rattle.rpc_file.specs.Requests.{RpcRequest}
 use Rattle.talks.specs.Calls as calls
 use Rattle.talks.specs.Calls.{Call, Sought}
-use Rattle.talks.specs.Standings.{Phase, Resting, Waiting, Seeking, OnConfirm, OnNeedkey, OnServer, Kept, Standing, finds, outcome_of, standing, then_stands}
+use Rattle.talks.specs.Standings.{Phase, Resting, Waiting, Seeking, OnConfirm, OnNeedkey, OnServer, Kept, Standing, finds, outcome_of, then_stands}
 use Rattle.conversations.specs.Shown.{is_seeking}
-use Rattle.agent_history.specs.Deeds.{Deed, OfTalk, Raised, keys_of}
-use Rattle.agent_history.specs.Conversations.{Drop, asking, drop_of, drops, fits, gives_up, is_end, keeps, met, raised, raising, seeking, seeking_all, sought_once, standing_of, talk, then_sought, then_took}
+use Rattle.agent_history.specs.Deeds.{Deed, OfTalk, keys_of}
+use Rattle.agent_history.specs.Conversations.{Drop, asking, drop_of, drops, fits, gives_up, is_end, keeps, met, raised, raising, seeking, seeking_all, sought_once, standing_of, then_sought, then_took}
 use Rattle.agent_history.specs.Requests.{carried, carrying_out}
-use Rattle.kept_calls.specs.Calls.{Calls, ended, ended_if, is_kept}
+use Rattle.kept_calls.specs.Calls.{Calls, ended_if, is_kept}
 use Rattle.kept_calls.specs.Keeps.{IsAlive, Keeps, is_over_at}
 use Rattle.kept_calls.proofs.CallLemmas.{and_off, and_on, ended_drops, ended_none, ended_others, ended_self, same}
 use Rattle.kept_calls.proofs.SeekLemmas.{carried_quiet, sought_starting, starting_quiet, stored_alike, took_alike}
@@ -19,12 +19,13 @@ use Rattle.kept_calls.proofs.SeekLemmas.{carried_quiet, sought_starting, startin
 
 -- whether the connection is given up by it
 gives : (done : List Deed) (conv : ℕ) (call : Call) → gives_up (OfTalk conv call) done conv ≡ (keeps done conv && is_over_at (OfTalk conv call ∷ done) conv)
-gives done conv call = rw (same conv) (step (keeps done conv) (is_over_at (OfTalk conv call ∷ done) conv))
+gives done conv call = step (eqb conv conv) (same conv) (keeps done conv) (is_over_at (OfTalk conv call ∷ done) conv)
   where
-    step : (k over : Bool) → (k && not (k && not over)) ≡ (k && over)
-    step true true = refl
-    step true false = refl
-    step false over = refl
+    step : (b : Bool) → b ≡ true → (k over : Bool) → (k && not (cond b (k && not over) k)) ≡ (k && over)
+    step true e true true = refl
+    step true e true false = refl
+    step true e false over = refl
+    step false e k over = absurd (false≢true e)
 
 over_off : (b over : Bool) → over ≡ true → (b && not over) ≡ false
 over_off b true e = and_off b
@@ -135,18 +136,18 @@ once_settles done c conv behind quiet s = by_phase (standing_of done conv).phase
 
 -- a start stays one behind a search
 once_starts : (done : List Deed) (conv : ℕ) → (standing_of done conv).starting ≡ true → (standing_of (sought_once conv done) conv).starting ≡ true
-once_starts done conv starts = by_phase (standing_of done conv).phase refl
+once_starts done conv begins = by_phase (standing_of done conv).phase refl
   where
     by_phase : (p : Phase) → (standing_of done conv).phase ≡ p → (standing_of (seeking conv p done) conv).starting ≡ true
     by_phase Seeking e =
         let came : Call = Sought (finds (standing_of done conv) (asking done) (keys_of done)) in
-        ap (λ (s : Standing). s.starting) (met_it done conv came) ∙ (sought_starting (standing_of done conv) (standing_of done conv).phase (finds (standing_of done conv) (asking done) (keys_of done)) ∙ starts)
-    by_phase Resting e = starts
-    by_phase (Waiting request) e = starts
-    by_phase (OnConfirm serial) e = starts
-    by_phase OnNeedkey e = starts
-    by_phase OnServer e = starts
-    by_phase (Kept answer) e = starts
+        ap (λ (s : Standing). s.starting) (met_it done conv came) ∙ (sought_starting (standing_of done conv) (standing_of done conv).phase (finds (standing_of done conv) (asking done) (keys_of done)) ∙ begins)
+    by_phase Resting e = begins
+    by_phase (Waiting request) e = begins
+    by_phase (OnConfirm serial) e = begins
+    by_phase OnNeedkey e = begins
+    by_phase OnServer e = begins
+    by_phase (Kept answer) e = begins
 
 all_settle : (done : List Deed) (c : Calls) (conv behind : ℕ) (starting : Bool) → (standing_of done conv).starting ≡ starting → IsQuiet done conv → Settles done c conv behind → Settles (seeking_all starting conv done) c conv behind
 all_settle done c conv behind false is quiet s = once_settles done c conv behind quiet s

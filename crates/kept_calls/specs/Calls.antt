@@ -6,7 +6,7 @@ use Rattle.std.specs.List.{list_any}
 use Rattle.agent_history.specs.Conversations.{Drop}
 use Rattle.agent_talks.specs.declared.speaker.Speaker.{Speaker as HeldSpeaker}
 use Rattle.agent_talks.specs.declared.speaker.Leaving.{Leaving}
-use Rattle.agent_talks.specs.Changes.{leaves}
+use Rattle.agent_talks.specs.Kept.{leaves}
 use Rattle.kept_calls.specs.declared.kept.GivenUp.{GivenUp}
 
 -- the conversations that keep a connection, and the connections that are to be given up, the oldest first

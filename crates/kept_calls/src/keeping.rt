@@ -10,7 +10,7 @@ ghost use Rattle.agent_history.specs.Requests.{carried};
 ghost use Rattle.agent_talks.specs.Kept.{is_asked, questions_in, unasked};
 ghost use Rattle.agent_talks.specs.Speaks.{IsReady, Speak, met_by};
 ghost use Rattle.agent_talks.specs.Tells.{IsShort, TellsBy};
-ghost use Rattle.kept_calls.specs.Keeps.{Converses, EndsAsker, EndsOver, SameConverses, is_over_at};
+ghost use Rattle.kept_calls.specs.Keeps.{Converses, EndsAsker, EndsOver, Keeps, SameConverses, is_over_at};
 
 use crate::kept::KeptCalls;
 use agent_talks::{Leaving, Talks, Told};
@@ -233,13 +233,25 @@ impl KeepingTalks {
         ensures fewer { OnOk result (unasked self.new.talks ≡ unasked self.old.talks - 1) }
         ensures drops { self.new.calls.drops ≡ self.old.calls.drops }
     {
-        if let Some(question) = self.talks.next_question() {
-            let conv = question.conv;
-            let keeps = self.asks_challenge(conv);
-            self.calls.hand(conv, keeps)?;
-        }
+        self.hand_next()?;
         self.talks.hand_out();
         Ok(())
+    }
+
+    // What the conversation of the next question keeps then, where there is one.
+    fn hand_next(&mut self) -> Result<(), NoMemory>
+        ensures handed { OnOk result ((done : List Deed) → Converses done self.old
+            → Keeps (HandedOut ∷ done) self.new.calls) }
+        ensures same { OnErr result (self.new ≡ self.old) }
+        ensures talks { self.new.talks ≡ self.old.talks }
+        ensures drops { self.new.calls.drops ≡ self.old.calls.drops }
+    {
+        let Some(question) = self.talks.next_question() else {
+            return Ok(());
+        };
+        let conv = question.conv;
+        let keeps = self.asks_challenge(conv);
+        self.calls.hand(conv, keeps)
     }
 
     fn asks_challenge(&self, conv: u64) -> bool
