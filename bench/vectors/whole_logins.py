@@ -258,6 +258,39 @@ def kept_connections():
         s.step("x", 0, 0)
 
 
+def choices():
+    """Which domains a server of p9any offers, and which of them a client chooses."""
+    x, y = (SRV_KEY.replace("dom=x", "dom=" + dom) for dom in "xy")
+    both = b"p9sk1@x p9sk1@y"
+    for keys, start, given, choice in [
+        ([], ANY_CLIENT, both, b"x"), ([y], ANY_CLIENT, both, b"y"), ([y, x], ANY_CLIENT, both, b"x"),
+        ([x + " role=server", y], ANY_CLIENT, both, b"y"), ([y], ANY_CLIENT + " dom=x", both, b"x"),
+        ([y], ANY_CLIENT + " user=bob", both, b"x"), ([y + " confirm"], ANY_CLIENT, both, b"y"),
+        ([x], ANY_CLIENT, b"p9sk2@x apop@x p9sk1@y", b"y"), ([y], ANY_CLIENT, b" v.2  " + both + b" ", b"y"),
+    ]:
+        s = one("a client's choice", *keys)
+        s.rpc(1, start, "ok")
+        s.rpc(1, ("write", given + b"\0"), "ok")
+        s.rpc(1, "read", ("ok", b"p9sk1 " + choice + b"\0"))
+    for keys, start, offers in [
+        ([y, x, y.replace("srv", "eve")], ANY_SERVER, b"p9sk1@y p9sk1@x"), ([y, x], ANY_SERVER + " dom=x", b"p9sk1@x"),
+        ([x + " role=client", y + " role=server"], ANY_SERVER, b"p9sk1@y"), ([x + " confirm"], ANY_SERVER, b"p9sk1@x"),
+        (["proto=apop dom=y user=srv !password=a", x], ANY_SERVER, b"p9sk1@x"),
+    ]:
+        s = one("a server's offers", *keys)
+        s.rpc(1, start, "ok")
+        s.rpc(1, "read", ("ok", offers + b"\0"))
+    s = one("a key that goes behind its offer, and comes again", x)
+    s.rpc(1, ANY_SERVER, "ok", word=CHS)
+    s.line("delkey dom=x")
+    s.rpc(1, "read", ("ok", LIST))
+    s.rpc(1, ("write", CHOICE), NEEDS)
+    s.chosen(1)
+    s.line("key " + x)
+    s.rpc(1, ("write", CHOICE), "ok")
+    s.chosen(1, 2, b"srv")
+
+
 def logins():
     negotiated("a client and a server of p9any")
     negotiated("one whose server consents to the choice", consents=True)
@@ -265,6 +298,7 @@ def logins():
     for proto in KINDS:
         mailed(proto)
     without_a_key()
+    choices()
     kept_connections()
 
 
@@ -538,7 +572,7 @@ def crams():
 
 
 TABLES = [
-    (logins, "logins", "whole logins by p9any, APOP and CRAM, and connections that are given up"),
+    (logins, "logins", "whole logins by p9any, APOP and CRAM, offers, and connections that are given up"),
     (any_clients, "p9any_clients", "what clients of p9any refuse"),
     (any_servers, "p9any_servers", "what servers of p9any refuse"),
     (apops, "apop", "what APOP refuses"),
