@@ -1,5 +1,6 @@
 #!/usr/bin/env python3
-"""Prints conversations of rpc with agents, event by event, as the tables of the tests of agent_logins.
+"""Prints conversations of rpc with agents, event by event, as the tables of the tests of agent_logins. The crate agent_player
+makes the steps; whole_logins.py prints more of them.
 
 Written by hand from the manual's words (Plan 9: factotum(4), p9sk1 of authsrv(6), section 5), the order of the tests of each
 request and the texts of rpc; OpenSSL's DES seals. Frames come from agent.py. Nothing of the project's own code is used.
@@ -11,6 +12,7 @@ connection's, a call's or none), what is given and what has to come, each of the
   w  the same, the word first       p  a request alone
   t  a take: the reply, or none     g  a take, which learns that the connection is gone
   q  a question is taken: its conversation and its bytes, the number being its call's; or there is none
+  d  a connection that the conversation of this number kept is given up, in place of a question
   a  the answer to a call           f  a call that isn't answered       m  a call without room for its answer
   h  a connection hangs up          s  the agent is stopped             x  a question is taken from an agent that stopped
   o  the outcome of a fid's conversation: none, a word, a word and what it is about
@@ -99,14 +101,17 @@ class Session:
     def refuses(self, request, why, conn=0, tag=1):
         self.say(request, error(why, tag), conn)
 
-    def wait(self, fid, request, conn=0, agent=0, count=WIDE):
+    def wait(self, fid, request, conn=0, agent=0, count=WIDE, word=None):
         """A request is written, and its read waits."""
         with self.group():
             self.store(fid, request, conn, agent)
-            self.again(fid, conn, agent, count)
+            self.again(fid, conn, agent, count, word)
 
-    def again(self, fid, conn=0, agent=0, count=WIDE):
-        self.say(read(fid, 0, count, 100 + fid), b"", conn, agent)
+    def again(self, fid, conn=0, agent=0, count=WIDE, word=None):
+        if word is None:
+            self.say(read(fid, 0, count, 100 + fid), b"", conn, agent)
+        else:
+            self.step("w", agent, conn, word + read(fid, 0, count, 100 + fid))
 
     def take(self, reply, conn=0, agent=0):
         self.step("t", agent, conn, b"", reply)
@@ -125,6 +130,9 @@ class Session:
 
     def unasked(self, agent=0):
         self.step("q", agent, 0)
+
+    def dropped(self, conv, agent=0):
+        self.step("d", agent, conv)
 
     def outcome(self, fid, text, conn=0, agent=0):
         self.step("o", agent, conn, bytes([fid]), verb(text))
@@ -427,9 +435,6 @@ def starts():
         "start  proto=p9sk1\trole=client ", "start proto=p9sk1 role=speakfor user=" + "u" * 27, "start proto=p9sk1 role=client user=''",
     ], 1):
         client(s, fid, text)
-    for proto in ["p9any", "apop", "cram"]:
-        s = one("a protocol that isn't served")
-        s.rpc(1, "start proto=%s role=client" % proto, "error unknown proto")
 
 
 def phases():
@@ -913,8 +918,8 @@ def shown(step):
     return "".join(chr(c) if 33 <= c < 127 and c not in (34, 92) else "\\x%02x" % c if c else "\\0" for c in b)
 
 
-def table(about):
-    print("// Sessions with agents about %s, made by bench/vectors/logins.py," % about)
+def table(about, script="logins.py"):
+    print("// Sessions with agents about %s, made by bench/vectors/%s," % (about, script))
     print("// which also says what each shows and how a step is written.")
     print("pub const COUNT: usize = %d;" % sum(len(line) for _, lines in SESSIONS for line in lines))
     print()
@@ -922,17 +927,17 @@ def table(about):
     print("\\\n".join("    " + "".join(shown(step) for step in line) for _, lines in SESSIONS for line in lines) + '";')
 
 
-def main():
+def main(tables, script):
     """Prints the table that is named, or what its sessions are."""
-    for make, name, about in TABLES:
+    for make, name, about in tables:
         if sys.argv[1:2] == [name]:
             make()
             if sys.argv[2:] == ["names"]:
                 for session, lines in SESSIONS:
                     print(sum(len(line) for line in lines), session)
             else:
-                table(about)
+                table(about, script)
 
 
 if __name__ == "__main__":
-    main()
+    main(TABLES, "logins.py")

@@ -19,12 +19,12 @@ def md5_digits(text: bytes, *options: str) -> bytes:
     return done.stdout[:32]
 
 
-def apop(password: bytes) -> bytes:
-    return md5_digits(CHALLENGE + password)
+def apop(password: bytes, challenge: bytes = CHALLENGE) -> bytes:
+    return md5_digits(challenge + password)
 
 
-def cram(password: bytes) -> bytes:
-    return md5_digits(CHALLENGE, "-mac", "HMAC", "-macopt", "hexkey:" + password.hex())
+def cram(password: bytes, challenge: bytes = CHALLENGE) -> bytes:
+    return md5_digits(challenge, "-mac", "HMAC", "-macopt", "hexkey:" + password.hex())
 
 
 def mail_request(kind: int, authid: bytes, uid: bytes, digits: bytes) -> bytes:
