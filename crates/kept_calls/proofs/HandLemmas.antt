@@ -1,10 +1,10 @@
 -- A question that is handed out, and what is due to be handed out.
 use Rattle.std.proofs.Common.{◌≡◌, ◌<◌, ℕ, List, [], ◌∷◌, length, Bool, true, false, cond, eqb, not, ◌||◌, Option, Some, None, refl, sym, ap, subst, ◌∙◌, arith}
-use Rattle.std.specs.Prelude.{find}
+use Rattle.std.specs.Prelude.{find, nat_lt}
 use Rattle.std.proofs.lemmas.Bool.{eq-eqb, eqb-true, false≢true}
 use Rattle.talks.specs.Standings.{question_of}
 use Rattle.agent_history.specs.Deeds.{Deed, HandedOut}
-use Rattle.agent_history.specs.Conversations.{Drop, Question, asks_challenge, due_of, first_due, keeps, kept_by, next_question, questions, stands, standing_of}
+use Rattle.agent_history.specs.Conversations.{Drop, DropDue, Question, QuestionDue, asks_challenge, drops, due, due_of, first_due, keeps, kept_by, next_question, questions, stands, standing_of}
 use Rattle.agent_talks.specs.declared.held.Talks.{Talks}
 use Rattle.agent_talks.specs.Speaks.{Speak, asks_for}
 use Rattle.kept_calls.specs.Calls.{Calls, first_of, handed, is_kept}
@@ -95,3 +95,17 @@ front_left (x ∷ ds) d e = omega arith
 pub none_due : (ds : List Drop) → None ≡ first_of ds → ds ≡ []
 none_due [] e = refl
 none_due (x ∷ ds) e = absurd cc
+
+-- a question that is due is the next one
+pub due_asks : (done : List Deed) (question : Question) → due done ≡ QuestionDue question → next_question done ≡ Some question
+due_asks done question e = here (drops done) (next_question done) e
+  where
+    first : (d : Drop) (q : Question) (b : Bool) → cond b (DropDue d) (QuestionDue q) ≡ QuestionDue question → Some q ≡ Some question
+    first d q true e = absurd cc
+    first d q false e = cc
+
+    here : (ds : List Drop) (o : Option Question) → due_of ds o ≡ QuestionDue question → o ≡ Some question
+    here [] None e = absurd cc
+    here [] (Some q) e = cc
+    here (d ∷ ds) None e = absurd cc
+    here (d ∷ ds) (Some q) e = first d q (nat_lt d.behind q.call) e

@@ -101,7 +101,7 @@ fn one_that_comes_to_its_end_gives_its_connection_up(rt: HostRuntime) -> Result<
     check_next(&rt, &mut talks, 3, 2)?;
     talks.unheard(2);
     talks.roomless(9);
-    talks.heard(alloc, 1, b"\x06<1@x>")?;
+    talks.heard(alloc, 1, b"\x09    5<1@x>")?;
     check_next(&rt, &mut talks, 100, 1)?;
     check_next(&rt, &mut talks, 0, 0)?;
     talks.roomless(3);
