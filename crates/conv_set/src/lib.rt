@@ -2,5 +2,7 @@
 #![tactic(auto)]
 
 mod conv;
+#[cfg(test)]
+mod tests;
 
 pub use conv::Conv;

@@ -83,9 +83,10 @@ is_offered (Exchange request shape) role given said asking list wanted is = absu
 
 made_offers : (c : Conversation) (kept new : Held) (phase : HeldPhase) (given : List ℕ) (s : Standing) (asking : Asking) (list : KeyList) (begun : Option Begun) → BothBegun (Some kept) begun → Carries c s → IsOffers (need_in begun) → ((b : Begun) → IsBegun kept b → IsOfferedBy given (needs b.start b.moves) (role_in b.start.template) list) → ((b : Begun) → IsBegun kept b → IsOffers (needs b.start b.moves) → Becomes new phase (with_move b (offered given)) (move_answer a.Ok b.key (answers b.start b.moves (offered given)))) → (found_for (need_in begun) (role_name begun) s.said asking list ≡ Offered given) × Fits (after c new phase) (made s (offered given) begun)
 made_offers c kept new phase given s asking list None both carries wanted listed becomes = absurd both
-made_offers c kept new phase given s asking list (Some b) both carries wanted listed becomes =
-    (is_offered (needs b.start b.moves) (role_in b.start.template) given s.said asking list wanted (listed b both),
-    fits_moved c new phase s (with_move b (offered given)) (move_answer a.Ok b.key (answers b.start b.moves (offered given))) carries (becomes b both wanted))
+made_offers c kept new phase given s asking list (Some b) both carries wanted listed becomes = (
+  is_offered (needs b.start b.moves) (role_in b.start.template) given s.said asking list wanted (listed b both),
+  fits_moved c new phase s (with_move b (offered given)) (move_answer a.Ok b.key (answers b.start b.moves (offered given))) carries (becomes b both wanted),
+)
 
 pub fits_offers : (c : Conversation) (kept new : Held) (phase : HeldPhase) (given : List ℕ) (s : Standing) (asking : Asking) (list : KeyList) → c.begun ≡ Some kept → Carries c s → IsOffers (need_in s.begun) → ((b : Begun) → IsBegun kept b → IsOfferedBy given (needs b.start b.moves) (role_in b.start.template) list) → ((b : Begun) → IsBegun kept b → IsOffers (needs b.start b.moves) → Becomes new phase (with_move b (offered given)) (move_answer a.Ok b.key (answers b.start b.moves (offered given)))) → Fits (after c new phase) (sought s (finds s asking list))
 unfolding finds
@@ -102,9 +103,10 @@ is_picked (Exchange request shape) role place said asking list wanted is = absur
 
 made_pick : (c : Conversation) (kept new : Held) (phase : HeldPhase) (place : ℕ) (s : Standing) (asking : Asking) (list : KeyList) (begun : Option Begun) → BothBegun (Some kept) begun → Carries c s → IsPick (need_in begun) → ((b : Begun) → IsBegun kept b → IsPickedBy place (needs b.start b.moves) (role_in b.start.template) list) → ((b : Begun) → IsBegun kept b → IsPick (needs b.start b.moves) → Becomes new phase (with_move b (picked place)) (move_answer a.Ok b.key (answers b.start b.moves (picked place)))) → (found_for (need_in begun) (role_name begun) s.said asking list ≡ Picked place) × Fits (after c new phase) (made s (picked place) begun)
 made_pick c kept new phase place s asking list None both carries wanted listed becomes = absurd both
-made_pick c kept new phase place s asking list (Some b) both carries wanted listed becomes =
-    (is_picked (needs b.start b.moves) (role_in b.start.template) place s.said asking list wanted (listed b both),
-    fits_moved c new phase s (with_move b (picked place)) (move_answer a.Ok b.key (answers b.start b.moves (picked place))) carries (becomes b both wanted))
+made_pick c kept new phase place s asking list (Some b) both carries wanted listed becomes = (
+  is_picked (needs b.start b.moves) (role_in b.start.template) place s.said asking list wanted (listed b both),
+  fits_moved c new phase s (with_move b (picked place)) (move_answer a.Ok b.key (answers b.start b.moves (picked place))) carries (becomes b both wanted),
+)
 
 pub fits_pick : (c : Conversation) (kept new : Held) (phase : HeldPhase) (place : ℕ) (s : Standing) (asking : Asking) (list : KeyList) → c.begun ≡ Some kept → Carries c s → IsPick (need_in s.begun) → ((b : Begun) → IsBegun kept b → IsPickedBy place (needs b.start b.moves) (role_in b.start.template) list) → ((b : Begun) → IsBegun kept b → IsPick (needs b.start b.moves) → Becomes new phase (with_move b (picked place)) (move_answer a.Ok b.key (answers b.start b.moves (picked place)))) → Fits (after c new phase) (sought s (finds s asking list))
 unfolding finds

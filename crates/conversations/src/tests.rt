@@ -90,6 +90,56 @@ static SERVER: [Row; 6] = [
     (Request::AuthInfo, b"ok ", INFO),
 ];
 
+static ANY_CLIENT: [Row; 10] = [
+    (Request::Start(b"proto=p9any role=client"), b"ok", b""),
+    (Request::Write(b"v.2 p9sk1@y p9sk1@x\0"), b"ok", b""),
+    (Request::Read, b"ok ", b"p9sk1 x\0"),
+    (Request::Write(b"OK\0"), b"ok", b""),
+    (Request::Read, b"ok ", &WORD),
+    (Request::Write(REQUEST), b"ok", b""),
+    (Request::Read, b"ok ", SHOWN),
+    (Request::Write(PROOF), b"ok", b""),
+    (Request::AuthInfo, b"ok ", INFO),
+    (
+        Request::Attr,
+        b"ok ",
+        b"proto=p9any role=client dom=x user=ann !hex?",
+    ),
+];
+
+static ANY_SERVER: [Row; 9] = [
+    (Request::Start(b"proto=p9any role=server"), b"ok", b""),
+    (Request::Attr, b"ok ", b"proto=p9any role=server"),
+    (Request::Read, b"ok ", b"p9sk1@x\0"),
+    (Request::Write(b"p9sk1 x\0"), b"ok", b""),
+    (Request::Write(&WORD), b"ok", b""),
+    (Request::Read, b"ok ", REQUEST),
+    (Request::Write(SHOWN), b"ok", b""),
+    (Request::Read, b"ok ", PROOF),
+    (Request::AuthInfo, b"ok ", INFO),
+];
+
+// A server without a key, and then a client for whose choice there is none.
+static ANY_REFUSED: [Row; 9] = [
+    (
+        Request::Start(b"proto=p9any role=server"),
+        b"needkey proto=p9sk1 user? dom? !password?",
+        b"",
+    ),
+    (Request::Read, b"protocol not started", b""),
+    (Request::Start(b"proto=p9any role=client"), b"ok", b""),
+    (Request::Read, b"phase awaits write", b""),
+    (Request::Write(b"p9sk1@x"), b"toosmall 8", b""),
+    (Request::Write(b"p9sk1@x p9sk1@y\0"), b"ok", b""),
+    (Request::Read, b"ok ", b"p9sk1 x\0"),
+    (Request::Read, b"ok ", &WORD),
+    (
+        Request::Write(REQUEST),
+        b"needkey proto=p9sk1 dom=x user? !password?",
+        b"",
+    ),
+];
+
 static REFUSED: [Row; 16] = [
     (Request::Read, b"protocol not started", b""),
     (Request::Write(b""), b"protocol not started", b""),
@@ -132,6 +182,23 @@ static REFUSED: [Row; 16] = [
         b"",
     ),
 ];
+
+// What becomes of a conversation.
+#[derive(Clone, Copy)]
+enum Course {
+    /// A login by these rows, with this word.
+    Login([u8; 8], &'static [Row]),
+    /// These rows, behind which no key is chosen.
+    Refused(&'static [Row]),
+    /// A client's user agrees to the use of a key.
+    Consent,
+    /// The file by which he is asked is closed, and this is answered.
+    Shut(&'static [u8]),
+    /// The authentication server isn't reached.
+    Unheard,
+    /// There is no memory for its answer.
+    Roomless,
+}
 
 fn ring_of(alloc: Global, key: &[u8]) -> Result<KeyRing, Fail> {
     let mut ring = KeyRing::new(alloc);
@@ -194,35 +261,29 @@ fn check_answer(
     Ok(())
 }
 
-fn check_accepted(rt: &impl Abort, conversation: &Conversation) {
+fn check_login(
+    rt: &impl Abort,
+    alloc: Global,
+    conversation: &mut Conversation,
+    ring: &KeyRing,
+    word: [u8; 8],
+    rows: &[Row],
+) -> Result<(), Fail> {
+    check_rows(rt, alloc, conversation, ring, word, rows)?;
     assert!(rt; matches!(conversation.outcome(), Some(Outcome::Accepted(_))));
     assert!(rt; matches!(conversation.chosen(), Some(key) if key.serial() == 1));
-}
-
-#[test]
-fn a_client_logs_in(rt: HostRuntime) -> Result<(), Fail> {
-    let ring = ring_of(rt.alloc(), ANN)?;
-    let mut client = Conversation::new(rt.alloc());
-    check_rows(&rt, rt.alloc(), &mut client, &ring, WORD, &CLIENT)?;
-    check_accepted(&rt, &client);
     Ok(())
 }
 
-#[test]
-fn a_server_logs_in(rt: HostRuntime) -> Result<(), Fail> {
-    let ring = ring_of(rt.alloc(), SRV)?;
-    let mut server = Conversation::new(rt.alloc());
-    check_rows(&rt, rt.alloc(), &mut server, &ring, CHAL, &SERVER)?;
-    check_accepted(&rt, &server);
-    Ok(())
-}
-
-#[test]
-fn requests_are_refused(rt: HostRuntime) -> Result<(), Fail> {
-    let ring = KeyRing::new(rt.alloc());
-    let mut left = Conversation::new(rt.alloc());
-    check_rows(&rt, rt.alloc(), &mut left, &ring, WORD, &REFUSED)?;
-    assert!(rt; left.chosen().is_none());
+fn check_refused(
+    rt: &impl Abort,
+    alloc: Global,
+    conversation: &mut Conversation,
+    ring: &KeyRing,
+    rows: &[Row],
+) -> Result<(), Fail> {
+    check_rows(rt, alloc, conversation, ring, WORD, rows)?;
+    assert!(rt; conversation.chosen().is_none());
     Ok(())
 }
 
@@ -262,13 +323,6 @@ fn check_consent(
     Ok(())
 }
 
-#[test]
-fn a_user_is_asked(rt: HostRuntime) -> Result<(), Fail> {
-    let ring = ring_of(rt.alloc(), ANN_ASKED)?;
-    let mut client = Conversation::new(rt.alloc());
-    check_consent(&rt, rt.alloc(), &mut client, &ring)
-}
-
 // The file by which the user is asked is closed.
 fn check_shut(
     rt: &impl Abort,
@@ -282,29 +336,104 @@ fn check_shut(
     check_answer(rt, alloc, client, wanted, b"")
 }
 
-#[test]
-fn a_user_is_asked_in_vain(rt: HostRuntime) -> Result<(), Fail> {
-    let alloc = rt.alloc();
-    let mut client = Conversation::new(alloc);
-    let denied = b"error confirmation denied";
-    check_shut(&rt, alloc, &mut client, &ring_of(alloc, ANN_ASKED)?, denied)?;
-    let mut client = Conversation::new(alloc);
-    let wanted = b"needkey proto=p9sk1 dom=x user? !password?";
-    check_shut(&rt, alloc, &mut client, &KeyRing::new(alloc), wanted)
-}
-
-// The authentication server wasn't reached, or there was no memory for its answer.
-#[test]
-fn a_server_does_not_answer(rt: HostRuntime) -> Result<(), Fail> {
-    let alloc = rt.alloc();
-    let ring = ring_of(alloc, ANN)?;
-    let mut client = Conversation::new(alloc);
-    seek(alloc, &mut client, &ring)?;
+// The authentication server isn't reached.
+fn check_unheard(
+    rt: &impl Abort,
+    alloc: Global,
+    client: &mut Conversation,
+    ring: &KeyRing,
+) -> Result<(), Fail> {
+    seek(alloc, client, ring)?;
     assert!(rt; matches!(client.question(), Some((asked, Shape::Tickets)) if asked == QUESTION));
     client.unheard();
-    check_answer(&rt, alloc, &mut client, b"error no server", b"")?;
-    let mut client = Conversation::new(alloc);
-    seek(alloc, &mut client, &ring)?;
+    check_answer(rt, alloc, client, b"error no server", b"")
+}
+
+// There is no memory for its answer.
+fn check_roomless(
+    rt: &impl Abort,
+    alloc: Global,
+    client: &mut Conversation,
+    ring: &KeyRing,
+) -> Result<(), Fail> {
+    seek(alloc, client, ring)?;
     client.roomless();
-    check_answer(&rt, alloc, &mut client, b"error out of memory", b"")
+    check_answer(rt, alloc, client, b"error out of memory", b"")
+}
+
+fn follow(
+    rt: &impl Abort,
+    alloc: Global,
+    conversation: &mut Conversation,
+    ring: &KeyRing,
+    course: Course,
+) -> Result<(), Fail> {
+    match course {
+        Course::Login(word, rows) => check_login(rt, alloc, conversation, ring, word, rows),
+        Course::Refused(rows) => check_refused(rt, alloc, conversation, ring, rows),
+        Course::Consent => check_consent(rt, alloc, conversation, ring),
+        Course::Shut(wanted) => check_shut(rt, alloc, conversation, ring, wanted),
+        Course::Unheard => check_unheard(rt, alloc, conversation, ring),
+        Course::Roomless => check_roomless(rt, alloc, conversation, ring),
+    }
+}
+
+// A conversation that has just begun takes this course.
+fn check(rt: &impl Abort, alloc: Global, ring: &KeyRing, course: Course) -> Result<(), Fail> {
+    let mut conversation = Conversation::new(alloc);
+    follow(rt, alloc, &mut conversation, ring, course)
+}
+
+fn check_with(rt: &impl Abort, alloc: Global, key: &[u8], courses: &[Course]) -> Result<(), Fail> {
+    let ring = ring_of(alloc, key)?;
+    check_each(rt, alloc, &ring, courses)
+}
+
+fn check_each(
+    rt: &impl Abort,
+    alloc: Global,
+    ring: &KeyRing,
+    courses: &[Course],
+) -> Result<(), Fail> {
+    for course in courses {
+        check(rt, alloc, ring, *course)?;
+    }
+    Ok(())
+}
+
+#[test]
+fn clients_log_in(rt: HostRuntime) -> Result<(), Fail> {
+    let courses = [
+        Course::Login(WORD, &CLIENT),
+        Course::Login(WORD, &ANY_CLIENT),
+        Course::Unheard,
+        Course::Roomless,
+    ];
+    check_with(&rt, rt.alloc(), ANN, &courses)
+}
+
+#[test]
+fn servers_log_in(rt: HostRuntime) -> Result<(), Fail> {
+    let courses = [
+        Course::Login(CHAL, &SERVER),
+        Course::Login(CHAL, &ANY_SERVER),
+    ];
+    check_with(&rt, rt.alloc(), SRV, &courses)
+}
+
+#[test]
+fn requests_are_refused_without_keys(rt: HostRuntime) -> Result<(), Fail> {
+    let ring = KeyRing::new(rt.alloc());
+    let courses = [
+        Course::Refused(&REFUSED),
+        Course::Refused(&ANY_REFUSED),
+        Course::Shut(b"needkey proto=p9sk1 dom=x user? !password?"),
+    ];
+    check_each(&rt, rt.alloc(), &ring, &courses)
+}
+
+#[test]
+fn a_user_is_asked(rt: HostRuntime) -> Result<(), Fail> {
+    let courses = [Course::Consent, Course::Shut(b"error confirmation denied")];
+    check_with(&rt, rt.alloc(), ANN_ASKED, &courses)
 }
