@@ -15,7 +15,7 @@ use Rattle.agent_history.specs.Requests.{is_rpc, walking}
 use Rattle.kept_calls.specs.declared.keeping.KeepingTalks.{KeepingTalks}
 use Rattle.kept_calls.specs.Keeps.{Converses}
 use Rattle.agent_talks.specs.Speaks.{is_among, met_by, stands}
-use Rattle.kept_calls.proofs.OtherLemmas.{attached_converses, listed_converses, walked_converses}
+use Rattle.kept_calls.proofs.OtherLemmas.{attached_converses, listed_converses, swept_converses, walked_converses}
 use Rattle.mailboxes.specs.declared.mailboxes.Mailboxes.{Mailboxes}
 use Rattle.mailboxes.specs.Deliveries.{Delivers, SameMail}
 use Rattle.agent_requests.specs.declared.connection.Connection.{Connection}
@@ -23,7 +23,7 @@ use Rattle.agent_requests.specs.declared.shared.Holders.{Holders}
 use Rattle.agent_requests.specs.declared.shared.Shared.{Shared}
 use Rattle.agent_requests.specs.Connections.{AllLive, AreLive, Holds, Keeps, SameShared, Shares}
 use Rattle.agent_requests.specs.RpcRequests.{IsOpen, delivered_by}
-use Rattle.agent_requests.proofs.OwnDeeds.{OfAll, OfTalks, met_talks}
+use Rattle.agent_requests.proofs.OwnDeeds.{OfAll, OfTalks, met_talks, swept_by}
 
 -- ---- holders, keys and fids, which conversations and replies leave alone
 
@@ -208,6 +208,15 @@ live_speaker done conv s live e = live_found (λ conn. was_hung done conn) (λ x
 pub open_at : (done : List Deed) (conn fid : ℕ) (conv : Option ℕ) → conv ≡ conv_of done conn fid → IsOpen done conv
 open_at done conn fid None e = tt
 open_at done conn fid (Some conv) e = found_stands done conn fid conv (sym e)
+
+-- what is shared after a sweep
+pub shares_swept : (last : List Deed) (s u : Shared) → Shares last s → (Delivers last s.mailboxes → Delivers (swept last) u.mailboxes) → u.ring ≡ s.ring → u.holders ≡ s.holders → u.talks ≡ s.talks → Shares (swept last) u
+shares_swept last s u h sweeps ring holders talks = record {
+  ring = ring ∙ swept_by (λ now. s.ring ≡ keys_of now) (λ now e. e) last h.ring;
+  holders = subst (λ (now : Holders). Holds (swept last) now) (sym holders) (swept_by (λ now. Holds now s.holders) (λ now k. record { confirm = k.confirm; needkey = k.needkey; log = k.log }) last h.holders);
+  mail = sweeps h.mail;
+  talks = subst (λ (now : KeepingTalks). Converses (swept last) now) (sym talks) (swept_converses last s.talks h.talks);
+}
 
 -- ---- the authentication server is done with a question
 

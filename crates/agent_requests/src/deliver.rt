@@ -55,6 +55,19 @@ impl Shared {
         }
     }
 
+    // The answer of a conversation is delivered, where one is meant.
+    fn deliver_by(&mut self, alloc: Global, conv: Option<u64>)
+        ensures shares { (done : List Deed) → AreLive done → Shares done self.old
+            → Shares (delivered_by conv done) self.new }
+        ensures ring { self.new.ring ≡ self.old.ring }
+        ensures questions { questions_in self.new.talks.talks ≡ questions_in self.old.talks.talks }
+        ensures drops { self.new.talks.calls ≡ self.old.talks.calls }
+    {
+        if let Some(conv) = conv {
+            self.deliver(alloc, conv);
+        }
+    }
+
     // The last of an answer of the authentication server: where it was for a conversation, that one's answer is delivered.
     fn deliver_and_sweep(&mut self, alloc: Global, conv: Option<u64>)
         ensures shares { (done : List Deed) → AreLive done → Shares done self.old
@@ -63,9 +76,7 @@ impl Shared {
         ensures questions { questions_in self.new.talks.talks ≡ questions_in self.old.talks.talks }
         ensures drops { self.new.talks.calls ≡ self.old.talks.calls }
     {
-        if let Some(conv) = conv {
-            self.deliver(alloc, conv);
-        }
+        self.deliver_by(alloc, conv);
         self.mailboxes.sweep();
     }
 
