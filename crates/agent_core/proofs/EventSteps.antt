@@ -10,14 +10,14 @@ use Rattle.file_tree.specs.declared.tree.Node.TheVariants.{Rpc}
 use Rattle.talks.specs.Calls as calls
 use Rattle.agent_history.specs.declared.event.Event.{Event}
 use Rattle.agent_history.specs.declared.event.Event.TheVariants as v
-use Rattle.agent_history.specs.Deeds.{Deed, FidDeed, KeyDeed, ReplyDeed, OfFids, OfKeys, OfReplies, OfConnection, OfTalk, Raised, HandedOut, Halted, Swept, Versioned, Attached, Walked, Opened, Listed, Browsed, Clunked, Taken, Entered, Hung, was_opened, was_hung, is_halted, fid_of, keys_of, names}
+use Rattle.agent_history.specs.Deeds.{Deed, FidDeed, KeyDeed, ReplyDeed, OfFids, OfKeys, OfReplies, OfConnection, OfTalk, Raised, HandedOut, DropTaken, Halted, Swept, Versioned, Attached, Walked, Opened, Listed, Browsed, Clunked, Taken, Entered, Hung, was_opened, was_hung, is_halted, fid_of, keys_of, names}
 use Rattle.agent_history.specs.Replies.{swept, untaken}
-use Rattle.agent_history.specs.Conversations.{Question, Speaker, asker, next_question, opened_talks, resumed, speakers}
+use Rattle.agent_history.specs.Conversations.{Due, NoneDue, DropDue, QuestionDue, Speaker, asker, due, opened_talks, resumed, speakers}
 use Rattle.agent_history.specs.Requests.{answered, call_of}
 use Rattle.agent_history.specs.Histories.{History, deeds, does, entered, handing, has_stopped, most_events, taking}
-use Rattle.agent_talks.specs.declared.held.Talks.{Talks}
-use Rattle.agent_talks.specs.Speaks.{Speak}
-use Rattle.agent_talks.proofs.OtherLemmas.{enter_speak, replies_speak, swept_speak}
+use Rattle.kept_calls.specs.declared.keeping.KeepingTalks.{KeepingTalks}
+use Rattle.kept_calls.specs.Keeps.{Converses}
+use Rattle.kept_calls.proofs.OtherLemmas.{enter_converses, replies_converses, swept_converses}
 use Rattle.mailboxes.specs.Deliveries.{Delivers, replies_at}
 use Rattle.agent_requests.specs.declared.connection.Connection.{Connection}
 use Rattle.agent_requests.specs.declared.shared.Shared.{Shared}
@@ -58,9 +58,10 @@ take_own conn P own done h = here (was_hung done conn)
 resumed_by : (P : List Deed → Type 0) → OfAll P → (conv : Option ℕ) (call : calls.Call) (done : List Deed) → P done → P (swept (resumed conv call done))
 resumed_by P all conv call done h = swept_by P all.swept (resumed conv call done) (resumed_all P all conv call done h)
 
-handing_by : (P : List Deed → Type 0) → ((done : List Deed) → P done → P (HandedOut ∷ done)) → (q : Option Question) (done : List Deed) → P done → P (handing q done)
-handing_by P hands None done h = h
-handing_by P hands (Some q) done h = hands done h
+handing_by : (P : List Deed → Type 0) → ((done : List Deed) → P done → P (HandedOut ∷ done)) → ((done : List Deed) → P done → P (DropTaken ∷ done)) → (d : Due) (done : List Deed) → P done → P (handing d done)
+handing_by P hands drops NoneDue done h = h
+handing_by P hands drops (DropDue drop) done h = drops done h
+handing_by P hands drops (QuestionDue question) done h = hands done h
 
 -- ---- connections that the event isn't on
 
@@ -106,6 +107,10 @@ at_handed : (q : ℕ) (o : Option Connection) (done : List Deed) → KeepsAt don
 at_handed q None done k = record { live = k.live; msize = k.msize; fids = k.fids; held = k.held; texts = k.texts }
 at_handed q (Some c) done k = record { live = k.live; msize = k.msize; fids = k.fids; held = k.held; texts = k.texts }
 
+at_dropped : (q : ℕ) (o : Option Connection) (done : List Deed) → KeepsAt done q o → KeepsAt (DropTaken ∷ done) q o
+at_dropped q None done k = record { live = k.live; msize = k.msize; fids = k.fids; held = k.held; texts = k.texts }
+at_dropped q (Some c) done k = record { live = k.live; msize = k.msize; fids = k.fids; held = k.held; texts = k.texts }
+
 at_entered : (conn q : ℕ) (o : Option Connection) (done : List Deed) → KeepsAt done q o → KeepsAt (OfConnection conn Entered ∷ done) q o
 at_entered conn q None done k = record { live = k.live; msize = k.msize; fids = k.fids; held = k.held; texts = k.texts }
 at_entered conn q (Some c) done k = record { live = k.live; msize = k.msize; fids = k.fids; held = k.held; texts = k.texts }
@@ -136,9 +141,10 @@ stands_own conn q o e = record {
 pub resumed_stand : (conv : Option ℕ) (call : calls.Call) (done : List Deed) (at : ℕ → Option Connection) → AllStand done at → AllStand (swept (resumed conv call done)) at
 resumed_stand conv call done at all q = resumed_by (λ now. Stands now q (at q)) (stands_all q (at q)) conv call done (all q)
 
-pub handed_stand : (question : Option Question) (done : List Deed) (at : ℕ → Option Connection) → AllStand done at → AllStand (handing question done) at
-handed_stand question done at all q =
-    handing_by (λ now. Stands now q (at q)) (λ now s. record { opened = s.opened; hung = s.hung; keeps = λ live. at_handed q (at q) now (s.keeps live) }) question done (all q)
+pub handed_stand : (d : Due) (done : List Deed) (at : ℕ → Option Connection) → AllStand done at → AllStand (handing d done) at
+handed_stand d done at all q =
+    handing_by (λ now. Stands now q (at q)) (λ now s. record { opened = s.opened; hung = s.hung; keeps = λ live. at_handed q (at q) now (s.keeps live) })
+    (λ now s. record { opened = s.opened; hung = s.hung; keeps = λ live. at_dropped q (at q) now (s.keeps live) }) d done (all q)
 
 pub request_others : (done : List Deed) (conn : ℕ) (frame word : List ℕ) (q : ℕ) (o : Option Connection) → eqb conn q ≡ false → Stands done q o → Stands (does done (v.Request conn frame word)) q o
 request_others done conn frame word q o e s = request_own conn (λ now. Stands now q o) (stands_own conn q o e) done frame word s
@@ -181,7 +187,7 @@ shares_entered conn s done h = entered_by conn (λ now. Shares now s)
       ring = g.ring;
       holders = record { confirm = g.holders.confirm; needkey = g.holders.needkey; log = g.holders.log };
       mail = mail_entered conn s.mailboxes now g.mail;
-      talks = enter_speak now s.talks conn g.talks;
+      talks = enter_converses now s.talks conn g.talks;
     }) done h
 
 pub request_stands : (done : List Deed) (conn : ℕ) (frame word : List ℕ) (d : Connection) → was_hung done conn ≡ false → is_opened d.phase ≡ true → is_hung d.phase ≡ false → Keeps (answered (entered conn done) (call_of conn frame word) frame) conn d
@@ -216,7 +222,7 @@ take_serves done conn c d s u x rest live before opened held k some ring holders
         ring = ring ∙ shares.ring;
         holders = subst (λ (now : Holders). Holds (OfReplies conn Taken ∷ entered conn done) now) (sym holders) (record { confirm = shares.holders.confirm; needkey = shares.holders.needkey; log = shares.holders.log });
         mail = pops (entered conn done) shares.mail;
-        talks = subst (λ (now : Talks). Speak (OfReplies conn Taken ∷ entered conn done) now) (sym talks) (replies_speak (entered conn done) s.talks conn Taken shares.talks);
+        talks = subst (λ (now : KeepingTalks). Converses (OfReplies conn Taken ∷ entered conn done) now) (sym talks) (replies_converses (entered conn done) s.talks conn Taken shares.talks);
       };
     })
 
@@ -272,7 +278,7 @@ runs_on done (v.Hang conn) h go = here (was_opened done conn && not (was_hung do
 runs_on done (v.Answer call bytes) h go = resumed_by (λ now. is_halted now ≡ false) halted_all (asker done call) (calls.Heard bytes) done h
 runs_on done (v.NoAnswer call) h go = resumed_by (λ now. is_halted now ≡ false) halted_all (asker done call) calls.Unheard done h
 runs_on done (v.NoRoom call) h go = resumed_by (λ now. is_halted now ≡ false) halted_all (asker done call) calls.Roomless done h
-runs_on done v.TakeAsk h go = handing_by (λ now. is_halted now ≡ false) (λ now k. k) (next_question done) done h
+runs_on done v.TakeAsk h go = handing_by (λ now. is_halted now ≡ false) (λ now k. k) (λ now k. k) (due done) done h
 runs_on done v.Stop h go = absurd (false≢true (sym go))
 
 -- what is shared after a sweep
@@ -281,7 +287,7 @@ shares_swept last s u h sweeps ring holders talks = record {
   ring = ring ∙ swept_by (λ now. s.ring ≡ keys_of now) (λ now e. e) last h.ring;
   holders = subst (λ (now : Holders). Holds (swept last) now) (sym holders) (swept_by (λ now. Holds now s.holders) (λ now k. record { confirm = k.confirm; needkey = k.needkey; log = k.log }) last h.holders);
   mail = sweeps h.mail;
-  talks = subst (λ (now : Talks). Speak (swept last) now) (sym talks) (swept_speak last s.talks h.talks);
+  talks = subst (λ (now : KeepingTalks). Converses (swept last) now) (sym talks) (swept_converses last s.talks h.talks);
 }
 
 -- ---- a hang
@@ -380,8 +386,8 @@ hang_live done conn h = here (was_opened done conn && not (was_hung done conn))
 pub resumed_live : (conv : Option ℕ) (call : calls.Call) (done : List Deed) → AreLive done → AreLive (swept (resumed conv call done))
 resumed_live conv call done h = resumed_by AreLive live_all conv call done h
 
-pub handed_live : (question : Option Question) (done : List Deed) → AreLive done → AreLive (handing question done)
-handed_live question done h = handing_by AreLive (λ now k. k) question done h
+pub handed_live : (d : Due) (done : List Deed) → AreLive done → AreLive (handing d done)
+handed_live d done h = handing_by AreLive (λ now k. k) (λ now k. k) d done h
 
 -- ---- after a stop
 

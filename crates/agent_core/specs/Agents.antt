@@ -11,7 +11,7 @@ use Rattle.agent_core.specs.declared.agent.State.{State}
 use Rattle.agent_core.specs.declared.agent.State.TheVariants.{Runs, Stopped}
 use Rattle.agent_core.specs.declared.agent.Agent.{Agent}
 use Rattle.agent_requests.specs.Connections.{SameShared}
-use Rattle.agent_core.specs.Events.{Lives, SameEach, TakesNoneOf, LeavesOneLess, HadOne, AsksFewer, HadAsk, NoneAsked, GivesUp, gives_to, is_stop, known, unasked}
+use Rattle.agent_core.specs.Events.{Lives, SameEach, TakesNoneOf, LeavesOneLess, HadOne, AsksFewer, HadAsk, NoneAsked, GivesUp, gives_to, is_stop, known, left_to_ask}
 
 -- ---- agents
 
@@ -81,13 +81,13 @@ TakesNoneIn event (Runs r) = TakesNoneOf event (connection_at r) r.shared
 abbrev pub TakesNone : Event → Agent → Type 0
 TakesNone event agent = TakesNoneIn event agent.state
 
--- how many questions for the authentication server weren't handed out yet
-abbrev pub unasked_in : State → ℕ
-unasked_in Stopped = 0
-unasked_in (Runs r) = unasked r.shared
+-- how much is left to hand out, a question counted for two
+abbrev pub left_in : State → ℕ
+left_in Stopped = 0
+left_in (Runs r) = left_to_ask r.shared
 
--- a question that is handed out is one less to ask, or none where it was the last event; what the authentication server
--- answers raises none
+-- what is handed out is less to hand out, or nothing is where it was the last event; what is answered to a question adds one
+-- connection at most that is given up
 abbrev pub AsksFewerIn : Event → StepAnswer → State → State → Type 0
 AsksFewerIn event a (Runs old) (Runs new) = AsksFewer event a old.shared new.shared
 AsksFewerIn event a (Runs old) Stopped = HadAsk event a old.shared

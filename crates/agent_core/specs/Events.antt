@@ -1,11 +1,11 @@
 -- What an event does to what is kept of the connections, and to what they share.
-use Rattle.std.specs.Prelude.{◌≡◌, ℕ, ◌≤◌, ◌<◌, ◌+◌, List, [], ◌∷◌, ◌++◌, length, Bool, true, false, not, ◌&&◌, ◌⊎◌, Option, Some, None}
+use Rattle.std.specs.Prelude.{◌≡◌, ℕ, ◌≤◌, ◌<◌, ◌+◌, ◌*◌, List, [], ◌∷◌, ◌++◌, length, Bool, true, false, not, ◌&&◌, ◌⊎◌, Option, Some, None}
 use Rattle.std.specs.Ordering.{nat_cmp}
 use Rattle.std.specs.BTreeMap.{BTreeMap, get}
 use Rattle.nine_messages.specs.Decoding.{IsFrame}
 use Rattle.agent_history.specs.declared.event.Event.{Event}
 use Rattle.agent_history.specs.declared.event.Event.TheVariants.{Request, Hang, Answer, NoAnswer, NoRoom, Take, TakeAsk, Stop}
-use Rattle.agent_history.specs.declared.event.StepAnswer.TheVariants.{Ask}
+use Rattle.agent_history.specs.declared.event.StepAnswer.TheVariants.{Ask, DropCall}
 use Rattle.agent_history.specs.declared.event.StepAnswer.{StepAnswer}
 use Rattle.agent_history.specs.Deeds.{Deed, was_opened, was_hung, msize_of, fid_of, held_by, text_of, is_halted}
 use Rattle.agent_history.specs.Histories.{History, deeds, does, answer_after}
@@ -13,7 +13,7 @@ use Rattle.mailboxes.specs.Deliveries.{KeepsNone, replies_at}
 use Rattle.agent_history.specs.Conversations.{Question, standing_of}
 use Rattle.talks.specs.Standings.{question_of}
 use Rattle.roles.specs.declared.need.Need.{Need}
-use Rattle.roles.specs.declared.need.Need.TheVariants.{Nothing, Key, Exchange}
+use Rattle.roles.specs.declared.need.Need.TheVariants.{Nothing, Key, Offers, Pick, Exchange}
 use Rattle.wire_base.specs.declared.shape.Shape.{Shape}
 use Rattle.agent_talks.specs.Kept.{is_asked, questions_in}
 use Rattle.agent_talks.specs.Kept as kept
@@ -114,11 +114,16 @@ FindsNone (Some c) replies = (is_hung c.phase ≡ true) ⊎ (replies ≡ [])
 
 -- the questions for the authentication server that are out
 abbrev pub questions : Shared → List Question
-questions s = questions_in s.talks
+questions s = questions_in s.talks.talks
 
 -- those that weren't handed out yet
 abbrev pub unasked : Shared → ℕ
-unasked s = kept.unasked s.talks
+unasked s = kept.unasked s.talks.talks
+
+-- how much is left to hand out. A question counts for two: what is answered to it may bring its conversation to its end,
+-- which then gives up the connection that it keeps
+abbrev pub left_to_ask : Shared → ℕ
+left_to_ask s = unasked s * 2 + length s.talks.calls.drops
 
 -- what a conversation asks the authentication server was put out, if it asks something
 abbrev pub PutFor : Need → Option Shape → List ℕ → List ℕ → Type 0
@@ -126,6 +131,10 @@ PutFor (Exchange request shape) (Some told) old new = (told ≡ shape) × (new �
 PutFor (Exchange request shape) None old new = ⊥
 PutFor (Key template) (Some told) old new = ⊥
 PutFor (Key template) None old new = new ≡ old
+PutFor (Offers template) (Some told) old new = ⊥
+PutFor (Offers template) None old new = new ≡ old
+PutFor (Pick templates) (Some told) old new = ⊥
+PutFor (Pick templates) None old new = new ≡ old
 PutFor Nothing (Some told) old new = ⊥
 PutFor Nothing None old new = new ≡ old
 
@@ -133,7 +142,7 @@ abbrev pub IsPut : List Deed → ℕ → Option Shape → List ℕ → List ℕ 
 IsPut done conv shape old new = PutFor (question_of (standing_of done conv)) shape old new
 
 -- Events that take no memory: a take that finds no reply on a connection that is known, an answer to a question that isn't
--- out, a take of a question where none is out, a hang, the want of an answer, and a stop.
+-- out, a take of what is due where no question is, a hang, the want of an answer, and a stop.
 abbrev pub TakesNoneOf : Event → (ℕ → Option Connection) → Shared → Type 0
 TakesNoneOf (Request conn frame word) at s = ⊥
 TakesNoneOf (Take conn) at s = FindsNone (at conn) (replies_at s.mailboxes conn)
@@ -165,22 +174,25 @@ abbrev pub LeavesOneLess : Event → Shared → Shared → Type 0
 LeavesOneLess (Take conn) old new = length (replies_at new.mailboxes conn) + 1 ≡ length (replies_at old.mailboxes conn)
 LeavesOneLess event old new = ⊥
 
--- a question that is handed out is one less to ask, and what the authentication server answers raises none
+-- what is handed out is less to hand out, and what is answered to a question adds one connection at most that is given up
 abbrev pub AsksFewer : Event → StepAnswer → Shared → Shared → Type 0
-AsksFewer TakeAsk (Ask call conv shape) old new = unasked new + 1 ≡ unasked old
-AsksFewer (Answer call bytes) a old new = unasked new ≤ unasked old
-AsksFewer (NoAnswer call) a old new = unasked new ≤ unasked old
-AsksFewer (NoRoom call) a old new = unasked new ≤ unasked old
+AsksFewer TakeAsk (Ask call conv shape) old new = left_to_ask new + 2 ≡ left_to_ask old
+AsksFewer TakeAsk (DropCall conv) old new = left_to_ask new + 1 ≡ left_to_ask old
+AsksFewer (Answer call bytes) a old new = left_to_ask new ≤ left_to_ask old + 1
+AsksFewer (NoAnswer call) a old new = left_to_ask new ≤ left_to_ask old + 1
+AsksFewer (NoRoom call) a old new = left_to_ask new ≤ left_to_ask old + 1
 AsksFewer event a old new = Unit {0}
 
--- there was a question to hand out
+-- there was something to hand out
 abbrev pub HadAsk : Event → StepAnswer → Shared → Type 0
-HadAsk TakeAsk (Ask call conv shape) old = 0 < unasked old
+HadAsk TakeAsk (Ask call conv shape) old = 2 ≤ left_to_ask old
+HadAsk TakeAsk (DropCall conv) old = 1 ≤ left_to_ask old
 HadAsk event a old = Unit {0}
 
--- no question is handed out
+-- nothing is handed out
 abbrev pub NoneAsked : StepAnswer → Type 0
 NoneAsked (Ask call conv shape) = ⊥
+NoneAsked (DropCall conv) = ⊥
 NoneAsked a = Unit {0}
 
 -- ---- memory that is given up

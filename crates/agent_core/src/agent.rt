@@ -160,7 +160,7 @@ impl Agent {
         ensures fewer { IfOk result (λ a. is_reply a ≡ true
             → TakesOne event.now self.old self.new) }
 
-        // A question that is handed out is one less to hand out, and what is answered to one raises none.
+        // What is handed out is one less to hand out, and what is answered to a question adds one connection at most.
         ensures asks { IfOk result (λ a.
             AsksFewerIn event.now a self.old.state self.new.state) }
 
@@ -193,7 +193,7 @@ impl Agent {
     {
         match &self.state {
             State::Stopped => None,
-            State::Runs(running) => running.shared.talks.outcome_at(conn, fid),
+            State::Runs(running) => running.shared.talks.talks.outcome_at(conn, fid),
         }
     }
 
@@ -204,7 +204,7 @@ impl Agent {
     {
         match &self.state {
             State::Stopped => None,
-            State::Runs(running) => running.shared.talks.chosen_at(conn, fid),
+            State::Runs(running) => running.shared.talks.talks.chosen_at(conn, fid),
         }
     }
 }

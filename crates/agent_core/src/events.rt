@@ -1,11 +1,12 @@
 // The events on the connections of an agent.
-ghost use Rattle.std.specs.Prelude.{◌≡◌, ◌<◌, ◌≤◌, ◌+◌, ◌-◌, ◌^◌, List, ℕ, Option, true, false, None, Some, IsSome, IsOk, IfOk, OnOk, OnErr};
+ghost use Rattle.std.specs.Prelude.{◌≡◌, ◌<◌, ◌≤◌, ◌+◌, ◌^◌, ◌∷◌, List, ℕ, Option, true, false, None, Some, IsSome, IsOk, IfOk, OnOk, OnErr, length, take};
 ghost use Rattle.nine_messages.specs.Decoding.{IsFrame};
 ghost use Rattle.agent_history.specs.declared.event.Event.TheVariants as events;
-ghost use Rattle.agent_history.specs.Deeds.{Deed, is_halted};
+ghost use Rattle.agent_history.specs.Deeds.{Deed, HandedOut, is_halted};
+ghost use Rattle.agent_history.specs.Conversations.{QuestionDue, due, stands};
 ghost use Rattle.agent_history.specs.Requests.{tag_of};
 ghost use Rattle.agent_history.specs.Histories.{does, is_reply};
-ghost use Rattle.agent_talks.specs.Speaks.{stands};
+ghost use Rattle.agent_talks.specs.Kept.{question_of};
 ghost use Rattle.mailboxes.specs.Deliveries.{replies_at};
 ghost use Rattle.agent_requests.specs.Connections.{SameKept, SameShared, Shares};
 ghost use Rattle.agent_core.specs.Events.{AllStand, AnswersAfter, FindsNone, AnswersFor, AsksFewer, GivesUp, HangsUp, IsEvent, IsPut, LeavesOneLess, LivesOn, SameEach, Serves, TakesNoneOf, gives_reply, gives_to, is_stop, known, unasked};
@@ -13,6 +14,7 @@ ghost use Rattle.agent_core.specs.Events.{AllStand, AnswersAfter, FindsNone, Ans
 use agent_history::{Event, StepAnswer};
 use agent_requests::{Call, Connection, Shared};
 use agent_talks::Question;
+use kept_calls::Due;
 use std::alloc::Global;
 use std::collections::BTreeMap;
 use wire_base::{Bytes, NoMemory, Shape, get_u16};
@@ -196,7 +198,7 @@ fn hang_at(alloc: Global, connections: &mut Connections, shared: &mut Shared, co
     }
 }
 
-// The oldest question for the authentication server that wasn't handed out yet is handed out, if there is one.
+// What is due is handed out, if anything is: a connection that is to be given up, or a question.
 fn take_ask(shared: &mut Shared, out: &mut Bytes) -> Stepped
     ensures shares { OnOk result ((done : List Deed) → Shares done shared.old
         → Shares (does done events.TakeAsk) shared.new) }
@@ -208,12 +210,34 @@ fn take_ask(shared: &mut Shared, out: &mut Bytes) -> Stepped
     ensures takes_none { unasked shared.old ≡ 0 → IsOk result }
     ensures none { IfOk result (λ a. is_reply a ≡ false) }
 {
-    let Some(question) = shared.talks.next_question() else {
-        return Ok(StepAnswer::NoAsk);
-    };
-    let Question { call, conv, .. } = *question;
+    match shared.talks.due() {
+        Due::Nothing => Ok(StepAnswer::NoAsk),
+        Due::Call(given) => {
+            shared.talks.take_drop();
+            Ok(StepAnswer::DropCall { conv: given.conv })
+        }
+        Due::Question(question) => ask(shared, question, out),
+    }
+}
+
+// The question that is due is put out.
+fn ask(shared: &mut Shared, question: Question, out: &mut Bytes) -> Stepped
+    ensures shares { OnOk result ((done : List Deed) → Shares done shared.old
+        → Shares (HandedOut ∷ done) shared.new) }
+    ensures answer { IfOk result (λ a. (done : List Deed) → is_halted done ≡ false
+        → due done ≡ QuestionDue (question_of question) → Shares done shared.old
+        → AnswersAfter done events.TakeAsk a out.old out.new) }
+    ensures ring { shared.new.ring ≡ shared.old.ring }
+    ensures err { OnErr result ((shared.new ≡ shared.old) × (out.new ≡ out.old)) }
+    ensures fewer { 0 < unasked shared.old
+        → IfOk result (λ a. AsksFewer events.TakeAsk a shared.old shared.new) }
+    ensures none { IfOk result (λ a. is_reply a ≡ false) }
+{
+    let Question { call, conv, .. } = question;
+    let before = out.len();
     let asked = put_question(shared, conv, out)?;
-    shared.talks.hand_out();
+    let handed = shared.talks.hand_out();
+    out.undo_on_err(before, handed)?;
     match asked {
         Some(shape) => Ok(StepAnswer::Ask { call, conv, shape }),
         None => Ok(StepAnswer::NoAsk),
@@ -224,9 +248,10 @@ fn take_ask(shared: &mut Shared, out: &mut Bytes) -> Stepped
 fn put_question(shared: &Shared, conv: u64, out: &mut Bytes) -> Result<Option<Shape>, NoMemory>
     ensures put { IfOk result (λ shape. (done : List Deed) → stands done conv ≡ true
         → Shares done shared.now → IsPut done conv shape out.old out.new) }
+    ensures behind { take (length out.old) out.new ≡ out.old }
     ensures err { OnErr result (out.new ≡ out.old) }
 {
-    let Some(conversation) = shared.talks.conversation(conv) else {
+    let Some(conversation) = shared.talks.talks.conversation(conv) else {
         return Ok(None);
     };
     let Some((request, shape)) = conversation.question() else {

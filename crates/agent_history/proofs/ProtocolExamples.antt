@@ -29,7 +29,8 @@ use Rattle.ticket_codec.specs.Fields.{before_nul}
 use Rattle.ticket_codec.specs.Request.{request_text}
 use Rattle.roles.specs.Starts.{fault_of, role_of}
 use Rattle.roles.specs.Templates.{asked, given_as, shown_text}
-use Rattle.conv_p9any.specs.Offers.{is_offered}
+use Rattle.conv_p9any.specs.Offers.{is_offered, offers_dom}
+use Rattle.conv_p9any.specs.Texts.{text_in}
 use Rattle.conv_challenge.specs.Numbers.{told_length}
 use Rattle.conv_challenge.specs.Starts as mail
 use Rattle.conv_challenge.specs.Starts.{proto_of, side_of}
@@ -119,7 +120,7 @@ unfolding refusal after reply_of fid_fault rpc.request_of tuple_of words_from fi
 a_choice_is_written = refl
 
 pub it_is_not_offered : step given_y (call 1 10) (t.Read 3 0 8192) ≡ tells 10 (codes "error not offered") (does_it given_y)
-unfolding refusal after reply_of fid_fault is_offered before_nul tuple_of words_from first_word gap_len line_len utf8_valid_len attr_of is_text is_utf8 chars encode protocol_of fault_of role_of value_of answer_text
+unfolding refusal after reply_of fid_fault is_offered offers_dom text_in before_nul tuple_of words_from first_word gap_len line_len utf8_valid_len attr_of is_text is_utf8 chars encode protocol_of fault_of role_of value_of answer_text
 it_is_not_offered = refl
 
 -- or its own domain, without the byte behind it
@@ -127,7 +128,7 @@ abbrev given_short : List Deed
 given_short = asks 9 13 (writes (codes "p9sk1 x")) shows_x
 
 pub a_byte_is_wanting : (standing_of (does_it given_short) 0).phase ≡ Kept (a.TooSmall 8)
-unfolding before_nul tuple_of words_from first_word gap_len line_len utf8_valid_len attr_of is_text is_utf8 chars encode protocol_of fault_of role_of value_of
+unfolding text_in before_nul tuple_of words_from first_word gap_len line_len utf8_valid_len attr_of is_text is_utf8 chars encode protocol_of fault_of role_of value_of
 a_byte_is_wanting = refl
 
 pub it_is_told_how_many : answer_text (a.TooSmall 8) ≡ codes "toosmall " ++ decimal 8

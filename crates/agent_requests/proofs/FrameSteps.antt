@@ -1,23 +1,28 @@
 -- From what a request does to what a frame does.
-use Rattle.std.proofs.Common.{◌≡◌, ℕ, ◌≤◌, List, true, false, length, Option, Some, None, Result, Ok, Err, refl, sym, ap, subst, ◌∙◌, ◌⊎◌, inl, inr, arith}
+use Rattle.std.proofs.Common.{◌≡◌, ℕ, ◌≤◌, List, ◌∷◌, true, false, length, Option, Some, None, Result, Ok, Err, refl, sym, ap, subst, ◌∙◌, ◌⊎◌, inl, inr, arith}
 use Rattle.std.specs.Prelude.{codes}
 use Rattle.nine_messages.specs.declared.message.TMsg.{TMsg}
 use Rattle.nine_messages.specs.declared.message.TBody.{TBody}
 use Rattle.nine_messages.specs.declared.message.TBody.TheVariants as t
-use Rattle.nine_messages.specs.Messages.{frame, t_kind, t_fields, IsRequest}
+use Rattle.nine_messages.specs.declared.message.RBody.{RBody}
+use Rattle.nine_messages.specs.Messages.{frame, r_frame, t_kind, t_fields, IsRequest}
 use Rattle.nine_messages.specs.Decoding.{request_of}
 use Rattle.fid_table.specs.Held.{Table, fid_at, held_in}
-use Rattle.agent_history.specs.Deeds.{Deed, msize_of}
-use Rattle.agent_history.specs.Requests.{Call, refusal, granted, after_frame, body_to, is_over, comes_first, lacks_version, repeats_tag}
+use Rattle.agent_history.specs.Deeds.{Deed, OfReplies, Answered, msize_of}
+use Rattle.agent_history.specs.Requests.{Call, refusal, granted, after_frame, answered, body_to, replied, is_over, comes_first, lacks_version, repeats_tag}
 use Rattle.agent_requests.specs.declared.connection.Connection.{Connection}
 use Rattle.agent_requests.specs.declared.shared.Shared.{Shared}
 use Rattle.mailboxes.specs.declared.reply.Reply.{Reply}
+use Rattle.kept_calls.proofs.OtherLemmas.{replies_converses}
+use Rattle.mailboxes.specs.declared.mailboxes.Mailboxes.{Mailboxes}
 use Rattle.mailboxes.specs.Kept.{reply_bytes, error_frame}
+use Rattle.mailboxes.specs.Deliveries.{Delivers, under}
 use Rattle.agent_requests.specs.declared.refused.Refusal.{Refusal}
 use Rattle.agent_requests.specs.declared.refused.Refusal.TheVariants as f
 use Rattle.agent_requests.specs.declared.refused.Refused.{Refused}
 use Rattle.agent_requests.specs.declared.refused.Refused.TheVariants as e
-use Rattle.agent_requests.specs.Connections.{Keeps, SameKept, text_in, Shares, Told, Served, FrameServed, WritesAtMost, refusal_of, refusal_text, msize_in}
+use Rattle.agent_requests.specs.Connections.{Keeps, SameKept, Says, text_in, Shares, Told, Served, FrameServed, WritesAtMost, refusal_of, refusal_text, msize_in}
+use Rattle.agent_requests.proofs.ShareLemmas.{holds_all}
 
 -- ---- what refuses a frame
 
@@ -142,3 +147,30 @@ pub writes_few : (bytes : List ℕ) (m : TMsg) (most : ℕ) → IsRequest bytes 
 writes_few bytes m most is le =
     let inside : length (t_fields m.body) ≤ length bytes = rw is.spelling (fields_in (t_kind m.body) m.tag (t_fields m.body)) in
     at_most (length (t_fields m.body)) most m.body (fields_hold m.body) (λ first. omega (arith, inside, le first))
+
+-- ---- the reply to a frame
+
+says_none : (tag : ℕ) (o : Option RBody) → Says tag o None → o ≡ None
+says_none tag None said = refl
+says_none tag (Some body) said = absurd said
+
+says_some : (tag : ℕ) (o : Option RBody) (reply : Reply) → Says tag o (Some reply) → (body : RBody) × (o ≡ Some body) × (reply_bytes reply ≡ r_frame (under tag body))
+says_some tag None reply said = absurd said
+says_some tag (Some body) reply said = (body, refl, said)
+
+-- it waits for its reply
+pub waits_shares : (done : List Deed) (call : Call) (bytes : List ℕ) (s : Shared) → Shares (after_frame done call bytes) s → Says call.tag (body_to done call bytes) None → Shares (answered done call bytes) s
+waits_shares done call bytes s h said = subst (λ (o : Option RBody). Shares (replied call o (after_frame done call bytes)) s) (sym (says_none call.tag (body_to done call bytes) said)) h
+
+-- or has it
+pub replied_shares : (done : List Deed) (call : Call) (bytes : List ℕ) (s : Shared) (m : Mailboxes) (reply : Reply) → Shares (after_frame done call bytes) s → Says call.tag (body_to done call bytes) (Some reply)
+    → ((body : RBody) → reply_bytes reply ≡ r_frame (under call.tag body) → Delivers (OfReplies call.conn (Answered call.tag body) ∷ after_frame done call bytes) m) → Shares (answered done call bytes) (record { ring = s.ring; holders = s.holders; mailboxes = m; talks = s.talks })
+replied_shares done call bytes s m reply h said delivers =
+    let now : List Deed = after_frame done call bytes in
+    let told = says_some call.tag (body_to done call bytes) reply said in
+    subst (λ (o : Option RBody). Shares (replied call o now) (record { ring = s.ring; holders = s.holders; mailboxes = m; talks = s.talks })) (sym told.1) (record {
+      ring = h.ring;
+      holders = (holds_all s.holders).replies call.conn (Answered call.tag told.0) now h.holders;
+      mail = delivers told.0 told.2;
+      talks = replies_converses now s.talks call.conn (Answered call.tag told.0) h.talks;
+    })

@@ -16,7 +16,7 @@ use Rattle.talks.specs.Calls as calls
 use Rattle.talks.specs.Standings.{Phase, Resting, Waiting, Seeking, OnConfirm, OnNeedkey, OnServer, Kept}
 use Rattle.agent_history.specs.Deeds.{Deed, FidDeed, KeyDeed, ReplyDeed, OfFids, OfKeys, OfReplies, OfConnection, OfTalk, Raised, Swept, Walked, Listed, Answered, Awaited, Settled, Entered, msize_of, fid_of, keys_of, was_opened}
 use Rattle.agent_history.specs.Replies.{Wait, has_settled, swept}
-use Rattle.agent_history.specs.Conversations.{Speaker, conv_of, deliver_to, delivered, fits, give_to, met, raising, reader_of, resumed, seeking, speaker_of, standing_of, then_sought, then_took, told}
+use Rattle.agent_history.specs.Conversations.{Speaker, conv_of, deliver_to, delivered, fits, give_to, met, raising, reader_of, resumed, seeking, seeking_all, sought_once, speaker_of, standing_of, then_sought, then_took, told}
 use Rattle.agent_history.specs.Histories.{entered}
 use Rattle.agent_history.specs.Requests.{Call, after, after_frame, after_granted, answered, body_to, carried, carrying_out, effective, granted, is_rpc, line_deed, lines_done, reading, reading_answer, reading_file, reading_talk, replied, stored, walking, writing}
 
@@ -31,14 +31,24 @@ pub record OfAll (P : List Deed → Type 0) : Type 0 where
   pub replies : (at : ℕ) (deed : ReplyDeed) (done : List Deed) → P done → P (OfReplies at deed ∷ done)
   pub swept : (done : List Deed) → P done → P (Swept ∷ done)
 
-sought_talks : (P : List Deed → Type 0) → OfTalks P → (conv : ℕ) (phase : Phase) (done : List Deed) → P done → P (seeking conv phase done)
-sought_talks P talks conv Seeking done h = talks.talk conv _ done h
-sought_talks P talks conv Resting done h = h
-sought_talks P talks conv (Waiting request) done h = h
-sought_talks P talks conv (OnConfirm serial) done h = h
-sought_talks P talks conv OnNeedkey done h = h
-sought_talks P talks conv OnServer done h = h
-sought_talks P talks conv (Kept answer) done h = h
+seeking_talks : (P : List Deed → Type 0) → OfTalks P → (conv : ℕ) (phase : Phase) (done : List Deed) → P done → P (seeking conv phase done)
+seeking_talks P talks conv Seeking done h = talks.talk conv _ done h
+seeking_talks P talks conv Resting done h = h
+seeking_talks P talks conv (Waiting request) done h = h
+seeking_talks P talks conv (OnConfirm serial) done h = h
+seeking_talks P talks conv OnNeedkey done h = h
+seeking_talks P talks conv OnServer done h = h
+seeking_talks P talks conv (Kept answer) done h = h
+
+once_talks : (P : List Deed → Type 0) → OfTalks P → (conv : ℕ) (done : List Deed) → P done → P (sought_once conv done)
+once_talks P talks conv done h = seeking_talks P talks conv (standing_of done conv).phase done h
+
+sought_talks : (P : List Deed → Type 0) → OfTalks P → (conv : ℕ) (starting : Bool) (done : List Deed) → P done → P (seeking_all starting conv done)
+sought_talks P talks conv false done h = once_talks P talks conv done h
+sought_talks P talks conv true done h =
+    let one : List Deed = sought_once conv done in
+    let two : List Deed = sought_once conv one in
+    once_talks P talks conv two (once_talks P talks conv one (once_talks P talks conv done h))
 
 raised_talks : (P : List Deed → Type 0) → OfTalks P → (conv : ℕ) (phase : Phase) (done : List Deed) → P done → P (raising conv phase done)
 raised_talks P talks conv OnServer done h = talks.raised conv done h
@@ -52,7 +62,7 @@ raised_talks P talks conv (Kept answer) done h = h
 pub met_talks : (P : List Deed → Type 0) → OfTalks P → (conv : ℕ) (call : calls.Call) (done : List Deed) → P done → P (met conv call done)
 met_talks P talks conv call done h =
     let asked : List Deed = OfTalk conv call ∷ done in
-    raised_talks P talks conv (standing_of (then_sought conv asked) conv).phase (then_sought conv asked) (sought_talks P talks conv (standing_of asked conv).phase asked (talks.talk conv call done h))
+    raised_talks P talks conv (standing_of (then_sought conv asked) conv).phase (then_sought conv asked) (sought_talks P talks conv (standing_of asked conv).starting asked (talks.talk conv call done h))
 
 pub took_talks : (P : List Deed → Type 0) → OfTalks P → (conv count : ℕ) (answer : RpcAnswer) (done : List Deed) → P done → P (then_took conv count answer done)
 took_talks P talks conv count answer done h = here (fits count answer)

@@ -25,9 +25,9 @@ use Rattle.agent_history.specs.Deeds.{Deed, OfFids, OfKeys, Versioned, Attached,
 use Rattle.agent_history.specs.Conversations.{conv_of, speakers}
 use Rattle.agent_history.specs.Requests.{Call, refusal, after, reply_of, agreed, effective, lets_read, nofid, opens_later, lets_write, write_reply, written, line_deed, lines_done, is_known, is_rpc, most_msize, most_talks}
 use Rattle.rpc_file.specs.Requests as rpc
-use Rattle.agent_talks.specs.declared.held.Talks.{Talks}
-use Rattle.agent_talks.specs.Speaks.{Speak}
-use Rattle.agent_talks.proofs.OtherLemmas.{browsed_speak, lines_speak}
+use Rattle.kept_calls.specs.declared.keeping.KeepingTalks.{KeepingTalks}
+use Rattle.kept_calls.specs.Keeps.{Converses}
+use Rattle.kept_calls.proofs.OtherLemmas.{browsed_converses, lines_converses}
 use Rattle.mailboxes.specs.declared.reply.Reply.{Reply}
 use Rattle.mailboxes.specs.declared.mailboxes.Mailboxes.{Mailboxes}
 use Rattle.mailboxes.specs.Kept.{reply_bytes}
@@ -144,7 +144,7 @@ shares_read done conn fid next s h = record {
   ring = h.ring;
   holders = record { confirm = h.holders.confirm; needkey = h.holders.needkey; log = h.holders.log };
   mail = mail_browsed conn fid next s.mailboxes done h.mail;
-  talks = browsed_speak done s.talks conn fid next h.talks;
+  talks = browsed_converses done s.talks conn fid next h.talks;
 }
 
 dir_served : (done : List Deed) (call : Call) (fid offset count : ℕ) (state : FidState) (c : Connection) (s : Shared) (reply : Option Reply) → fid_of done call.conn fid ≡ Some state → IsDirectory state.node
@@ -265,7 +265,7 @@ write_served done call fid offset content state c s u reply held other k h holde
         ring = ring ∙ (ap (λ (keys : KeyList). after_lines keys (lines_of content)) h.ring ∙ sym (keys_lines call.conn lines done));
         holders = subst (λ (now : Holders). Holds (lines_done call.conn lines done) now) (sym holders) (lines_own call.conn (λ now. Holds now s.holders) (holds_keys call.conn s.holders) lines done h.holders);
         mail = subst (λ (now : Mailboxes). Delivers (lines_done call.conn lines done) now) (sym mail) (lines_own call.conn (λ now. Delivers now s.mailboxes) (mail_keys call.conn s.mailboxes) lines done h.mail);
-        talks = subst (λ (now : Talks). Speak (lines_done call.conn lines done) now) (sym talks) (lines_speak lines done s.talks call.conn h.talks);
+        talks = subst (λ (now : KeepingTalks). Converses (lines_done call.conn lines done) now) (sym talks) (lines_converses lines done s.talks call.conn h.talks);
       });
       said = rw (held, other) (said ∙ ap (λ (keys : KeyList). r_frame (under call.tag (written content (lines_fault keys (lines_of content))))) h.ring);
     }

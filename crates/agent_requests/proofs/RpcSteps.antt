@@ -15,9 +15,9 @@ use Rattle.agent_history.specs.Conversations.{Speaker, conv_of, deliver_to, deli
 use Rattle.agent_history.specs.Requests.{Call, answer_read, has_answer, is_resting, phase_of, reading_answer, stored, waits_enough}
 use Rattle.agent_history.specs.Replies.{waits_for}
 use Rattle.agent_talks.specs.declared.tell.Told.{Told as Telling}
-use Rattle.agent_talks.specs.Speaks.{Speak}
-use Rattle.agent_talks.specs.Tells.{Tells, told_body}
-use Rattle.agent_talks.proofs.OtherLemmas.{replies_speak}
+use Rattle.agent_talks.specs.Tells.{TellsBy, told_body}
+use Rattle.kept_calls.specs.Keeps.{Converses}
+use Rattle.kept_calls.proofs.OtherLemmas.{replies_converses}
 use Rattle.mailboxes.specs.declared.reply.Reply.{Reply}
 use Rattle.mailboxes.specs.Kept.{reply_bytes}
 use Rattle.mailboxes.specs.declared.wait.Read.{Read}
@@ -45,7 +45,7 @@ some_not t e = absurd cc
 told_reply : (tag : ℕ) (told : Telling) (body : RBody) (reply : Reply) → told_body told ≡ body → reply_bytes reply ≡ r_frame (under tag (told_body told)) → reply_bytes reply ≡ r_frame (under tag body)
 told_reply tag told body reply e said = said ∙ ap (λ (b : RBody). r_frame (under tag b)) e
 
-pub told_some : (done : List Deed) (call : Call) (fid count conv : ℕ) (phase : Phase) (u : Shared) (t : Telling) (reply : Reply) → Tells phase done u.talks conv count (Some t) → Rest done u → reply_bytes reply ≡ r_frame (under call.tag (told_body t))
+pub told_some : (done : List Deed) (call : Call) (fid count conv : ℕ) (phase : Phase) (u : Shared) (t : Telling) (reply : Reply) → TellsBy (λ d. Converses d u.talks) phase done conv count (Some t) → Rest done u → reply_bytes reply ≡ r_frame (under call.tag (told_body t))
     → Shares (reading_answer call conv fid count phase done) u × Says call.tag (answer_read count phase) (Some reply)
 told_some done call fid count conv (Kept answer) u t reply tells rest said =
     let kept : Rest (then_took conv count answer done) u = took_talks (λ now. Rest now u) (rest_talks u) conv count answer done rest in
@@ -57,10 +57,10 @@ told_some done call fid count conv (OnConfirm serial) u t reply tells rest said 
 told_some done call fid count conv OnNeedkey u t reply tells rest said = absurd (some_not t tells.0)
 told_some done call fid count conv OnServer u t reply tells rest said = absurd (some_not t tells.0)
 
-waits_on : (done : List Deed) (call : Call) (fid count : ℕ) (u : Shared) → Speak done u.talks → Rest (OfReplies call.conn (Awaited call.tag fid count) ∷ done) u → Shares (OfReplies call.conn (Awaited call.tag fid count) ∷ done) u
-waits_on done call fid count u speak rest = record { ring = rest.ring; holders = rest.holders; mail = rest.mail; talks = replies_speak done u.talks call.conn (Awaited call.tag fid count) speak }
+waits_on : (done : List Deed) (call : Call) (fid count : ℕ) (u : Shared) → Converses done u.talks → Rest (OfReplies call.conn (Awaited call.tag fid count) ∷ done) u → Shares (OfReplies call.conn (Awaited call.tag fid count) ∷ done) u
+waits_on done call fid count u speak rest = record { ring = rest.ring; holders = rest.holders; mail = rest.mail; talks = replies_converses done u.talks call.conn (Awaited call.tag fid count) speak }
 
-pub told_none : (done : List Deed) (call : Call) (fid count conv : ℕ) (phase : Phase) (u : Shared) → Tells phase done u.talks conv count None → Rest (OfReplies call.conn (Awaited call.tag fid count) ∷ done) u
+pub told_none : (done : List Deed) (call : Call) (fid count conv : ℕ) (phase : Phase) (u : Shared) → TellsBy (λ d. Converses d u.talks) phase done conv count None → Rest (OfReplies call.conn (Awaited call.tag fid count) ∷ done) u
     → Shares (reading_answer call conv fid count phase done) u × Says call.tag (answer_read count phase) None
 told_none done call fid count conv (Kept answer) u tells rest = absurd cc
 told_none done call fid count conv Resting u tells rest = (waits_on done call fid count u tells.1 rest, tt)
@@ -131,7 +131,7 @@ given_nobody done conv (OnConfirm serial) s u none h = h
 given_nobody done conv OnNeedkey s u none h = h
 given_nobody done conv OnServer s u none h = h
 
-pub given_nothing : (done : List Deed) (conv : ℕ) (phase : Phase) (s : Speaker) (wait : Wait) (count : ℕ) (u : Shared) → reader_of done s ≡ Some wait → Tells phase done u.talks conv count None → Rest done u → Shares (deliver_to conv phase (Some s) done) u
+pub given_nothing : (done : List Deed) (conv : ℕ) (phase : Phase) (s : Speaker) (wait : Wait) (count : ℕ) (u : Shared) → reader_of done s ≡ Some wait → TellsBy (λ d. Converses d u.talks) phase done conv count None → Rest done u → Shares (deliver_to conv phase (Some s) done) u
 given_nothing done conv (Kept answer) s wait count u some tells h = absurd cc
 given_nothing done conv Resting s wait count u some tells h = record { ring = h.ring; holders = h.holders; mail = h.mail; talks = tells.1 }
 given_nothing done conv (Waiting request) s wait count u some tells h = record { ring = h.ring; holders = h.holders; mail = h.mail; talks = tells.1 }
@@ -144,7 +144,7 @@ given_nothing done conv OnServer s wait count u some tells h = record { ring = h
 abbrev pub Settles : Mailboxes → Mailboxes → ℕ → ℕ → Reply → Type 0
 Settles old new conn tag reply = (done : List Deed) (body : RBody) → was_hung done conn ≡ false → reply_bytes reply ≡ r_frame (under tag body) → Delivers done old → Delivers (OfReplies conn (Settled tag body) ∷ done) new
 
-pub given_some : (done : List Deed) (conv : ℕ) (phase : Phase) (s : Speaker) (wait : Wait) (old : Mailboxes) (u : Shared) (t : Telling) (reply : Reply) → was_hung done s.conn ≡ false → reader_of done s ≡ Some wait → Tells phase done u.talks conv wait.count (Some t)
+pub given_some : (done : List Deed) (conv : ℕ) (phase : Phase) (s : Speaker) (wait : Wait) (old : Mailboxes) (u : Shared) (t : Telling) (reply : Reply) → was_hung done s.conn ≡ false → reader_of done s ≡ Some wait → TellsBy (λ d. Converses d u.talks) phase done conv wait.count (Some t)
     → u.ring ≡ keys_of done → Holds done u.holders → Delivers done old → Settles old u.mailboxes s.conn wait.tag reply → reply_bytes reply ≡ r_frame (under wait.tag (told_body t)) → Shares (deliver_to conv phase (Some s) done) u
 given_some done conv (Kept answer) s wait old u t reply live some tells ring holders mail settles said =
     let body : RBody = told wait.count answer in
@@ -155,7 +155,7 @@ given_some done conv (Kept answer) s wait old u t reply live some tells ring hol
       ring = took_talks (λ now. u.ring ≡ keys_of now) (record { talk = λ c call now h. h; raised = λ c now h. h }) conv wait.count answer done ring;
       holders = held;
       mail = delivers;
-      talks = replies_speak took u.talks s.conn (Settled wait.tag body) tells.1;
+      talks = replies_converses took u.talks s.conn (Settled wait.tag body) tells.1;
     })
 given_some done conv Resting s wait old u t reply live some tells ring holders mail settles said = absurd (some_not t tells.0)
 given_some done conv (Waiting request) s wait old u t reply live some tells ring holders mail settles said = absurd (some_not t tells.0)
@@ -174,19 +174,19 @@ no_wait None e = refl
 no_wait (Some wait) e = absurd cc
 
 pub given_read : (done : List Deed) (conv : ℕ) (s : Speaker) (read : Read) (old : Mailboxes) (u : Shared) (t : Telling) (reply : Reply) → was_hung done s.conn ≡ false → speaker_of done conv ≡ Some s → option_map read_of (reader_of done s) ≡ Some read
-    → Tells (standing_of done conv).phase done u.talks conv read.count (Some t) → u.ring ≡ keys_of done → Holds done u.holders → Delivers done old → Settles old u.mailboxes s.conn read.tag reply → reply_bytes reply ≡ r_frame (under read.tag (told_body t)) → Shares (delivered conv done) u
+    → TellsBy (λ d. Converses d u.talks) (standing_of done conv).phase done conv read.count (Some t) → u.ring ≡ keys_of done → Holds done u.holders → Delivers done old → Settles old u.mailboxes s.conn read.tag reply → reply_bytes reply ≡ r_frame (under read.tag (told_body t)) → Shares (delivered conv done) u
 given_read done conv s read old u t reply live is reads tells ring holders mail settles said =
     let found = found_wait (reader_of done s) read reads in
     let wait : Wait = found.0 in
     let same : read_of wait ≡ read = found.2 in
     rw is (given_some done conv (standing_of done conv).phase s wait old u t reply live found.1
-    (subst (λ (r : Read). Tells (standing_of done conv).phase done u.talks conv r.count (Some t)) (sym same) tells) ring holders mail
+    (subst (λ (r : Read). TellsBy (λ d. Converses d u.talks) (standing_of done conv).phase done conv r.count (Some t)) (sym same) tells) ring holders mail
     (subst (λ (r : Read). Settles old u.mailboxes s.conn r.tag reply) (sym same) settles) (subst (λ (r : Read). reply_bytes reply ≡ r_frame (under r.tag (told_body t))) (sym same) said))
 
 pub given_unread : (done : List Deed) (conv : ℕ) (s : Speaker) (u : Shared) → speaker_of done conv ≡ Some s → option_map read_of (reader_of done s) ≡ None → Shares done u → Shares (delivered conv done) u
 given_unread done conv s u is none h = rw is (given_nobody done conv (standing_of done conv).phase s u (no_wait (reader_of done s) none) h)
 
-pub given_untold : (done : List Deed) (conv : ℕ) (s : Speaker) (read : Read) (u : Shared) → speaker_of done conv ≡ Some s → option_map read_of (reader_of done s) ≡ Some read → Tells (standing_of done conv).phase done u.talks conv read.count None → Rest done u → Shares (delivered conv done) u
+pub given_untold : (done : List Deed) (conv : ℕ) (s : Speaker) (read : Read) (u : Shared) → speaker_of done conv ≡ Some s → option_map read_of (reader_of done s) ≡ Some read → TellsBy (λ d. Converses d u.talks) (standing_of done conv).phase done conv read.count None → Rest done u → Shares (delivered conv done) u
 given_untold done conv s read u is reads tells rest =
     let found = found_wait (reader_of done s) read reads in
     rw is (given_nothing done conv (standing_of done conv).phase s found.0 read.count u found.1 tells rest)

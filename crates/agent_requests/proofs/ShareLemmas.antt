@@ -12,9 +12,10 @@ use Rattle.agent_history.specs.Deeds.{Deed, KeyDeed, OfFids, OfKeys, OfConnectio
 use Rattle.agent_history.specs.Replies.{swept}
 use Rattle.agent_history.specs.Conversations.{Speaker, conv_of, met, resumed, speaker_of, speakers}
 use Rattle.agent_history.specs.Requests.{is_rpc, walking}
-use Rattle.agent_talks.specs.declared.held.Talks.{Talks}
-use Rattle.agent_talks.specs.Speaks.{Speak, is_among, met_by, stands}
-use Rattle.agent_talks.proofs.OtherLemmas.{attached_speak, listed_speak, walked_speak}
+use Rattle.kept_calls.specs.declared.keeping.KeepingTalks.{KeepingTalks}
+use Rattle.kept_calls.specs.Keeps.{Converses}
+use Rattle.agent_talks.specs.Speaks.{is_among, met_by, stands}
+use Rattle.kept_calls.proofs.OtherLemmas.{attached_converses, listed_converses, swept_converses, walked_converses}
 use Rattle.mailboxes.specs.declared.mailboxes.Mailboxes.{Mailboxes}
 use Rattle.mailboxes.specs.Deliveries.{Delivers, SameMail}
 use Rattle.agent_requests.specs.declared.connection.Connection.{Connection}
@@ -22,7 +23,7 @@ use Rattle.agent_requests.specs.declared.shared.Holders.{Holders}
 use Rattle.agent_requests.specs.declared.shared.Shared.{Shared}
 use Rattle.agent_requests.specs.Connections.{AllLive, AreLive, Holds, Keeps, SameShared, Shares}
 use Rattle.agent_requests.specs.RpcRequests.{IsOpen, delivered_by}
-use Rattle.agent_requests.proofs.OwnDeeds.{OfAll, OfTalks, met_talks}
+use Rattle.agent_requests.proofs.OwnDeeds.{OfAll, OfTalks, met_talks, swept_by}
 
 -- ---- holders, keys and fids, which conversations and replies leave alone
 
@@ -151,7 +152,7 @@ shares_attached done conn fid s h = record {
   ring = h.ring;
   holders = record { confirm = h.holders.confirm; needkey = h.holders.needkey; log = h.holders.log };
   mail = record { mails = λ q live. let k = h.mail.mails q live in record { replies = k.replies; waits = k.waits }; settled = h.mail.settled };
-  talks = attached_speak done s.talks conn fid h.talks;
+  talks = attached_converses done s.talks conn fid h.talks;
 }
 
 pub shares_walking : (done : List Deed) (conn newfid : ℕ) (end : Option Node) (s : Shared) → Shares done s → Shares (walking conn newfid end done) s
@@ -160,7 +161,7 @@ shares_walking done conn newfid (Some node) s h = record {
   ring = h.ring;
   holders = record { confirm = h.holders.confirm; needkey = h.holders.needkey; log = h.holders.log };
   mail = record { mails = λ q live. let k = h.mail.mails q live in record { replies = k.replies; waits = k.waits }; settled = h.mail.settled };
-  talks = walked_speak done s.talks conn newfid node h.talks;
+  talks = walked_converses done s.talks conn newfid node h.talks;
 }
 
 shares_listed : (done : List Deed) (conn fid : ℕ) (s : Shared) → Shares done s → Shares (OfFids conn (Listed fid) ∷ done) s
@@ -168,7 +169,7 @@ shares_listed done conn fid s h = record {
   ring = h.ring;
   holders = record { confirm = h.holders.confirm; needkey = h.holders.needkey; log = h.holders.log };
   mail = record { mails = λ q live. let k = h.mail.mails q live in record { replies = k.replies; waits = k.waits }; settled = h.mail.settled };
-  talks = listed_speak done s.talks conn fid h.talks;
+  talks = listed_converses done s.talks conn fid h.talks;
 }
 
 pub shares_listing : (done : List Deed) (conn fid : ℕ) (first : Bool) (s : Shared) → Shares done s → Shares (cond first (OfFids conn (Listed fid) ∷ done) done) s
@@ -208,12 +209,21 @@ pub open_at : (done : List Deed) (conn fid : ℕ) (conv : Option ℕ) → conv �
 open_at done conn fid None e = tt
 open_at done conn fid (Some conv) e = found_stands done conn fid conv (sym e)
 
+-- what is shared after a sweep
+pub shares_swept : (last : List Deed) (s u : Shared) → Shares last s → (Delivers last s.mailboxes → Delivers (swept last) u.mailboxes) → u.ring ≡ s.ring → u.holders ≡ s.holders → u.talks ≡ s.talks → Shares (swept last) u
+shares_swept last s u h sweeps ring holders talks = record {
+  ring = ring ∙ swept_by (λ now. s.ring ≡ keys_of now) (λ now e. e) last h.ring;
+  holders = subst (λ (now : Holders). Holds (swept last) now) (sym holders) (swept_by (λ now. Holds now s.holders) (λ now k. record { confirm = k.confirm; needkey = k.needkey; log = k.log }) last h.holders);
+  mail = sweeps h.mail;
+  talks = subst (λ (now : KeepingTalks). Converses (swept last) now) (sym talks) (swept_converses last s.talks h.talks);
+}
+
 -- ---- the authentication server is done with a question
 
-abbrev pub with_talks : Shared → Talks → Shared
+abbrev pub with_talks : Shared → KeepingTalks → Shared
 with_talks s t = record { ring = s.ring; holders = s.holders; mailboxes = s.mailboxes; talks = t }
 
-pub heard_shares : (done : List Deed) (o : Option ℕ) (call : calls.Call) (s : Shared) (t : Talks) (v : Shared) → AreLive done → Shares done s → Speak (met_by o call done) t
+pub heard_shares : (done : List Deed) (o : Option ℕ) (call : calls.Call) (s : Shared) (t : KeepingTalks) (v : Shared) → AreLive done → Shares done s → Converses (met_by o call done) t
     → ((now : List Deed) → AreLive now → Shares now (with_talks s t) → Shares (swept (delivered_by o now)) v) → Shares (swept (resumed o call done)) v
 heard_shares done None call s t v live h speak f = f done live (record { ring = h.ring; holders = h.holders; mail = h.mail; talks = speak })
 heard_shares done (Some conv) call s t v live h speak f =

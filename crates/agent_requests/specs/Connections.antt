@@ -14,8 +14,7 @@ use Rattle.agent_history.specs.Deeds.{Deed, was_hung, msize_of, fid_of, held_by,
 use Rattle.agent_history.specs.Requests as history
 use Rattle.agent_history.specs.Requests.{refusal, after, reply_of, after_frame, body_to}
 use Rattle.agent_history.specs.Conversations.{Speaker, speakers}
-use Rattle.agent_talks.specs.Speaks.{Speak}
-use Rattle.agent_talks.specs.declared.held.Talks.{Talks}
+use Rattle.kept_calls.specs.Keeps.{Converses, SameConverses}
 use Rattle.nine_messages.specs.declared.message.TBody.{TBody}
 use Rattle.nine_messages.specs.declared.message.TBody.TheVariants as t
 use Rattle.nine_messages.specs.declared.message.RBody.{RBody}
@@ -94,23 +93,24 @@ pub record Holds (done : List Deed) (h : Holders) : Type 0 where
   pub needkey : h.needkey ≡ holder_of done Needkey
   pub log : h.log ≡ holder_of done Log
 
--- the keys are those of the deeds, and so are the holders, the replies and the reads that wait, and the conversations
+-- the keys are those of the deeds, and so are the holders, the replies and the reads that wait, and the conversations with
+-- the connections that they keep
 pub record Shares (done : List Deed) (s : Shared) : Type 0 where
   pub ring : s.ring ≡ keys_of done
   pub holders : Holds done s.holders
   pub mail : Delivers done s.mailboxes
-  pub talks : Speak done s.talks
-
--- whatever the deeds were, the conversations are still those that they tell of
-abbrev pub SameSpeak : Talks → Talks → Type 0
-SameSpeak old new = (done : List Deed) → Speak done old → Speak done new
+  pub talks : Converses done s.talks
 
 -- the same is shared
 pub record SameShared (old new : Shared) : Type 0 where
   pub ring : new.ring ≡ old.ring
   pub holders : new.holders ≡ old.holders
   pub mail : SameMail old.mailboxes new.mailboxes
-  pub talks : SameSpeak old.talks new.talks
+  pub talks : SameConverses old.talks new.talks
+
+-- at most one conversation has given up the connection that it kept
+abbrev pub GivesOne : Shared → Shared → Type 0
+GivesOne old new = length new.talks.calls.drops ≤ length old.talks.calls.drops + 1
 
 -- the connections are live by whom some conversations are open
 abbrev pub AllLive : (ℕ → Bool) → List Speaker → Type 0

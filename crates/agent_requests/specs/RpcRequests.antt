@@ -7,9 +7,8 @@ use Rattle.rpc_file.specs.declared.request.Request.{Request}
 use Rattle.rpc_file.specs.declared.request.RpcFault.TheVariants.{TooLong, UnknownVerb}
 use Rattle.agent_history.specs.Deeds.{Deed}
 use Rattle.agent_history.specs.Replies.{waits_for}
-use Rattle.agent_history.specs.Conversations.{conv_of, delivered}
+use Rattle.agent_history.specs.Conversations.{conv_of, delivered, stands}
 use Rattle.agent_history.specs.Requests.{Call, has_answer, is_resting, is_too_long, is_unknown, phase_of, reading_talk, stored, talk_read, waits_enough}
-use Rattle.agent_talks.specs.Speaks.{stands}
 use Rattle.mailboxes.specs.declared.reply.Reply.{Reply}
 use Rattle.agent_requests.specs.declared.refused.Refused.{Refused}
 use Rattle.agent_requests.specs.declared.refused.Refused.TheVariants as e

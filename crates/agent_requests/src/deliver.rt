@@ -9,7 +9,7 @@ ghost use Rattle.agent_talks.specs.Kept.{is_asked, questions_in, unasked};
 ghost use Rattle.agent_talks.specs.Tells.{IsShort, told_body};
 ghost use Rattle.mailboxes.specs.Kept.{reply_bytes};
 ghost use Rattle.mailboxes.specs.Deliveries.{under};
-ghost use Rattle.agent_requests.specs.Connections.{AreLive, SameShared, Shares};
+ghost use Rattle.agent_requests.specs.Connections.{AreLive, GivesOne, SameShared, Shares};
 ghost use Rattle.agent_requests.specs.RpcRequests.{delivered_by};
 
 use crate::refused::Refusal;
@@ -39,9 +39,10 @@ impl Shared {
         ensures shares { (done : List Deed) → AreLive done → Shares done self.old
             → Shares (delivered conv done) self.new }
         ensures ring { self.new.ring ≡ self.old.ring }
-        ensures questions { questions_in self.new.talks ≡ questions_in self.old.talks }
+        ensures questions { questions_in self.new.talks.talks ≡ questions_in self.old.talks.talks }
+        ensures drops { self.new.talks.calls ≡ self.old.talks.calls }
     {
-        let Some(speaker) = self.talks.speaker_of(conv) else {
+        let Some(speaker) = self.talks.talks.speaker_of(conv) else {
             return;
         };
         let Speaker { conn, fid, .. } = *speaker;
@@ -54,16 +55,28 @@ impl Shared {
         }
     }
 
+    // The answer of a conversation is delivered, where one is meant.
+    fn deliver_by(&mut self, alloc: Global, conv: Option<u64>)
+        ensures shares { (done : List Deed) → AreLive done → Shares done self.old
+            → Shares (delivered_by conv done) self.new }
+        ensures ring { self.new.ring ≡ self.old.ring }
+        ensures questions { questions_in self.new.talks.talks ≡ questions_in self.old.talks.talks }
+        ensures drops { self.new.talks.calls ≡ self.old.talks.calls }
+    {
+        if let Some(conv) = conv {
+            self.deliver(alloc, conv);
+        }
+    }
+
     // The last of an answer of the authentication server: where it was for a conversation, that one's answer is delivered.
     fn deliver_and_sweep(&mut self, alloc: Global, conv: Option<u64>)
         ensures shares { (done : List Deed) → AreLive done → Shares done self.old
             → Shares (swept (delivered_by conv done)) self.new }
         ensures ring { self.new.ring ≡ self.old.ring }
-        ensures questions { questions_in self.new.talks ≡ questions_in self.old.talks }
+        ensures questions { questions_in self.new.talks.talks ≡ questions_in self.old.talks.talks }
+        ensures drops { self.new.talks.calls ≡ self.old.talks.calls }
     {
-        if let Some(conv) = conv {
-            self.deliver(alloc, conv);
-        }
+        self.deliver_by(alloc, conv);
         self.mailboxes.sweep();
     }
 
@@ -73,10 +86,11 @@ impl Shared {
             → Shares (swept (resumed (asker done call) (c.Heard bytes.now) done)) self.new) }
         ensures ring { self.new.ring ≡ self.old.ring }
         ensures same { OnErr result (SameShared self.old self.new) }
-        ensures fewer { unasked self.new.talks ≤ unasked self.old.talks }
-        ensures unknown { is_asked call (questions_in self.old.talks) ≡ false → IsOk result }
+        ensures fewer { unasked self.new.talks.talks ≤ unasked self.old.talks.talks }
+        ensures drops { GivesOne self.old self.new }
+        ensures unknown { is_asked call (questions_in self.old.talks.talks) ≡ false → IsOk result }
     {
-        let asker = self.talks.asker(call);
+        let asker = self.talks.talks.asker(call);
         self.talks.heard(alloc, call, bytes)?;
         self.deliver_and_sweep(alloc, asker);
         Ok(())
@@ -87,9 +101,10 @@ impl Shared {
         ensures shares { (done : List Deed) → AreLive done → Shares done self.old
             → Shares (swept (resumed (asker done call) c.Unheard done)) self.new }
         ensures ring { self.new.ring ≡ self.old.ring }
-        ensures fewer { unasked self.new.talks ≤ unasked self.old.talks }
+        ensures fewer { unasked self.new.talks.talks ≤ unasked self.old.talks.talks }
+        ensures drops { GivesOne self.old self.new }
     {
-        let asker = self.talks.asker(call);
+        let asker = self.talks.talks.asker(call);
         self.talks.unheard(call);
         self.deliver_and_sweep(alloc, asker);
     }
@@ -99,9 +114,10 @@ impl Shared {
         ensures shares { (done : List Deed) → AreLive done → Shares done self.old
             → Shares (swept (resumed (asker done call) c.Roomless done)) self.new }
         ensures ring { self.new.ring ≡ self.old.ring }
-        ensures fewer { unasked self.new.talks ≤ unasked self.old.talks }
+        ensures fewer { unasked self.new.talks.talks ≤ unasked self.old.talks.talks }
+        ensures drops { GivesOne self.old self.new }
     {
-        let asker = self.talks.asker(call);
+        let asker = self.talks.talks.asker(call);
         self.talks.roomless(call);
         self.deliver_and_sweep(alloc, asker);
     }

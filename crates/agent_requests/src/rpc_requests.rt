@@ -3,12 +3,13 @@ ghost use Rattle.std.specs.Prelude.{◌≡◌, ◌≤◌, ◌&&◌, List, ℕ, O
 ghost use Rattle.rpc_file.specs.Requests.{meant};
 ghost use Rattle.agent_history.specs.Deeds.{Deed, was_hung};
 ghost use Rattle.agent_history.specs.Requests.{has_answer, phase_of, stored, waits_enough};
-ghost use Rattle.agent_talks.specs.Speaks.{Speak, stands};
+ghost use Rattle.agent_history.specs.Conversations.{stands};
+ghost use Rattle.kept_calls.specs.Keeps.{Converses, SameConverses};
 ghost use Rattle.nine_messages.specs.declared.message.RBody.TheVariants as r;
 ghost use Rattle.nine_messages.specs.Messages.{r_frame};
 ghost use Rattle.mailboxes.specs.Deliveries.{SameRoom, under};
 ghost use Rattle.mailboxes.specs.Kept.{reply_bytes};
-ghost use Rattle.agent_requests.specs.Connections.{SameShared, SameSpeak, Shares, asked};
+ghost use Rattle.agent_requests.specs.Connections.{SameShared, Shares, asked};
 ghost use Rattle.agent_requests.specs.RpcRequests.{Answered, IsOpen, ReadTold, WriteTold, Requests};
 
 use crate::call::Call;
@@ -16,7 +17,7 @@ use crate::deliver::spell_told;
 use crate::fid_requests::USUAL_REPLY;
 use crate::refused::{Refusal, Refused, Tried};
 use crate::shared::Shared;
-use agent_talks::Talks;
+use kept_calls::KeepingTalks;
 use mailboxes::{Read, Reply};
 use nine_codec::put_write;
 use rpc_file::{Request, RpcFault, parse_request};
@@ -38,13 +39,13 @@ pub(crate) fn read_rpc(call: Call, shared: &mut Shared, fid: u32, count: u32) ->
     if shared.mailboxes.has_fid(call.conn, fid) {
         return Err(Refused::For(Refusal::RpcBusy));
     }
-    if shared.talks.is_resting_at(call.conn, fid) {
+    if shared.talks.talks.is_resting_at(call.conn, fid) {
         return Err(Refused::For(Refusal::NoRpcPending));
     }
     if is_crowded(shared, call.conn, fid) {
         return Err(Refused::For(Refusal::TooManyWaiting));
     }
-    let Some(conv) = shared.talks.conv_at(call.conn, fid) else {
+    let Some(conv) = shared.talks.talks.conv_at(call.conn, fid) else {
         return Err(Refused::For(Refusal::NoRpcPending));
     };
     let read = Read {
@@ -60,7 +61,7 @@ fn is_crowded(shared: &Shared, conn: u64, fid: u32) -> bool
     ensures { (done : List Deed) → was_hung done conn ≡ false → Shares done shared.now
         → result ≡ (not (has_answer (phase_of done conn fid)) && waits_enough done conn) }
 {
-    if shared.talks.has_answer_at(conn, fid) {
+    if shared.talks.talks.has_answer_at(conn, fid) {
         return false;
     }
     shared.mailboxes.count_waits(conn) >= MOST_WAITS
@@ -105,12 +106,12 @@ pub(crate) fn write_rpc(call: Call, shared: &mut Shared, fid: u32, content: &[u8
     ensures mail { shared.new.mailboxes ≡ shared.old.mailboxes }
     ensures same { OnErr result (SameShared shared.old shared.new) }
 {
-    if !shared.talks.is_resting_at(call.conn, fid) {
+    if !shared.talks.talks.is_resting_at(call.conn, fid) {
         return Err(Refused::For(Refusal::RpcBusy));
     }
     let request = read_request(content)?;
     let reply = write_reply(call, content)?;
-    let conv = shared.talks.conv_at(call.conn, fid);
+    let conv = shared.talks.talks.conv_at(call.conn, fid);
     store_at(&mut shared.talks, call.alloc, conv, request)?;
     Ok(Some(reply))
 }
@@ -128,14 +129,14 @@ fn write_reply(call: Call, content: &[u8]) -> Result<Reply, NoMemory>
 
 // A request is written on a conversation, where one is meant.
 fn store_at(
-    talks: &mut Talks,
+    talks: &mut KeepingTalks,
     alloc: Global,
     conv: Option<u64>,
     request: Request<'_>,
 ) -> Result<(), NoMemory>
-    ensures stored { OnOk result ((done : List Deed) → IsOpen done conv → Speak done talks.old
-        → Speak (stored conv (Ok (meant request.entry)) done) talks.new) }
-    ensures same { OnErr result (SameSpeak talks.old talks.new) }
+    ensures stored { OnOk result ((done : List Deed) → IsOpen done conv → Converses done talks.old
+        → Converses (stored conv (Ok (meant request.entry)) done) talks.new) }
+    ensures same { OnErr result (SameConverses talks.old talks.new) }
 {
     match conv {
         Some(conv) => talks.store(alloc, conv, request),

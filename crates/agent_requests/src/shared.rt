@@ -6,11 +6,11 @@ ghost use Rattle.agent_history.specs.Deeds.{Deed, OfFids, OfConnection, Opened, 
 ghost use Rattle.agent_history.specs.Conversations.{asking, speakers};
 ghost use Rattle.agent_history.specs.Requests.{is_rpc, most_talks};
 ghost use Rattle.mailboxes.specs.Deliveries.{KeepsNone, SameRoom};
-ghost use Rattle.agent_talks.specs.Speaks.{Speak};
-ghost use Rattle.agent_requests.specs.Connections.{Holds, SameShared, SameSpeak, Shares};
+ghost use Rattle.kept_calls.specs.Keeps.{Converses, SameConverses};
+ghost use Rattle.agent_requests.specs.Connections.{Holds, SameShared, Shares};
 
-use agent_talks::Talks;
 use file_tree::Node;
+use kept_calls::KeepingTalks;
 use listed_ring::ListedRing;
 use mailboxes::Mailboxes;
 use std::alloc::Global;
@@ -114,7 +114,7 @@ pub(crate) fn is_rpc(node: Node) -> bool
 
 // A conversation begins where the file of a fid that is held is rpc.
 fn open_talk(
-    talks: &mut Talks,
+    talks: &mut KeepingTalks,
     alloc: Global,
     node: Node,
     conn: u64,
@@ -122,8 +122,8 @@ fn open_talk(
 ) -> Result<(), NoMemory>
     ensures opened { OnOk result ((done : List Deed) (mode : ℕ)
         → is_some (fid_of done conn fid) ≡ true → node_of (fid_of done conn fid) ≡ node
-        → Speak done talks.old → Speak (OfFids conn (Opened fid mode) ∷ done) talks.new) }
-    ensures same { OnErr result (SameSpeak talks.old talks.new) }
+        → Converses done talks.old → Converses (OfFids conn (Opened fid mode) ∷ done) talks.new) }
+    ensures same { OnErr result (SameConverses talks.old talks.new) }
 {
     if is_rpc(node) {
         return talks.open(alloc, conn, fid);
@@ -132,13 +132,13 @@ fn open_talk(
 }
 
 /// What the connections of an agent share: the keys, who has which file open alone, the replies and the reads that wait
-/// of all of them, and the conversations.
+/// of all of them, and the conversations with the connections to the authentication server that they keep.
 #[derive(Drop)]
 pub struct Shared {
     pub ring: ListedRing,
     pub holders: Holders,
     pub mailboxes: Mailboxes,
-    pub talks: Talks,
+    pub talks: KeepingTalks,
 }
 
 impl Shared {
@@ -150,16 +150,16 @@ impl Shared {
             ring: ListedRing::new(alloc),
             holders: Holders::new(),
             mailboxes: Mailboxes::new(alloc),
-            talks: Talks::new(alloc),
+            talks: KeepingTalks::new(alloc),
         }
     }
 
     /// Whether the file is rpc, and as many conversations stand as may.
     pub fn is_crowded(&self, node: Node) -> bool
-        ensures { (done : List Deed) → Speak done self.now.talks → result
+        ensures { (done : List Deed) → Converses done self.now.talks → result
             ≡ (is_rpc node && not (nat_lt (length (speakers done)) most_talks)) }
     {
-        is_rpc(node) && self.talks.count() >= MOST_TALKS
+        is_rpc(node) && self.talks.talks.count() >= MOST_TALKS
     }
 
     /// A fid that is held and names this file opens it: where it is rpc, a conversation begins.

@@ -8,16 +8,15 @@ use Rattle.rpc_file.specs.declared.answer.RpcAnswer.TheVariants as a
 use Rattle.talks.specs.Calls as calls
 use Rattle.talks.specs.Calls.{Call}
 use Rattle.talks.specs.Standings.{Kept, Phase, standing}
-use Rattle.agent_history.specs.Deeds.{Deed, OfTalk}
-use Rattle.agent_history.specs.Conversations.{Question, asker, hand_first, met, next_question, questions, raising, seeking, standing_of, talk, then_raised}
-use Rattle.agent_history.specs.Histories.{handing}
+use Rattle.agent_history.specs.Deeds.{Deed, HandedOut, OfTalk}
+use Rattle.agent_history.specs.Conversations.{Question, asker, hand_first, met, next_question, questions, raising, seeking, seeking_all, sought_once, standing_of, talk, then_raised}
 use Rattle.agent_talks.specs.declared.question.Question.{Question as HeldQuestion}
 use Rattle.agent_talks.specs.declared.held.Talks.{Talks}
 use Rattle.agent_talks.specs.Kept.{question_of}
 use Rattle.agent_talks.specs.Speaks.{OnServerNow, Speak, asks_for, met_by}
 use Rattle.agent_talks.specs.Changes.{Ended, Hands}
 use Rattle.conversations.proofs.WaitLaws.{heard_rests, unheard_rests, roomless_rests}
-use Rattle.agent_talks.proofs.StandLemmas.{asker_asks, filter_map_same, find_map, handed_asks, hands_none, left_asks, other_way, same}
+use Rattle.agent_talks.proofs.StandLemmas.{asker_asks, filter_map_same, find_map, handed_asks, left_asks, other_way, same}
 use Rattle.agent_talks.proofs.SpeakLemmas.{AllAsked, met_speak}
 
 -- ---- which they are
@@ -77,28 +76,16 @@ handed_none qs e =
       | inr le ↦ sym (none_left qs le)
     ]
 
-pub hands_speak : (done : List Deed) (old new : Talks) → Hands old new → Speak done old → Speak (handing (next_question done) done) new
-hands_speak done old new hands h = by_next (next_question done) refl
-  where
-    by_next : (o : Option Question) → next_question done ≡ o → Speak (handing o done) new
-    by_next None e = record {
-      opened = hands.opened ∙ h.opened;
-      speakers = hands.speakers ∙ h.speakers;
-      table = λ q. rw (hands.table q) (h.table q);
-      raised = hands.raised ∙ h.raised;
-      questions = hands.questions ∙ (ap hand_first h.questions ∙ hands_none (questions done) e);
-      fresh = h.fresh;
-      asked = h.asked;
-    }
-    by_next (Some question) e = record {
-      opened = hands.opened ∙ h.opened;
-      speakers = hands.speakers ∙ h.speakers;
-      table = λ q. rw (hands.table q) (h.table q);
-      raised = hands.raised ∙ h.raised;
-      questions = hands.questions ∙ ap hand_first h.questions;
-      fresh = h.fresh;
-      asked = λ q is. let o = h.asked q (sym (handed_asks (questions done) q) ∙ is) in record { stands = o.stands; phase = o.phase };
-    }
+pub hands_speak : (done : List Deed) (old new : Talks) → Hands old new → Speak done old → Speak (HandedOut ∷ done) new
+hands_speak done old new hands h = record {
+  opened = hands.opened ∙ h.opened;
+  speakers = hands.speakers ∙ h.speakers;
+  table = λ q. rw (hands.table q) (h.table q);
+  raised = hands.raised ∙ h.raised;
+  questions = hands.questions ∙ ap hand_first h.questions;
+  fresh = h.fresh;
+  asked = λ q is. let o = h.asked q (sym (handed_asks (questions done) q) ∙ is) in record { stands = o.stands; phase = o.phase };
+}
 
 -- ---- the authentication server is done with one
 
@@ -107,9 +94,17 @@ pub dropped : (conv : ℕ) (old new : List HeldQuestion) → new ≡ filter (λ 
 dropped conv old new e = ap (map question_of) e ∙ filter_map_same question_of (λ q. not (q.conv == conv)) (λ q. not (q.conv == conv)) (λ q. refl) old
 
 -- where the answer is there nothing is sought or raised
+rests_once : (done : List Deed) (conv : ℕ) (answer : RpcAnswer) → (standing_of done conv).phase ≡ Kept answer → sought_once conv done ≡ done
+rests_once done conv answer e = ap (λ (p : Phase). seeking conv p done) e
+
+rests_all : (done : List Deed) (conv : ℕ) (starting : Bool) → sought_once conv done ≡ done → seeking_all starting conv done ≡ done
+rests_all done conv false once = once
+rests_all done conv true once = ap (λ (d : List Deed). sought_once conv (sought_once conv d)) once ∙ (ap (sought_once conv) once ∙ once)
+
 pub met_rests : (done : List Deed) (conv : ℕ) (call : Call) (answer : RpcAnswer) → (standing_of (OfTalk conv call ∷ done) conv).phase ≡ Kept answer → met conv call done ≡ OfTalk conv call ∷ done
 met_rests done conv call answer e =
-    ap (then_raised conv) (ap (λ (p : Phase). seeking conv p (OfTalk conv call ∷ done)) e) ∙ ap (λ (p : Phase). raising conv p (OfTalk conv call ∷ done)) e
+    ap (then_raised conv) (rests_all (OfTalk conv call ∷ done) conv (standing_of (OfTalk conv call ∷ done) conv).starting (rests_once (OfTalk conv call ∷ done) conv answer e))
+    ∙ ap (λ (p : Phase). raising conv p (OfTalk conv call ∷ done)) e
 
 pub over_speak : (done : List Deed) (old new : Talks) (conv : ℕ) (call : Call) → questions (OfTalk conv call ∷ done) ≡ filter (λ q. not (q.conv == conv)) (questions done)
     → OnServerNow done conv → (answer : RpcAnswer) × ((standing (call ∷ talk done conv)).phase ≡ Kept answer) → Ended old new conv call → Speak done old → Speak (met conv call done) new

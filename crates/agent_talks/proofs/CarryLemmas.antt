@@ -7,10 +7,10 @@ use Rattle.talks.specs.Calls.{Call, CarriedOut, Sought}
 use Rattle.talks.specs.declared.said.Asking.{Asking}
 use Rattle.talks.specs.Standings.{Phase, Resting, Waiting, Seeking, OnConfirm, OnNeedkey, OnServer, Kept, finds, standing}
 use Rattle.conversations.specs.declared.conversation.Conversation.{Conversation}
-use Rattle.conversations.specs.Fits.{with_search}
+use Rattle.conversations.specs.Fits.{Holds, with_request, with_search, with_search_once}
 use Rattle.conversations.specs.Shown.{has_request, is_seeking, waits_for_server}
 use Rattle.agent_history.specs.Deeds.{Deed, OfTalk, Raised, keys_of}
-use Rattle.agent_history.specs.Conversations.{Question, Speaker, opened_talks, questions, raised, raising, seeking, speakers, standing_of, talk, then_sought}
+use Rattle.agent_history.specs.Conversations.{Question, Speaker, opened_talks, questions, raised, raising, seeking, seeking_all, sought_once, speakers, standing_of, talk, then_sought}
 use Rattle.agent_history.specs.Conversations as told
 use Rattle.agent_history.specs.Requests.{carried, carrying_out}
 use Rattle.agent_talks.specs.declared.held.Talks.{Talks}
@@ -28,43 +28,92 @@ record OnlyTalk (before after : List Deed) (conv : ℕ) : Type 0 where
   pub talks : (q : ℕ) → eqb conv q ≡ false → talk after q ≡ talk before q
   pub raised : told.raised after ≡ told.raised before
   pub questions : told.questions after ≡ told.questions before
+  pub keys : keys_of after ≡ keys_of before
+  pub files : told.asking after ≡ told.asking before
 
 only_same : (done : List Deed) (conv : ℕ) → OnlyTalk done done conv
-only_same done conv = record { opened = refl; speakers = refl; talks = λ q e. refl; raised = refl; questions = refl }
+only_same done conv = record { opened = refl; speakers = refl; talks = λ q e. refl; raised = refl; questions = refl; keys = refl; files = refl }
 
-only_sought : (done : List Deed) (conv : ℕ) (p : Phase) → OnlyTalk done (seeking conv p done) conv
-only_sought done conv Seeking = record { opened = refl; speakers = refl; talks = λ q e. rw e refl; raised = refl; questions = refl }
-only_sought done conv Resting = only_same done conv
-only_sought done conv (Waiting request) = only_same done conv
-only_sought done conv (OnConfirm serial) = only_same done conv
-only_sought done conv OnNeedkey = only_same done conv
-only_sought done conv OnServer = only_same done conv
-only_sought done conv (Kept answer) = only_same done conv
+only_then : (done one two : List Deed) (conv : ℕ) → OnlyTalk done one conv → OnlyTalk one two conv → OnlyTalk done two conv
+only_then done one two conv first then = record {
+  opened = then.opened ∙ first.opened;
+  speakers = then.speakers ∙ first.speakers;
+  talks = λ q e. then.talks q e ∙ first.talks q e;
+  raised = then.raised ∙ first.raised;
+  questions = then.questions ∙ first.questions;
+  keys = then.keys ∙ first.keys;
+  files = then.files ∙ first.files;
+}
 
--- the deeds after its request was carried out and the search that this wants
+only_seeking : (done : List Deed) (conv : ℕ) (p : Phase) → OnlyTalk done (seeking conv p done) conv
+only_seeking done conv Seeking = record { opened = refl; speakers = refl; talks = λ q e. rw e refl; raised = refl; questions = refl; keys = refl; files = refl }
+only_seeking done conv Resting = only_same done conv
+only_seeking done conv (Waiting request) = only_same done conv
+only_seeking done conv (OnConfirm serial) = only_same done conv
+only_seeking done conv OnNeedkey = only_same done conv
+only_seeking done conv OnServer = only_same done conv
+only_seeking done conv (Kept answer) = only_same done conv
+
+only_once : (done : List Deed) (conv : ℕ) → OnlyTalk done (sought_once conv done) conv
+only_once done conv = only_seeking done conv (standing_of done conv).phase
+
+only_sought : (done : List Deed) (conv : ℕ) (starting : Bool) → OnlyTalk done (seeking_all starting conv done) conv
+only_sought done conv false = only_once done conv
+only_sought done conv true =
+    let one : List Deed = sought_once conv done in
+    let two : List Deed = sought_once conv one in
+    only_then done one (sought_once conv two) conv (only_once done conv) (only_then one two (sought_once conv two) conv (only_once one conv) (only_once two conv))
+
+-- the deeds after its request was carried out and the searches that this wants
 abbrev performed : List Deed → ℕ → List ℕ → List Deed
 performed done conv word = then_sought conv (OfTalk conv (CarriedOut word) ∷ done)
 
 only_performed : (done : List Deed) (conv : ℕ) (word : List ℕ) → OnlyTalk done (performed done conv word) conv
 only_performed done conv word =
-    let only = only_sought (OfTalk conv (CarriedOut word) ∷ done) conv (standing_of (OfTalk conv (CarriedOut word) ∷ done) conv).phase in
-    record { opened = only.opened; speakers = only.speakers; talks = λ q e. only.talks q e ∙ rw e refl; raised = only.raised; questions = only.questions }
+    let one : List Deed = OfTalk conv (CarriedOut word) ∷ done in
+    only_then done one (performed done conv word) conv
+    (record { opened = refl; speakers = refl; talks = λ q e. rw e refl; raised = refl; questions = refl; keys = refl; files = refl })
+    (only_sought one conv (standing_of one conv).starting)
 
 -- what it met then
-sought_talk : (done : List Deed) (conv : ℕ) (p : Phase) → talk (seeking conv p done) conv
+seeking_talk : (done : List Deed) (conv : ℕ) (p : Phase) → talk (seeking conv p done) conv
     ≡ cond (is_seeking p) (Sought (finds (standing_of done conv) (told.asking done) (keys_of done)) ∷ talk done conv) (talk done conv)
-sought_talk done conv Seeking = rw (same conv) refl
-sought_talk done conv Resting = refl
-sought_talk done conv (Waiting request) = refl
-sought_talk done conv (OnConfirm serial) = refl
-sought_talk done conv OnNeedkey = refl
-sought_talk done conv OnServer = refl
-sought_talk done conv (Kept answer) = refl
+seeking_talk done conv Seeking = rw (same conv) refl
+seeking_talk done conv Resting = refl
+seeking_talk done conv (Waiting request) = refl
+seeking_talk done conv (OnConfirm serial) = refl
+seeking_talk done conv OnNeedkey = refl
+seeking_talk done conv OnServer = refl
+seeking_talk done conv (Kept answer) = refl
+
+once_talk : (done : List Deed) (conv : ℕ) → talk (sought_once conv done) conv ≡ with_search_once (told.asking done) (keys_of done) (talk done conv)
+once_talk done conv = seeking_talk done conv (standing_of done conv).phase
+
+-- behind other searches, which change neither the keys nor the files that are open
+once_more : (done one : List Deed) (conv : ℕ) (met : List Call) → OnlyTalk done one conv → talk one conv ≡ met → talk (sought_once conv one) conv ≡ with_search_once (told.asking done) (keys_of done) met
+once_more done one conv met only e =
+    once_talk one conv
+    ∙ (ap (λ (a : Asking). with_search_once a (keys_of one) (talk one conv)) only.files
+    ∙ (ap (λ (l : KeyList). with_search_once (told.asking done) l (talk one conv)) only.keys
+    ∙ ap (with_search_once (told.asking done) (keys_of done)) e))
+
+sought_talk : (done : List Deed) (conv : ℕ) (starting : Bool) → talk (seeking_all starting conv done) conv
+    ≡ cond starting (with_search_once (told.asking done) (keys_of done) (with_search_once (told.asking done) (keys_of done) (with_search_once (told.asking done) (keys_of done) (talk done conv)))) (with_search_once (told.asking done) (keys_of done) (talk done conv))
+sought_talk done conv false = once_talk done conv
+sought_talk done conv true =
+    let one : List Deed = sought_once conv done in
+    let two : List Deed = sought_once conv one in
+    let met_one : List Call = with_search_once (told.asking done) (keys_of done) (talk done conv) in
+    let met_two : List Call = with_search_once (told.asking done) (keys_of done) met_one in
+    let only_one = only_once done conv in
+    once_more done two conv met_two (only_then done one two conv only_one (only_once one conv))
+    (once_more done one conv met_one only_one (once_talk done conv))
 
 performed_talk : (done : List Deed) (conv : ℕ) (word : List ℕ) → talk (performed done conv word) conv ≡ with_search (told.asking done) (keys_of done) (CarriedOut word ∷ talk done conv)
 performed_talk done conv word =
-    let met_it : talk (OfTalk conv (CarriedOut word) ∷ done) conv ≡ CarriedOut word ∷ talk done conv = rw (same conv) refl in
-    sought_talk (OfTalk conv (CarriedOut word) ∷ done) conv (standing_of (OfTalk conv (CarriedOut word) ∷ done) conv).phase
+    let one : List Deed = OfTalk conv (CarriedOut word) ∷ done in
+    let met_it : talk one conv ≡ CarriedOut word ∷ talk done conv = rw (same conv) refl in
+    sought_talk one conv (standing_of one conv).starting
     ∙ ap (with_search (told.asking done) (keys_of done)) met_it
 
 -- ---- a question is raised
@@ -104,11 +153,14 @@ raised_speak done t conv (Kept answer) e there b r q = none_raised done t b r q
 
 -- ---- the request is carried out
 
-performed_kept : (b : Bool) (talk : List Call) (old new : Option Conversation) (word : List ℕ) (asking : Asking) (list : KeyList) → b ≡ true → BothPerformed old new word asking list → IsKept b talk old → IsKept true (with_search asking list (CarriedOut word ∷ talk)) new
-performed_kept true talk (Some c) (Some d) word asking list e p h = p talk h
-performed_kept true talk (Some c) None word asking list e p h = absurd p
-performed_kept true talk None new word asking list e p h = absurd h
-performed_kept false talk old new word asking list e p h = absurd (false≢true e)
+requested : (talk : List Call) (c : Conversation) (word : List ℕ) (asking : Asking) (list : KeyList) → has_request (standing talk).phase ≡ true → Holds c (with_request word asking list talk) → Holds c (with_search asking list (CarriedOut word ∷ talk))
+requested talk c word asking list has h = subst (λ (b : Bool). Holds c (cond b (with_search asking list (CarriedOut word ∷ talk)) talk)) has h
+
+performed_kept : (b : Bool) (talk : List Call) (old new : Option Conversation) (word : List ℕ) (asking : Asking) (list : KeyList) → b ≡ true → has_request (standing talk).phase ≡ true → BothPerformed old new word asking list → IsKept b talk old → IsKept true (with_search asking list (CarriedOut word ∷ talk)) new
+performed_kept true talk (Some c) (Some d) word asking list e has p h = requested talk d word asking list has (p talk h)
+performed_kept true talk (Some c) None word asking list e has p h = absurd p
+performed_kept true talk None new word asking list e has p h = absurd h
+performed_kept false talk old new word asking list e has p h = absurd (false≢true e)
 
 asks_now : (talk : List Call) (o : Option Conversation) (asks : Bool) → IsKept true talk o → IsAsking o asks → asks ≡ waits_for_server (standing talk).phase
 asks_now talk (Some c) asks h shows = shows talk h
@@ -131,7 +183,7 @@ performed_base done old new conv word asks request e c there h =
     let standing_same : (q : ℕ) → stands after q ≡ stands done q = λ q. ap (λ (xs : List Speaker). is_among xs q) only.speakers in
     let here : IsKept (stands after conv) (talk after conv) (kept_at new conv) =
     moved_kept true (stands after conv) (with_search (told.asking done) (keys_of done) (CarriedOut word ∷ talk done conv)) (talk after conv) (kept_at new conv) (kept_at new conv) (standing_same conv ∙ there) (performed_talk done conv word) refl
-    (performed_kept (stands done conv) (talk done conv) (kept_at old conv) (kept_at new conv) word (told.asking done) (keys_of done) there c.this (h.table conv)) in
+    (performed_kept (stands done conv) (talk done conv) (kept_at old conv) (kept_at new conv) word (told.asking done) (keys_of done) there (ap has_request e) c.this (h.table conv)) in
     record {
       opened = c.opened ∙ (h.opened ∙ sym only.opened);
       speakers = c.speakers ∙ (h.speakers ∙ sym only.speakers);

@@ -6,7 +6,7 @@ use Rattle.talks.specs.Calls as calls
 use Rattle.talks.specs.Calls.{Call}
 use Rattle.talks.specs.Standings.{Phase, Resting, Waiting, Seeking, OnConfirm, OnNeedkey, OnServer, Kept}
 use Rattle.agent_history.specs.Deeds.{Deed, OfTalk, Raised}
-use Rattle.agent_history.specs.Conversations.{Speaker, asker, conv_of, fits, met, raising, seeking, speaker_of, speakers, standing_of, then_sought, then_took}
+use Rattle.agent_history.specs.Conversations.{Speaker, asker, conv_of, fits, met, raising, seeking, seeking_all, sought_once, speaker_of, speakers, standing_of, then_sought, then_took}
 use Rattle.agent_history.specs.Requests.{carried, carrying_out}
 use Rattle.agent_talks.specs.declared.held.Talks.{Talks}
 use Rattle.agent_talks.specs.Speaks.{Speak, met_by, stands}
@@ -38,11 +38,21 @@ seeking_keeps P k done conv (OnConfirm serial) h = h
 seeking_keeps P k done conv OnNeedkey h = h
 seeking_keeps P k done conv (Kept answer) h = h
 
+once_keeps : (P : List Deed → Type 0) → TalksKeep P → (done : List Deed) (conv : ℕ) → P done → P (sought_once conv done)
+once_keeps P k done conv h = seeking_keeps P k done conv (standing_of done conv).phase h
+
+all_keeps : (P : List Deed → Type 0) → TalksKeep P → (done : List Deed) (conv : ℕ) (starting : Bool) → P done → P (seeking_all starting conv done)
+all_keeps P k done conv false h = once_keeps P k done conv h
+all_keeps P k done conv true h =
+    let one : List Deed = sought_once conv done in
+    let two : List Deed = sought_once conv one in
+    once_keeps P k two conv (once_keeps P k one conv (once_keeps P k done conv h))
+
 pub met_keeps : (P : List Deed → Type 0) → TalksKeep P → (done : List Deed) (conv : ℕ) (call : Call) → P done → P (met conv call done)
 met_keeps P k done conv call h =
     let one : List Deed = OfTalk conv call ∷ done in
     raising_keeps P k (then_sought conv one) conv (standing_of (then_sought conv one) conv).phase
-    (seeking_keeps P k one conv (standing_of one conv).phase (k.met done conv call h))
+    (all_keeps P k one conv (standing_of one conv).starting (k.met done conv call h))
 
 pub met_by_keeps : (P : List Deed → Type 0) → TalksKeep P → (done : List Deed) (conv : Option ℕ) (call : Call) → P done → P (met_by conv call done)
 met_by_keeps P k done None call h = h

@@ -3,7 +3,8 @@ use Rattle.std.proofs.Common.{◌≡◌, ℕ, suc, zero, ◌<◌, List, [], ◌�
 use Rattle.conversations.specs.declared.conversation.Conversation.{Conversation}
 use Rattle.agent_talks.specs.declared.speaker.Speaker.{Speaker as HeldSpeaker}
 use Rattle.agent_talks.specs.declared.speaker.Leaving.{Leaving}
-use Rattle.agent_talks.specs.Changes.{leaves, leaving_at, left_at, left_one}
+use Rattle.agent_talks.specs.Kept.{leaves}
+use Rattle.agent_talks.specs.Changes.{leaving_at, left_at, left_one}
 
 left_step : (who : Leaving) (xs : List HeldSpeaker) (n : ℕ) (d : HeldSpeaker) (conv : ℕ) (start : Option Conversation) → n < length xs → left_one who (get_or xs n d) conv (left_at who (take n xs) conv start) ≡ left_at who (take (suc n) xs) conv start
 left_step who [] n d conv start lt = absurd (omega (arith, lt))

@@ -3,7 +3,7 @@ use Rattle.std.proofs.Common.{◌≡◌, ℕ, List, [], ◌∷◌, Bool, true, f
 use Rattle.file_tree.specs.declared.tree.Node.{Node}
 use Rattle.file_tree.specs.declared.tree.Node.TheVariants.{Rpc}
 use Rattle.key_lists.specs.CtlLines.{CtlLine}
-use Rattle.agent_history.specs.Deeds.{Deed, KeyDeed, ReplyDeed, OfFids, OfKeys, OfReplies, OfConnection, Swept, Attached, Walked, Opened, Listed, Browsed, Entered, fid_of, names, was_opened}
+use Rattle.agent_history.specs.Deeds.{Deed, KeyDeed, ReplyDeed, OfFids, OfKeys, OfReplies, OfConnection, DropTaken, Swept, Attached, Walked, Opened, Listed, Browsed, Entered, fid_of, names, was_opened}
 use Rattle.agent_history.specs.Conversations.{questions, speakers}
 use Rattle.agent_history.specs.Histories.{entered}
 use Rattle.agent_history.specs.Replies.{has_settled, swept}
@@ -44,6 +44,18 @@ lines_speak (said ∷ more) done t conn h = lines_speak more (OfKeys conn (line_
 
 pub sweep_speak : (done : List Deed) (t : Talks) → Speak done t → Speak (Swept ∷ done) t
 sweep_speak done t h = record {
+  opened = h.opened;
+  speakers = h.speakers;
+  table = h.table;
+  raised = h.raised;
+  questions = h.questions;
+  fresh = h.fresh;
+  asked = λ q e. record { stands = (h.asked q e).stands; phase = (h.asked q e).phase };
+}
+
+-- a connection that a conversation kept was given up
+pub drop_speak : (done : List Deed) (t : Talks) → Speak done t → Speak (DropTaken ∷ done) t
+drop_speak done t h = record {
   opened = h.opened;
   speakers = h.speakers;
   table = h.table;

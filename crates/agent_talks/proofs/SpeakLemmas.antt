@@ -18,9 +18,9 @@ use Rattle.agent_talks.specs.declared.speaker.Speaker.{Speaker as HeldSpeaker}
 use Rattle.agent_talks.specs.declared.speaker.Leaving.{Leaving}
 use Rattle.agent_talks.specs.declared.speaker.Leaving.TheVariants as l
 use Rattle.agent_talks.specs.declared.held.Talks.{Talks}
-use Rattle.agent_talks.specs.Kept.{kept_at, question_of, questions_in, speaker_of}
+use Rattle.agent_talks.specs.Kept.{kept_at, leaves, question_of, questions_in, speaker_of}
 use Rattle.agent_talks.specs.Speaks.{IsKept, OnServerNow, SameTalks, Speak, asks_for, is_among, stands}
-use Rattle.agent_talks.specs.Changes.{BothMet, IsNew, Leaves, Meets, Opens, leaves, leaving_at}
+use Rattle.agent_talks.specs.Changes.{BothMet, IsNew, Leaves, Meets, Opens, leaving_at}
 use Rattle.agent_talks.proofs.StandLemmas.{all_stay, among_last, are_numbered, filter_map_same, find_map, leaving, left_asks, left_gone, left_stays}
 
 -- ---- what stands

@@ -3,7 +3,7 @@ use Rattle.std.proofs.Common.{◌≡◌, ℕ, ◌+◌, ◌<◌, List, [], ◌∷
 use Rattle.std.specs.Prelude.{find, option_map}
 use Rattle.std.specs.List.{list_any}
 use Rattle.std.proofs.lemmas.Bool.{cases_Bool, eq-eqb, eqb-true, false≢true}
-use Rattle.agent_history.specs.Deeds.{Deed, OfFids, OfKeys, OfReplies, OfConnection, OfTalk, Raised, HandedOut, Swept, Halted, Versioned, Attached, Walked, Opened, Listed, Browsed, Clunked, Entered, Hung, fid_of, names}
+use Rattle.agent_history.specs.Deeds.{Deed, OfFids, OfKeys, OfReplies, OfConnection, OfTalk, Raised, HandedOut, DropTaken, Swept, Halted, Versioned, Attached, Walked, Opened, Listed, Browsed, Clunked, Entered, Hung, fid_of, names}
 use Rattle.file_tree.specs.declared.tree.Node.TheVariants.{Rpc}
 use Rattle.agent_history.specs.Conversations.{Question, Speaker, hand_first, opened_talks, speakers}
 use Rattle.agent_talks.specs.Speaks.{asks_for, is_among}
@@ -180,6 +180,7 @@ are_numbered (OfConnection at Hung ∷ done) = numbered_left (opened_talks done)
 are_numbered (OfTalk conv call ∷ done) = are_numbered done
 are_numbered (Raised conv ∷ done) = are_numbered done
 are_numbered (HandedOut ∷ done) = are_numbered done
+are_numbered (DropTaken ∷ done) = are_numbered done
 are_numbered (Swept ∷ done) = are_numbered done
 are_numbered (Halted ∷ done) = record { apart = tt; below = λ q e. absurd (false≢true e) }
 

@@ -10,9 +10,8 @@ use Rattle.conversations.specs.Shown.{waits_for_server}
 use Rattle.agent_history.specs.Conversations.{Question, hand_first}
 use Rattle.agent_talks.specs.declared.speaker.Speaker.{Speaker as HeldSpeaker}
 use Rattle.agent_talks.specs.declared.speaker.Leaving.{Leaving}
-use Rattle.agent_talks.specs.declared.speaker.Leaving.TheVariants as l
 use Rattle.agent_talks.specs.declared.held.Talks.{Talks}
-use Rattle.agent_talks.specs.Kept.{kept_at, questions_in, speakers_in}
+use Rattle.agent_talks.specs.Kept.{kept_at, leaves, questions_in, speakers_in}
 
 -- what was kept for a number met something, where something was
 abbrev pub BothMet : Option Conversation → Option Conversation → Call → Type 0
@@ -43,11 +42,7 @@ pub record Opens (old new : Talks) (conn fid : ℕ) : Type 0 where
   pub raised : new.raised ≡ old.raised
   pub questions : questions_in new ≡ questions_in old
 
--- who leaves
-abbrev pub leaves : Leaving → HeldSpeaker → Bool
-leaves (l.Fid conn fid) s = s.conn == conn && s.fid == fid
-leaves (l.Connection conn) s = s.conn == conn
-
+-- the conversation of a number is one of those that end
 abbrev pub leaving_at : Leaving → List HeldSpeaker → ℕ → Bool
 leaving_at leaving speakers conv = list_any (λ s. leaves leaving s && s.conv == conv) speakers
 

@@ -1,5 +1,5 @@
 -- What is kept of conversations and of their questions, in the words of the definitions.
-use Rattle.std.specs.Prelude.{ℕ, List, ◌==◌, filter, find, length, map, not, option_map, Bool, Option}
+use Rattle.std.specs.Prelude.{ℕ, List, ◌==◌, ◌&&◌, filter, find, length, map, not, option_map, Bool, Option}
 use Rattle.std.specs.List.{list_any}
 use Rattle.std.specs.Ordering.{nat_cmp}
 use Rattle.std.specs.BTreeMap.{get}
@@ -7,10 +7,17 @@ use Rattle.agent_history.specs.Conversations.{Question, Speaker}
 use Rattle.conversations.specs.declared.conversation.Conversation.{Conversation}
 use Rattle.agent_talks.specs.declared.question.Question.{Question as HeldQuestion}
 use Rattle.agent_talks.specs.declared.speaker.Speaker.{Speaker as HeldSpeaker}
+use Rattle.agent_talks.specs.declared.speaker.Leaving.{Leaving}
+use Rattle.agent_talks.specs.declared.speaker.Leaving.TheVariants as l
 use Rattle.agent_talks.specs.declared.held.Talks.{Talks}
 
 abbrev pub speaker_of : HeldSpeaker → Speaker
 speaker_of s = record { conv = s.conv; conn = s.conn; fid = s.fid }
+
+-- whose conversations end
+abbrev pub leaves : Leaving → HeldSpeaker → Bool
+leaves (l.Fid conn fid) s = s.conn == conn && s.fid == fid
+leaves (l.Connection conn) s = s.conn == conn
 
 abbrev pub question_of : HeldQuestion → Question
 question_of q = record { call = q.call; conv = q.conv; handed = q.handed }

@@ -21,19 +21,19 @@ abbrev pub told_body : Told → RBody
 told_body (t.Answer answer) = r.Read (answer_text answer)
 told_body t.TooSmall = r.Error (codes "read too small")
 
--- nothing is told, and nothing has changed
-abbrev pub TellsNothing : List Deed → Talks → Option Told → Type 0
-TellsNothing done new result = (result ≡ None) × Speak done new
+-- in this phase a read that may hold so many bytes is told the answer, if one is there; else it is told nothing, and nothing
+-- has changed. What is kept fits the deeds then
+abbrev pub TellsBy : (List Deed → Type 0) → Phase → List Deed → ℕ → ℕ → Option Told → Type 0
+TellsBy fits (Kept answer) done conv count result = (option_map told_body result ≡ Some (told count answer)) × fits (then_took conv count answer done)
+TellsBy fits Resting done conv count result = (result ≡ None) × fits done
+TellsBy fits (Waiting request) done conv count result = (result ≡ None) × fits done
+TellsBy fits Seeking done conv count result = (result ≡ None) × fits done
+TellsBy fits (OnConfirm serial) done conv count result = (result ≡ None) × fits done
+TellsBy fits OnNeedkey done conv count result = (result ≡ None) × fits done
+TellsBy fits OnServer done conv count result = (result ≡ None) × fits done
 
--- in this phase a read that may hold so many bytes is told the answer, if one is there
 abbrev pub Tells : Phase → List Deed → Talks → ℕ → ℕ → Option Told → Type 0
-Tells (Kept answer) done new conv count result = (option_map told_body result ≡ Some (told count answer)) × Speak (then_took conv count answer done) new
-Tells Resting done new conv count result = TellsNothing done new result
-Tells (Waiting request) done new conv count result = TellsNothing done new result
-Tells Seeking done new conv count result = TellsNothing done new result
-Tells (OnConfirm serial) done new conv count result = TellsNothing done new result
-Tells OnNeedkey done new conv count result = TellsNothing done new result
-Tells OnServer done new conv count result = TellsNothing done new result
+Tells p done new conv count result = TellsBy (λ d. Speak d new) p done conv count result
 
 -- of the code alone: whatever deeds the conversations are those of, this holds of the answer of one that stands
 abbrev pub ShowsAnswer : Talks → ℕ → (Option RpcAnswer → Type 0) → Type 0

@@ -1,9 +1,8 @@
 // The questions of conversations for the authentication server, and what comes of them.
-ghost use Rattle.std.specs.Prelude.{◌≡◌, ◌≤◌, ◌-◌, List, Option, IsOk, OnOk, OnErr, false, is_some, nat_lt, option_copied, option_map};
+ghost use Rattle.std.specs.Prelude.{◌≡◌, ◌≤◌, ◌-◌, ◌∷◌, List, Option, IsOk, OnOk, OnErr, false, is_some, nat_lt, option_copied, option_map};
 ghost use Rattle.talks.specs.Calls as c;
-ghost use Rattle.agent_history.specs.Deeds.{Deed};
+ghost use Rattle.agent_history.specs.Deeds.{Deed, HandedOut};
 ghost use Rattle.agent_history.specs.Conversations.{asker, next_question};
-ghost use Rattle.agent_history.specs.Histories.{handing};
 ghost use Rattle.agent_talks.specs.Kept as kept;
 ghost use Rattle.agent_talks.specs.Changes.{Drops, Ended, Hands, Meets};
 ghost use Rattle.agent_talks.specs.Speaks.{SameTalks, Speak, met_by};
@@ -37,7 +36,7 @@ impl Talks {
     pub fn hand_out(&mut self)
         ensures fewer { kept.unasked self.new ≡ kept.unasked self.old - 1 }
         ensures handed { (done : List Deed) → Speak done self.old
-            → Speak (handing (next_question done) done) self.new }
+            → Speak (HandedOut ∷ done) self.new }
     {
         self.hand_one();
     }

@@ -1,12 +1,12 @@
 // The conversations of an agent.
-ghost use Rattle.std.specs.Prelude.{◌≡◌, [], ◌∷◌, List, ℕ, Option, OnOk, OnErr, filter, is_some, length, option_copied, option_map, true};
+ghost use Rattle.std.specs.Prelude.{◌≡◌, [], ◌∷◌, List, ℕ, Option, OnOk, OnErr, filter, is_some, length, map, option_copied, option_map, true};
 ghost use Rattle.std.specs.BTreeMap.{get};
 ghost use Rattle.std.specs.Ordering.{nat_cmp};
 ghost use Rattle.file_tree.specs.declared.tree.Node.TheVariants.{Rpc};
 ghost use Rattle.rpc_file.specs.Requests.{meant};
 ghost use Rattle.talks.specs.Calls as c;
 ghost use Rattle.agent_history.specs.Deeds.{Deed, OfConnection, OfFids, OfTalk, Clunked, Hung, Opened, Versioned, fid_of, names};
-ghost use Rattle.agent_history.specs.Conversations.{conv_of, speaker_of, speakers, talk};
+ghost use Rattle.agent_history.specs.Conversations.{conv_of, raised, speaker_of, speakers, talk};
 ghost use Rattle.agent_talks.specs.Kept as kept;
 ghost use Rattle.agent_talks.specs.Changes.{Leaves, Meets, Opens, left_at, left_one};
 ghost use Rattle.agent_talks.specs.Speaks.{IsKept, SameTalks, Speak, stands};
@@ -51,6 +51,21 @@ impl Talks {
         ensures { (done : List Deed) → Speak done self.now → result ≡ length (speakers done) }
     {
         self.speakers.len()
+    }
+
+    /// Who has them open, the oldest first. It takes no memory.
+    pub fn speakers(&self) -> &[Speaker]
+        ensures { (done : List Deed) → Speak done self.now
+            → map kept.speaker_of result.now ≡ speakers done }
+    {
+        &self.speakers
+    }
+
+    /// How many questions were ever raised. It takes no memory.
+    pub fn raised(&self) -> u64
+        ensures { (done : List Deed) → Speak done self.now → result ≡ raised done }
+    {
+        self.raised
     }
 
     /// The number of the conversation that a fid of a connection has open.

@@ -14,5 +14,5 @@ mod tests;
 
 pub use held::Talks;
 pub use question::Question;
-pub use speaker::Speaker;
+pub use speaker::{Leaving, Speaker, leaves};
 pub use tell::Told;

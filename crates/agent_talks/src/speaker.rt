@@ -1,6 +1,6 @@
 // Who has a conversation open.
 ghost use Rattle.std.specs.Prelude.{◌≡◌, ◌==◌, ◌&&◌, not, filter, find, option_copied, option_map};
-ghost use Rattle.agent_talks.specs.Changes.{leaves};
+ghost use Rattle.agent_talks.specs.Kept.{leaves};
 
 /// A conversation that stands, and the fid of a connection that has it open.
 #[derive(Clone, Copy, Debug)]
@@ -17,7 +17,8 @@ pub enum Leaving {
     Connection(u64),
 }
 
-pub(crate) fn leaves(leaving: Leaving, speaker: &Speaker) -> bool
+/// Whether the conversation of a speaker ends.
+pub fn leaves(leaving: Leaving, speaker: &Speaker) -> bool
     ensures { result ≡ leaves leaving speaker.now }
 {
     match leaving {

@@ -1,5 +1,6 @@
 pub mod SearchLemmas
 pub mod RoleLaws
+pub mod StepLemmas
 pub mod NameLemmas
 pub mod TemplateLemmas
 pub mod MoveLemmas

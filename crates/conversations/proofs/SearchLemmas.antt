@@ -110,8 +110,14 @@ unsearched c asking list s rests fits = subst (λ (test : Bool). Fits c (if test
 
 -- ---- which thing is needed
 
-other : w.Key ≡ w.Nothing → ⊥
-other e = cc
+other_key : w.Key ≡ w.Nothing → ⊥
+other_key e = cc
+
+other_offers : w.Offers ≡ w.Nothing → ⊥
+other_offers e = cc
+
+other_pick : w.Pick ≡ w.Nothing → ⊥
+other_pick e = cc
 
 pub wants_key : (need : Need) → w.Key ≡ wanted_in need → IsKey need
 wants_key Nothing e = absurd (cc)
@@ -157,4 +163,10 @@ no_start old new asking list starting a = λ s fits.
     subst (λ (test : Bool). Fits new (if test then searched_once asking list (searched_once asking list (searched_once asking list s)) else searched_once asking list s)) (sym starting ∙ fits.carries.starting) (a s fits)
 
 pub key_some : (need : Need) → w.Key ≡ wanted_in need → wanted_in need ≡ w.Nothing → ⊥
-key_some need key nothing = other (key ∙ nothing)
+key_some need key nothing = other_key (key ∙ nothing)
+
+pub offers_some : (need : Need) → w.Offers ≡ wanted_in need → wanted_in need ≡ w.Nothing → ⊥
+offers_some need offers nothing = other_offers (offers ∙ nothing)
+
+pub pick_some : (need : Need) → w.Pick ≡ wanted_in need → wanted_in need ≡ w.Nothing → ⊥
+pick_some need pick nothing = other_pick (pick ∙ nothing)

@@ -84,7 +84,7 @@ module _ (dom : List ℕ) (before now : Outside) (s : IsServableAll dom before) 
   client_of keys speaks t = rw (← same_keys keys t.0, ← same_speaks speaks t.1) s.client
 
   whole_end : (end : AuthEnd) → Serves dom end before now → (end ≡ ends.ReadFault → ⊥) → (end ≡ ends.WriteFault → ⊥) → (end ≡ ends.WordFault → ⊥) → (end ≡ ends.End) ⊎ (end ≡ ends.NoMemory)
-  whole_end end v read write word = served_whole (known_by dom v.keys v.speaks) end before.client now.client v.ends (client_of v.keys v.speaks v.tables) read write word
+  whole_end end v read write word = served_whole (known_by dom v.keys v.speaks) before.client now.client (client_of v.keys v.speaks v.tables) end v.ends read write word
 
   no_bad_keys : (line : ℕ) → MeetsBadKeys line before now → ⊥
   no_bad_keys line b = some_line line (bad_key_line b.keys) (subst (λ (k : List ℕ). bad_key_line k ≡ None) (same_keys b.keys b.tables.0) s.good_keys) b.bad

@@ -8,7 +8,7 @@ use Rattle.file_tree.specs.declared.tree.Node.{Node}
 use Rattle.nine_messages.specs.declared.message.RMsg.{RMsg}
 use Rattle.nine_messages.specs.declared.message.RBody.{RBody}
 use Rattle.nine_messages.specs.Messages.{r_frame}
-use Rattle.agent_history.specs.Deeds.{Deed, OfFids, OfKeys, OfReplies, OfConnection, OfTalk, Raised, HandedOut, Swept, Halted, Entered, Versioned, Attached, Walked, Opened, Listed, Browsed, KeyDeed, Clunked, Answered, Awaited, Settled, Flushed, Taken, Hung, was_hung}
+use Rattle.agent_history.specs.Deeds.{Deed, OfFids, OfKeys, OfReplies, OfConnection, OfTalk, Raised, HandedOut, DropTaken, Swept, Halted, Entered, Versioned, Attached, Walked, Opened, Listed, Browsed, KeyDeed, Clunked, Answered, Awaited, Settled, Flushed, Taken, Hung, was_hung}
 use Rattle.talks.specs.Calls.{Call}
 use Rattle.agent_history.specs.Replies as told
 use Rattle.agent_history.specs.Replies.{Wait, waits, waits_under, waits_for, has_settled, replies, taken, untaken, fid_given_up, reply_in}
@@ -73,6 +73,7 @@ taken_given (OfConnection at d ∷ done) conn = taken_given done conn
 taken_given (OfTalk conv call ∷ done) conn = taken_given done conn
 taken_given (Raised conv ∷ done) conn = taken_given done conn
 taken_given (HandedOut ∷ done) conn = taken_given done conn
+taken_given (DropTaken ∷ done) conn = taken_given done conn
 taken_given (Halted ∷ done) conn = taken_given done conn
 taken_given (Swept ∷ done) conn = more_left (taken done conn) (reverse (filter_map reply_in (waits done conn))) (replies done conn) (taken_given done conn)
 taken_given (OfReplies at (Awaited tag fid count) ∷ done) conn = taken_given done conn

@@ -3,7 +3,7 @@ use Rattle.std.proofs.lemmas.Result.{on_ok_weaker}
 use Rattle.talks.specs.Calls as calls
 use Rattle.agent_history.specs.declared.event.Event.{Event}
 use Rattle.agent_history.specs.Replies.{swept}
-use Rattle.agent_history.specs.Conversations.{asker, next_question, resumed}
+use Rattle.agent_history.specs.Conversations.{asker, due, resumed}
 use Rattle.agent_history.specs.Histories.{does}
 use Rattle.agent_requests.specs.declared.connection.Connection.{Connection}
 use Rattle.agent_requests.specs.Connections.{Shares}
@@ -16,8 +16,8 @@ returns-in-TakeAsk-clause-lives c =
     let at : ℕ → Option Connection = known c.args.connections.now in
     on_ok_weaker c.take_ask.result (λ shares go done lives. subst (λ (e : Event). Lives (does done e) at c.take_ask.new.shared) (sym c.in-TakeAsk.is) (record {
       shares = shares done lives.shares;
-      connections = handed_stand (next_question done) done at lives.connections;
-      live = handed_live (next_question done) done lives.live;
+      connections = handed_stand (due done) done at lives.connections;
+      live = handed_live (due done) done lives.live;
     })) c.take_ask.ensures.shares
 
 pub returns-in_ok-hear-in-Answer-clause-lives : goal.returns-in_ok-hear-in-Answer-clause-lives

@@ -14,8 +14,8 @@ returns-clause-told c =
     let request = meant c.in_ok-request.request in
     let u : Shared = record { ring = a.shared.now.ring; holders = a.shared.now.holders; mailboxes = a.shared.now.mailboxes; talks = c.store_at.new.talks } in
     λ done h.
-    let is = c.conv_at-conv.ensures done h.talks in
+    let is = c.conv_at-conv.ensures done h.talks.speak in
     let speak = c.in_ok-store_at.ensures.stored done (open_at done a.call.conn a.fid c.conv_at-conv.result is) h.talks in
     let rest : Rest (stored c.conv_at-conv.result (Ok request) done) u = stored_talks (λ at. Rest at u) (rest_talks u) c.conv_at-conv.result (Ok request) done (record { ring = h.ring; holders = h.holders; mail = h.mail }) in
-    write_through done (asked a.call) a.fid a.content.now request u c.in_ok-reply.reply (sym (c.is_resting_at.ensures done h.talks) ∙ c.if-not-is_resting_at.false) c.in_ok-request.ensures
+    write_through done (asked a.call) a.fid a.content.now request u c.in_ok-reply.reply (sym (c.is_resting_at.ensures done h.talks.speak) ∙ c.if-not-is_resting_at.false) c.in_ok-request.ensures
     (subst (λ (o : Option ℕ). Shares (stored o (Ok request) done) u) is (record { ring = rest.ring; holders = rest.holders; mail = rest.mail; talks = speak })) c.in_ok-reply.ensures

@@ -1,7 +1,7 @@
 use Rattle.std.proofs.Common.{sym, ◌∙◌}
 use Rattle.std.proofs.lemmas.Result.{on_ok_weaker}
 use Rattle.agent_history.specs.Deeds.{fid_of}
-use Rattle.agent_talks.proofs.OtherLemmas.{elsewhere_speak}
+use Rattle.kept_calls.proofs.OtherLemmas.{elsewhere_converses}
 use Rattle.agent_requests.proofs.ShareLemmas.{names_rpc}
 use Rattle.agent_requests.proofs.shared.open_talk.Goals as goal
 
@@ -13,4 +13,4 @@ returns-then-is_rpc-clause-opened c =
 pub returns-clause-opened : goal.returns-clause-opened
 returns-clause-opened c =
     let a = c.args in
-    λ done mode held named h. elsewhere_speak done a.talks.now a.conn a.fid mode (names_rpc (fid_of done a.conn a.fid) a.node held named ∙ (sym c.is_rpc.ensures ∙ c.if-is_rpc.false)) h
+    λ done mode held named h. elsewhere_converses done a.talks.now a.conn a.fid mode (names_rpc (fid_of done a.conn a.fid) a.node held named ∙ (sym c.is_rpc.ensures ∙ c.if-is_rpc.false)) h

@@ -1,7 +1,7 @@
 use Rattle.std.proofs.Common.{not, rules}
 use Rattle.std.proofs.lemmas.Fn.{filter_same}
 use Rattle.agent_talks.specs.declared.speaker.Speaker.{Speaker}
-use Rattle.agent_talks.specs.Changes.{leaves}
+use Rattle.agent_talks.specs.Kept.{leaves}
 use Rattle.agent_talks.proofs.speaker.keep_others.Goals as goal
 
 pub returns : goal.returns

@@ -1,0 +1,7 @@
+pub mod CallLemmas
+pub mod SeekLemmas
+pub mod TalkLemmas
+pub mod LeaveLemmas
+pub mod OtherLemmas
+pub mod HandLemmas
+pub mod MeetLemmas
