@@ -4,7 +4,7 @@ use Rattle.wire_streams.specs.Dials.{Dialed, Makes}
 use Rattle.wire_streams.specs.declared.dialer.Made.{Made}
 use Rattle.wire_streams.specs.declared.dialer.Made.TheVariants.{Exchange, Close}
 use Rattle.wire_streams.specs.declared.dialer.Outcome.TheVariants.{Answered, Unanswered, NoRoom}
-use Rattle.factotum_program.specs.Sights.{MakesAll, answer_in, answers_in}
+use Rattle.factotum_program.specs.Sights.{MakesAll, MakesPart, answer_in, answers_in}
 
 pub made_none : (a : Option Dialed) → MakesAll a a []
 made_none None = tt
@@ -31,3 +31,17 @@ made_more (Some x) (Some y) (Some z) xs ys p q = (
   q.0 ∙ ap (λ (l : List Made). l ++ ys) p.0 ∙ append_assoc x.made xs ys,
   p.1 ∙ ap (λ (l : List (List ℕ)). answers_in xs ++ l) q.1 ∙ sym (append_assoc (answers_in xs) (answers_in ys) z.to_come) ∙ ap (λ (l : List (List ℕ)). l ++ z.to_come) (sym (answers_append xs ys)),
 )
+
+-- all were made
+pub part_all : (a b : Option Dialed) (calls : List Made) → MakesAll a b calls → MakesPart a b calls
+part_all a b calls m = record { made = calls; left = []; parts = sym (append-nil calls); closes = refl; makes = m }
+
+-- some more were made, but for the last ones
+pub part_more : (a b c : Option Dialed) (xs ys : List Made) → MakesAll a b xs → MakesPart b c ys → MakesPart a c (xs ++ ys)
+part_more a b c xs ys m p = record {
+  made = xs ++ p.made;
+  left = p.left;
+  parts = ap (λ (l : List Made). xs ++ l) p.parts ∙ sym (append_assoc xs p.made p.left);
+  closes = p.closes;
+  makes = made_more a b c xs p.made m p.makes;
+}

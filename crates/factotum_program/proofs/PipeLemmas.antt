@@ -18,12 +18,12 @@ use Rattle.factotum_program.specs.declared.status.Status.{Status}
 use Rattle.factotum_program.specs.declared.status.Status.TheVariants.{Fine, Usage, ReadFault, WriteFault, WordFault, BadFrame, Torn, BadTables, AsEnded, NoMemory, Flood}
 use Rattle.factotum_program.specs.declared.pipe.Session.{Session}
 use Rattle.factotum_program.specs.Pipe.{Turn, after_turn, after_turns, frames_of, most_frame, replies_text, text_of, turn_of}
-use Rattle.factotum_program.specs.Sights.{Goes, Sight, sight}
+use Rattle.factotum_program.specs.Sights.{GoesPart, Sight, sight}
 use Rattle.factotum_program.specs.Commands.{most_input, frames_in, Reads, Answers, EndsInside, Floods, GainsPart, EndsSo, Replies, RepliesPart}
 use Rattle.factotum_program.specs.Gathers.{Gathers, GathersPart}
 use Rattle.factotum_program.specs.Asks.{Turns, TurnsPart}
 use Rattle.factotum_program.specs.Sessions.{HasNoNext, Handed, AllHanded, StopsAt, IsCut, IsCutShort, MissesWord, Piped, Told, ToldPart}
-use Rattle.factotum_program.proofs.TurnLemmas.{after_one, all_met_one, frames_one, goes_none, goes_on, goes_one, goes_still}
+use Rattle.factotum_program.proofs.TurnLemmas.{after_one, all_met_one, frames_one, goes_none, goes_on, goes_one, goes_one_part, goes_part, goes_part_on, goes_still}
 use Rattle.factotum_program.proofs.PartLemmas.{gathers_none, gathers_gone, gathers_failed, all_written, part_memory, part_gone, part_failed, part_written}
 
 -- a sight with these bytes written
@@ -72,7 +72,7 @@ stops_in_frame status origin before after some more stream turns old new agent f
         last = turn ∷ [];
         one = omega arith;
         are = frames_one turns turn;
-        goes = goes_one origin before after turns frame word t.heard h.goes drew t.made;
+        goes = goes_one_part origin before after turns frame word t.heard h.goes drew t.made;
         met = h.met;
         told = subst (λ (H : History). GathersPart status origin.holds after.holds more (text_of H)) (sym (after_one [] turns turn)) t.told;
       };
@@ -111,7 +111,7 @@ in_part frames origin now gathered t =
       last = [];
       one = omega arith;
       are = ap frames_of same ∙ t.are;
-      goes = subst (λ (ts : List Turn). Goes origin now ts) (sym same) t.goes;
+      goes = subst (λ (ts : List Turn). GoesPart origin now ts) (sym same) (goes_part origin now t.turns t.goes);
       met = t.met;
       told = subst (λ (ts : List Turn). GathersPart NoMemory origin.holds now.holds gathered (replies_text ts)) (sym same)
           (part_memory origin.holds now.holds gathered (replies_text t.turns) (replies_text t.turns) [] (sym (append-nil (replies_text t.turns))) t.told);
@@ -152,7 +152,7 @@ told_part_gone status frames origin now later gathered gone t = record {
   last = t.last;
   one = t.one;
   are = t.are;
-  goes = goes_on origin now later (t.turns ++ t.last) t.goes;
+  goes = goes_part_on origin now later (t.turns ++ t.last) t.goes;
   met = t.met;
   told = part_gone status origin.holds now.holds later gathered (replies_text (t.turns ++ t.last)) gone t.told;
 }
@@ -163,7 +163,7 @@ told_part_failed status other frames origin now later gathered failed t = record
   last = t.last;
   one = t.one;
   are = t.are;
-  goes = goes_on origin now later (t.turns ++ t.last) t.goes;
+  goes = goes_part_on origin now later (t.turns ++ t.last) t.goes;
   met = t.met;
   told = part_failed status other origin.holds now.holds later gathered (replies_text (t.turns ++ t.last)) failed t.told;
 }

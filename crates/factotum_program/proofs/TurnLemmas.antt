@@ -8,8 +8,8 @@ use Rattle.auth_server.specs.Sessions.{DrawsAll}
 use Rattle.auth_server.proofs.DrawLemmas.{drawn_more, none_drawn}
 use Rattle.agent_history.specs.Histories.{History}
 use Rattle.factotum_program.specs.Pipe.{Turn, after_turn, after_turns, all_met, all_met_from, asked_in, calls_from, calls_of, frames_of, turn_of, words_of}
-use Rattle.factotum_program.specs.Sights.{Goes, MakesAll, Sight, sight}
-use Rattle.factotum_program.proofs.MadeLemmas.{made_more, made_none}
+use Rattle.factotum_program.specs.Sights.{Goes, GoesPart, MakesAll, MakesPart, Sight, sight}
+use Rattle.factotum_program.proofs.MadeLemmas.{made_more, made_none, part_all, part_more}
 use Rattle.factotum_program.proofs.WordLemmas.{and_left, and_right}
 
 pub after_one : (H : History) (turns : List Turn) (turn : Turn) → after_turns H (turns ++ turn ∷ []) ≡ after_turn (after_turns H turns) turn
@@ -46,6 +46,20 @@ goes_one origin before after turns frame word heard g drew made =
       made = subst (MakesAll origin.dialed after.dialed) (sym (calls_one [] turns turn)) (made_more origin.dialed before.dialed after.dialed (calls_of turns) asked g.made made);
     }
 
+-- the same, where some connections are left to close
+pub goes_one_part : (origin before after : Sight) (turns : List Turn) (frame word : List ℕ) (heard : List Outcome) → Goes origin before turns → DrawsAll before.words after.words (word ∷ [])
+    → MakesPart before.dialed after.dialed (asked_in (after_turns [] turns) (turn_of frame word heard)).calls → GoesPart origin after (turns ++ turn_of frame word heard ∷ [])
+goes_one_part origin before after turns frame word heard g drew made =
+    let turn : Turn = turn_of frame word heard in
+    let asked : List Made = (asked_in (after_turns [] turns) turn).calls in
+    record {
+      drew = subst (DrawsAll origin.words after.words) (sym (map-append (λ (t : Turn). t.word) turns (turn ∷ []))) (drawn_more origin.words before.words after.words (words_of turns) (word ∷ []) g.drew drew);
+      made = subst (MakesPart origin.dialed after.dialed) (sym (calls_one [] turns turn)) (part_more origin.dialed before.dialed after.dialed (calls_of turns) asked g.made made);
+    }
+
+pub goes_part : (origin now : Sight) (turns : List Turn) → Goes origin now turns → GoesPart origin now turns
+goes_part origin now turns g = record { drew = g.drew; made = part_all origin.dialed now.dialed (calls_of turns) g.made }
+
 -- no word was drawn
 pub goes_still : (origin now : Sight) (words : Option (List (List ℕ))) (holds : Option (List ℕ)) (turns : List Turn) → Goes origin now turns → DrawsAll now.words words [] → Goes origin (sight words now.dialed holds) turns
 goes_still origin now words holds turns g drew = record {
@@ -56,3 +70,6 @@ goes_still origin now words holds turns g drew = record {
 -- something was written
 pub goes_on : (origin now : Sight) (holds : Option (List ℕ)) (turns : List Turn) → Goes origin now turns → Goes origin (sight now.words now.dialed holds) turns
 goes_on origin now holds turns g = record { drew = g.drew; made = g.made }
+
+pub goes_part_on : (origin now : Sight) (holds : Option (List ℕ)) (turns : List Turn) → GoesPart origin now turns → GoesPart origin (sight now.words now.dialed holds) turns
+goes_part_on origin now holds turns g = record { drew = g.drew; made = g.made }

@@ -7,7 +7,7 @@ use Rattle.nine_frames.specs.Streams.{frames, end_of, HasBadSize, HasNoBadSize, 
 use Rattle.factotum_program.specs.declared.status.Status.{Status}
 use Rattle.factotum_program.specs.declared.status.Status.TheVariants.{Fine, Usage, ReadFault, WriteFault, WordFault, BadFrame, Torn, BadTables, AsEnded, NoMemory, Flood}
 use Rattle.factotum_program.specs.Pipe.{Turn, all_met, frames_of, most_frame, pipe, replies_text, text_of}
-use Rattle.factotum_program.specs.Sights.{Goes, Sight}
+use Rattle.factotum_program.specs.Sights.{Goes, GoesPart, Sight}
 
 -- how many bytes of input a pipe takes: 2^40
 abbrev pub most_input : ℕ
@@ -24,8 +24,8 @@ pub record Reads (old new : Option (List ℕ)) (input behind : List ℕ) : Type 
   pub bounded : length input ≤ most_input
   pub full : 0 < length behind → length input ≡ most_input
 
--- Each of these frames was answered: a word was drawn for it, all that it made the agent ask was asked, and its replies were
--- written.
+-- Each of these frames was answered: a word was drawn for it, all that it made the agent ask was asked, the connections to
+-- the authentication server that it made the agent give up were closed, and its replies were written.
 pub record Replies (frames : List (List ℕ)) (before now : Sight) : Type 0 where
   pub turns : List Turn
   pub are : frames_of turns ≡ frames
@@ -96,14 +96,14 @@ pub record GainsPart (status : Status) (old new : Option (List ℕ)) (text : Lis
   pub written : Gains old new front
   pub missing : status ≡ WriteFault → 0 < length rest
 
--- For each of these frames a word was drawn, and all that it made the agent ask was asked, but for the last one, of which
--- some may be left to ask; a front of their replies was written.
+-- For each of these frames a word was drawn, and all that it made the agent ask was asked, and all that it made it give up
+-- was closed, but for the last one, of which some may be left to ask and to close; a front of their replies was written.
 pub record RepliesPart (status : Status) (frames : List (List ℕ)) (before now : Sight) : Type 0 where
   pub turns : List Turn
   pub last : List Turn
   pub one : length last ≤ 1
   pub are : frames_of (turns ++ last) ≡ frames
-  pub goes : Goes before now (turns ++ last)
+  pub goes : GoesPart before now (turns ++ last)
   pub met : all_met turns ≡ true
   pub written : GainsPart status before.holds now.holds (replies_text (turns ++ last))
 

@@ -5,13 +5,14 @@ use Rattle.std.specs.Prelude.{ℕ, zero, suc, List, [], ◌∷◌, ◌++◌, len
 use Rattle.wire_base.specs.declared.shape.Shape.{Shape}
 use Rattle.wire_base.specs.declared.shape.Shape.TheVariants.{Tickets}
 use Rattle.wire_streams.specs.declared.dialer.Made.{Made}
-use Rattle.wire_streams.specs.declared.dialer.Made.TheVariants.{Exchange}
+use Rattle.wire_streams.specs.declared.dialer.Made.TheVariants.{Exchange, Close}
 use Rattle.wire_streams.specs.declared.dialer.Outcome.{Outcome}
 use Rattle.wire_streams.specs.declared.dialer.Outcome.TheVariants.{Answered, Unanswered, NoRoom as Roomless}
 use Rattle.agent_history.specs.declared.event.Event.{Event}
 use Rattle.agent_history.specs.declared.event.Event.TheVariants.{Request, Hang, Answer, NoAnswer, NoRoom, Take, TakeAsk}
 use Rattle.agent_history.specs.declared.event.StepAnswer.{StepAnswer}
-use Rattle.agent_history.specs.declared.event.StepAnswer.TheVariants.{Ask}
+use Rattle.agent_history.specs.declared.event.StepAnswer.TheVariants.{Ask, DropCall}
+use Rattle.agent_history.specs.Conversations.{drops}
 use Rattle.agent_history.specs.Replies.{untaken}
 use Rattle.agent_history.specs.Histories.{History, deeds, answer, is_reply}
 
@@ -19,12 +20,17 @@ use Rattle.agent_history.specs.Histories.{History, deeds, answer, is_reply}
 abbrev pub most_frame : ℕ
 most_frame = 8216
 
--- ---- questions for the authentication server
+-- ---- questions for the authentication server, and connections to it that are given up
 
 -- whether a step handed out a question, and its parts
 abbrev pub is_ask : StepAnswer → Bool
 is_ask (Ask call conv shape) = true
 is_ask other = false
+
+-- whether it handed out a connection that is to be given up
+abbrev pub is_drop : StepAnswer → Bool
+is_drop (DropCall conv) = true
+is_drop other = false
 
 abbrev pub call_in : StepAnswer → ℕ
 call_in (Ask call conv shape) = call
@@ -32,6 +38,7 @@ call_in other = 0
 
 abbrev pub conv_in : StepAnswer → ℕ
 conv_in (Ask call conv shape) = conv
+conv_in (DropCall conv) = conv
 conv_in other = 0
 
 abbrev pub shape_in : StepAnswer → Shape
@@ -52,21 +59,45 @@ exchange_next history outcome = let next = answer history TakeAsk in Exchange (c
 abbrev pub told_next : History → Outcome → History
 told_next history outcome = event_of (call_in (answer history TakeAsk).0) outcome ∷ TakeAsk ∷ history
 
--- What asking comes to: the history, the exchanges made, and whether the outcomes are as many as the questions.
+-- What asking comes to: the history, the calls made, and whether the outcomes are as many as the questions.
 pub record Asked : Type 0 where
   pub history : History
   pub calls : List Made
   pub met : Bool
 
+abbrev pub none_made : History → Asked
+none_made history = record { history = history; calls = []; met = true }
+
+abbrev pub behind_calls : List Made → Asked → Asked
+behind_calls calls asked = record { history = asked.history; calls = calls ++ asked.calls; met = asked.met }
+
 abbrev pub behind_call : Made → Asked → Asked
 behind_call call asked = record { history = asked.history; calls = call ∷ asked.calls; met = asked.met }
 
--- questions are taken until there is none; each is asked, with the next of these outcomes, and the agent is told
+-- the connection that is handed out next is closed
+abbrev pub close_next : History → Made
+close_next history = Close (conv_in (answer history TakeAsk).0)
+
+-- connections are closed, at most so many, as long as one is handed out
+abbrev pub close_while : ℕ → History → Asked
+close_while zero history = none_made history
+close_while (suc n) history = if is_drop (answer history TakeAsk).0 then behind_call (close_next history) (close_while n (TakeAsk ∷ history)) else none_made history
+
+abbrev pub closed : History → Asked
+closed history = close_while (length (drops (deeds history))) history
+
+-- no question is expected then
+abbrev pub ended : Bool → Asked → Asked
+ended met asked = record { history = TakeAsk ∷ asked.history; calls = asked.calls; met = met }
+
+-- What is due is taken until nothing is: a connection is closed; a question is asked, with the next of these outcomes, and
+-- the agent is told.
 abbrev pub ask_all : List Outcome → History → Asked
-ask_all [] history = record { history = TakeAsk ∷ history; calls = []; met = not (is_ask (answer history TakeAsk).0) }
+ask_all [] history = ended (not (is_ask (answer (closed history).history TakeAsk).0)) (closed history)
 ask_all (outcome ∷ more) history =
-    if is_ask (answer history TakeAsk).0 then behind_call (exchange_next history outcome) (ask_all more (told_next history outcome))
-    else record { history = TakeAsk ∷ history; calls = []; met = false }
+    let before = closed history in
+    if is_ask (answer before.history TakeAsk).0 then behind_calls before.calls (behind_call (exchange_next before.history outcome) (ask_all more (told_next before.history outcome)))
+    else ended false before
 
 -- ---- frames
 
@@ -99,7 +130,7 @@ asked_in history turn = ask_all turn.heard (Request 0 turn.frame turn.word ∷ h
 unfoldable pub after_turn : History → Turn → History
 after_turn history turn = let asked = (asked_in history turn).history in take_while (length (untaken (deeds asked) 0)) asked
 
--- the frames in order: the history, the exchanges made, and whether each frame has as many outcomes as questions
+-- the frames in order: the history, the calls made, and whether each frame has as many outcomes as questions
 abbrev pub after_turns : History → List Turn → History
 after_turns history [] = history
 after_turns history (turn ∷ turns) = after_turns (after_turn history turn) turns

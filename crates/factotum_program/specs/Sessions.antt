@@ -12,7 +12,7 @@ use Rattle.factotum_program.specs.declared.status.Status.{Status}
 use Rattle.factotum_program.specs.declared.status.Status.TheVariants.{NoMemory, WordFault, WriteFault, BadFrame}
 use Rattle.factotum_program.specs.declared.pipe.Session.{Session}
 use Rattle.factotum_program.specs.Pipe.{Turn, after_turns, all_met, frames_of, most_frame, replies_text}
-use Rattle.factotum_program.specs.Sights.{Goes, Sight}
+use Rattle.factotum_program.specs.Sights.{Goes, GoesPart, Sight}
 use Rattle.factotum_program.specs.Commands.{most_input, frames_in}
 use Rattle.factotum_program.specs.Gathers.{Gathers, GathersPart}
 
@@ -55,7 +55,7 @@ pub record ToldPart (status : Status) (frames : List (List ℕ)) (origin now : S
   pub last : List Turn
   pub one : length last ≤ 1
   pub are : frames_of (turns ++ last) ≡ frames
-  pub goes : Goes origin now (turns ++ last)
+  pub goes : GoesPart origin now (turns ++ last)
   pub met : all_met turns ≡ true
   pub told : GathersPart status origin.holds now.holds gathered (replies_text (turns ++ last))
 

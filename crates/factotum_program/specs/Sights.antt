@@ -1,6 +1,7 @@
 -- What a pipe draws, asks and writes between two moments. Words, calls and bytes are optional: what is said of them holds
 -- where they are told.
-use Rattle.std.specs.Prelude.{◌≡◌, ℕ, List, [], ◌∷◌, ◌++◌, Option, None, Some, ⊤}
+use Rattle.std.specs.Prelude.{◌≡◌, ℕ, List, [], ◌∷◌, ◌++◌, Bool, true, false, Option, None, Some, ⊤}
+use Rattle.std.specs.List.{list_all}
 use Rattle.wire_streams.specs.Dials.{Dialed}
 use Rattle.wire_streams.specs.declared.dialer.Made.{Made}
 use Rattle.wire_streams.specs.declared.dialer.Made.TheVariants.{Exchange, Close}
@@ -37,7 +38,25 @@ MakesAll before None calls = ⊤
 MakesAll None (Some now) calls = ⊥
 MakesAll (Some before) (Some now) calls = (now.made ≡ before.made ++ calls) × (before.to_come ≡ answers_in calls ++ now.to_come)
 
--- the words of these turns were drawn, and their exchanges made, and nothing else
+-- the words of these turns were drawn, and their calls made, and nothing else
 pub record Goes (before now : Sight) (turns : List Turn) : Type 0 where
   pub drew : DrawsAll before.words now.words (words_of turns)
   pub made : MakesAll before.dialed now.dialed (calls_of turns)
+
+-- the call gives a connection up
+abbrev pub is_close : Made → Bool
+is_close (Close conv) = true
+is_close (Exchange conv request shape outcome) = false
+
+-- These calls were made, but for the last ones, which would have given connections up.
+pub record MakesPart (before now : Option Dialed) (calls : List Made) : Type 0 where
+  pub made : List Made
+  pub left : List Made
+  pub parts : calls ≡ made ++ left
+  pub closes : list_all is_close left ≡ true
+  pub makes : MakesAll before now made
+
+-- the words of these turns were drawn, and their calls made so
+pub record GoesPart (before now : Sight) (turns : List Turn) : Type 0 where
+  pub drew : DrawsAll before.words now.words (words_of turns)
+  pub made : MakesPart before.dialed now.dialed (calls_of turns)

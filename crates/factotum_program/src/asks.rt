@@ -1,9 +1,10 @@
-// The questions for the authentication server that an event raises: each is asked at once, and the agent is told what that
-// came to, until there is none.
+// The questions for the authentication server that an event raises, and the connections to it that it makes the agent give
+// up: each question is asked at once, and the agent is told what that came to, and each connection is closed, until nothing
+// is due.
 ghost use Rattle.std.specs.Prelude.{◌≡◌, ◌<◌, ◌≤◌, ℕ, true, IfOk, OnOk, OnErr};
 ghost use Rattle.agent_history.specs.Histories.{History};
 ghost use Rattle.agent_core.specs.Events.{IsEvent};
-ghost use Rattle.agent_core.specs.Agents.{StandsFor, unasked_in};
+ghost use Rattle.agent_core.specs.Agents.{StandsFor, left_in};
 ghost use Rattle.factotum_program.specs.Asks.{AsksAll, AsksOne, AsksSome, Exchanges};
 
 use agent_core::{Agent, Event, Shape, StepAnswer};
@@ -36,18 +37,23 @@ fn exchange<D: Dialer>(
     }
 }
 
-// Asks the next question, and tells the agent. Whether there was one.
+// Asks the next question, and tells the agent, or closes the next connection, whichever is due. Whether there was one.
 fn ask_next<D: Dialer>(alloc: Global, agent: &mut Agent, dial: &mut D) -> Result<bool, NoMemory>
     ensures asked { IfOk result (λ more. (H : History) → StandsFor H agent.old
         → AsksOne more H (D.told dial.old) (D.told dial.new) agent.new) }
     ensures fewer { IfOk result (λ more. more ≡ true
-        → unasked_in agent.new.state < unasked_in agent.old.state) }
+        → left_in agent.new.state < left_in agent.old.state) }
     ensures err { OnErr result ((H : History) → StandsFor H agent.old
         → AsksSome H (D.told dial.old) (D.told dial.new)) }
     ensures counted { D.faults dial.old ≤ D.faults dial.new }
 {
     let mut request = Bytes::new(alloc);
-    let StepAnswer::Ask { call, conv, shape } = agent.step(&Event::TakeAsk, &mut request)? else {
+    let next = agent.step(&Event::TakeAsk, &mut request)?;
+    if let StepAnswer::DropCall { conv } = next {
+        dial.close(conv);
+        return Ok(true);
+    }
+    let StepAnswer::Ask { call, conv, shape } = next else {
         return Ok(false);
     };
     let event = exchange(alloc, call, conv, request.as_slice(), shape, dial);
@@ -55,7 +61,7 @@ fn ask_next<D: Dialer>(alloc: Global, agent: &mut Agent, dial: &mut D) -> Result
     Ok(true)
 }
 
-/// Asks until there is no question. After want of memory some were asked.
+/// Asks and closes until nothing is due. After want of memory some was done.
 pub(crate) fn ask_all<D: Dialer>(
     alloc: Global,
     agent: &mut Agent,

@@ -96,6 +96,14 @@ fn client_session(alloc: Global, key: &[u8]) -> Result<Vec<u8>, Fail> {
     Ok(input)
 }
 
+// A server of APOP, which asks for a challenge.
+fn server_session(alloc: Global) -> Result<Vec<u8>, Fail> {
+    let mut input = bytes_of(alloc, OPENINGS)?;
+    put_write(&mut input, 1, b"key proto=p9sk1 dom=x user=srv !password=secret")?;
+    put_request(&mut input, b"start proto=apop role=server")?;
+    Ok(input)
+}
+
 // The last reply is one to a read that tells this.
 fn ends_with_told(written: &[u8], told: &[u8]) -> bool {
     let count = told.len().min(255) as u8;
@@ -109,12 +117,12 @@ fn ends_with_told(written: &[u8], told: &[u8]) -> bool {
 fn expect_told(
     rt: &impl Abort,
     alloc: Global,
-    key: &[u8],
+    session: Vec<u8>,
     told: &[u8],
     calls: usize,
 ) -> Result<(), Fail> {
     let words = words_of(alloc, "pipe")?;
-    let mut source = MemSource::new(client_session(alloc, key)?, Vec::new(alloc));
+    let mut source = MemSource::new(session, Vec::new(alloc));
     let mut keys = MemSource::new(Vec::new(alloc), [1_u64].to_vec(alloc)?);
     let mut speaks = MemSource::new(Vec::new(alloc), [1_u64].to_vec(alloc)?);
     let mut sink = MemSink::new(Vec::new(alloc), Vec::new(alloc));
@@ -143,18 +151,21 @@ fn expect_told(
 
 #[test]
 fn a_client_without_a_key_needs_one(rt: HostRuntime) -> Result<(), Fail> {
+    let alloc = rt.alloc();
     let key = b"key proto=p9sk1 dom=y user=ann !password=secret";
-    expect_told(
-        &rt,
-        rt.alloc(),
-        key,
-        b"needkey proto=p9sk1 dom=x user? !password?",
-        0,
-    )
+    let told = b"needkey proto=p9sk1 dom=x user? !password?";
+    expect_told(&rt, alloc, client_session(alloc, key)?, told, 0)
 }
 
 #[test]
 fn a_server_that_is_not_reached_fails_the_client(rt: HostRuntime) -> Result<(), Fail> {
+    let alloc = rt.alloc();
     let key = b"key proto=p9sk1 dom=x user=ann !password=secret";
-    expect_told(&rt, rt.alloc(), key, b"error no server", 1)
+    expect_told(&rt, alloc, client_session(alloc, key)?, b"error no server", 1)
+}
+
+#[test]
+fn a_connection_without_a_challenge_is_closed(rt: HostRuntime) -> Result<(), Fail> {
+    let alloc = rt.alloc();
+    expect_told(&rt, alloc, server_session(alloc)?, b"error no server", 2)
 }

@@ -1,6 +1,6 @@
 use Rattle.std.proofs.Common.{◌≤◌}
 use Rattle.agent_history.specs.Histories.{History}
-use Rattle.agent_core.specs.Agents.{StandsFor, unasked_in}
+use Rattle.agent_core.specs.Agents.{StandsFor, left_in}
 use Rattle.factotum_program.proofs.AskLemmas.{Asking}
 use Rattle.factotum_program.proofs.asks.ask_all.Given as goal
 
@@ -11,4 +11,4 @@ invariant-loop g l = record {
 }
 
 abbrev pub decreases-loop : goal.decreases-loop
-decreases-loop g l = unasked_in l.agent.state
+decreases-loop g l = left_in l.agent.state

@@ -1,6 +1,6 @@
 use Rattle.std.proofs.Common.{arith}
 use Rattle.std.proofs.lemmas.Result.{err_from_is_err_and}
-use Rattle.factotum_program.proofs.AskLemmas.{asked_in_vain, asked_next, asked_none, asks_fewer, hands_none}
+use Rattle.factotum_program.proofs.AskLemmas.{asked_in_vain, asked_next, asked_none, asks_fewer, closed_next, closes_fewer}
 use Rattle.factotum_program.proofs.asks.ask_next.Goals as goal
 
 pub returns-in_default : goal.returns-in_default

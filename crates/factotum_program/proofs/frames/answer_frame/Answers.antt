@@ -4,7 +4,7 @@ use Rattle.agent_history.specs.declared.event.Event.TheVariants.{Request}
 use Rattle.agent_history.specs.Replies.{untaken}
 use Rattle.agent_history.specs.Histories.{History, deeds}
 use Rattle.factotum_program.specs.Pipe.{Turn, after_turn, asked_in, text_of, turn_of}
-use Rattle.factotum_program.proofs.MadeLemmas.{made_none}
+use Rattle.factotum_program.proofs.MadeLemmas.{made_none, part_all}
 use Rattle.factotum_program.proofs.TakeLemmas.{turn_grows, turn_told}
 use Rattle.factotum_program.proofs.PartLemmas.{part_none}
 use Rattle.factotum_program.proofs.frames.answer_frame.Goals as goal
@@ -17,7 +17,7 @@ returns-in_err-ask-clause-part g c =
     let more = turn_grows H turn in
     record {
       heard = [];
-      made = made_none _;
+      made = part_all _ _ [] (made_none _);
       told = part_none _ origin _ _ (text_of H) (text_of (after_turn H turn)) more.0 c.in_err-ask.ensures.err more.1 (rw c.in_err-ask.ensures.err_replies told);
     })
 
@@ -49,6 +49,6 @@ returns-clause-part g c = IfErr-weaker c.take_all.result _ _ (λ status h origin
     let asked : History = (asked_in H (turn_of c.args.frame c.args.word asks.heard)).history in
     record {
       heard = asks.heard;
-      made = asks.made;
+      made = part_all _ _ _ asks.made;
       told = h origin asked (length (untaken (deeds asked) 0)) asks.stands (omega arith) (turn_told H c.args.frame c.args.word asks.heard origin _ _ (rw (c.in_ok-ask.ensures.told H stands) told));
     }) c.take_all.ensures.part
