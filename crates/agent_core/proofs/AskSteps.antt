@@ -1,5 +1,5 @@
 -- What is answered where it is asked what is due.
-use Rattle.std.proofs.Common.{◌≡◌, ℕ, List, ◌++◌, Some, None, refl, sym, subst, ◌∙◌, append-nil}
+use Rattle.std.proofs.Common.{◌≡◌, ℕ, ◌+◌, ◌*◌, ◌<◌, List, [], ◌∷◌, ◌++◌, length, drop, Some, None, false, refl, sym, subst, ◌∙◌, append-nil, arith}
 use Rattle.wire_base.specs.declared.shape.Shape.{Shape}
 use Rattle.roles.specs.declared.need.Need.{Need}
 use Rattle.roles.specs.declared.need.Need.TheVariants.{Nothing, Key, Offers, Pick, Exchange}
@@ -41,3 +41,8 @@ none_after done old running next = record { answer = rw (running, next) refl; ou
 
 pub dropped_after : (done : List Deed) (drop : Drop) (old : List ℕ) → is_halted done ≡ false → due done ≡ DropDue drop → AnswersAfter done TakeAsk (DropCall drop.conv) old old
 dropped_after done drop old running next = record { answer = rw (running, next) refl; out = rw (running, next) (sym (append-nil old)) }
+
+-- a connection that is handed out is one less to hand out
+pub dropped_fewer : (old new : List Drop) (unasked : ℕ) → new ≡ drop 1 old → 0 < length old → unasked * 2 + length new + 1 ≡ unasked * 2 + length old
+dropped_fewer [] new unasked is some = absurd (omega (arith, some))
+dropped_fewer (d ∷ old) new unasked is some = rw is (omega arith)

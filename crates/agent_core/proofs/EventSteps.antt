@@ -24,7 +24,7 @@ use Rattle.agent_requests.specs.declared.shared.Shared.{Shared}
 use Rattle.agent_requests.specs.declared.shared.Holders.{Holders}
 use Rattle.agent_requests.specs.Connections.{AllLive, AreLive, Keeps, Holds, Shares, is_opened, is_hung}
 use Rattle.agent_requests.proofs.OwnDeeds.{IsOwn, OfAll, answered_own, entered_by, resumed_all, swept_by}
-use Rattle.agent_requests.proofs.ShareLemmas.{live_all, mail_entered}
+use Rattle.agent_requests.proofs.ShareLemmas.{live_all, mail_entered, shares_swept, with_talks}
 use Rattle.agent_core.specs.Events.{KeepsNothing, KeepsAt, Stands, AllStand, Serves, is_stop}
 
 same : (a : ℕ) → eqb a a ≡ true
@@ -281,13 +281,21 @@ runs_on done (v.NoRoom call) h go = resumed_by (λ now. is_halted now ≡ false)
 runs_on done v.TakeAsk h go = handing_by (λ now. is_halted now ≡ false) (λ now k. k) (λ now k. k) (due done) done h
 runs_on done v.Stop h go = absurd (false≢true (sym go))
 
--- what is shared after a sweep
-pub shares_swept : (last : List Deed) (s u : Shared) → Shares last s → (Delivers last s.mailboxes → Delivers (swept last) u.mailboxes) → u.ring ≡ s.ring → u.holders ≡ s.holders → u.talks ≡ s.talks → Shares (swept last) u
-shares_swept last s u h sweeps ring holders talks = record {
-  ring = ring ∙ swept_by (λ now. s.ring ≡ keys_of now) (λ now e. e) last h.ring;
-  holders = subst (λ (now : Holders). Holds (swept last) now) (sym holders) (swept_by (λ now. Holds now s.holders) (λ now k. record { confirm = k.confirm; needkey = k.needkey; log = k.log }) last h.holders);
-  mail = sweeps h.mail;
-  talks = subst (λ (now : KeepingTalks). Converses (swept last) now) (sym talks) (swept_converses last s.talks h.talks);
+-- what is shared after something was handed out
+pub shares_handed : (done : List Deed) (s : Shared) (t : KeepingTalks) → Converses (HandedOut ∷ done) t → Shares done s → Shares (HandedOut ∷ done) (with_talks s t)
+shares_handed done s t speaks h = record {
+  ring = h.ring;
+  holders = record { confirm = h.holders.confirm; needkey = h.holders.needkey; log = h.holders.log };
+  mail = record { mails = λ q live. let k = h.mail.mails q live in record { replies = k.replies; waits = k.waits }; settled = h.mail.settled };
+  talks = speaks;
+}
+
+pub shares_dropped : (done : List Deed) (s : Shared) (t : KeepingTalks) → Converses (DropTaken ∷ done) t → Shares done s → Shares (DropTaken ∷ done) (with_talks s t)
+shares_dropped done s t speaks h = record {
+  ring = h.ring;
+  holders = record { confirm = h.holders.confirm; needkey = h.holders.needkey; log = h.holders.log };
+  mail = record { mails = λ q live. let k = h.mail.mails q live in record { replies = k.replies; waits = k.waits }; settled = h.mail.settled };
+  talks = speaks;
 }
 
 -- ---- a hang

@@ -2,7 +2,8 @@ use Rattle.std.proofs.Common.{◌≡◌, ◌∙◌, false, sym, refl, List}
 use Rattle.agent_history.specs.Deeds.{Deed, was_hung}
 use Rattle.agent_history.specs.Requests.{answered, call_of}
 use Rattle.agent_history.specs.Histories.{entered}
-use Rattle.agent_core.proofs.EventSteps.{keeps_entered, shares_entered, request_stands, shares_swept}
+use Rattle.agent_core.proofs.EventSteps.{keeps_entered, shares_entered, request_stands}
+use Rattle.agent_requests.proofs.ShareLemmas.{shares_swept}
 use Rattle.agent_core.proofs.events.request.Goals as goal
 
 pub returns-clause-serves : goal.returns-clause-serves
