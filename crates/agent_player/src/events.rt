@@ -1,5 +1,5 @@
 // Events of an agent, and what is answered to them.
-ghost use Rattle.std.specs.Prelude.{◌≤◌, [], IfOk, OnOk, length};
+ghost use Rattle.std.specs.Prelude.{◌∷◌, [], IfOk, OnOk};
 ghost use Rattle.nine_messages.specs.Decoding.{IsFrame};
 ghost use Rattle.agent_history.specs.Histories.{History};
 ghost use Rattle.agent_core.specs.Agents.{StandsFor};
