@@ -99,7 +99,11 @@ fn client_session(alloc: Global, key: &[u8]) -> Result<Vec<u8>, Fail> {
 // A server of APOP, which asks for a challenge.
 fn server_session(alloc: Global) -> Result<Vec<u8>, Fail> {
     let mut input = bytes_of(alloc, OPENINGS)?;
-    put_write(&mut input, 1, b"key proto=p9sk1 dom=x user=srv !password=secret")?;
+    put_write(
+        &mut input,
+        1,
+        b"key proto=p9sk1 dom=x user=srv !password=secret",
+    )?;
     put_request(&mut input, b"start proto=apop role=server")?;
     Ok(input)
 }
@@ -161,7 +165,13 @@ fn a_client_without_a_key_needs_one(rt: HostRuntime) -> Result<(), Fail> {
 fn a_server_that_is_not_reached_fails_the_client(rt: HostRuntime) -> Result<(), Fail> {
     let alloc = rt.alloc();
     let key = b"key proto=p9sk1 dom=x user=ann !password=secret";
-    expect_told(&rt, alloc, client_session(alloc, key)?, b"error no server", 1)
+    expect_told(
+        &rt,
+        alloc,
+        client_session(alloc, key)?,
+        b"error no server",
+        1,
+    )
 }
 
 #[test]
