@@ -184,11 +184,11 @@ asked_in_vain H call conv shape old put before now event a none e =
     }
 
 -- nothing was done
+pub nothing_made : (H : History) (before : Option Dialed) → MakesPart before before (ask_all [] H).calls
+nothing_made H before = record { made = []; left = (closed H).calls; parts = refl; closes = closes_all (length (drops (deeds H))) H; makes = made_none before }
+
 pub asked_nothing : (H : History) (before : Option Dialed) → AsksSome H before before
-asked_nothing H before = record {
-  heard = [];
-  made = record { made = []; left = (closed H).calls; parts = refl; closes = closes_all (length (drops (deeds H))) H; makes = made_none before };
-}
+asked_nothing H before = record { heard = []; made = nothing_made H before }
 
 -- ---- how many are left
 

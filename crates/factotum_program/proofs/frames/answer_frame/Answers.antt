@@ -4,7 +4,8 @@ use Rattle.agent_history.specs.declared.event.Event.TheVariants.{Request}
 use Rattle.agent_history.specs.Replies.{untaken}
 use Rattle.agent_history.specs.Histories.{History, deeds}
 use Rattle.factotum_program.specs.Pipe.{Turn, after_turn, asked_in, text_of, turn_of}
-use Rattle.factotum_program.proofs.MadeLemmas.{made_none, part_all}
+use Rattle.factotum_program.proofs.AskLemmas.{nothing_made}
+use Rattle.factotum_program.proofs.MadeLemmas.{part_all}
 use Rattle.factotum_program.proofs.TakeLemmas.{turn_grows, turn_told}
 use Rattle.factotum_program.proofs.PartLemmas.{part_none}
 use Rattle.factotum_program.proofs.frames.answer_frame.Goals as goal
@@ -17,7 +18,7 @@ returns-in_err-ask-clause-part g c =
     let more = turn_grows H turn in
     record {
       heard = [];
-      made = part_all _ _ [] (made_none _);
+      made = nothing_made (Request 0 c.args.frame c.args.word ∷ H) _;
       told = part_none _ origin _ _ (text_of H) (text_of (after_turn H turn)) more.0 c.in_err-ask.ensures.err more.1 (rw c.in_err-ask.ensures.err_replies told);
     })
 
