@@ -1,12 +1,16 @@
 # make alone lists what can be made.
 .POSIX:
-.PHONY: help build demo test bench clean
+.PHONY: help build demo test bench install uninstall clean
+
+PREFIX = /usr/local
+DESTDIR =
 
 help:
 	@echo 'make build   proves the programs and leaves them as bin/factotum and bin/nine_show'
 	@echo 'make demo    runs a conversation through it and shows each request and reply'
 	@echo 'make test    runs the gate: every proof, wrong body, test and program'
 	@echo 'make bench   measures it and its codec beside plain C programs, the server and the ciphers beside OpenSSL'
+	@echo 'make install puts programs, manual pages and systemd units under DESTDIR and PREFIX (make uninstall removes them)'
 	@echo 'make clean   removes what the others made'
 
 build:
@@ -31,6 +35,12 @@ bench: build
 	@bench/authsrv
 	@bench/codec
 	@bench/ciphers
+
+install:
+	@scripts/install '$(DESTDIR)' '$(PREFIX)'
+
+uninstall:
+	@scripts/install --remove '$(DESTDIR)' '$(PREFIX)'
 
 clean:
 	rm -rf bin crates/*/out
