@@ -1,0 +1,3 @@
+pub mod Spawning
+pub mod Listening
+pub mod Memory

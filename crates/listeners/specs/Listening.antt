@@ -1,0 +1,11 @@
+-- What one call of a listener takes of the connections to come, which are optional, since a listener need not tell them.
+-- The definitions are the project's own.
+use Rattle.std.specs.Prelude.{◌≡◌, List, ◌∷◌, Option, None, Some, Result, Ok, Err, ⊤}
+use Rattle.listeners.specs.declared.listener.ListenFault.{ListenFault}
+
+-- The connection accepted is the first of those to come, and is among them no more; accepting that failed leaves them.
+abbrev pub Accepts : {P : Type 0} → Option (List P) → Option (List P) → Result P ListenFault → Type 0
+Accepts None new accepted = ⊤
+Accepts (Some pairs) None accepted = ⊥
+Accepts (Some pairs) (Some later) (Ok pair) = pairs ≡ pair ∷ later
+Accepts (Some pairs) (Some later) (Err fault) = later ≡ pairs
