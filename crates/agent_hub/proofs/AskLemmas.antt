@@ -1,17 +1,16 @@
 -- What is due, taken and asked, one after the other.
-use Rattle.std.proofs.Common.{◌≡◌, ◌⊎◌, ℕ, List, [], ◌∷◌, ◌++◌, true, false, Bool, Option, refl, sym, ap, subst, ◌∙◌, inl, inr, true≢false}
+use Rattle.std.proofs.Common.{◌≡◌, ℕ, List, [], ◌∷◌, ◌++◌, true, false, Bool, Option, refl, sym, ap, subst, ◌∙◌, inl, inr, true≢false}
 use Rattle.std.specs.Prelude.{Result, Ok, Err, IfErr}
 use Rattle.wire_base.specs.declared.bytes.NoMemory.{NoMemory}
 use Rattle.wire_base.specs.declared.shape.Shape.{Shape}
 use Rattle.wire_streams.specs.Dials.{Dialed, Makes}
-use Rattle.wire_streams.specs.declared.dialer.Made.{Made}
 use Rattle.wire_streams.specs.declared.dialer.Made.TheVariants.{Exchange, Close}
 use Rattle.wire_streams.specs.declared.dialer.Outcome.{Outcome}
 use Rattle.wire_streams.specs.declared.dialer.Outcome.TheVariants.{Answered, Unanswered, NoRoom as Roomless}
 use Rattle.turn_lock.specs.Fronts.{among}
 use Rattle.turn_lock.specs.Seats.{numbers}
 use Rattle.agent_history.specs.declared.event.Event.{Event}
-use Rattle.agent_history.specs.declared.event.Event.TheVariants.{Answer, NoAnswer, NoRoom, TakeAsk}
+use Rattle.agent_history.specs.declared.event.Event.TheVariants.{NoRoom, TakeAsk}
 use Rattle.agent_history.specs.declared.event.StepAnswer.{StepAnswer}
 use Rattle.agent_history.specs.declared.event.StepAnswer.TheVariants.{Done, Reply, NoReply, Gone, Ask, DropCall, NoAsk, Stopped as IsStopped}
 use Rattle.agent_history.specs.Histories.{History, answer}
@@ -19,9 +18,8 @@ use Rattle.agent_core.specs.Events.{Answers}
 use Rattle.agent_hub.specs.declared.questions.AsksEnd.{AsksEnd}
 use Rattle.agent_hub.specs.declared.questions.AsksEnd.TheVariants.{Stopped, NoMemory as IsShort}
 use Rattle.agent_hub.specs.Submits.{HubSeat, IsSubmitted}
-use Rattle.agent_hub.specs.Entries.{Adds, Entered, LastIs, entry}
-use Rattle.agent_hub.specs.Dials.{MakesAll}
-use Rattle.agent_hub.specs.Asking.{Asked, Asks, AsksNone, AsksEndSo, Closes, Exchanged, Exchanges, FindsNone, NextSo, Tells, Told, event_of, is_handed}
+use Rattle.agent_hub.specs.Entries.{LastIs, entry}
+use Rattle.agent_hub.specs.Asking.{Asked, AsksNone, Closes, Exchanged, Exchanges, FindsNone, NextSo, Tells, Told, event_of, is_handed}
 use Rattle.agent_hub.proofs.EntryLemmas.{adds_none, adds_one, adds_still, before_it}
 use Rattle.agent_hub.proofs.MadeLemmas.{made_more, made_none, made_one}
 

@@ -1,5 +1,5 @@
 -- Own entries of a front, and of the one that others made longer.
-use Rattle.std.proofs.Common.{◌≡◌, ℕ, ◌≤◌, List, [], ◌∷◌, ◌++◌, length, true, false, cond, ◌==◌, min, Option, Some, None, sym, refl, ap, ◌∙◌, subst, true≢false, eq-eqb, inl, inr, arith, append_assoc}
+use Rattle.std.proofs.Common.{◌≡◌, ℕ, ◌≤◌, List, [], ◌∷◌, ◌++◌, length, true, false, cond, ◌==◌, min, Option, Some, None, sym, refl, ap, ◌∙◌, subst, true≢false, eq-eqb, inl, inr, arith}
 use mathlib.Core.Logic.{dite}
 use native.Mathlib.Decide.{dec_le}
 use Rattle.std.proofs.Math.Nat.{min-eq_left, min-eq_right}
@@ -8,7 +8,7 @@ use Rattle.std.proofs.lemmas.List.Elements.{filter-append}
 use Rattle.turn_lock.specs.declared.views.Entry.{Entry}
 use Rattle.turn_lock.specs.Fronts.{Front, among, events, own, made, least_of, least}
 use Rattle.agent_history.specs.declared.event.Event.{Event}
-use Rattle.agent_hub.specs.Entries.{Entered, entered_by, entry}
+use Rattle.agent_hub.specs.Entries.{entered_by, entry}
 
 among_itself : (n : ℕ) (ns : List ℕ) → among (n ∷ ns) n ≡ true
 among_itself n ns = or_left (n == n) (among ns n) (eq-eqb n n refl)

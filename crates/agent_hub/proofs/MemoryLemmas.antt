@@ -1,12 +1,12 @@
 -- For which events memory is never short.
-use Rattle.std.proofs.Common.{◌≡◌, ℕ, List, [], ◌∷◌, length, filter, Bool, true, false, cond, not, ◌&&◌, ◌||◌, Option, Some, None, refl, true≢false, sym, ap, ◌∙◌, inl, inr}
+use Rattle.std.proofs.Common.{◌≡◌, ℕ, List, [], ◌∷◌, length, filter, Bool, true, false, cond, not, ◌||◌, Option, Some, None, refl, true≢false, sym, ap, ◌∙◌, inl, inr}
 use Rattle.std.specs.Prelude.{find, is_some, nat_lt}
 use Rattle.std.proofs.lemmas.Bool.{cases_Bool}
 use Rattle.agent_history.specs.declared.event.Event.{Event}
 use Rattle.agent_history.specs.declared.event.Event.TheVariants.{Request, Hang, Answer, NoAnswer, NoRoom, Take, TakeAsk, Stop}
 use Rattle.agent_history.specs.Deeds.{was_opened}
 use Rattle.agent_history.specs.Conversations.{Drop, Question, due, drops, due_of, next_question, questions}
-use Rattle.agent_history.specs.Histories.{History, answer, deeds, has_stopped, is_reply}
+use Rattle.agent_history.specs.Histories.{History, answer, deeds, is_reply}
 use Rattle.agent_requests.specs.declared.connection.Connection.{Connection}
 use Rattle.agent_requests.specs.Connections.{is_hung, is_opened}
 use Rattle.agent_core.specs.declared.agent.Running.{Running}

@@ -1,5 +1,5 @@
 -- Takes, one after the other, and what is written of what they gave.
-use Rattle.std.proofs.Common.{◌≡◌, ◌<◌, ℕ, List, [], ◌∷◌, ◌++◌, true, Option, refl, sym, ap, subst, ◌∙◌, append_assoc, append-nil, length, Bool}
+use Rattle.std.proofs.Common.{◌≡◌, ℕ, List, [], ◌∷◌, ◌++◌, true, Option, refl, sym, ap, subst, ◌∙◌, append_assoc, append-nil, Bool}
 use Rattle.std.specs.Prelude.{Result, Ok, Err, IfErr}
 use Rattle.wire_base.specs.declared.bytes.NoMemory.{NoMemory}
 use Rattle.wire_streams.specs.Streams.{Gains}
@@ -9,14 +9,13 @@ use Rattle.turn_lock.specs.Fronts.{among}
 use Rattle.turn_lock.specs.Seats.{numbers}
 use Rattle.agent_history.specs.declared.event.Event.TheVariants.{Take}
 use Rattle.agent_history.specs.declared.event.StepAnswer.{StepAnswer}
-use Rattle.agent_history.specs.declared.event.StepAnswer.TheVariants.{Gone as IsGone}
 use Rattle.agent_history.specs.Histories.{answer}
 use Rattle.agent_hub.specs.declared.replies.OutEnd.{OutEnd}
 use Rattle.agent_hub.specs.declared.replies.OutEnd.TheVariants.{Gone, WriteFault}
 use Rattle.agent_hub.specs.declared.replies.OutEnd.TheVariants.{NoMemory as IsShort}
 use Rattle.agent_hub.specs.Submits.{HubSeat, IsSubmitted}
-use Rattle.agent_hub.specs.Entries.{Adds, Entered, LastIs, entry}
-use Rattle.agent_hub.specs.Replying.{Delivers, EndsBy, IsTake, LastAnswer, OutEndsSo, RoundSo, Takes, text_of}
+use Rattle.agent_hub.specs.Entries.{Entered, entry}
+use Rattle.agent_hub.specs.Replying.{Delivers, EndsBy, LastAnswer, OutEndsSo, RoundSo, Takes}
 use Rattle.agent_hub.proofs.EntryLemmas.{adds_none, adds_one, adds_still, before_it}
 
 pub delivers_none : (conn : ℕ) (seat : HubSeat) (origin : Option (List ℕ)) → Delivers conn seat seat origin origin []

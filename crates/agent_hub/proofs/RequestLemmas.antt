@@ -1,11 +1,11 @@
 -- The frames of a stream, handed on one by one, and where that stops.
-use Rattle.std.proofs.Common.{◌≡◌, ◌⊎◌, ℕ, ◌+◌, ◌<◌, ◌≤◌, List, [], ◌∷◌, ◌++◌, map, length, take, drop, take-append-drop, length-drop, Bool, Option, Some, None, true, false, refl, sym, ap, subst, ◌∙◌, append_assoc, append-nil, length-append, inl, inr, arith, true≢false}
-use Rattle.std.specs.Prelude.{Result, Ok, Err, OnOk, IfErr}
+use Rattle.std.proofs.Common.{◌≡◌, ℕ, ◌+◌, ◌<◌, ◌≤◌, List, [], ◌∷◌, ◌++◌, length, take, drop, take-append-drop, length-drop, Option, Some, None, true, refl, sym, ap, subst, ◌∙◌, append_assoc, append-nil, length-append, inl, inr, arith, true≢false}
+use Rattle.std.specs.Prelude.{Result, Ok, Err}
 use Rattle.std.specs.Io.KnownBytes.{Consumes, IsAtEnd}
 use Rattle.std.proofs.KnownBytes.{Consumes-nil, Consumes-trans}
 use Rattle.std.proofs.lemmas.List.{take-take, length-take-le}
 use Rattle.wire_base.specs.declared.bytes.NoMemory.{NoMemory as Short}
-use Rattle.nine_frames.specs.Streams.{front, IsBad, IsShort, frames, end_of}
+use Rattle.nine_frames.specs.Streams.{front, IsBad, IsShort, frames}
 use Rattle.nine_frames.specs.Framed.{Framing}
 use Rattle.nine_frames.specs.Framing.{HasHandedOut, Answers as Gives}
 use Rattle.nine_frames.specs.declared.framer.Next.TheVariants.{Whole, NotYet, BadSize}
@@ -18,9 +18,9 @@ use Rattle.agent_history.specs.declared.event.StepAnswer.{StepAnswer}
 use Rattle.agent_hub.specs.declared.requests.InEnd.{InEnd}
 use Rattle.agent_hub.specs.declared.requests.InEnd.TheVariants.{End, Torn, BadFrame, ReadFault, WordFault, Flood, NoMemory}
 use Rattle.agent_hub.specs.Submits.{HubSeat, IsSubmitted}
-use Rattle.agent_hub.specs.Entries.{Adds, Entered, entry, events_in}
-use Rattle.agent_hub.specs.Requesting.{Drawn, DrawsAll, EndsInside, Floods, Hands, InEndsSo, IsWhole, Reads, drawn_for, frames_in, frames_of, most_frame, most_input, requests, words_of}
-use Rattle.agent_hub.specs.Handing.{AllHanded, EndsBy, HandedSo, Handing, HasNoNext, MissesMemory, MissesWord, OneSo, PieceSo, Piped, StopsAt, taken_by}
+use Rattle.agent_hub.specs.Entries.{entry}
+use Rattle.agent_hub.specs.Requesting.{DrawsAll, EndsInside, Hands, InEndsSo, IsWhole, Reads, drawn_for, frames_in, most_frame, most_input, words_of}
+use Rattle.agent_hub.specs.Handing.{AllHanded, EndsBy, Handing, HasNoNext, MissesMemory, MissesWord, Piped, StopsAt, taken_by}
 use Rattle.agent_hub.proofs.EntryLemmas.{adds_none, adds_one, adds_still, before_it}
 
 -- ---- words

@@ -1,6 +1,6 @@
 -- Of the code alone: where a loop of requests stands between two reads, and what its parts tell each other.
 use Rattle.std.specs.Prelude.{◌≡◌, ◌<◌, ◌≤◌, ℕ, ◌+◌, List, [], ◌∷◌, ◌++◌, length, Bool, Option, Some, None, ◌⊎◌, Result, Ok, Err}
-use Rattle.std.specs.Io.KnownBytes.{Consumes, IsAtEnd}
+use Rattle.std.specs.Io.KnownBytes.{Consumes}
 use Rattle.nine_frames.specs.Streams.{front, IsBad, IsShort, end_of, HasBadSize}
 use Rattle.nine_frames.specs.Framed.{Framing}
 use Rattle.nine_frames.specs.Framing.{HasHandedOut}

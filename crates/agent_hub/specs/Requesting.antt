@@ -1,12 +1,10 @@
 -- What a loop of requests enters, by the bytes that it read: a request for each whole frame, in order, each with the word
 -- that was drawn for it, and at last a hang. Content is optional: what is said of bytes and words holds where they are told.
-use Rattle.std.specs.Prelude.{◌≡◌, ◌<◌, ◌≤◌, ℕ, ◌+◌, List, [], ◌∷◌, ◌++◌, length, map, Bool, Option, None, Some, ⊤, Result, Ok, Err}
+use Rattle.std.specs.Prelude.{◌≡◌, ◌<◌, ◌≤◌, ℕ, List, [], ◌∷◌, ◌++◌, length, map, Option, None, Some, ⊤}
 use Rattle.std.specs.Io.KnownBytes.{Consumes, IsAtEnd}
-use Rattle.nine_frames.specs.Streams.{front, IsShort, frames, end_of, HasBadSize, HasNoBadSize, IsFrames}
-use Rattle.nine_frames.specs.Framed.{Framing}
-use Rattle.nine_frames.specs.Framing.{HasHandedOut}
+use Rattle.nine_frames.specs.Streams.{frames, end_of, HasBadSize, HasNoBadSize, IsFrames}
 use Rattle.agent_history.specs.declared.event.Event.{Event}
-use Rattle.agent_history.specs.declared.event.Event.TheVariants.{Request, Hang}
+use Rattle.agent_history.specs.declared.event.Event.TheVariants.{Request}
 use Rattle.agent_hub.specs.declared.requests.InEnd.{InEnd}
 use Rattle.agent_hub.specs.declared.requests.InEnd.TheVariants.{End, Torn, BadFrame, ReadFault, WordFault, Flood, NoMemory}
 use Rattle.agent_hub.specs.Submits.{HubSeat}

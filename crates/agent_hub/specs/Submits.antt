@@ -6,7 +6,7 @@ use Rattle.turn_lock.specs.Fronts.{Front, events, made, own}
 use Rattle.turn_lock.specs.Seats.{SeatOf, front, numbers}
 use Rattle.turn_lock.specs.Seats as lock
 use Rattle.agent_history.specs.declared.event.Event.{Event}
-use Rattle.agent_history.specs.declared.event.Event.TheVariants.{Request, Hang, Answer, NoAnswer, NoRoom, Take, TakeAsk, Stop}
+use Rattle.agent_history.specs.declared.event.Event.TheVariants.{Request, Answer, Take, TakeAsk}
 use Rattle.agent_history.specs.declared.event.StepAnswer.{StepAnswer}
 use Rattle.agent_history.specs.Deeds.{was_opened}
 use Rattle.agent_history.specs.Histories.{History, answer, deeds, has_stopped, is_reply}

@@ -1,4 +1,4 @@
-use Rattle.std.proofs.Common.{◌≤◌, Option}
+use Rattle.std.proofs.Common.{◌≤◌}
 use Rattle.agent_hub.specs.Submits.{IsSeatOf}
 use Rattle.agent_hub.specs.Asking.{Asked}
 use Rattle.agent_hub.proofs.questions.serve_asks.Given as goal

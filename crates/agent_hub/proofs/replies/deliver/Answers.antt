@@ -1,4 +1,4 @@
-use Rattle.std.proofs.Common.{◌≡◌, List, ℕ, sym, subst}
+use Rattle.std.proofs.Common.{List, ℕ, sym, subst}
 use Rattle.agent_hub.specs.Replying.{Delivers}
 use Rattle.agent_hub.proofs.ReplyLemmas.{takes_all, round_so, no_fault, delivers_front}
 use Rattle.agent_hub.proofs.replies.deliver.Goals as goal

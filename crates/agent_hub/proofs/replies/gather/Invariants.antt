@@ -1,4 +1,4 @@
-use Rattle.std.proofs.Common.{◌≡◌, List, ℕ, Option}
+use Rattle.std.proofs.Common.{List, ℕ, Option}
 use Rattle.agent_hub.specs.Submits.{HubSeat, IsSeatOf}
 use Rattle.agent_hub.specs.Replying.{Delivers}
 use Rattle.agent_hub.proofs.replies.gather.Given as goal

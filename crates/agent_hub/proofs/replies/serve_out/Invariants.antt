@@ -1,5 +1,5 @@
-use Rattle.std.proofs.Common.{◌≡◌, ◌≤◌, [], List, ℕ, Option}
-use Rattle.agent_hub.specs.Submits.{HubSeat, IsSeatOf}
+use Rattle.std.proofs.Common.{◌≡◌, ◌≤◌, []}
+use Rattle.agent_hub.specs.Submits.{IsSeatOf}
 use Rattle.agent_hub.specs.Replying.{Delivers}
 use Rattle.agent_hub.proofs.replies.serve_out.Given as goal
 

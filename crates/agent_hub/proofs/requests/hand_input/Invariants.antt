@@ -1,4 +1,4 @@
-use Rattle.std.proofs.Common.{◌≡◌, ◌≤◌, ℕ, length}
+use Rattle.std.proofs.Common.{◌≡◌, ◌≤◌, length}
 use Rattle.agent_hub.specs.Submits.{IsSeatOf}
 use Rattle.agent_hub.specs.Requesting.{most_input}
 use Rattle.agent_hub.specs.Handing.{Piped, taken_by}
