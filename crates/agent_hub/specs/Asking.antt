@@ -2,6 +2,7 @@
 -- to; each connection that is given up is closed once.
 use Rattle.std.specs.Prelude.{◌≡◌, ℕ, List, [], ◌∷◌, ◌++◌, true, false, Bool, Option, Result, Ok, Err, ◌⊎◌}
 use Rattle.wire_base.specs.declared.shape.Shape.{Shape}
+use Rattle.wire_streams.specs.Causes.{one_more}
 use Rattle.wire_streams.specs.Dials.{Dialed}
 use Rattle.wire_streams.specs.declared.dialer.Made.{Made}
 use Rattle.wire_streams.specs.declared.dialer.Made.TheVariants.{Exchange, Close}
@@ -47,29 +48,43 @@ pub data Asks : List Entered → List Made → Type 0 where
   Exchanges : (older : List Entered) (calls : List Made) (h later : History) (call conv : ℕ) (shape : Shape) (request : List ℕ) (outcome : Outcome) (event : Event) → Asks older calls
       → answer h TakeAsk ≡ (Ask call conv shape, request) → Tells call outcome event → Asks (entry later event ∷ entry h TakeAsk ∷ older) (calls ++ Exchange conv request shape outcome ∷ [])
 
--- the seat's own new entries are those of such a loop, and its calls were made of the dialer
-pub record Asked (before after : HubSeat) (old new : Option Dialed) : Type 0 where
+-- how many faults a dialer has counted after these calls, the oldest first: an exchange that stays unanswered counts one
+abbrev pub faults_with : Outcome → ℕ → ℕ
+faults_with (Answered bytes) count = count
+faults_with Unanswered count = one_more count
+faults_with Roomless count = count
+
+abbrev pub faults_after : List Made → ℕ → ℕ
+faults_after [] count = count
+faults_after (Exchange conv request shape outcome ∷ calls) count = faults_after calls (faults_with outcome count)
+faults_after (Close conv ∷ calls) count = faults_after calls count
+
+-- The seat's own new entries are those of such a loop, and its calls were made of the dialer, which counted its faults in
+-- them and no others
+pub record Asked (before after : HubSeat) (old new : Option Dialed) (faults later : ℕ) : Type 0 where
   pub mine : List Entered
   pub added : Adds mine before after
   pub calls : List Made
   pub asks : Asks mine calls
   pub made : MakesAll old new calls
+  pub counted : later ≡ faults_after calls faults
 
 -- how the loop ends: stopped only where its last take of what is due was answered so
-abbrev pub AsksEndSo : AsksEnd → HubSeat → HubSeat → Option Dialed → Option Dialed → Type 0
-AsksEndSo Stopped before after old new = (a : Asked before after old new) × LastIs IsStopped a.mine
-AsksEndSo NoMemory before after old new = Asked before after old new
+abbrev pub AsksEndSo : AsksEnd → HubSeat → HubSeat → Option Dialed → Option Dialed → ℕ → ℕ → Type 0
+AsksEndSo Stopped before after old new faults later = (a : Asked before after old new faults later) × LastIs IsStopped a.mine
+AsksEndSo NoMemory before after old new faults later = Asked before after old new faults later
 
 -- ---- of the code alone: one exchange, and one take of what is due
 
-pub record Exchanged (call conv : ℕ) (request : List ℕ) (shape : Shape) (before now : Option Dialed) (event : Event) : Type 0 where
+pub record Exchanged (call conv : ℕ) (request : List ℕ) (shape : Shape) (before now : Option Dialed) (faults later : ℕ) (event : Event) : Type 0 where
   pub outcome : Outcome
   pub is : event ≡ event_of call outcome
   pub made : MakesAll before now (Exchange conv request shape outcome ∷ [])
+  pub counted : later ≡ faults_with outcome faults
 
-abbrev pub NextSo : Result Bool AsksEnd → HubSeat → HubSeat → Option Dialed → Option Dialed → Type 0
-NextSo (Ok more) before after old new = Asked before after old new
-NextSo (Err end) before after old new = AsksEndSo end before after old new
+abbrev pub NextSo : Result Bool AsksEnd → HubSeat → HubSeat → Option Dialed → Option Dialed → ℕ → ℕ → Type 0
+NextSo (Ok more) before after old new faults later = Asked before after old new faults later
+NextSo (Err end) before after old new faults later = AsksEndSo end before after old new faults later
 
 -- the agent was told
 pub record Told (call : ℕ) (outcome : Outcome) (before after : HubSeat) : Type 0 where

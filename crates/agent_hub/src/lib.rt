@@ -5,6 +5,7 @@
 mod bells;
 mod held;
 mod hub;
+mod laws;
 mod questions;
 mod replies;
 mod requests;
@@ -12,6 +13,7 @@ mod requests;
 pub use agent_core::{Agent, Event, StepAnswer};
 pub use held::Held;
 pub use hub::{Hub, HubSeat, Submitted};
+pub use laws::a_submit_is_one_event_of_the_agent;
 pub use questions::{AsksEnd, serve_asks};
 pub use replies::{OutEnd, serve_out};
 pub use requests::{InEnd, serve_in};

@@ -1,6 +1,6 @@
 // The questions for the authentication server, and the connections to it that are given up: each question is asked, and the
 // agent is told what that came to, and each connection is closed. Nobody holds the turn while it is asked.
-ghost use Rattle.std.specs.Prelude.{◌≡◌, ◌≤◌, Option, IfErr};
+ghost use Rattle.std.specs.Prelude.{◌≡◌, ◌≤◌, Option, IfErr, ℕ};
 ghost use Rattle.wire_streams.specs.declared.dialer.Outcome.{Outcome};
 ghost use Rattle.wire_streams.specs.Dials.{Dialed};
 ghost use Rattle.agent_core.specs.Events.{IsEvent};
@@ -32,8 +32,8 @@ fn exchange<D: Dialer>(
     shape: Shape,
     dialer: &mut D,
 ) -> Event
-    ensures asked { Exchanged call conv request.now shape
-        (D.told dialer.old) (D.told dialer.new) result }
+    ensures asked { Exchanged call conv request.now shape (D.told dialer.old)
+        (D.told dialer.new) (D.faults dialer.old) (D.faults dialer.new) result }
     ensures event { IsEvent result }
     ensures counted { D.faults dialer.old ≤ D.faults dialer.new }
 {
@@ -90,8 +90,9 @@ fn ask_next<R: Wait, D: Dialer>(
 ) -> (HubSeat, Result<bool, AsksEnd>)
     requires { IsSeatOf hub.now seat }
     ensures seat { IsSeatOf hub.now result.0 }
-    ensures told { (first : HubSeat) (old : Option Dialed) → Asked first seat old (D.told dialer.old)
-        → NextSo result.1 first result.0 old (D.told dialer.new) }
+    ensures told { (first : HubSeat) (old : Option Dialed) (faults : ℕ)
+        → Asked first seat old (D.told dialer.old) faults (D.faults dialer.old)
+        → NextSo result.1 first result.0 old (D.told dialer.new) faults (D.faults dialer.new) }
     ensures counted { D.faults dialer.old ≤ D.faults dialer.new }
 {
     let mut request = Bytes::new(alloc);
@@ -116,7 +117,7 @@ fn ask_next<R: Wait, D: Dialer>(
 ///
 /// Beside takes of what is due the seat's own new entries are one for each question that was taken: its answer, or that
 /// there is none, or that there was no room for it. The calls of the dialer are an exchange for each of these questions and
-/// a close for each connection, in order.
+/// a close for each connection, in order; the dialer's faults are the exchanges that stayed unanswered.
 pub fn serve_asks<R: Wait, D: Dialer>(
     rt: &R,
     alloc: Global,
@@ -126,7 +127,8 @@ pub fn serve_asks<R: Wait, D: Dialer>(
 ) -> (HubSeat, AsksEnd)
     requires { IsSeatOf hub.now seat }
     ensures seat { IsSeatOf hub.now result.0 }
-    ensures asked { AsksEndSo result.1 seat result.0 (D.told dialer.old) (D.told dialer.new) }
+    ensures asked { AsksEndSo result.1 seat result.0 (D.told dialer.old) (D.told dialer.new)
+        (D.faults dialer.old) (D.faults dialer.new) }
     ensures counted { D.faults dialer.old ≤ D.faults dialer.new }
 {
     for _ in rt.forever() {
