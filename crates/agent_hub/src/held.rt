@@ -1,0 +1,17 @@
+// The agent behind the lock.
+use agent_core::{Agent, Event};
+use turn_lock::Logged;
+
+/// The agent, which stands for the events of all callers.
+#[derive(Drop)]
+pub struct Held {
+    pub(crate) agent: Agent,
+}
+
+impl Logged for Held {
+    type Event = Event;
+
+    ghost use Rattle.agent_core.specs.Agents.{StandsFor};
+
+    ghost stands = { λ history held. StandsFor history held.agent };
+}

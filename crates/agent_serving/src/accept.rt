@@ -1,0 +1,170 @@
+// Connections accepted, each of which is two jobs.
+ghost use Rattle.std.specs.Prelude.{◌≡◌, ◌≤◌, ◌+◌, Err, IfErr, List, OnOk, Option};
+ghost use Rattle.wire_streams.specs.Causes.{Rose};
+ghost use Rattle.agent_hub.specs.Submits.{HubSeat, IsSeatOf};
+ghost use Rattle.agent_serving.specs.Jobs.{seat_of};
+ghost use Rattle.agent_serving.specs.Serving.{Ended, Going, ServesSo};
+
+use crate::job::Job;
+use agent_hub::{Event, Hub, HubSeat};
+use listeners::{Listener, Spawner};
+use std::alloc::Global;
+use std::sync::Wait;
+use wire_base::Bytes;
+
+/// Why an agent accepts no more connections.
+#[derive(Clone, Copy, Debug, PartialEq, Eq)]
+pub enum ServeEnd {
+    /// A job couldn't be given to a thread.
+    NoThread,
+    /// Accepting failed.
+    ListenFault,
+    /// Memory ran out.
+    NoMemory,
+}
+
+/// Has the authentication server asked by one job, and accepts connections, numbered from 0, each of which is two jobs:
+/// one that hands on what comes, and one that writes the replies. Each connection is opened by a take before its jobs start,
+/// so that a client which sends nothing is hung up as any other. At the end the agent stops. It may wait.
+pub fn serve<R: Wait, L: Listener, P: Spawner<Job<L::In, L::Out>>>(
+    rt: &R,
+    alloc: Global,
+    hub: &Hub,
+    seat: HubSeat,
+    listener: &mut L,
+    spawner: &mut P,
+) -> (HubSeat, ServeEnd)
+where
+    L::In: Drop,
+    L::Out: Drop,
+    requires seat { IsSeatOf hub.now seat }
+    // The spawner takes every job whose seat is of the hub.
+    requires takes { (job : Job L.In L.Out) → IsSeatOf hub.now (seat_of job)
+        → P.takes spawner.old job }
+    ensures seat { IsSeatOf hub.now result.0 }
+
+    // The jobs taken, and what the seat entered, by the connections accepted and the end.
+    ensures served { ServesSo result.1 seat result.0 (L.to_come listener.old)
+        (L.to_come listener.new) (P.taken spawner.old) (P.taken spawner.new) }
+
+    // A fault comes only where the count of its object rose, and no count falls.
+    ensures listen_fault { result.1 ≡ ServeEnd.ListenFault
+        → Rose (L.faults listener.old) (L.faults listener.new) }
+    ensures no_thread { result.1 ≡ ServeEnd.NoThread
+        → Rose (P.faults spawner.old) (P.faults spawner.new) }
+    ensures counted_accepts { L.faults listener.old ≤ L.faults listener.new }
+    ensures counted_jobs { P.faults spawner.old ≤ P.faults spawner.new }
+{
+    let (seat, end) = accept_all(rt, alloc, hub, seat, listener, spawner);
+    let mut nothing = Bytes::new(alloc);
+    let (seat, _) = hub.submit(rt, seat, &Event::Stop, &mut nothing);
+    (seat, end)
+}
+
+// Starts the job of questions, and accepts connections until that fails.
+fn accept_all<R: Wait, L: Listener, P: Spawner<Job<L::In, L::Out>>>(
+    rt: &R,
+    alloc: Global,
+    hub: &Hub,
+    seat: HubSeat,
+    listener: &mut L,
+    spawner: &mut P,
+) -> (HubSeat, ServeEnd)
+where
+    L::In: Drop,
+    L::Out: Drop,
+    requires seat { IsSeatOf hub.now seat }
+    requires takes { (job : Job L.In L.Out) → IsSeatOf hub.now (seat_of job)
+        → P.takes spawner.old job }
+    ensures seat { IsSeatOf hub.now result.0 }
+    ensures ended { Ended result.1 seat result.0 (L.to_come listener.old) (L.to_come listener.new)
+        (P.taken spawner.old) (P.taken spawner.new) }
+    ensures listen_fault { result.1 ≡ ServeEnd.ListenFault
+        → Rose (L.faults listener.old) (L.faults listener.new) }
+    ensures no_thread { result.1 ≡ ServeEnd.NoThread
+        → Rose (P.faults spawner.old) (P.faults spawner.new) }
+    ensures counted_accepts { L.faults listener.old ≤ L.faults listener.new }
+    ensures counted_jobs { P.faults spawner.old ≤ P.faults spawner.new }
+{
+    let (mut seat, asks) = hub.split(seat);
+    let Ok(()) = spawner.spawn(Job::Asks { seat: asks }) else {
+        return (seat, ServeEnd::NoThread);
+    };
+    let mut conn = 0;
+    for _ in rt.forever() {
+        if conn == u64::MAX {
+            return (seat, ServeEnd::NoMemory);
+        }
+        let (next, served) = serve_next(rt, alloc, hub, seat, conn, listener, spawner);
+        seat = next;
+        match served {
+            Ok(()) => conn += 1,
+            Err(end) => return (seat, end),
+        }
+    }
+    unreachable!()
+}
+
+// Accepts the connection of this number, opens it, and starts its two jobs.
+fn serve_next<R: Wait, L: Listener, P: Spawner<Job<L::In, L::Out>>>(
+    rt: &R,
+    alloc: Global,
+    hub: &Hub,
+    seat: HubSeat,
+    conn: u64,
+    listener: &mut L,
+    spawner: &mut P,
+) -> (HubSeat, Result<(), ServeEnd>)
+where
+    L::In: Drop,
+    L::Out: Drop,
+    requires seat { IsSeatOf hub.now seat }
+    requires takes { (job : Job L.In L.Out) → IsSeatOf hub.now (seat_of job)
+        → P.takes spawner.old job }
+    ensures seat { IsSeatOf hub.now result.0 }
+    ensures takes { (job : Job L.In L.Out) → IsSeatOf hub.now (seat_of job)
+        → P.takes spawner.new job }
+    ensures going { OnOk result.1 ((first : HubSeat) (came : Option (List (L.In × L.Out)))
+        (taken : Option (List (Job L.In L.Out)))
+        → Going first seat came (L.to_come listener.old) taken (P.taken spawner.old) conn
+        → Going first result.0 came (L.to_come listener.new)
+        taken (P.taken spawner.new) (conn + 1)) }
+    ensures ends { IfErr result.1 (λ end. (first : HubSeat)
+        (came : Option (List (L.In × L.Out))) (taken : Option (List (Job L.In L.Out)))
+        → Going first seat came (L.to_come listener.old) taken (P.taken spawner.old) conn
+        → Ended end first result.0 came (L.to_come listener.new) taken (P.taken spawner.new)) }
+    ensures listen_fault { result.1 ≡ Err ServeEnd.ListenFault
+        → Rose (L.faults listener.old) (L.faults listener.new) }
+    ensures no_thread { result.1 ≡ Err ServeEnd.NoThread
+        → Rose (P.faults spawner.old) (P.faults spawner.new) }
+    ensures counted_accepts { L.faults listener.old ≤ L.faults listener.new }
+    ensures counted_jobs { P.faults spawner.old ≤ P.faults spawner.new }
+{
+    let Ok((source, sink)) = listener.accept() else {
+        return (seat, Err(ServeEnd::ListenFault));
+    };
+    let mut nothing = Bytes::new(alloc);
+    let (seat, opened) = hub.submit(rt, seat, &Event::Take { conn }, &mut nothing);
+    let Ok(_) = opened else {
+        return (seat, Err(ServeEnd::NoMemory));
+    };
+    let (seat, theirs) = hub.split(seat);
+    let job = Job::In {
+        seat: theirs,
+        conn,
+        source,
+    };
+    let Ok(()) = spawner.spawn(job) else {
+        return (seat, Err(ServeEnd::NoThread));
+    };
+    let (seat, theirs) = hub.split(seat);
+    let job = Job::Out {
+        seat: theirs,
+        conn,
+        sink,
+    };
+    let Ok(()) = spawner.spawn(job) else {
+        return (seat, Err(ServeEnd::NoThread));
+    };
+    (seat, Ok(()))
+}

@@ -1,0 +1,72 @@
+// The jobs of an agent that serves many connections.
+ghost use Rattle.std.specs.Prelude.{◌≤◌};
+ghost use Rattle.agent_hub.specs.Submits.{IsSeatOf};
+ghost use Rattle.agent_serving.specs.Jobs.{EndsSo, WordsRose, seat_of};
+
+use agent_hub::{AsksEnd, Hub, HubSeat, InEnd, OutEnd, serve_asks, serve_in, serve_out};
+use std::alloc::Global;
+use std::sync::Wait;
+use wire_streams::{Dialer, Sink, Source, Words};
+
+/// What is done for the connections of an agent, each by a seat of its own.
+#[derive(Drop)]
+pub enum Job<I, O> {
+    /// What comes on the connection of this number is handed to the agent.
+    In { seat: HubSeat, conn: u64, source: I },
+    /// The replies on the connection of this number are written.
+    Out { seat: HubSeat, conn: u64, sink: O },
+    /// The authentication server is asked what the agent asks of it.
+    Asks { seat: HubSeat },
+}
+
+/// How a job ended.
+#[derive(Clone, Copy, Debug, PartialEq, Eq)]
+pub enum JobEnd {
+    In(InEnd),
+    Out(OutEnd),
+    Asks(AsksEnd),
+}
+
+/// Does a job to its end, and hands its seat back. It may wait.
+pub fn run_job<R: Wait, I: Source + Drop, O: Sink + Drop, D: Dialer, G: Words>(
+    rt: &R,
+    alloc: Global,
+    hub: &Hub,
+    job: Job<I, O>,
+    dialer: &mut D,
+    words: &mut G,
+) -> (HubSeat, JobEnd)
+    requires { IsSeatOf hub.now (seat_of job) }
+    ensures seat { IsSeatOf hub.now result.0 }
+
+    // It does what the loop that it names does, and ends as that does.
+    ensures done { EndsSo I.left I.faults O.holds O.faults job result.0
+        (D.told dialer.old) (D.told dialer.new) (D.faults dialer.old) (D.faults dialer.new)
+        (G.to_come words.old) (G.to_come words.new) result.1 }
+    ensures word_fault { WordsRose result.1 (G.faults words.old) (G.faults words.new) }
+    ensures counted_dials { D.faults dialer.old ≤ D.faults dialer.new }
+    ensures counted_words { G.faults words.old ≤ G.faults words.new }
+{
+    match job {
+        Job::In {
+            seat,
+            conn,
+            mut source,
+        } => {
+            let (seat, end) = serve_in(rt, alloc, hub, seat, conn, &mut source, words);
+            (seat, JobEnd::In(end))
+        }
+        Job::Out {
+            seat,
+            conn,
+            mut sink,
+        } => {
+            let (seat, end) = serve_out(rt, alloc, hub, seat, conn, &mut sink);
+            (seat, JobEnd::Out(end))
+        }
+        Job::Asks { seat } => {
+            let (seat, end) = serve_asks(rt, alloc, hub, seat, dialer);
+            (seat, JobEnd::Asks(end))
+        }
+    }
+}

@@ -1,0 +1,10 @@
+//! An agent that serves many connections: each connection that comes is two jobs for a spawner, one that takes what is sent
+//! to the agent and one that writes what it replies, and a further job asks the authentication server. All of them share one
+//! agent, and one history.
+#![tactic(auto)]
+
+mod accept;
+mod job;
+
+pub use accept::{ServeEnd, serve};
+pub use job::{Job, JobEnd, run_job};
