@@ -1,18 +1,26 @@
 //! factotum: the agent that holds a user's keys and speaks authentication protocols, and the authentication server. All
-//! that they do is in the library; here the real input, output and files are opened, an authentication server is dialed,
-//! and the process ends with the status's number.
+//! that they do is in the libraries; here the real input, output and files are opened, sockets listen, an authentication
+//! server is dialed, and the process ends with the status's number.
 #![tactic(auto)]
 
 ghost use Rattle.std.specs.Prelude.{◌≡◌, IfErr, true};
 ghost use Rattle.factotum_program.specs.Statuses.{is_printable};
+ghost use Rattle.serve_program.specs.Words.{AreWithin};
 
+use agent_core::Agent;
+use agent_hub::Hub;
+use agent_serving::{ServeEnd, serve};
 use factotum_program::{Status, Task, print_status, read_words, run_command};
+use serve_program::{HubSpawner, ServeWords, Tools, end_number, print_end, read_serve_words};
 use socket_dialer::TcpDialer;
+use socket_listener::SocketListener;
 use std::env;
 use std::fs::File;
 use std::io::{self, ErrorKind, Read};
 use std::process::ExitCode;
+use std::sync::Arc;
 use std::time::Duration;
+use thread_spawner::ThreadSpawner;
 use wire_base::{Bytes, Text, TextList};
 use wire_streams::{ReadSource, ReadWords, WriteSink, write_all};
 
@@ -41,6 +49,14 @@ impl Read for Opened {
     }
 }
 
+// Writes a line to standard error: what became of a file or an address, and its name.
+fn tell_of(rt: &HostRuntime, what: &[u8], name: &[u8]) {
+    let mut errors = WriteSink::new(rt.stderr());
+    let _ = write_all(what, &mut errors);
+    let _ = write_all(name, &mut errors);
+    let _ = write_all(b"\n", &mut errors);
+}
+
 // Opens a file; one that can't be opened is named on standard error.
 fn open(rt: &HostRuntime, path: &[u8]) -> Opened {
     if let Ok(name) = std::str::from_utf8(path) {
@@ -48,10 +64,7 @@ fn open(rt: &HostRuntime, path: &[u8]) -> Opened {
             return Opened::File(file);
         }
     }
-    let mut errors = WriteSink::new(rt.stderr());
-    let _ = write_all(b"factotum: can't open ", &mut errors);
-    let _ = write_all(path, &mut errors);
-    let _ = write_all(b"\n", &mut errors);
+    tell_of(rt, b"factotum: can't open ", path);
     Opened::Shut
 }
 
@@ -121,6 +134,90 @@ fn run(rt: &HostRuntime, words: &[Text]) -> Status
     )
 }
 
+// What each job of an agent at a socket is done with: a dialer of its own, and words of the system's.
+#[derive(Drop)]
+struct HostTools {
+    rt: HostRuntime,
+    auth: Text,
+}
+
+impl Tools for HostTools {
+    type Dial = TcpDialer<HostRuntime>;
+
+    type Rand = ReadWords<ReadSource<Opened>>;
+
+    fn tools(&mut self) -> Option<(Self::Dial, Self::Rand)> {
+        let Ok(auth) = self.auth.copy() else {
+            return None;
+        };
+        let patience = Duration::from_secs(PATIENCE);
+        let dial = TcpDialer::new(self.rt, self.rt.alloc(), auth, patience);
+        let rand = ReadWords::new(ReadSource::new(open(&self.rt, RANDOM)));
+        Some((dial, rand))
+    }
+}
+
+// An agent at a socket, until no more connections are accepted.
+fn serve_at(rt: &HostRuntime, listen: &Text, auth: Text) -> ServeEnd {
+    let Ok(mut listener) = SocketListener::open(*rt, rt.alloc(), listen) else {
+        tell_of(rt, b"factotum: can't listen on ", listen.as_slice());
+        return ServeEnd::ListenFault;
+    };
+    let Ok(agent) = Agent::new(rt.alloc()) else {
+        return ServeEnd::NoMemory;
+    };
+    let Ok((hub, seat)) = Hub::new(rt.alloc(), agent) else {
+        return ServeEnd::NoMemory;
+    };
+    let Ok(hub) = Arc::new(rt.alloc(), hub) else {
+        return ServeEnd::NoMemory;
+    };
+    let Ok(shared) = Arc::try_clone(&hub) else {
+        return ServeEnd::NoMemory;
+    };
+    let Ok(threads) = ThreadSpawner::new(*rt, rt.alloc()) else {
+        return ServeEnd::NoThread;
+    };
+    tell_of(rt, b"factotum: listening on ", listen.as_slice());
+    let tools = HostTools { rt: *rt, auth };
+    let mut spawner = HubSpawner::new(shared, tools, threads);
+    let (_seat, end) = serve(
+        rt,
+        rt.alloc(),
+        &hub,
+        seat,
+        &mut listener,
+        &mut spawner,
+    );
+    end
+}
+
+// Copies what the words of `serve` name, and serves.
+fn serve_words(rt: &HostRuntime, words: &[Text], given: ServeWords) -> ServeEnd
+    requires { AreWithin given words.now }
+{
+    let given_auth = match given.auth {
+        Some(place) => words[place].copy(),
+        None => match Text::from_slice(rt.alloc(), AUTH_SERVER) {
+            Ok(Some(address)) => Ok(address),
+            Ok(None) | Err(_) => return ServeEnd::NoMemory,
+        },
+    };
+    match given_auth {
+        Ok(auth) => serve_at(rt, &words[given.listen], auth),
+        Err(_) => ServeEnd::NoMemory,
+    }
+}
+
+// Writes the line of an end of serving to standard error.
+fn tell_end(rt: &HostRuntime, end: ServeEnd) {
+    let mut line = Bytes::new(rt.alloc());
+    if print_end(end, &mut line).is_ok() {
+        let mut errors = WriteSink::new(rt.stderr());
+        let _ = write_all(line.as_slice(), &mut errors);
+    }
+}
+
 // Writes a status's line to standard error.
 fn tell(rt: &HostRuntime, status: &Status)
     requires { is_printable status.now ≡ true }
@@ -133,7 +230,15 @@ fn tell(rt: &HostRuntime, status: &Status)
 }
 
 fn main(rt: HostRuntime) -> ExitCode {
-    let status = match command_words(&rt) {
+    let words = command_words(&rt);
+    if let Ok(words) = &words
+        && let Some(given) = read_serve_words(words.as_slice())
+    {
+        let end = serve_words(&rt, words.as_slice(), given);
+        tell_end(&rt, end);
+        return ExitCode::from(end_number(end));
+    }
+    let status = match words {
         Ok(words) => run(&rt, words.as_slice()),
         Err(status) => status,
     };

@@ -1,0 +1,13 @@
+//! The program of an agent that serves many connections, as a library: its command words, each job as a task of a thread,
+//! and what it ends with.
+#![tactic(auto)]
+
+mod ending;
+mod spawner;
+mod task;
+mod words;
+
+pub use ending::{end_number, print_end};
+pub use spawner::HubSpawner;
+pub use task::{Task, Tools};
+pub use words::{ServeWords, read_serve_words};
