@@ -9,5 +9,5 @@ mod words;
 
 pub use ending::{end_number, print_end};
 pub use spawner::HubSpawner;
-pub use task::{Task, Tools};
+pub use task::{Again, Task, Tools};
 pub use words::{ServeWords, read_serve_words};

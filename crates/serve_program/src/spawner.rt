@@ -2,7 +2,7 @@
 ghost use Rattle.std.specs.Prelude.{◌≡◌};
 ghost use Rattle.std.specs.Arc.{arc_value};
 
-use crate::task::{Task, Tools};
+use crate::task::{Again, Task};
 use agent_hub::Hub;
 use agent_serving::Job;
 use listeners::{NoStart, Spawner};
@@ -38,8 +38,8 @@ impl<I, O, T, P> Spawner<Job<I, O>> for HubSpawner<T, P>
 where
     I: Drop,
     O: Drop,
-    T: Tools,
-    P: Spawner<Task<I, O, T::Dial, T::Rand>>,
+    T: Again + Drop,
+    P: Spawner<Task<I, O, T>>,
 {
     ghost use Rattle.std.specs.Prelude.{None, ⊤};
     ghost use Rattle.std.specs.Arc.{arc_value};
@@ -54,7 +54,7 @@ where
     ghost faults = { λ s. s.faults };
 
     fn spawn(&mut self, job: Job<I, O>) -> Result<(), NoStart> {
-        let Some((dial, rand)) = self.tools.tools() else {
+        let Some(tools) = self.tools.again() else {
             self.faults = self.faults.saturating_add(1);
             return Err(NoStart);
         };
@@ -62,12 +62,7 @@ where
             self.faults = self.faults.saturating_add(1);
             return Err(NoStart);
         };
-        match self.inner.spawn(Task {
-            hub,
-            job,
-            dial,
-            rand,
-        }) {
+        match self.inner.spawn(Task { hub, job, tools }) {
             Ok(()) => Ok(()),
             Err(_) => {
                 self.faults = self.faults.saturating_add(1);

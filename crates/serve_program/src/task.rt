@@ -6,29 +6,34 @@ use std::marker::Model;
 use std::sync::{Arc, Wait};
 use wire_streams::{Dialer, Sink, Source, Words};
 
-/// What a job is done with: the dialer, and where words are drawn from.
-pub trait Tools {
+/// What the tools of a job are made from, once for each job.
+pub trait Again: Sized {
+    /// The same again; None where there is no memory for it.
+    fn again(&self) -> Option<Self>;
+}
+
+/// What a job is done with: the dialer, and where words are drawn from, by the runtime of its thread.
+pub trait Tools<R> {
     /// Asks the authentication server.
     type Dial: Dialer + Drop;
 
     /// Gives random words.
     type Rand: Words + Drop;
 
-    /// The tools of one more job; None where there is no memory for them.
-    fn tools(&mut self) -> Option<(Self::Dial, Self::Rand)>;
+    /// Makes them.
+    fn tools(self, rt: &R) -> (Self::Dial, Self::Rand);
 }
 
-/// A job of a hub, with its tools.
+/// A job of a hub, with what its tools are made from.
 #[derive(Drop)]
-pub struct Task<I, O, D, G> {
+pub struct Task<I, O, T> {
     pub(crate) hub: Arc<Hub, Global>,
     pub(crate) job: Job<I, O>,
-    pub(crate) dial: D,
-    pub(crate) rand: G,
+    pub(crate) tools: T,
 }
 
 // To its contracts a task is nothing but that: what it holds has no code by which proofs could tell two tasks apart.
-impl<I, O, D, G> Model for Task<I, O, D, G> {
+impl<I, O, T> Model for Task<I, O, T> {
     ghost use Rattle.std.specs.Prelude.{⊤};
     ghost use Rattle.std.specs.Arc.{arc_value};
     ghost use Rattle.agent_hub.specs.Submits.{IsSeatOf};
@@ -41,21 +46,16 @@ impl<I, O, D, G> Model for Task<I, O, D, G> {
     ghost invariant = { λ task. IsSeatOf (arc_value task.hub) (seat_of task.job) };
 }
 
-impl<R, I, O, D, G> thread_spawner::Job<R> for Task<I, O, D, G>
+impl<R, I, O, T> thread_spawner::Job<R> for Task<I, O, T>
 where
     R: Wait + AllocGlobal,
     I: Source + Drop,
     O: Sink + Drop,
-    D: Dialer + Drop,
-    G: Words + Drop,
+    T: Tools<R> + Drop,
 {
     fn run(self, rt: &R) {
-        let Task {
-            hub,
-            job,
-            mut dial,
-            mut rand,
-        } = self;
+        let Task { hub, job, tools } = self;
+        let (mut dial, mut rand) = tools.tools(rt);
         let _ended = run_job(rt, rt.alloc(), &hub, job, &mut dial, &mut rand);
     }
 }
