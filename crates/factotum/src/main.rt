@@ -3,29 +3,35 @@
 //! server is dialed, and the process ends with the status's number.
 #![tactic(auto)]
 
-ghost use Rattle.std.specs.Prelude.{◌≡◌, IfErr, true};
+ghost use Rattle.std.specs.Prelude.{◌≡◌, IfErr, IfOk, true};
+ghost use Rattle.std.specs.Arc.{arc_value};
+ghost use Rattle.agent_hub.specs.Submits.{IsSeatOf};
 ghost use Rattle.factotum_program.specs.Statuses.{is_printable};
-ghost use Rattle.serve_program.specs.Words.{AreWithin};
+ghost use Rattle.serve_program.specs.Words.{IsWithin};
 
 use agent_core::Agent;
-use agent_hub::Hub;
+use agent_hub::{Hub, HubSeat};
 use agent_serving::{ServeEnd, serve};
 use factotum_program::{Status, Task, print_status, read_words, run_command};
-use serve_program::{HubSpawner, ServeWords, Tools, end_number, print_end, read_serve_words};
+use serve_program::{
+    Again, HubSpawner, Task as JobTask, Tools, end_number, print_end, read_serve_words,
+};
 use socket_dialer::TcpDialer;
 use socket_listener::SocketListener;
+use std::alloc::Global;
 use std::env;
-use std::fs::File;
+use std::fs::{File, Files};
 use std::io::{self, ErrorKind, Read};
+use std::net::Net;
 use std::process::ExitCode;
 use std::sync::Arc;
-use std::time::Duration;
+use std::time::{Clock, Duration};
 use thread_spawner::ThreadSpawner;
 use wire_base::{Bytes, Text, TextList};
 use wire_streams::{ReadSource, ReadWords, WriteSink, write_all};
 
 /// Where words are drawn from.
-const RANDOM: &[u8] = b"/dev/urandom";
+const RANDOM: &str = "/dev/urandom";
 
 /// The authentication server that is asked where the words name none.
 const AUTH_SERVER: &[u8] = b"127.0.0.1:5670";
@@ -35,12 +41,12 @@ const PATIENCE: u64 = 30;
 
 /// A file; each read of one that couldn't be opened fails.
 #[derive(Drop)]
-enum Opened {
-    File(File),
+enum Opened<F> {
+    File(F),
     Shut,
 }
 
-impl Read for Opened {
+impl<F: Read> Read for Opened<F> {
     fn read(&mut self, buf: &mut [u8]) -> io::Result<usize> {
         match self {
             Opened::File(file) => file.read(buf),
@@ -58,7 +64,7 @@ fn tell_of(rt: &HostRuntime, what: &[u8], name: &[u8]) {
 }
 
 // Opens a file; one that can't be opened is named on standard error.
-fn open(rt: &HostRuntime, path: &[u8]) -> Opened {
+fn open(rt: &HostRuntime, path: &[u8]) -> Opened<File> {
     if let Ok(name) = std::str::from_utf8(path) {
         if let Ok(file) = File::open(rt, name) {
             return Opened::File(file);
@@ -112,10 +118,15 @@ fn run(rt: &HostRuntime, words: &[Text]) -> Status
         Ok(Task::Authsrv(given)) => (
             open(rt, given.keys.as_slice()),
             open(rt, given.speaks.as_slice()),
-            open(rt, RANDOM),
+            open(rt, RANDOM.as_bytes()),
             None,
         ),
-        Ok(Task::Pipe { auth }) => (Opened::Shut, Opened::Shut, open(rt, RANDOM), auth),
+        Ok(Task::Pipe { auth }) => (
+            Opened::Shut,
+            Opened::Shut,
+            open(rt, RANDOM.as_bytes()),
+            auth,
+        ),
         Err(_) => (Opened::Shut, Opened::Shut, Opened::Shut, None),
     };
     let address = match address(rt, auth) {
@@ -134,79 +145,78 @@ fn run(rt: &HostRuntime, words: &[Text]) -> Status
     )
 }
 
-// What each job of an agent at a socket is done with: a dialer of its own, and words of the system's.
+// What the tools of each job of an agent at a socket are made from: the address of the authentication server.
 #[derive(Drop)]
 struct HostTools {
-    rt: HostRuntime,
     auth: Text,
 }
 
-impl Tools for HostTools {
-    type Dial = TcpDialer<HostRuntime>;
-
-    type Rand = ReadWords<ReadSource<Opened>>;
-
-    fn tools(&mut self) -> Option<(Self::Dial, Self::Rand)> {
-        let Ok(auth) = self.auth.copy() else {
-            return None;
-        };
-        let patience = Duration::from_secs(PATIENCE);
-        let dial = TcpDialer::new(self.rt, self.rt.alloc(), auth, patience);
-        let rand = ReadWords::new(ReadSource::new(open(&self.rt, RANDOM)));
-        Some((dial, rand))
+impl Again for HostTools {
+    fn again(&self) -> Option<Self> {
+        match self.auth.copy() {
+            Ok(auth) => Some(HostTools { auth }),
+            Err(_) => None,
+        }
     }
 }
 
-// An agent at a socket, until no more connections are accepted.
-fn serve_at(rt: &HostRuntime, listen: &Text, auth: Text) -> ServeEnd {
-    let Ok(mut listener) = SocketListener::open(*rt, rt.alloc(), listen) else {
-        tell_of(rt, b"factotum: can't listen on ", listen.as_slice());
-        return ServeEnd::ListenFault;
-    };
+impl<R: Net + Files + Clock + AllocGlobal + Copy + Drop> Tools<R> for HostTools {
+    type Dial = TcpDialer<R>;
+
+    type Rand = ReadWords<ReadSource<Opened<R::File>>>;
+
+    fn tools(self, rt: &R) -> (Self::Dial, Self::Rand) {
+        let HostTools { auth } = self;
+        let random = match File::open(rt, RANDOM) {
+            Ok(file) => Opened::File(file),
+            Err(_) => Opened::Shut,
+        };
+        (
+            TcpDialer::new(*rt, rt.alloc(), auth, Duration::from_secs(PATIENCE)),
+            ReadWords::new(ReadSource::new(random)),
+        )
+    }
+}
+
+// Listens at an address. Where nobody can, that is told on standard error.
+fn listen(rt: &HostRuntime, address: &Text) -> Result<SocketListener<HostRuntime>, ServeEnd> {
+    match SocketListener::open(*rt, rt.alloc(), address) {
+        Ok(listener) => {
+            tell_of(rt, b"factotum: listening on ", address.as_slice());
+            Ok(listener)
+        }
+        Err(_) => {
+            tell_of(rt, b"factotum: can't listen on ", address.as_slice());
+            Err(ServeEnd::ListenFault)
+        }
+    }
+}
+
+// A hub round a new agent, and its first seat.
+fn new_hub(rt: &HostRuntime) -> Result<(Arc<Hub, Global>, HubSeat), ServeEnd>
+    ensures { IfOk result (λ made. IsSeatOf (arc_value made.0) made.1) }
+{
     let Ok(agent) = Agent::new(rt.alloc()) else {
-        return ServeEnd::NoMemory;
+        return Err(ServeEnd::NoMemory);
     };
     let Ok((hub, seat)) = Hub::new(rt.alloc(), agent) else {
-        return ServeEnd::NoMemory;
+        return Err(ServeEnd::NoMemory);
     };
-    let Ok(hub) = Arc::new(rt.alloc(), hub) else {
-        return ServeEnd::NoMemory;
-    };
-    let Ok(shared) = Arc::try_clone(&hub) else {
-        return ServeEnd::NoMemory;
-    };
-    let Ok(threads) = ThreadSpawner::new(*rt, rt.alloc()) else {
-        return ServeEnd::NoThread;
-    };
-    tell_of(rt, b"factotum: listening on ", listen.as_slice());
-    let tools = HostTools { rt: *rt, auth };
-    let mut spawner = HubSpawner::new(shared, tools, threads);
-    let (_seat, end) = serve(
-        rt,
-        rt.alloc(),
-        &hub,
-        seat,
-        &mut listener,
-        &mut spawner,
-    );
-    end
+    match Arc::new(rt.alloc(), hub) {
+        Ok(hub) => Ok((hub, seat)),
+        Err(_) => Err(ServeEnd::NoMemory),
+    }
 }
 
-// Copies what the words of `serve` name, and serves.
-fn serve_words(rt: &HostRuntime, words: &[Text], given: ServeWords) -> ServeEnd
-    requires { AreWithin given words.now }
+// The address of the authentication server among the words, or the usual one; None where there is no memory for it.
+fn server_address(rt: &HostRuntime, words: &[Text], place: Option<usize>) -> Option<Text>
+    requires { IsWithin place words.now }
 {
-    let given_auth = match given.auth {
+    let address = match place {
         Some(place) => words[place].copy(),
-        None => match Text::from_slice(rt.alloc(), AUTH_SERVER) {
-            Ok(Some(address)) => Ok(address),
-            Ok(None) | Err(_) => return ServeEnd::NoMemory,
-        },
+        None => return address(rt, None).ok(),
     };
-    match given_auth {
-        Ok(auth) => serve_at(rt, &words[given.listen], auth),
-        Err(_) => ServeEnd::NoMemory,
-    }
+    address.ok()
 }
 
 // Writes the line of an end of serving to standard error.
@@ -234,7 +244,24 @@ fn main(rt: HostRuntime) -> ExitCode {
     if let Ok(words) = &words
         && let Some(given) = read_serve_words(words.as_slice())
     {
-        let end = serve_words(&rt, words.as_slice(), given);
+        let words = words.as_slice();
+        let auth = server_address(&rt, words, given.auth);
+        let end = match (auth, new_hub(&rt), ThreadSpawner::new(rt, rt.alloc())) {
+            (Some(auth), Ok((hub, seat)), Ok(threads)) => match Arc::try_clone(&hub) {
+                Ok(shared) => match listen(&rt, &words[given.listen]) {
+                    Ok(mut listener) => {
+                        let tools = HostTools { auth };
+                        let mut spawner = HubSpawner::new(shared, tools, threads);
+                        let alloc = rt.alloc();
+                        serve(&rt, alloc, &hub, seat, &mut listener, &mut spawner).1
+                    }
+                    Err(end) => end,
+                },
+                Err(_) => ServeEnd::NoMemory,
+            },
+            (Some(_), Ok(_), Err(_)) => ServeEnd::NoThread,
+            (_, _, _) => ServeEnd::NoMemory,
+        };
         tell_end(&rt, end);
         return ExitCode::from(end_number(end));
     }
