@@ -7,7 +7,7 @@ DESTDIR =
 
 help:
 	@echo 'make build   proves the programs and leaves them as bin/factotum and bin/nine_show'
-	@echo 'make demo    runs a conversation through it and shows each request and reply'
+	@echo 'make demo    runs a conversation through it, and a login between two agents, and shows each request and reply'
 	@echo 'make test    runs the gate: every proof, wrong body, test and program'
 	@echo 'make bench   measures it and its codec beside plain C programs, the server and the ciphers beside OpenSSL'
 	@echo 'make install puts programs, manual pages and systemd units under DESTDIR and PREFIX (make uninstall removes them)'
@@ -24,6 +24,7 @@ build:
 
 demo: build
 	@scripts/demo
+	@if command -v python3 >/dev/null 2>&1; then scripts/login; fi
 
 test:
 	@scripts/need rt git
