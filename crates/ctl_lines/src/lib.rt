@@ -8,4 +8,4 @@ mod tests;
 mod write;
 
 pub use fault::LineFault;
-pub use write::write_ctl;
+pub use write::{Written, write_ctl};

@@ -18,7 +18,7 @@ fn write(alloc: Global, ring: &mut KeyRing, content: &[u8]) -> Result<&'static [
     if content.len() > 100000 {
         return Err("a long write".into());
     }
-    match write_ctl(alloc, ring, content)? {
+    match write_ctl(alloc, ring, content)?.fault {
         Some(fault) => Ok(fault.text()),
         None => Ok(b""),
     }
@@ -427,4 +427,33 @@ fn the_1025th_key_is_refused(rt: HostRuntime) -> Result<(), Fail> {
         assert_eq!(rt; ring.len(), count, "{name}");
     }
     Ok(())
+}
+
+// A write, and whether the lines that are carried out switch the further lines of the log.
+static SWITCHES: [(&str, bool); 6] = [
+    ("debug", true),
+    ("debug\ndebug", false),
+    ("debug\nkeys\ndebug", true),
+    ("delkey user=z\ndebug", false),
+    ("debug\ndelkey user=z\ndebug", true),
+    (
+        "debug\nkey proto=apop user=a !password=b\ndebug\ndelkey user=z\ndebug",
+        false,
+    ),
+];
+
+fn check_switches(rt: &impl Abort, alloc: Global, cases: &[(&str, bool)]) -> Result<(), Fail> {
+    for &(content, switches) in cases {
+        let mut ring = KeyRing::new(alloc);
+        if content.len() < 1000 {
+            let written = write_ctl(alloc, &mut ring, content.as_bytes())?;
+            assert_eq!(rt; written.switches, switches, "{content}");
+        }
+    }
+    Ok(())
+}
+
+#[test]
+fn debug_takes_effect_at_its_line(rt: HostRuntime) -> Result<(), Fail> {
+    check_switches(&rt, rt.alloc(), &SWITCHES)
 }

@@ -1,3 +1,4 @@
+pub mod Counts
 pub mod DesKeys
 pub mod Steps
 pub mod Parts

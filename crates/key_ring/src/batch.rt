@@ -2,11 +2,19 @@
 ghost use Rattle.std.specs.Prelude.{◌≡◌, ◌+◌, ◌<◌, ◌≤◌, ◌^◌, [], ◌∷◌, map, length, vec_len, vec_capacity, IfNone, IfSome};
 ghost use Rattle.key_lists.specs.Edits.{additions};
 ghost use Rattle.key_lists.specs.Batches.{after_edits, edit_fault, edit_of, edited, edits_fault};
+ghost use Rattle.key_ring.specs.Counts.{edits_taken};
 ghost use Rattle.key_ring.specs.Parts.{IsRing, list_of};
 
 use crate::key::Key;
 use crate::ring::{add_key, delete_keys};
 use key_lists::{Edit, EditFault};
+
+/// How far a batch of edits came: how many were carried out, and why the next one was refused, if it was.
+#[derive(Clone, Copy, Debug, PartialEq, Eq)]
+pub struct Batch {
+    pub count: usize,
+    pub refused: Option<EditFault>,
+}
 
 // Carries one edit out, for whose key there is room, or answers why not.
 fn carry_out(keys: &mut Vec<Key>, ever_added: &mut u64, edit: Edit) -> Option<EditFault>
@@ -39,22 +47,32 @@ fn carry_out(keys: &mut Vec<Key>, ever_added: &mut u64, edit: Edit) -> Option<Ed
 }
 
 /// Carries edits out, the oldest first, up to the first that is refused, whose fault is answered. It takes no memory.
-pub fn carry_all(keys: &mut Vec<Key>, ever_added: &mut u64, edits: Vec<Edit>) -> Option<EditFault>
+pub fn carry_all(keys: &mut Vec<Key>, ever_added: &mut u64, edits: Vec<Edit>) -> Batch
     requires ring { IsRing (list_of keys.old.items ever_added.old) }
     requires count { ever_added.old + length edits.items < 2 ^ 64 }
     requires room { vec_len keys.old + additions (map edit_of edits.items) ≤ vec_capacity keys.old }
-    ensures fault { result
+    ensures fault { result.refused
         ≡ edits_fault (map edit_of edits.items) (list_of keys.old.items ever_added.old) }
+    ensures count { result.count
+        ≡ edits_taken (map edit_of edits.items) (list_of keys.old.items ever_added.old) }
     ensures ring { IsRing (list_of keys.new.items ever_added.new) }
     ensures few { ever_added.new ≤ ever_added.old + length edits.items }
     ensures edited { list_of keys.new.items ever_added.new
         ≡ after_edits (map edit_of edits.items) (list_of keys.old.items ever_added.old) }
 {
+    let mut count = 0;
     let mut left = edits.into_iter();
     while let Some(edit) = left.next() {
         if let Some(fault) = carry_out(keys, ever_added, edit) {
-            return Some(fault);
+            return Batch {
+                count,
+                refused: Some(fault),
+            };
         }
+        count += 1;
     }
-    None
+    Batch {
+        count,
+        refused: None,
+    }
 }

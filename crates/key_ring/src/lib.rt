@@ -10,6 +10,7 @@ mod ring;
 #[cfg(test)]
 mod tests;
 
+pub use batch::Batch;
 pub use key::Key;
 pub use key_lists::{AddFault, DeleteFault, Edit, EditFault, EditList};
 pub use ring::KeyRing;

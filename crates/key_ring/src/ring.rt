@@ -10,12 +10,12 @@ ghost use Rattle.key_lists.specs.Edits.{IsOrdered};
 ghost use Rattle.key_ring.specs.Parts.{IsRing, list_of};
 ghost use Rattle.key_lists.specs.Listing.{key_text};
 
-use crate::batch::carry_all;
+use crate::batch::{Batch, carry_all};
 use crate::check::{check_tells_secret, find_fault};
 use crate::key::Key;
 use crate::offer::append_offers;
 use attr_tuples::{Tuple, gives, has_name, matches, print_public, public_equal};
-use key_lists::{AddFault, DeleteFault, EditFault, EditList};
+use key_lists::{AddFault, DeleteFault, EditList};
 use std::alloc::Global;
 use std::marker::Model;
 use wire_base::{Bytes, NoMemory};
@@ -47,6 +47,7 @@ impl KeyRing {
     ghost use Rattle.key_lists.specs.Listing.{list_text, offers, offers_text};
     ghost use Rattle.key_lists.specs.Edits.{IsOrdered, additions};
     ghost use Rattle.key_lists.specs.Batches.{after_edits, edits_fault};
+    ghost use Rattle.key_ring.specs.Counts.{edits_taken};
 
     /// No keys. It takes no memory.
     pub fn new(alloc: Global) -> KeyRing
@@ -97,10 +98,11 @@ impl KeyRing {
     }
 
     /// Carries edits out, the oldest first, up to the first that is refused, whose fault is answered; those before it
-    /// stand. All memory is taken before the first is carried out, and none is taken for edits that delete.
-    pub fn edit_all(&mut self, edits: EditList) -> Result<Option<EditFault>, NoMemory>
+    /// stand, and so many they are. All memory is taken before the first is carried out, and none is taken for edits that delete.
+    pub fn edit_all(&mut self, edits: EditList) -> Result<Batch, NoMemory>
         requires { self.old.ever_added + length edits < 2 ^ 64 }
-        ensures fault { IfOk result (λ fault. fault ≡ edits_fault edits self.old) }
+        ensures fault { IfOk result (λ batch. batch.refused ≡ edits_fault edits self.old) }
+        ensures count { IfOk result (λ batch. batch.count ≡ edits_taken edits self.old) }
         ensures edited { OnOk result (self.new ≡ after_edits edits self.old) }
         ensures few { self.new.ever_added ≤ self.old.ever_added + length edits }
         ensures takes_none { additions edits ≡ 0 → IsOk result }

@@ -637,7 +637,8 @@ fn edits_are_carried_out_up_to_the_refused_one(rt: HostRuntime) -> Result<(), Fa
     assert_eq!(rt; edits.additions(), 2);
     let mut ring = KeyRing::new(alloc);
     let none_matched = EditFault::Delete(DeleteFault::NoneMatched);
-    assert_eq!(rt; ring.edit_all(edits)?, Some(none_matched));
+    let batch = ring.edit_all(edits)?;
+    assert_eq!(rt; (batch.count, batch.refused), (3, Some(none_matched)));
     assert_eq!(rt;
         list_of(alloc, &ring)?.as_slice(),
         b"key proto=apop user=b !password?\n".as_slice()

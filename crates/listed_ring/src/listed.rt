@@ -4,9 +4,10 @@ ghost use Rattle.key_lists.specs.Lists.{no_keys};
 ghost use Rattle.key_lists.specs.Listing.{list_text};
 ghost use Rattle.key_lists.specs.CtlLines.{after_lines, lines_fault, lines_of};
 ghost use Rattle.ctl_lines.specs.Faults.{line_text};
+ghost use Rattle.ctl_lines.specs.Switches.{switches};
 
 use crate::shared_text::SharedText;
-use ctl_lines::{LineFault, write_ctl};
+use ctl_lines::{Written, write_ctl};
 use key_ring::KeyRing;
 use std::alloc::Global;
 use std::marker::Model;
@@ -64,12 +65,14 @@ impl ListedRing {
         Ok(text)
     }
 
-    /// Carries the lines of a write of ctl out. The text of the old list is left to the fids that read it.
-    pub fn write(&mut self, alloc: Global, content: &[u8]) -> Result<Option<LineFault>, NoMemory>
+    /// Carries the lines of a write of ctl out, and tells what became of them. The text of the old list is left to the fids that read it.
+    pub fn write(&mut self, alloc: Global, content: &[u8]) -> Result<Written, NoMemory>
         requires { self.old.ever_added + length content.now < 2 ^ 64 }
         ensures keys { OnOk result (self.new ≡ after_lines self.old (lines_of content.now)) }
-        ensures told { IfOk result (λ fault. option_map line_text fault
+        ensures told { IfOk result (λ w. option_map line_text w.fault
             ≡ lines_fault self.old (lines_of content.now)) }
+        ensures switches { IfOk result (λ w. w.switches
+            ≡ switches self.old (lines_of content.now)) }
         ensures few { self.new.ever_added ≤ self.old.ever_added + length content.now }
         ensures err { OnErr result (self.new ≡ self.old) }
     {

@@ -11,8 +11,8 @@ fn a_write_leaves_the_list_that_is_read(rt: HostRuntime) -> Result<(), Fail> {
     let alloc = rt.alloc();
     let mut ring = ListedRing::new(alloc);
     let empty = ring.text(alloc)?;
-    let fault = ring.write(alloc, ANN)?;
-    assert!(rt; fault.is_none());
+    let written = ring.write(alloc, ANN)?;
+    assert!(rt; written.fault.is_none());
     assert!(rt; empty.as_slice().is_empty());
     let text = ring.text(alloc)?;
     let again = ring.text(alloc)?;

@@ -1,17 +1,17 @@
-use Rattle.std.proofs.Common.{◌≡◌, true, ◌+◌, ◌≤◌, ◌++◌, length}
+use Rattle.std.proofs.Common.{◌≡◌, true, ◌+◌, ◌≤◌, length}
 use Rattle.key_lists.specs.CtlLines.{lines_of}
 use Rattle.attr_words.specs.Cutting.{bytes_left, lines_left, turns_left}
 use Rattle.ctl_lines.specs.Faults.{has_no_tuple}
-use Rattle.ctl_lines.specs.Steps.{edits_in, kept, unread}
+use Rattle.ctl_lines.specs.Steps.{SayTheSame, kept, unread}
 use Rattle.ctl_lines.proofs.write.read_lines.Given as goal
 
--- the edits so far and those of the lines left are those of all, and so is the first line that can't be read
+-- what was read and the lines left say what all lines do, and the first line that can't be read is the same
 abbrev pub invariant-loop-left : goal.invariant-loop-left
 invariant-loop-left l = record {
-  edits : l.edits ++ edits_in (kept (lines_left l.left)) ≡ l.fn.edits ++ edits_in (lines_of l.content);
+  said : SayTheSame l.fn.lines l.lines (lines_of l.content) (kept (lines_left l.left));
   fault : unread (kept (lines_left l.left)) ≡ unread (lines_of l.content);
-  few : length l.edits + bytes_left l.left ≤ length l.fn.edits + length l.content;
-  free : has_no_tuple (lines_of l.content) ≡ true → (has_no_tuple (kept (lines_left l.left)) ≡ true) × (l.edits ≡ l.fn.edits);
+  few : length l.lines.edits + bytes_left l.left ≤ length l.fn.lines.edits + length l.content;
+  free : has_no_tuple (lines_of l.content) ≡ true → (has_no_tuple (kept (lines_left l.left)) ≡ true) × (l.lines.edits ≡ l.fn.lines.edits);
 }
 
 abbrev pub decreases-loop-left : goal.decreases-loop-left

@@ -2,6 +2,7 @@ use Rattle.std.proofs.Common.{◌≡◌, ◌+◌, ◌<◌, ◌≤◌, ◌^◌, m
 use Rattle.std.specs.Vec.Iter.{into_iter_items, into_iter_len}
 use Rattle.key_lists.specs.Edits.{additions}
 use Rattle.key_lists.specs.Batches.{after_edits, edit_of, edits_fault}
+use Rattle.key_ring.specs.Counts.{edits_taken}
 use Rattle.key_ring.specs.Parts.{IsRing, list_of}
 use Rattle.key_ring.proofs.batch.carry_all.Given as goal
 
@@ -18,6 +19,8 @@ invariant-loop-edit l =
       few : l.ever_added + length left ≤ l.fn.ever_added + length l.fn.edits.items;
       room : vec_len l.keys + additions (map edit_of left) ≤ vec_capacity l.keys;
       fault : edits_fault (map edit_of left) list ≡ edits_fault all first;
+      taken : l.count + edits_taken (map edit_of left) list ≡ edits_taken all first;
+      most : l.count + length left ≡ length l.fn.edits.items;
       after : after_edits (map edit_of left) list ≡ after_edits all first;
     }
 
