@@ -46,7 +46,7 @@ impl Model for Prompts {
 }
 
 impl Prompts {
-    ghost use Rattle.std.specs.Prelude.{◌≡◌, ◌+◌, ◌-◌, ◌^◌, ◌<◌, ◌++◌, true, None, Some, slice_get, is_some, IfErr, IfOk, OnOk, OnErr};
+    ghost use Rattle.std.specs.Prelude.{◌≡◌, ◌+◌, ◌-◌, ◌^◌, ◌<◌, ◌++◌, ◌&&◌, nat_le, not, true, None, Some, slice_get, is_some, IfErr, IfOk, OnOk, OnErr};
     ghost use Rattle.side_files.specs.Lines.{Hands, Tells, bytes_of, found, if_handed, if_read};
     ghost use Rattle.side_files.specs.Questions.{no_questions, unread_lines, with_line, next_line, asked_by, read, asker_of, first_conv, replied, reserved_line, standing, withdrawn};
 
@@ -61,6 +61,27 @@ impl Prompts {
             opened: Vec::new(alloc),
             reserved: None,
         }
+    }
+
+    /// Whether as many questions were asked as have tags.
+    pub fn is_spent(&self) -> bool
+        ensures { result ≡ nat_le (2 ^ 64 - 1) self.now.asked }
+    {
+        self.asked == u64::MAX
+    }
+
+    /// Whether the next question is made, so that it can be asked.
+    pub fn is_ready(&self) -> bool
+        ensures ready { result ≡ (is_some self.now.reserved && not (nat_le (2 ^ 64 - 1) self.now.asked)) }
+    {
+        self.reserved.is_some() && !self.is_spent()
+    }
+
+    /// The conversation that waits for the reply to the question of a tag, where one does.
+    pub fn asker(&self, tag: u64) -> Option<u64>
+        ensures { result ≡ asker_of tag self.now }
+    {
+        find_asker(&self.opened, tag)
     }
 
     /// Makes room for the next question, and its line about this text. So it can be asked without memory.
