@@ -1,11 +1,10 @@
 pub mod SearchLemmas
-pub mod RoleLaws
 pub mod StepLemmas
-pub mod NameLemmas
-pub mod TemplateLemmas
-pub mod MoveLemmas
 pub mod FindLemmas
 pub mod WaitLaws
 pub mod PerformLemmas
 pub mod WaitingLemmas
 pub mod ServerLemmas
+pub mod OfferLaws
+pub mod ResumeLemmas
+pub mod ReadyLemmas

@@ -18,12 +18,12 @@ use Rattle.talks.specs.declared.said.Asking.{Asking}
 use Rattle.conv_set.specs.Protocols.{answers, needs, puts, refuses}
 use Rattle.talks.specs.Standings.{Begun, Phase, Waiting, Kept, Standing, begin, begin_once, carried_out, if_begun, make_move, moved, need_in, phase_after, standing, start_by, started, taken_back, then_stands, with_move}
 use Rattle.conversations.specs.declared.conversation.Conversation.{Conversation}
-use Rattle.conversations.specs.declared.phase.Phase.{Phase as HeldPhase}
-use Rattle.conversations.specs.declared.phase.Phase.TheVariants as held
-use Rattle.conversations.specs.declared.phase.Stored.{Stored}
+use Rattle.begun_talks.specs.declared.phase.Phase.{Phase as HeldPhase}
+use Rattle.begun_talks.specs.declared.phase.Phase.TheVariants as held
+use Rattle.begun_talks.specs.declared.phase.Stored.{Stored}
 use Rattle.conversations.specs.Fits.{BothBegun, Carries, Fits, Holds, IsIdle, Lacks, Meets, PutsBack, Shaken, searched, with_request, with_search}
-use Rattle.conversations.specs.Meanings.{phase_of}
-use Rattle.conversations.specs.Shown.{has_request, is_seeking}
+use Rattle.begun_talks.specs.Meanings.{phase_of}
+use Rattle.begun_talks.specs.Shown.{has_request, is_seeking}
 use Rattle.conv_set.proofs.Laws.{offers_stay, undone_needs}
 use Rattle.conversations.proofs.SearchLemmas.{standing_searched}
 use Rattle.conversations.proofs.WaitLaws.{waits_idle}
@@ -35,6 +35,15 @@ performed c word asking list talk request waits fits =
     let came : Fits c (searched asking list (standing (CarriedOut word ∷ talk))) = subst (λ (phase : Phase). Fits c (searched asking list (then_stands (standing talk) phase (CarriedOut word)))) (sym waits) fits in
     let holds : Holds c (with_search asking list (CarriedOut word ∷ talk)) = subst (λ (s : Standing). Fits c s) (sym (standing_searched asking list (CarriedOut word ∷ talk))) came in
     subst (λ (test : Bool). Holds c (if test then with_search asking list (CarriedOut word ∷ talk) else talk)) (sym (ap has_request waits)) holds
+
+pub performed_is : (word : List ℕ) (asking : Asking) (list : KeyList) (talk : List Call) (request : RpcRequest) → (standing talk).phase ≡ Waiting request → standing (with_request word asking list talk) ≡ searched asking list (carried_out (standing talk) word request)
+performed_is word asking list talk request waits =
+    ap (λ (test : Bool). standing (if test then with_search asking list (CarriedOut word ∷ talk) else talk)) (ap has_request waits)
+    ∙ (standing_searched asking list (CarriedOut word ∷ talk)
+    ∙ ap (λ (phase : Phase). searched asking list (then_stands (standing talk) phase (CarriedOut word))) waits)
+
+pub unrequested_is : (word : List ℕ) (asking : Asking) (list : KeyList) (talk : List Call) → has_request (standing talk).phase ≡ false → standing (with_request word asking list talk) ≡ standing talk
+unrequested_is word asking list talk none = ap (λ (test : Bool). standing (if test then with_search asking list (CarriedOut word ∷ talk) else talk)) none
 
 -- no request is there
 pub unrequested : (c : Conversation) (word : List ℕ) (asking : Asking) (list : KeyList) (talk : List Call) → has_request (standing talk).phase ≡ false → Holds c talk → Holds c (with_request word asking list talk)

@@ -10,12 +10,12 @@ use Rattle.talks.specs.Searches.{first_left, found_at, found_by, is_among, is_de
 use Rattle.talks.specs.declared.said.Said.{Said}
 use Rattle.talks.specs.declared.said.Asking.{Asking}
 use Rattle.talks.specs.Standings.{Phase, Resting, Waiting, Seeking, OnConfirm, OnNeedkey, OnServer, Kept, Standing, finds, found_for, is_for, need_in, role_name, sought, sought_if, standing, then_stands}
-use Rattle.conversations.specs.declared.begun.Wanted.{Wanted}
-use Rattle.conversations.specs.declared.begun.Wanted.TheVariants as w
+use Rattle.begun_talks.specs.declared.begun.Wanted.{Wanted}
+use Rattle.begun_talks.specs.declared.begun.Wanted.TheVariants as w
 use Rattle.conversations.specs.declared.conversation.Conversation.{Conversation}
 use Rattle.conversations.specs.Fits.{Carries, Fits, Lacks, Turns, searched, searched_once, with_search, with_search_once}
-use Rattle.conversations.specs.Meanings.{phase_of}
-use Rattle.conversations.specs.Shown.{is_seeking, wanted_in}
+use Rattle.begun_talks.specs.Meanings.{phase_of}
+use Rattle.begun_talks.specs.Shown.{is_seeking, wanted_in}
 
 never : false ≡ true → ⊥
 never e = cc
@@ -40,7 +40,7 @@ standing_searched asking list talk = so_often asking list talk (standing talk).s
 
 -- ---- what is found is what is needed
 
-one_is_for : (template : List Attr) (said : Said) (key : KeyEntry) (asks : Bool) → is_for (Key template) (if asks then AsksConsent key.serial else Chosen key) ≡ true
+one_is_for : (template : List Attr) (said : Said) (key : KeyEntry) (asks : Bool) → is_for (Key template) (if asks then AsksConsent key else Chosen key) ≡ true
 one_is_for template said key true = refl
 one_is_for template said key false = refl
 
@@ -53,7 +53,7 @@ at_is_for : (template : List Attr) (said : Said) (asking : Asking) (keys : List 
 at_is_for template said asking keys (Some key) = one_is_for template said key (wants_consent key && not (is_among said.agreed key))
 at_is_for template said asking keys None = none_is_for template (is_denied said asking keys) (asking.needkey && not said.asked)
 
-key_is_for : (template : List Attr) (role : List ℕ) (said : Said) (asking : Asking) (list : KeyList) → is_for (Key template) (found_by template role said asking list) ≡ true
+pub key_is_for : (template : List Attr) (role : List ℕ) (said : Said) (asking : Asking) (list : KeyList) → is_for (Key template) (found_by template role said asking list) ≡ true
 unfolding found_by
 key_is_for template role said asking list = at_is_for template said asking (serving template role list) (first_left said asking (serving template role list))
 
@@ -87,6 +87,19 @@ comes_to : (asking : Asking) (list : KeyList) (s : Standing) → is_seeking s.ph
 comes_to asking list s seeks =
     ap (λ (test : Bool). if test then then_stands s s.phase (Sought (finds s asking list)) else s) seeks
     ∙ ap (λ (phase : Phase). then_stands s phase (Sought (finds s asking list))) (in_seeking s.phase seeks)
+
+-- it is for what is needed
+pub searched_is : (asking : Asking) (list : KeyList) (s : Standing) → is_seeking s.phase ≡ true → (wanted_in (need_in s.begun) ≡ w.Nothing → ⊥) → searched_once asking list s ≡ sought s (finds s asking list)
+unfolding finds
+searched_is asking list s seeks some =
+    comes_to asking list s seeks
+    ∙ ap (λ (test : Bool). sought_if test s (finds s asking list)) (is_sought_for (need_in s.begun) (role_name s.begun) s.said asking list some)
+
+pub searched_for_none : (asking : Asking) (list : KeyList) (s : Standing) → is_seeking s.phase ≡ true → wanted_in (need_in s.begun) ≡ w.Nothing → searched_once asking list s ≡ s
+unfolding finds
+searched_for_none asking list s seeks none =
+    comes_to asking list s seeks
+    ∙ ap (λ (test : Bool). sought_if test s (finds s asking list)) (is_for_nothing (need_in s.begun) (role_name s.begun) s.said asking list none)
 
 pub searched_so : (c : Conversation) (asking : Asking) (list : KeyList) (s : Standing) → is_seeking s.phase ≡ true → (wanted_in (need_in s.begun) ≡ w.Nothing → ⊥) → Fits c (sought s (finds s asking list)) → Fits c (searched_once asking list s)
 unfolding finds

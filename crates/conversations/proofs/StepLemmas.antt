@@ -14,12 +14,13 @@ use Rattle.talks.specs.declared.said.Said.{Said}
 use Rattle.talks.specs.declared.said.Asking.{Asking}
 use Rattle.conv_set.specs.Protocols.{answers, needs}
 use Rattle.talks.specs.Standings.{Begun, Phase, Resting, Waiting, Seeking, OnConfirm, OnNeedkey, OnServer, Kept, Standing, chosen_for, finds, found_for, made, moved, need_in, phase_after, role_in, role_name, sought, told_of_key, with_key, with_move}
-use Rattle.conversations.specs.declared.begun.Begun.{Begun as Held}
+use Rattle.begun_talks.specs.declared.begun.Begun.{Begun as Held}
 use Rattle.conversations.specs.declared.conversation.Conversation.{Conversation}
-use Rattle.conversations.specs.declared.phase.Phase.{Phase as HeldPhase}
-use Rattle.conversations.specs.declared.phase.Phase.TheVariants as held
-use Rattle.conversations.specs.Fits.{Becomes, BothBegun, Carries, Fits, IsAsked, IsBegun, IsOfferedBy, IsPickedBy}
-use Rattle.conversations.specs.Meanings.{phase_of}
+use Rattle.begun_talks.specs.declared.phase.Phase.{Phase as HeldPhase}
+use Rattle.begun_talks.specs.declared.phase.Phase.TheVariants as held
+use Rattle.begun_talks.specs.Begins.{Becomes, IsBegun, IsOfferedBy, IsPickedBy}
+use Rattle.conversations.specs.Fits.{BothBegun, Carries, Fits, IsAsked}
+use Rattle.begun_talks.specs.Meanings.{phase_of}
 
 -- of a conversation whose begun part is this, in this phase
 abbrev pub after : Conversation → Held → HeldPhase → Conversation
@@ -113,3 +114,11 @@ unfolding finds
 fits_pick c kept new phase place s asking list is carries wanted listed becomes =
     let so = made_pick c kept new phase place s asking list s.begun (both_so c kept s is carries) carries wanted listed becomes in
     subst (λ (came : Found). Fits (after c new phase) (sought s came)) (sym so.0) so.1
+
+-- the same where the list was made ahead
+list_so : (c : Conversation) (kept new : Held) (phase : HeldPhase) (given : List ℕ) (s : Standing) (begun : Option Begun) → BothBegun (Some kept) begun → Carries c s → IsOffers (need_in begun) → ((b : Begun) → IsBegun kept b → IsOffers (needs b.start b.moves) → Becomes new phase (with_move b (offered given)) (move_answer a.Ok b.key (answers b.start b.moves (offered given)))) → Fits (after c new phase) (made s (offered given) begun)
+list_so c kept new phase given s None both carries wanted becomes = absurd both
+list_so c kept new phase given s (Some b) both carries wanted becomes = fits_moved c new phase s (with_move b (offered given)) (move_answer a.Ok b.key (answers b.start b.moves (offered given))) carries (becomes b both wanted)
+
+pub fits_list : (c : Conversation) (kept new : Held) (phase : HeldPhase) (given : List ℕ) (s : Standing) → c.begun ≡ Some kept → Carries c s → IsOffers (need_in s.begun) → ((b : Begun) → IsBegun kept b → IsOffers (needs b.start b.moves) → Becomes new phase (with_move b (offered given)) (move_answer a.Ok b.key (answers b.start b.moves (offered given)))) → Fits (after c new phase) (made s (offered given) s.begun)
+fits_list c kept new phase given s is carries wanted becomes = list_so c kept new phase given s s.begun (both_so c kept s is carries) carries wanted becomes

@@ -24,14 +24,16 @@ use Rattle.talks.specs.Calls.{Call, Found, Chosen, AsksConsent, AsksKey, Denied,
 use Rattle.conv_set.specs.Protocols.{answers, needs, puts, refuses}
 use Rattle.talks.specs.Standings.{Begun, Phase, Resting, Waiting, Seeking, OnConfirm, OnNeedkey, OnServer, Kept, Standing, begin, begin_once, carried_out, chosen_for, if_begun, is_for, made, make_move, need_in, phase_after, sought, sought_if, standing, start_by, started, taken_back, then_stands, told_of_key, with_key, with_move}
 use Rattle.conversations.specs.Fits.{IsIdle}
+use Rattle.begun_talks.specs.Shown.{asks_user}
 
--- while something is sought, nothing is needed once the request is taken back
+-- while something is sought, or its user is asked, nothing is needed once the request is taken back; and he is asked
+-- where a key is needed
 abbrev Awaits : Option Begun → Bool → Phase → Type 0
 Awaits begun starting Resting = need_in begun ≡ Nothing
 Awaits begun starting (Waiting request) = (need_in begun ≡ Nothing) × (starting ≡ false)
 Awaits begun starting Seeking = need_in (taken_back starting begun) ≡ Nothing
-Awaits begun starting (OnConfirm serial) = need_in (taken_back starting begun) ≡ Nothing
-Awaits begun starting OnNeedkey = need_in (taken_back starting begun) ≡ Nothing
+Awaits begun starting (OnConfirm serial) = (need_in (taken_back starting begun) ≡ Nothing) × IsKey (need_in begun)
+Awaits begun starting OnNeedkey = (need_in (taken_back starting begun) ≡ Nothing) × IsKey (need_in begun)
 Awaits begun starting OnServer = IsExchange (need_in begun)
 Awaits begun starting (Kept answer) = need_in begun ≡ Nothing
 
@@ -73,6 +75,20 @@ wants_key (Offers template) key e = absurd (differ (sym e))
 wants_key (Pick templates) key e = absurd (differ (sym e))
 wants_key (Exchange request shape) key e = absurd (differ (sym e))
 wants_key Nothing key e = absurd (differ (sym e))
+
+asks_consent : (need : Need) (key : KeyEntry) → is_for need (AsksConsent key) ≡ true → IsKey need
+asks_consent (Key template) key e = tt
+asks_consent (Offers template) key e = absurd (differ (sym e))
+asks_consent (Pick templates) key e = absurd (differ (sym e))
+asks_consent (Exchange request shape) key e = absurd (differ (sym e))
+asks_consent Nothing key e = absurd (differ (sym e))
+
+asks_key : (need : Need) → is_for need AsksKey ≡ true → IsKey need
+asks_key (Key template) e = tt
+asks_key (Offers template) e = absurd (differ (sym e))
+asks_key (Pick templates) e = absurd (differ (sym e))
+asks_key (Exchange request shape) e = absurd (differ (sym e))
+asks_key Nothing e = absurd (differ (sym e))
 
 from_found : (b : Begun) (key : KeyEntry) (starting : Bool) → is_for (needs b.start b.moves) (Chosen key) ≡ true → need_in (taken_back starting (Some b)) ≡ Nothing → Returns (chosen_for key b) starting
 from_found b key true wanted none = λ sought. refl
@@ -154,8 +170,8 @@ takes_pick s place (Some b) same wanted = moved_on (with_move b (picked place)) 
 
 searches_on : (s : Standing) (came : Found) → AwaitsIn s → is_for (need_in s.begun) came ≡ true → need_in (taken_back s.starting s.begun) ≡ Nothing → AwaitsIn (sought s came)
 searches_on s (Chosen key) same wanted none = takes_key s key s.begun same wanted none
-searches_on s (AsksConsent serial) same wanted none = none
-searches_on s AsksKey same wanted none = none
+searches_on s (AsksConsent key) same wanted none = (none, asks_consent (need_in s.begun) key wanted)
+searches_on s AsksKey same wanted none = (none, asks_key (need_in s.begun) wanted)
 searches_on s Denied same wanted none = none
 searches_on s NoneServes same wanted none = none
 searches_on s (Offered list) same wanted none = takes_offers s list s.begun same wanted none
@@ -207,9 +223,9 @@ goes_on s Seeking Took is same = same
 goes_on s (OnConfirm serial) (Stored r) is same = same
 goes_on s (OnConfirm serial) (CarriedOut word) is same = same
 goes_on s (OnConfirm serial) (Sought came) is same = same
-goes_on s (OnConfirm serial) (Consented agrees) is same = is
+goes_on s (OnConfirm serial) (Consented agrees) is same = is.0
 goes_on s (OnConfirm serial) KeyTold is same = same
-goes_on s (OnConfirm serial) Shut is same = is
+goes_on s (OnConfirm serial) Shut is same = is.0
 goes_on s (OnConfirm serial) (Heard bytes) is same = same
 goes_on s (OnConfirm serial) Unheard is same = same
 goes_on s (OnConfirm serial) Roomless is same = same
@@ -218,8 +234,8 @@ goes_on s OnNeedkey (Stored r) is same = same
 goes_on s OnNeedkey (CarriedOut word) is same = same
 goes_on s OnNeedkey (Sought came) is same = same
 goes_on s OnNeedkey (Consented agrees) is same = same
-goes_on s OnNeedkey KeyTold is same = is
-goes_on s OnNeedkey Shut is same = is
+goes_on s OnNeedkey KeyTold is same = is.0
+goes_on s OnNeedkey Shut is same = is.0
 goes_on s OnNeedkey (Heard bytes) is same = same
 goes_on s OnNeedkey Unheard is same = same
 goes_on s OnNeedkey Roomless is same = same
@@ -255,6 +271,19 @@ idle s phase request waits is = let both : Awaits s.begun s.starting (Waiting re
 
 pub waits_idle : (talk : List Call) (request : RpcRequest) → (standing talk).phase ≡ Waiting request → IsIdle (standing talk)
 waits_idle talk request waits = idle (standing talk) (standing talk).phase request waits (awaits talk)
+
+-- while its user is asked, a key is needed
+key_needed : (begun : Option Begun) (starting : Bool) (phase : Phase) → asks_user phase ≡ true → Awaits begun starting phase → IsKey (need_in begun)
+key_needed begun starting Resting e is = absurd (differ (sym e))
+key_needed begun starting (Waiting request) e is = absurd (differ (sym e))
+key_needed begun starting Seeking e is = absurd (differ (sym e))
+key_needed begun starting (OnConfirm serial) e is = is.1
+key_needed begun starting OnNeedkey e is = is.1
+key_needed begun starting OnServer e is = absurd (differ (sym e))
+key_needed begun starting (Kept answer) e is = absurd (differ (sym e))
+
+pub asks_for_key : (talk : List Call) → asks_user (standing talk).phase ≡ true → IsKey (need_in (standing talk).begun)
+asks_for_key talk e = key_needed (standing talk).begun (standing talk).starting (standing talk).phase e (awaits talk)
 
 -- ---- the authentication server is done with
 

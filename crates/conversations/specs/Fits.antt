@@ -1,42 +1,24 @@
 -- When a conversation holds for a talk: what was begun is what the definitions say was begun, and so are the phase, the
 -- start and what the user said.
-use Rattle.std.specs.Prelude.{◌≡◌, ℕ, List, ◌∷◌, true, false, Option, Some, None, if◌then◌else◌}
+use Rattle.std.specs.Prelude.{◌≡◌, ℕ, List, [], ◌∷◌, true, false, Option, Some, None, if◌then◌else◌}
 use Rattle.attr_tuples.specs.declared.attr.Attr.{Attr}
 use Rattle.key_lists.specs.Lists.{KeyList}
-use Rattle.roles.specs.declared.answer.Gave.{Gave}
-use Rattle.roles.specs.declared.answer.StartFault.{StartFault}
-use Rattle.roles.specs.declared.need.Need.{Need}
-use Rattle.roles.specs.declared.need.Need.TheVariants.{Nothing, Key, Offers, Pick, Exchange}
-use Rattle.roles.specs.Answers.{IsPick}
-use Rattle.roles.specs.Starts.{Start}
-use Rattle.roles.specs.Talks.{get}
-use Rattle.roles.specs.Talks.{Call as Move}
-use Rattle.conv_set.specs.declared.conv.Conv.{Conv}
-use Rattle.conv_set.specs.Standing.{Stands}
+use Rattle.roles.specs.declared.need.Need.TheVariants.{Nothing}
+use Rattle.roles.specs.Answers.{IsOffers, IsPick}
+use Rattle.roles.specs.Talks.{offered}
 use Rattle.rpc_file.specs.declared.answer.RpcAnswer.{RpcAnswer}
-use Rattle.rpc_file.specs.declared.answer.RpcAnswer.TheVariants as a
-use Rattle.talks.specs.Answers.{move_answer, start_answer}
 use Rattle.talks.specs.Calls.{Call, CarriedOut, Sought}
 use Rattle.talks.specs.declared.said.Asking.{Asking}
-use Rattle.conv_set.specs.Protocols.{answers, needs, puts, refuses}
-use Rattle.talks.specs.Searches.{offered_by, picked_by}
-use Rattle.talks.specs.Standings.{Begun, Standing, begin, finds, need_in, phase_after, question_of, standing, template_of, then_stands, with_move}
-use Rattle.conversations.specs.declared.begun.Begun.{Begun as Held}
+use Rattle.talks.specs.Standings.{Begun, Standing, finds, made, need_in, question_of, standing, template_of, then_stands}
+use Rattle.begun_talks.specs.declared.begun.Begun.{Begun as Held}
 use Rattle.conversations.specs.declared.conversation.Conversation.{Conversation}
-use Rattle.conversations.specs.declared.opening.Opening.{Opening}
-use Rattle.conversations.specs.declared.opening.Opening.TheVariants as o
-use Rattle.conversations.specs.declared.phase.Phase.{Phase}
-use Rattle.conversations.specs.declared.phase.Phase.TheVariants as held
-use Rattle.conversations.specs.Meanings.{phase_of}
-use Rattle.conversations.specs.Shown.{answer_in, has_request, is_seeking}
+use Rattle.begun_talks.specs.declared.phase.Phase.{Phase}
+use Rattle.begun_talks.specs.declared.phase.Phase.TheVariants as held
+use Rattle.begun_talks.specs.Begins.{IsBegun}
+use Rattle.begun_talks.specs.Meanings.{phase_of}
+use Rattle.begun_talks.specs.Shown.{answer_in, asks_user, has_request, is_seeking}
 
 -- ---- what was begun
-
--- what is kept of a conversation that was started so, and whose role met these moves
-pub record IsBegun (held : Held) (b : Begun) : Type 0 where
-  pub machine : Stands held.machine b.start b.moves
-  pub template : held.template ≡ b.start.template
-  pub key : held.key ≡ b.key
 
 abbrev pub BothBegun : Option Held → Option Begun → Type 0
 BothBegun None None = Unit {0}
@@ -99,6 +81,14 @@ with_search asking list talk =
 abbrev pub with_request : List ℕ → Asking → KeyList → List Call → List Call
 with_request word asking list talk = if has_request (standing talk).phase then with_search asking list (CarriedOut word ∷ talk) else talk
 
+-- a talk in which its user answers, and the search that this wants, where he was asked
+abbrev pub with_answer : Call → Asking → KeyList → List Call → List Call
+with_answer call asking list talk = if asks_user (standing talk).phase then with_search asking list (call ∷ talk) else call ∷ talk
+
+-- whatever its talk was, it holds for the talk in which its user answers
+abbrev pub Resumes : Conversation → Conversation → Call → Asking → KeyList → Type 0
+Resumes old new call asking list = (talk : List Call) → Holds old talk → Holds new (with_answer call asking list talk)
+
 -- whatever its talk was, it holds for the talk with its request carried out
 abbrev pub Performs : Conversation → Conversation → List ℕ → Asking → KeyList → Type 0
 Performs old new word asking list = (talk : List Call) → Holds old talk → Holds new (with_request word asking list talk)
@@ -144,43 +134,8 @@ Meets old new change = (s : Standing) → Carries old s → Fits new (change s)
 abbrev pub Turns : Conversation → Conversation → (Standing → Standing) → Type 0
 Turns old new change = (s : Standing) → Fits old s → Fits new (change s)
 
--- a move of the machine was made, and answered so
-abbrev pub Made : Conv → Conv → Move → Gave → Type 0
-Made old new move gave = (start : Start) (moves : List Move) → Stands old start moves → (gave ≡ answers start moves move) × Stands new start (move ∷ moves)
-
--- these bytes are got of it
-abbrev pub Got : Conv → List ℕ → Type 0
-Got old bytes = (start : Start) (moves : List Move) → Stands old start moves → bytes ≡ puts start moves get
-
--- the phase that follows where this was begun, and this is the answer where nothing is needed
-abbrev pub MoveTo : Phase → Begun → RpcAnswer → Type 0
-MoveTo phase b answer = phase_of phase ≡ phase_after (needs b.start b.moves) answer
-
-pub record Becomes (new : Held) (phase : Phase) (b : Begun) (answer : RpcAnswer) : Type 0 where
-  pub begun : IsBegun new b
-  pub leads : MoveTo phase b answer
-
--- a move that is answered `ok` where it is done
-abbrev pub Moves : Held → Held → Phase → Move → Type 0
-Moves old new phase move = (b : Begun) → IsBegun old b → Becomes new phase (with_move b move) (move_answer a.Ok b.key (answers b.start b.moves move))
-
--- a start that was tried
-abbrev pub Opens : Opening → List Attr → List ℕ → Type 0
-Opens (o.Refused answer) template word = (fault : StartFault) × ((refuses template ≡ Some fault) × (answer ≡ start_answer fault))
-Opens (o.Started held) template word = (refuses template ≡ None) × IsBegun held (begin template word)
-
--- where offers are needed, this is their list
-abbrev pub IsOfferedBy : List ℕ → Need → List ℕ → KeyList → Type 0
-IsOfferedBy given Nothing role list = Unit {0}
-IsOfferedBy given (Key template) role list = Unit {0}
-IsOfferedBy given (Offers template) role list = given ≡ offered_by template role list
-IsOfferedBy given (Pick templates) role list = Unit {0}
-IsOfferedBy given (Exchange request shape) role list = Unit {0}
-
--- where one of some templates is to be picked, this is its place
-abbrev pub IsPickedBy : ℕ → Need → List ℕ → KeyList → Type 0
-IsPickedBy place Nothing role list = Unit {0}
-IsPickedBy place (Key template) role list = Unit {0}
-IsPickedBy place (Offers template) role list = Unit {0}
-IsPickedBy place (Pick templates) role list = place ≡ picked_by templates role list
-IsPickedBy place (Exchange request shape) role list = Unit {0}
+-- a list of offers is used where they are needed
+pub record UsesList (old new : Conversation) (given : List ℕ) : Type 0 where
+  pub empty : given ≡ [] → new ≡ old
+  pub rests : is_seeking (phase_of old.phase) ≡ false → new ≡ old
+  pub listed : (s : Standing) (b : ℕ) (rest : List ℕ) → given ≡ b ∷ rest → Fits old s → is_seeking s.phase ≡ true → IsOffers (need_in s.begun) → Fits new (made s (offered given) s.begun)

@@ -1,3 +1,2 @@
-pub mod Meanings
 pub mod Fits
-pub mod Shown
+pub mod Asking

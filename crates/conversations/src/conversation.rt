@@ -9,15 +9,20 @@ ghost use Rattle.rpc_file.specs.Requests.{RpcRequest, asks_attributes, asks_info
 ghost use Rattle.talks.specs.Calls as c;
 ghost use Rattle.talks.specs.Meanings.{meant};
 ghost use Rattle.conv_set.specs.Protocols.{needs, refuses};
-ghost use Rattle.talks.specs.Standings.{Begun as Beginning, Standing, Waiting, answered, begin_once, carried_out, finds, key_of, moved, nothing_said, outcome_of, found_for, need_in, question_of, refused, role_name, sought, start_by, started, taken_back, template_of, then_stands, told_of, with_key, with_move};
-ghost use Rattle.conversations.specs.Fits.{answer_held, BothBegun, Carries, Fits, Holds, IsBegun, IsIdle, Keeps, Lacks, Meets, Performs, PutsBack, Shaken, Shows, Stays, Turns, searched, searched_once};
-ghost use Rattle.conversations.specs.Meanings.{phase_of, request_of};
-ghost use Rattle.conversations.specs.Shown.{answer_in, asked_in, exchange_in, has_answer, has_request, is_resting, is_seeking, waits_for_server, wanted_in};
+ghost use Rattle.talks.specs.Standings.{Begun as Beginning, Standing, Waiting, answered, begin_once, carried_out, finds, key_of, moved, nothing_said, outcome_of, found_for, need_in, question_of, refused, role_name, sought, start_by, started, taken_back, template_of, then_stands, with_key, with_move};
+ghost use Rattle.begun_talks.specs.Begins.{IsBegun};
+ghost use Rattle.attr_tuples.specs.Printing.{public_text};
+ghost use Rattle.roles.specs.Templates.{shown_text};
+ghost use Rattle.conversations.specs.Asking.{FindsReady, IsMade, IsReady, MeetsReady, Readies, SameAsks, TurnsReady};
+ghost use Rattle.conversations.specs.Fits.{answer_held, BothBegun, Carries, Fits, Holds, IsIdle, Keeps, Lacks, Meets, Performs, PutsBack, Shaken, Shows, Stays, Turns, searched, searched_once, with_request};
+ghost use Rattle.begun_talks.specs.Meanings.{phase_of, request_of};
+ghost use Rattle.begun_talks.specs.Shown.{answer_in, asked_in, exchange_in, has_answer, has_request, is_resting, is_seeking, waits_for_server, wanted_in};
 
-use crate::begun::{Begun, Wanted};
-use crate::opening::{Opening, open, read_template};
-use crate::phase::{self, Phase, Stored as Request, store_request};
+use crate::asks::Asks;
 use attr_tuples::Tuple;
+use begun_talks::{
+    Begun, Opening, Phase, Stored as Request, Wanted, open, phase, read_template, store_request,
+};
 use key_ring::{Key, KeyRing};
 use roles::Outcome;
 use rpc_file::{Request as Written, RpcAnswer};
@@ -29,10 +34,10 @@ use wire_base::{List, NoMemory, Shape};
 /// A conversation of rpc. It has no Debug, which would print secrets.
 #[derive(Drop)]
 pub struct Conversation {
-    begun: Option<Begun>,
-    phase: Phase,
-    starting: bool,
-    said: Said,
+    pub(crate) begun: Option<Begun>,
+    pub(crate) phase: Phase,
+    pub(crate) starting: bool,
+    pub(crate) said: Said,
 }
 
 // ---- what stands
@@ -159,49 +164,29 @@ impl Conversation {
     }
 
     /// The request, if it has one, is carried out by a read for which this word was drawn; what it needs of the keys of a
-    /// ring is searched for, where these files are open.
+    /// ring is searched for, where these files are open; a question to its user that this comes to is made.
     pub fn perform(
         &mut self,
         alloc: Global,
         word: [u8; 8],
         ring: &KeyRing,
         asking: Asking,
+        asks: &mut Asks,
     ) -> Result<(), NoMemory>
         ensures kept { OnOk result (Performs self.old self.new word asking ring.now) }
+        ensures ready { OnOk result (Readies self.old
+            (with_request word asking ring.now) asking ring.now asks.old asks.new) }
+        ensures asks { SameAsks asks.old asks.new }
         ensures back { OnErr result (Stays self.old self.new) }
     {
         match mem::replace(&mut self.phase, Phase::Resting) {
-            Phase::Waiting(request) => self.perform_request(alloc, request, word, ring, asking),
+            Phase::Waiting(request) => {
+                self.perform_request(alloc, request, word, ring, asking, asks)
+            }
             other => {
                 self.phase = other;
                 Ok(())
             }
-        }
-    }
-
-    /// The user was asked whether a key may be used, and answered.
-    pub fn consented(&mut self, agrees: bool) -> Result<(), NoMemory>
-        ensures kept { OnOk result (Keeps self.old self.new (c.Consented agrees)) }
-        ensures unchanged { OnErr result (self.new ≡ self.old) }
-    {
-        match &self.phase {
-            Phase::OnConfirm(serial) => {
-                let serial = *serial;
-                self.note_answer(serial, agrees)
-            }
-            Phase::Resting | Phase::Waiting(_) | Phase::Seeking => Ok(()),
-            Phase::OnNeedkey(_) | Phase::OnServer | Phase::Kept(_) => Ok(()),
-        }
-    }
-
-    /// The user was asked for a key, and answered. It takes no memory.
-    pub fn key_told(&mut self)
-        ensures { Keeps self.old self.new c.KeyTold }
-    {
-        match &self.phase {
-            Phase::OnNeedkey(_) => self.phase = Phase::Seeking,
-            Phase::Resting | Phase::Waiting(_) | Phase::Seeking => {}
-            Phase::OnConfirm(_) | Phase::OnServer | Phase::Kept(_) => {}
         }
     }
 
@@ -280,13 +265,18 @@ impl Conversation {
         word: [u8; 8],
         ring: &KeyRing,
         asking: Asking,
+        asks: &mut Asks,
     ) -> Result<(), NoMemory>
         ensures met { OnOk result (Meets self.old self.new
             (λ s. searched asking ring.now (carried_out s word (request_of request)))) }
+        ensures ready { OnOk result (MeetsReady self.old
+            (λ s. searched asking ring.now (carried_out s word (request_of request)))
+            asking ring.now asks.new) }
+        ensures asks { SameAsks asks.old asks.new }
         ensures back { OnErr result ((s : Standing) → Carries self.old s → IsIdle s
             → s.phase ≡ Waiting (request_of request) → Fits self.new s) }
     {
-        let done = self.answer_and_search(alloc, &request, word, ring, asking);
+        let done = self.answer_and_search(alloc, &request, word, ring, asking, asks);
         if done.is_err() {
             self.phase = Phase::Waiting(request);
         }
@@ -301,13 +291,18 @@ impl Conversation {
         word: [u8; 8],
         ring: &KeyRing,
         asking: Asking,
+        asks: &mut Asks,
     ) -> Result<(), NoMemory>
         ensures met { OnOk result (Meets self.old self.new
             (λ s. searched asking ring.now (carried_out s word (request_of request.now)))) }
+        ensures ready { OnOk result (MeetsReady self.old
+            (λ s. searched asking ring.now (carried_out s word (request_of request.now)))
+            asking ring.now asks.new) }
+        ensures asks { SameAsks asks.old asks.new }
         ensures back { OnErr result (PutsBack self.old self.new) }
     {
         self.answer_request(alloc, request, word)?;
-        let done = self.search(alloc, ring, asking);
+        let done = self.search(alloc, ring, asking, asks);
         if done.is_err() {
             self.unmake_request();
         }
@@ -456,16 +451,25 @@ impl Conversation {
 // ---- what is needed is searched for
 
 impl Conversation {
-    fn search(&mut self, alloc: Global, ring: &KeyRing, asking: Asking) -> Result<(), NoMemory>
+    fn search(
+        &mut self,
+        alloc: Global,
+        ring: &KeyRing,
+        asking: Asking,
+        asks: &mut Asks,
+    ) -> Result<(), NoMemory>
         ensures met { OnOk result (Turns self.old self.new (searched asking ring.now)) }
+        ensures ready { OnOk result (TurnsReady self.old (searched asking ring.now)
+            asking ring.now asks.old asks.new) }
+        ensures asks { SameAsks asks.old asks.new }
         ensures shaken { OnErr result (Shaken self.old self.new) }
         ensures lacks { OnErr result (self.old.starting ≡ false
             → (s : Standing) → Fits self.old s → Lacks s) }
     {
         if self.starting {
-            self.search_start(alloc, ring, asking)
+            self.search_start(alloc, ring, asking, asks)
         } else {
-            self.search_once(alloc, ring, asking)
+            self.search_once(alloc, ring, asking, asks)
         }
     }
 
@@ -475,19 +479,32 @@ impl Conversation {
         alloc: Global,
         ring: &KeyRing,
         asking: Asking,
+        asks: &mut Asks,
     ) -> Result<(), NoMemory>
         requires { self.old.starting ≡ true }
         ensures met { OnOk result (Turns self.old self.new (searched asking ring.now)) }
+        ensures ready { OnOk result (TurnsReady self.old (searched asking ring.now)
+            asking ring.now asks.old asks.new) }
+        ensures asks { SameAsks asks.old asks.new }
         ensures starting { self.new.starting ≡ self.old.starting }
         ensures said { OnErr result (self.new.said ≡ self.old.said) }
     {
-        self.search_once(alloc, ring, asking)?;
-        self.search_once(alloc, ring, asking)?;
-        self.search_once(alloc, ring, asking)
+        self.search_once(alloc, ring, asking, asks)?;
+        self.search_once(alloc, ring, asking, asks)?;
+        self.search_once(alloc, ring, asking, asks)
     }
 
-    fn search_once(&mut self, alloc: Global, ring: &KeyRing, asking: Asking) -> Result<(), NoMemory>
+    pub(crate) fn search_once(
+        &mut self,
+        alloc: Global,
+        ring: &KeyRing,
+        asking: Asking,
+        asks: &mut Asks,
+    ) -> Result<(), NoMemory>
         ensures met { OnOk result (Turns self.old self.new (searched_once asking ring.now)) }
+        ensures ready { OnOk result (TurnsReady self.old (searched_once asking ring.now)
+            asking ring.now asks.old asks.new) }
+        ensures asks { SameAsks asks.old asks.new }
         ensures starting { self.new.starting ≡ self.old.starting }
         ensures said { OnOk result (is_seeking (phase_of self.new.phase) ≡ true
             → self.new.said ≡ self.old.said) }
@@ -501,7 +518,7 @@ impl Conversation {
             return Ok(());
         }
         match self.wanted() {
-            Wanted::Key => self.search_key(alloc, ring, asking),
+            Wanted::Key => self.search_key(alloc, ring, asking, asks),
             Wanted::Offers => self.search_offers(alloc, ring),
             Wanted::Pick => {
                 self.search_pick(ring);
@@ -546,16 +563,25 @@ impl Conversation {
         }
     }
 
-    fn search_key(&mut self, alloc: Global, ring: &KeyRing, asking: Asking) -> Result<(), NoMemory>
+    fn search_key(
+        &mut self,
+        alloc: Global,
+        ring: &KeyRing,
+        asking: Asking,
+        asks: &mut Asks,
+    ) -> Result<(), NoMemory>
         ensures met { OnOk result ((s : Standing) → Fits self.old s → IsKey (need_in s.begun)
             → Fits self.new (sought s (finds s asking ring.now))) }
+        ensures ready { OnOk result ((s : Standing) → Fits self.old s → IsKey (need_in s.begun)
+            → IsReady asking ring.now (sought s (finds s asking ring.now)) asks.new) }
+        ensures asks { SameAsks asks.old asks.new }
         ensures starting { self.new.starting ≡ self.old.starting }
         ensures said { OnOk result (is_seeking (phase_of self.new.phase) ≡ true
             → self.new.said ≡ self.old.said) }
         ensures unchanged { OnErr result (self.new ≡ self.old) }
     {
         let found = self.find(ring, asking);
-        self.take_found(alloc, found)
+        self.take_found(alloc, found, asks)
     }
 
     fn find<'a>(&self, ring: &'a KeyRing, asking: Asking) -> Found<'a>
@@ -568,8 +594,15 @@ impl Conversation {
         }
     }
 
-    fn take_found(&mut self, alloc: Global, found: Found<'_>) -> Result<(), NoMemory>
+    fn take_found(
+        &mut self,
+        alloc: Global,
+        found: Found<'_>,
+        asks: &mut Asks,
+    ) -> Result<(), NoMemory>
         ensures met { OnOk result (Turns self.old self.new (λ s. sought s (meant found.entry))) }
+        ensures ready { OnOk result (FindsReady self.old (meant found.entry) asks.new) }
+        ensures asks { SameAsks asks.old asks.new }
         ensures starting { self.new.starting ≡ self.old.starting }
         ensures said { OnOk result (is_seeking (phase_of self.new.phase) ≡ true
             → self.new.said ≡ self.old.said) }
@@ -577,8 +610,8 @@ impl Conversation {
     {
         match found {
             Found::Chosen(key) => self.use_key(alloc, key),
-            Found::AsksConsent(key) => self.ask_consent(key.serial()),
-            Found::AsksKey => self.ask_key(alloc),
+            Found::AsksConsent(key) => self.ask_consent(alloc, key, asks),
+            Found::AsksKey => self.ask_key(alloc, asks),
             Found::Denied => self.deny(),
             Found::NoneServes => self.want_key(alloc),
         }
@@ -596,24 +629,31 @@ impl Conversation {
         Ok(())
     }
 
-    fn ask_consent(&mut self, serial: u64) -> Result<(), NoMemory>
+    fn ask_consent(&mut self, alloc: Global, key: &Key, asks: &mut Asks) -> Result<(), NoMemory>
         ensures met { OnOk result (Meets self.old self.new
-            (λ s. sought s (c.AsksConsent serial))) }
+            (λ s. sought s (c.AsksConsent key.now))) }
+        ensures ready { OnOk result (IsMade asks.new.confirm (public_text key.now.tuple)) }
+        ensures asks { SameAsks asks.old asks.new }
         ensures starting { self.new.starting ≡ self.old.starting }
         ensures said { self.new.said ≡ self.old.said }
         ensures unchanged { OnErr result (self.new ≡ self.old) }
     {
-        self.phase = Phase::OnConfirm(serial);
+        asks.make_confirm(alloc, key)?;
+        self.phase = Phase::OnConfirm(key.serial());
         Ok(())
     }
 
-    fn ask_key(&mut self, alloc: Global) -> Result<(), NoMemory>
+    fn ask_key(&mut self, alloc: Global, asks: &mut Asks) -> Result<(), NoMemory>
         ensures met { OnOk result (Meets self.old self.new (λ s. sought s c.AsksKey)) }
+        ensures ready { OnOk result ((s : Standing) → Carries self.old s
+            → IsMade asks.new.needkey (shown_text (template_of s.begun))) }
+        ensures asks { SameAsks asks.old asks.new }
         ensures starting { self.new.starting ≡ self.old.starting }
         ensures phase { OnOk result (is_seeking (phase_of self.new.phase) ≡ false) }
         ensures unchanged { OnErr result (self.new ≡ self.old) }
     {
         let template = self.copy_template(alloc)?;
+        asks.make_needkey(alloc, &template)?;
         self.phase = Phase::OnNeedkey(template);
         self.said.asked = true;
         Ok(())
@@ -659,20 +699,6 @@ impl Conversation {
     {
         take_back(self.starting, &mut self.begun);
         self.phase = Phase::Kept(answer);
-    }
-
-    // The user agrees to the use of a key, or denies it.
-    fn note_answer(&mut self, serial: u64, agrees: bool) -> Result<(), NoMemory>
-        ensures met { OnOk result (Meets self.old self.new (λ s. told_of serial agrees s)) }
-        ensures unchanged { OnErr result (self.new ≡ self.old) }
-    {
-        if agrees {
-            self.said.agreed.push(serial)?;
-        } else {
-            self.said.denied.push(serial)?;
-        }
-        self.phase = Phase::Seeking;
-        Ok(())
     }
 }
 

@@ -1,13 +1,12 @@
 //! One conversation of rpc: whatever it meets, it stands as the definitions say of what it met.
 #![tactic(auto)]
 
-mod answer;
-mod begun;
+mod asks;
 mod conversation;
-mod machine;
-mod opening;
-mod phase;
+mod resume;
+mod shown;
 #[cfg(test)]
 mod tests;
 
+pub use asks::Asks;
 pub use conversation::Conversation;

@@ -1,6 +1,6 @@
 // Logins, and each refusal of a request by a short talk. The messages are those of a login of ann at srv in the domain x,
 // made by bench/vectors over OpenSSL's DES.
-use super::Conversation;
+use super::{Asks, Conversation};
 use attr_tuples::{parse_tuple, print_tuple};
 use key_ring::KeyRing;
 use roles::Outcome;
@@ -216,8 +216,9 @@ fn carry(
     word: [u8; 8],
     request: Request<'_>,
 ) -> Result<(), Fail> {
+    let mut asks = Asks::new(alloc);
     conversation.store(alloc, request)?;
-    conversation.perform(alloc, word, ring, CLOSED)?;
+    conversation.perform(alloc, word, ring, CLOSED, &mut asks)?;
     if conversation.waits_for_server() {
         conversation.heard(alloc, ANSWER)?;
     }
@@ -288,15 +289,20 @@ fn check_refused(
 }
 
 // A client whose request for a key was carried out, where its user can be asked.
-fn seek(alloc: Global, client: &mut Conversation, ring: &KeyRing) -> Result<(), Fail> {
+fn seek(
+    alloc: Global,
+    client: &mut Conversation,
+    ring: &KeyRing,
+    asks: &mut Asks,
+) -> Result<(), Fail> {
     client.store(alloc, Request::Start(b"proto=p9sk1 role=client"))?;
-    client.perform(alloc, WORD, ring, OPEN)?;
+    client.perform(alloc, WORD, ring, OPEN, asks)?;
     client.take_answer();
     client.store(alloc, Request::Read)?;
-    client.perform(alloc, WORD, ring, OPEN)?;
+    client.perform(alloc, WORD, ring, OPEN, asks)?;
     client.take_answer();
     client.store(alloc, Request::Write(REQUEST))?;
-    client.perform(alloc, WORD, ring, OPEN)?;
+    client.perform(alloc, WORD, ring, OPEN, asks)?;
     Ok(())
 }
 
@@ -315,11 +321,12 @@ fn check_consent(
     client: &mut Conversation,
     ring: &KeyRing,
 ) -> Result<(), Fail> {
-    seek(alloc, client, ring)?;
+    let mut asks = Asks::new(alloc);
+    seek(alloc, client, ring, &mut asks)?;
     assert!(rt; !client.seeks());
     check_asked(rt, alloc, client)?;
-    client.consented(true)?;
-    assert!(rt; client.seeks());
+    client.consented(alloc, true, ring, OPEN, &mut asks)?;
+    assert!(rt; client.waits_for_server());
     Ok(())
 }
 
@@ -331,7 +338,7 @@ fn check_shut(
     ring: &KeyRing,
     wanted: &[u8],
 ) -> Result<(), Fail> {
-    seek(alloc, client, ring)?;
+    seek(alloc, client, ring, &mut Asks::new(alloc))?;
     client.shut();
     check_answer(rt, alloc, client, wanted, b"")
 }
@@ -343,7 +350,7 @@ fn check_unheard(
     client: &mut Conversation,
     ring: &KeyRing,
 ) -> Result<(), Fail> {
-    seek(alloc, client, ring)?;
+    seek(alloc, client, ring, &mut Asks::new(alloc))?;
     assert!(rt; matches!(client.question(), Some((asked, Shape::Tickets)) if asked == QUESTION));
     client.unheard();
     check_answer(rt, alloc, client, b"error no server", b"")
@@ -356,7 +363,7 @@ fn check_roomless(
     client: &mut Conversation,
     ring: &KeyRing,
 ) -> Result<(), Fail> {
-    seek(alloc, client, ring)?;
+    seek(alloc, client, ring, &mut Asks::new(alloc))?;
     client.roomless();
     check_answer(rt, alloc, client, b"error out of memory", b"")
 }

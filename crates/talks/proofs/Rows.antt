@@ -186,7 +186,7 @@ pub nobody_can_be_asked : searched nothing_said shut (only (asks_first 1)) ≡ D
 unfolding found_by matches
 nobody_can_be_asked = refl
 
-pub he_is_asked : searched nothing_said open_both (only (asks_first 1)) ≡ AsksConsent 1
+pub he_is_asked : searched nothing_said open_both (only (asks_first 1)) ≡ AsksConsent (asks_first 1)
 unfolding found_by matches
 he_is_asked = refl
 
@@ -199,7 +199,7 @@ unfolding found_by matches
 he_denied = refl
 
 -- his agreement was to the key that stood then
-pub a_replaced_key_is_asked_about_again : searched (agreed_to 1) open_both (only (asks_first 2)) ≡ AsksConsent 2
+pub a_replaced_key_is_asked_about_again : searched (agreed_to 1) open_both (only (asks_first 2)) ≡ AsksConsent (asks_first 2)
 unfolding found_by matches
 a_replaced_key_is_asked_about_again = refl
 
@@ -212,21 +212,21 @@ he_is_asked_for_a_key = refl
 abbrev waits : Standing
 waits = record { begun = Some client_asks; phase = OnConfirm 1; starting = false; said = nothing_said }
 
-pub the_user_is_asked : standing (Sought (AsksConsent 1) ∷ client_writes) ≡ waits
+pub the_user_is_asked : standing (Sought (AsksConsent (asks_first 1)) ∷ client_writes) ≡ waits
 unfolding protocol_of value_of role_of request_text request_of request_fields name_in before_nul is_text is_utf8 chars encode
-the_user_is_asked = next client_writes (Sought (AsksConsent 1)) a_key_is_sought refl
+the_user_is_asked = next client_writes (Sought (AsksConsent (asks_first 1))) a_key_is_sought refl
 
-pub he_agrees : standing (Consented true ∷ Sought (AsksConsent 1) ∷ client_writes) ≡ record { begun = Some client_asks; phase = Seeking; starting = false; said = agreed_to 1 }
+pub he_agrees : standing (Consented true ∷ Sought (AsksConsent (asks_first 1)) ∷ client_writes) ≡ record { begun = Some client_asks; phase = Seeking; starting = false; said = agreed_to 1 }
 unfolding protocol_of value_of role_of request_text request_of request_fields name_in before_nul is_text is_utf8 chars encode
-he_agrees = next (Sought (AsksConsent 1) ∷ client_writes) (Consented true) the_user_is_asked refl
+he_agrees = next (Sought (AsksConsent (asks_first 1)) ∷ client_writes) (Consented true) the_user_is_asked refl
 
-pub the_server_is_asked : (standing (Sought (Chosen (asks_first 1)) ∷ Consented true ∷ Sought (AsksConsent 1) ∷ client_writes)).phase ≡ OnServer
+pub the_server_is_asked : (standing (Sought (Chosen (asks_first 1)) ∷ Consented true ∷ Sought (AsksConsent (asks_first 1)) ∷ client_writes)).phase ≡ OnServer
 unfolding protocol_of role_of value_of request_text request_of request_fields name_in before_nul is_text is_utf8 chars encode
-the_server_is_asked = ap (λ (s : Standing). s.phase) (next (Consented true ∷ Sought (AsksConsent 1) ∷ client_writes) (Sought (Chosen (asks_first 1))) he_agrees refl)
+the_server_is_asked = ap (λ (s : Standing). s.phase) (next (Consented true ∷ Sought (AsksConsent (asks_first 1)) ∷ client_writes) (Sought (Chosen (asks_first 1))) he_agrees refl)
 
-pub the_file_is_closed : (standing (Shut ∷ Sought (AsksConsent 1) ∷ client_writes)).phase ≡ Kept a.Denied
+pub the_file_is_closed : (standing (Shut ∷ Sought (AsksConsent (asks_first 1)) ∷ client_writes)).phase ≡ Kept a.Denied
 unfolding protocol_of value_of role_of request_text request_of request_fields name_in before_nul is_text is_utf8 chars encode
-the_file_is_closed = ap (λ (s : Standing). s.phase) (next (Sought (AsksConsent 1) ∷ client_writes) Shut the_user_is_asked refl)
+the_file_is_closed = ap (λ (s : Standing). s.phase) (next (Sought (AsksConsent (asks_first 1)) ∷ client_writes) Shut the_user_is_asked refl)
 
 pub the_denial_is_told : answer_text a.Denied ≡ codes "error confirmation denied"
 unfolding answer_text

@@ -8,8 +8,8 @@ use Rattle.rpc_file.specs.Requests.{RpcRequest}
 pub data Found : Type 0 where
   -- this key is to be used
   Chosen : (key : KeyEntry) → Found
-  -- the user is to be asked whether the key of this number may be used
-  AsksConsent : (serial : ℕ) → Found
+  -- the user is to be asked whether this key may be used
+  AsksConsent : (key : KeyEntry) → Found
   -- the user is to be asked for a key
   AsksKey : Found
   -- there is a key, and it may not be used

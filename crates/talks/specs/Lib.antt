@@ -4,3 +4,4 @@ pub mod Searches
 pub mod Seeking
 pub mod Answers
 pub mod Standings
+pub mod Lines

@@ -6,7 +6,7 @@ use Rattle.talks.specs.declared.found.Found.TheVariants as held
 -- what the code calls it
 abbrev pub meant : Held → Found
 meant (held.Chosen key) = Chosen key.now
-meant (held.AsksConsent key) = AsksConsent key.now.serial
+meant (held.AsksConsent key) = AsksConsent key.now
 meant held.AsksKey = AsksKey
 meant held.Denied = Denied
 meant held.NoneServes = NoneServes

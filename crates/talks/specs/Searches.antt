@@ -47,7 +47,7 @@ none_left said asking keys =
 
 -- what is found where a key is left
 abbrev pub one_left : Said → KeyEntry → Found
-one_left said key = if wants_consent key && not (is_among said.agreed key) then AsksConsent key.serial else Chosen key
+one_left said key = if wants_consent key && not (is_among said.agreed key) then AsksConsent key else Chosen key
 
 -- what is found among keys that serve, where this is the first that is left, or none is
 abbrev pub found_at : Said → Asking → List KeyEntry → Option KeyEntry → Found

@@ -217,7 +217,7 @@ asks_for_key said = record { agreed = said.agreed; denied = said.denied; asked =
 
 abbrev pub sought : Standing → Found → Standing
 sought s (Chosen key) = with_key s key s.begun
-sought s (AsksConsent serial) = in_phase s (OnConfirm serial)
+sought s (AsksConsent key) = in_phase s (OnConfirm key.serial)
 sought s AsksKey = record { begun = s.begun; phase = OnNeedkey; starting = s.starting; said = asks_for_key s.said }
 sought s Denied = refused s a.Denied
 sought s NoneServes = refused s (needs_key s)

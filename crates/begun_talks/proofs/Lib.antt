@@ -1,0 +1,4 @@
+pub mod RoleLaws
+pub mod NameLemmas
+pub mod TemplateLemmas
+pub mod MoveLemmas
