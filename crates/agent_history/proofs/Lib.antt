@@ -1,3 +1,4 @@
 pub mod Examples
 pub mod TalkExamples
 pub mod ProtocolExamples
+pub mod SideExamples

@@ -2,7 +2,7 @@
 -- They show what the definitions say, and are no part of what is claimed of the product.
 use Rattle.std.proofs.Common.{◌≡◌, ℕ, List, [], ◌∷◌, ◌++◌, true, refl}
 use Rattle.std.specs.Prelude.{codes}
-use Rattle.std.specs.Fmt.{decimal}
+use Rattle.std.specs.Fmt.{decimal, digits}
 use Rattle.std.specs.Str.{is_utf8, chars}
 use Rattle.std.specs.Str.Lossy.{utf8_valid_len}
 use lib.Utf8.{encode}
@@ -39,16 +39,19 @@ use Rattle.rpc_file.specs.Answers.{answer_text}
 use Rattle.rpc_file.specs.declared.answer.RpcAnswer.TheVariants as a
 use Rattle.rpc_file.specs.Requests as rpc
 use Rattle.rpc_file.specs.Requests.{starts, reads, writes}
+use Rattle.roles.specs.declared.answer.Cause.TheVariants.{NotOffered}
+use Rattle.side_files.specs.declared.line.PromptKind.TheVariants as k
+use Rattle.side_files.specs.Calls.{Asked, Pushed}
 use Rattle.talks.specs.Calls.{Stored, CarriedOut, Sought, Chosen, AsksKey, NoneServes, Offered, KeyTold, Heard, Unheard, Took}
 use Rattle.talks.specs.Searches.{found_by}
 use Rattle.talks.specs.Standings.{Kept, finds}
 use Rattle.agent_history.specs.declared.event.Event.TheVariants.{Answer, TakeAsk}
 use Rattle.agent_history.specs.declared.event.StepAnswer.TheVariants.{Ask, DropCall, NoAsk}
-use Rattle.agent_history.specs.Deeds.{Deed, OfFids, OfKeys, OfReplies, OfTalk, OfConnection, Raised, HandedOut, DropTaken, Swept, Walked, Opened, Clunked, Edited, Awaited, Settled, Hung}
+use Rattle.agent_history.specs.Deeds.{Deed, OfFids, OfKeys, OfReplies, OfTalk, OfPrompts, OfLog, OfConnection, Raised, HandedOut, DropTaken, Swept, Walked, Opened, Clunked, Edited, Awaited, Settled, Hung}
 use Rattle.agent_history.specs.Conversations.{drops, keeps, met, standing_of}
 use Rattle.agent_history.specs.Requests.{after, refusal, reply_of}
 use Rattle.agent_history.specs.Histories.{answer_after, does}
-use Rattle.agent_history.proofs.TalkExamples.{word, call, step, reply, began}
+use Rattle.agent_history.proofs.TalkExamples.{word, call, step, reply, began, breaks, withdrawn}
 
 -- ---- words of the rows
 
@@ -119,7 +122,7 @@ pub a_choice_is_written : step shows_x (call 1 9) (t.Write 3 0 (codes "write " +
 unfolding refusal after reply_of fid_fault rpc.request_of tuple_of words_from first_word gap_len line_len utf8_valid_len attr_of is_text is_utf8 chars encode protocol_of fault_of role_of value_of answer_text
 a_choice_is_written = refl
 
-pub it_is_not_offered : step given_y (call 1 10) (t.Read 3 0 8192) ≡ tells 10 (codes "error not offered") (does_it given_y)
+pub it_is_not_offered : step given_y (call 1 10) (t.Read 3 0 8192) ≡ tells 10 (codes "error not offered") (breaks NotOffered (does_it given_y))
 unfolding refusal after reply_of fid_fault is_offered offers_dom text_in before_nul tuple_of words_from first_word gap_len line_len utf8_valid_len attr_of is_text is_utf8 chars encode protocol_of fault_of role_of value_of answer_text
 it_is_not_offered = refl
 
@@ -149,10 +152,10 @@ abbrev with_needkey : List Deed
 with_needkey = OfFids 2 (Opened 4 2) ∷ OfFids 2 (Walked 4 Needkey) ∷ began
 
 abbrev asks_user : List Deed
-asks_user = OfReplies 1 (Awaited 6 3 8192) ∷ OfTalk 0 (Sought AsksKey) ∷ without_offers with_needkey
+asks_user = OfReplies 1 (Awaited 6 3 8192) ∷ OfPrompts k.Needkey (Asked 0 (codes "proto=p9sk1 user? dom? !password?")) ∷ OfTalk 0 (Sought AsksKey) ∷ without_offers with_needkey
 
 pub its_user_is_asked : step (any_asked with_needkey) (call 1 6) (t.Read 3 0 8192) ≡ asks_user
-unfolding refusal after reply_of fid_fault finds found_by offers offers_text matches public_equal tuple_of words_from first_word gap_len line_len utf8_valid_len attr_of is_text is_utf8 chars encode protocol_of fault_of role_of value_of asked answer_text
+unfolding refusal after reply_of fid_fault finds found_by offers offers_text matches public_equal tuple_of words_from first_word gap_len line_len utf8_valid_len attr_of is_text is_utf8 chars encode protocol_of fault_of role_of value_of asked answer_text shown_text printed_text
 its_user_is_asked = refl
 
 abbrev key_added : List Deed
@@ -187,11 +190,11 @@ pub its_challenge_is_taken : step client_given (call 1 8) (t.Read 3 0 8192) ≡ 
 unfolding refusal after reply_of fid_fault finds found_by matches public_equal tuple_of words_from first_word gap_len line_len utf8_valid_len attr_of is_text is_utf8 chars encode protocol_of mail.start_fault proto_of side_of role_of value_of asked answer_text
 its_challenge_is_taken = refl
 
-abbrev client_answers : List Deed
-client_answers = tells 10 (codes "ok c4c9334bac560ecc979e58001b3e22fb") (does_it (asks 9 4 reads client_keyed))
+abbrev pub client_answers : List Deed
+client_answers = tells 10 (codes "ok c4c9334bac560ecc979e58001b3e22fb") (OfLog (Pushed (codes "0 done proto=apop role=client\n")) ∷ does_it (asks 9 4 reads client_keyed))
 
 pub its_digits_are_read : step (asks 9 4 reads client_keyed) (call 1 10) (t.Read 3 0 8192) ≡ client_answers
-unfolding apop_digits md5 rounds block_words compress digest_bytes hash_after encode_with refusal after reply_of fid_fault tuple_of words_from first_word gap_len line_len utf8_valid_len attr_of is_text is_utf8 chars encode protocol_of mail.start_fault proto_of side_of value_of answer_text
+unfolding apop_digits md5 rounds block_words compress digest_bytes hash_after encode_with refusal after reply_of fid_fault tuple_of words_from first_word gap_len line_len utf8_valid_len attr_of is_text is_utf8 chars encode protocol_of mail.start_fault proto_of side_of value_of answer_text digits
 its_digits_are_read = refl
 
 pub it_is_done : step (asks 11 4 reads client_answers) (call 1 12) (t.Read 3 0 8192) ≡ tells 12 (codes "done") (does_it (asks 11 4 reads client_answers))
@@ -237,7 +240,7 @@ unfolding told_length request_text tuple_of words_from first_word gap_len line_l
 its_challenge_comes = refl
 
 abbrev clunked : List Deed
-clunked = reply 7 r.Clunk ∷ OfFids 1 (Clunked 3) ∷ server_has
+clunked = reply 7 r.Clunk ∷ OfFids 1 (Clunked 3) ∷ withdrawn server_has
 
 pub its_fid_is_given_up : step server_has (call 1 7) (t.Clunk 3) ≡ clunked
 unfolding refusal after reply_of fid_fault

@@ -27,7 +27,8 @@ use Rattle.key_lists.specs.Edits.{Add, Delete}
 use Rattle.ticket_codec.specs.Fields.{name_in, before_nul}
 use Rattle.ticket_codec.specs.Request as tickets
 use Rattle.ticket_codec.specs.Request.{request_text, request_fields}
-use Rattle.roles.specs.declared.answer.Cause.TheVariants.{NoServer}
+use Rattle.roles.specs.declared.answer.Cause.{Cause}
+use Rattle.roles.specs.declared.answer.Cause.TheVariants.{NoServer, NoRoom, ServerSaidNo}
 use Rattle.roles.specs.declared.need.Outcome.TheVariants.{Broken, Running}
 use Rattle.roles.specs.Starts.{role_of, start_fault}
 use Rattle.roles.specs.Templates.{asked, given_as, shown_text}
@@ -36,11 +37,15 @@ use Rattle.rpc_file.specs.Requests as rpc
 use Rattle.rpc_file.specs.Requests.{starts, reads, writes}
 use Rattle.conv_set.specs.Protocols.{protocol_of}
 use Rattle.talks.specs.Calls.{Stored, CarriedOut, Sought, Chosen, NoneServes, Heard, Unheard, Roomless, Took}
+use Rattle.side_files.specs.declared.line.PromptKind.TheVariants as k
+use Rattle.side_files.specs.Calls.{Pushed, Withdrawn}
+use Rattle.talks.specs.Lines.{error_line}
 use Rattle.talks.specs.Searches.{found_by}
 use Rattle.talks.specs.Standings.{finds}
-use Rattle.agent_history.specs.declared.event.Event.TheVariants.{Answer, NoAnswer, NoRoom, TakeAsk}
+use Rattle.agent_history.specs.declared.event.Event.TheVariants.{Answer, NoAnswer, TakeAsk}
+use Rattle.agent_history.specs.declared.event.Event.TheVariants as events
 use Rattle.agent_history.specs.declared.event.StepAnswer.TheVariants.{Ask, NoAsk, Stopped}
-use Rattle.agent_history.specs.Deeds.{Deed, OfFids, OfKeys, OfReplies, OfConnection, OfTalk, Raised, HandedOut, Swept, Halted, Versioned, Walked, Opened, Clunked, Edited, Answered, Awaited, Settled, Flushed, Entered, Hung}
+use Rattle.agent_history.specs.Deeds.{Deed, OfFids, OfKeys, OfReplies, OfConnection, OfTalk, OfPrompts, OfLog, Raised, HandedOut, Swept, Halted, Versioned, Walked, Opened, Clunked, Edited, Answered, Awaited, Settled, Flushed, Entered, Hung}
 use Rattle.agent_history.specs.Replies.{swept, untaken, waits}
 use Rattle.agent_history.specs.Conversations.{chosen_at, outcome_at, questions, speakers}
 use Rattle.agent_history.specs.Requests.{Call, after, after_granted, body_for, granted_body, refusal, replied, reply_of}
@@ -88,7 +93,7 @@ a_conversation_stands = refl
 abbrev client_start : List ℕ
 client_start = codes "start proto=p9sk1 role=client"
 
-abbrev wrote : List Deed
+abbrev pub wrote : List Deed
 wrote = reply 5 (r.Write 29) ∷ OfTalk 0 (Stored (starts (codes "proto=p9sk1 role=client"))) ∷ began
 
 pub a_start_is_written : step began (call 1 5) (t.Write 3 0 client_start) ≡ wrote
@@ -144,14 +149,14 @@ a_later_read_has_it = refl
 
 -- ---- a server's request finds no key
 
-abbrev chal : List ℕ
+abbrev pub chal : List ℕ
 chal = 16 ∷ 17 ∷ 18 ∷ 19 ∷ 20 ∷ 21 ∷ 22 ∷ 23 ∷ []
 
 -- the request of the server srv in the domain x
 abbrev server_request : List ℕ
 server_request = request_text (record { kind = 1; authid = codes "srv"; authdom = codes "x"; chal = chal; hostid = []; uid = [] })
 
-abbrev gave_request : List Deed
+abbrev pub gave_request : List Deed
 gave_request = reply 9 (r.Write 147) ∷ OfTalk 0 (Stored (writes server_request)) ∷ has_word
 
 pub the_request_is_written : step has_word (call 1 9) (t.Write 3 0 (codes "write " ++ server_request)) ≡ gave_request
@@ -167,7 +172,7 @@ a_key_is_wanted = refl
 
 -- ---- a server's start on no keys is none
 
-abbrev server_wrote : List Deed
+abbrev pub server_wrote : List Deed
 server_wrote = reply 5 (r.Write 29) ∷ OfTalk 0 (Stored (starts (codes "proto=p9sk1 role=server"))) ∷ began
 
 pub a_servers_start_is_written : step began (call 1 5) (t.Write 3 0 (codes "start proto=p9sk1 role=server")) ≡ server_wrote
@@ -190,17 +195,17 @@ it_was_not_started = refl
 
 -- ---- a key of ann, and the question for the authentication server
 
-abbrev anns : List Attr
+abbrev pub anns : List Attr
 anns = given_as (codes "proto") (codes "p9sk1") ∷ given_as (codes "dom") (codes "x") ∷ given_as (codes "user") (codes "ann") ∷ given_as (codes "!password") (codes "a") ∷ []
 
 -- connection 2 added her key before the request was carried out
-abbrev with_key : List Deed
+abbrev pub with_key : List Deed
 with_key = OfReplies 2 (Answered 1 (r.Write 44)) ∷ OfKeys 2 (Edited (Add anns)) ∷ gave_request
 
-abbrev ann : KeyEntry
+abbrev pub ann : KeyEntry
 ann = record { tuple = anns; serial = 1 }
 
-abbrev asks : List Deed
+abbrev pub asks : List Deed
 asks = OfReplies 1 (Awaited 10 3 8192) ∷ Raised 0 ∷ OfTalk 0 (Sought (Chosen ann)) ∷ OfTalk 0 (CarriedOut word) ∷ with_key
 
 pub the_server_is_asked : step with_key (call 1 10) (t.Read 3 0 9000) ≡ asks
@@ -229,8 +234,16 @@ nothing_is_handed_out = refl
 abbrev told_of : RBody → List Deed → List Deed
 told_of body done = Swept ∷ OfReplies 1 (Settled 10 body) ∷ OfTalk 0 Took ∷ done
 
-abbrev unheard : List Deed
-unheard = told_of (r.Read (codes "error no server")) (OfTalk 0 Unheard ∷ HandedOut ∷ asks)
+-- that it broke is written into the log
+abbrev pub breaks : Cause → List Deed → List Deed
+breaks cause done = OfLog (Pushed (error_line 0 cause)) ∷ done
+
+-- its questions to its user are withdrawn, where it has any
+abbrev pub withdrawn : List Deed → List Deed
+withdrawn done = OfPrompts k.Needkey (Withdrawn 0) ∷ OfPrompts k.Confirm (Withdrawn 0) ∷ done
+
+abbrev pub unheard : List Deed
+unheard = told_of (r.Read (codes "error no server")) (breaks NoServer (OfTalk 0 Unheard ∷ HandedOut ∷ asks))
 
 pub no_server_is_told : does (HandedOut ∷ asks) (NoAnswer 1) ≡ unheard
 unfolding request_text tuple_of words_from first_word gap_len line_len utf8_valid_len attr_of tickets.request_of request_fields name_in before_nul is_text is_utf8 chars encode protocol_of start_fault role_of value_of asked answer_text
@@ -243,11 +256,11 @@ pub none_is_told_elsewhere : untaken unheard 2 ≡ untaken asks 2
 none_is_told_elsewhere = refl
 
 -- also where the question wasn't handed out; it isn't then
-pub no_room_is_told : does asks (NoRoom 1) ≡ told_of (r.Read (codes "error out of memory")) (OfTalk 0 Roomless ∷ asks)
+pub no_room_is_told : does asks (events.NoRoom 1) ≡ told_of (r.Read (codes "error out of memory")) (breaks NoRoom (OfTalk 0 Roomless ∷ asks))
 unfolding request_text tuple_of words_from first_word gap_len line_len utf8_valid_len attr_of tickets.request_of request_fields name_in before_nul is_text is_utf8 chars encode protocol_of start_fault role_of value_of asked answer_text
 no_room_is_told = refl
 
-pub it_leaves_the_queue : questions (told_of (r.Read (codes "error out of memory")) (OfTalk 0 Roomless ∷ asks)) ≡ []
+pub it_leaves_the_queue : questions (told_of (r.Read (codes "error out of memory")) (breaks NoRoom (OfTalk 0 Roomless ∷ asks))) ≡ []
 it_leaves_the_queue = refl
 
 -- an unknown number changes nothing
@@ -270,11 +283,11 @@ pub the_conversation_waits_on : questions flushed ≡ record { call = 1; conv = 
 the_conversation_waits_on = refl
 
 -- the server's refusal, with its text of 64 bytes
-abbrev refusal_text : List ℕ
+abbrev pub refusal_text : List ℕ
 refusal_text = 5 ∷ replicate 64 0
 
 abbrev heard : List Deed
-heard = OfTalk 0 (Heard refusal_text) ∷ flushed
+heard = breaks ServerSaidNo (OfTalk 0 (Heard refusal_text) ∷ flushed)
 
 pub none_is_told_yet : does flushed (Answer 1 refusal_text) ≡ heard
 unfolding request_text tuple_of words_from first_word gap_len line_len utf8_valid_len attr_of tickets.request_of request_fields name_in before_nul is_text is_utf8 chars encode protocol_of start_fault role_of value_of asked answer_text
@@ -292,7 +305,7 @@ pub it_waits_again : step flushed (call 1 12) (t.Read 3 0 20) ≡ waits_again
 unfolding refusal after reply_of fid_fault request_text tuple_of words_from first_word gap_len line_len utf8_valid_len attr_of tickets.request_of request_fields name_in before_nul is_text is_utf8 chars encode protocol_of start_fault role_of value_of asked answer_text
 it_waits_again = refl
 
-pub the_later_is_told : does waits_again (Answer 1 refusal_text) ≡ Swept ∷ OfReplies 1 (Settled 12 (r.Read (codes "error server said no"))) ∷ OfTalk 0 Took ∷ OfTalk 0 (Heard refusal_text) ∷ waits_again
+pub the_later_is_told : does waits_again (Answer 1 refusal_text) ≡ Swept ∷ OfReplies 1 (Settled 12 (r.Read (codes "error server said no"))) ∷ OfTalk 0 Took ∷ breaks ServerSaidNo (OfTalk 0 (Heard refusal_text) ∷ waits_again)
 unfolding request_text tuple_of words_from first_word gap_len line_len utf8_valid_len attr_of tickets.request_of request_fields name_in before_nul is_text is_utf8 chars encode protocol_of start_fault role_of value_of asked answer_text
 the_later_is_told = refl
 
@@ -301,7 +314,7 @@ abbrev waits_short : List Deed
 waits_short = OfReplies 1 (Awaited 12 3 19) ∷ flushed
 
 abbrev stays : List Deed
-stays = Swept ∷ OfReplies 1 (Settled 12 (r.Error (codes "read too small"))) ∷ OfTalk 0 (Heard refusal_text) ∷ waits_short
+stays = Swept ∷ OfReplies 1 (Settled 12 (r.Error (codes "read too small"))) ∷ breaks ServerSaidNo (OfTalk 0 (Heard refusal_text) ∷ waits_short)
 
 pub a_wait_is_too_small : does waits_short (Answer 1 refusal_text) ≡ stays
 unfolding request_text tuple_of words_from first_word gap_len line_len utf8_valid_len attr_of tickets.request_of request_fields name_in before_nul is_text is_utf8 chars encode protocol_of start_fault role_of value_of asked answer_text
@@ -327,7 +340,7 @@ no_request_meanwhile = refl
 -- ---- the conversation ends while a read waits
 
 abbrev clunked : List Deed
-clunked = Swept ∷ reply 12 r.Clunk ∷ OfFids 1 (Clunked 3) ∷ asks
+clunked = Swept ∷ reply 12 r.Clunk ∷ OfFids 1 (Clunked 3) ∷ withdrawn asks
 
 pub its_fid_is_given_up : step asks (call 1 12) (t.Clunk 3) ≡ clunked
 unfolding refusal after reply_of fid_fault
@@ -346,7 +359,7 @@ pub none_stands : speakers clunked ≡ []
 none_stands = refl
 
 -- a remove ends it too, and is refused
-pub a_remove_ends_it : step asks (call 1 12) (t.Remove 3) ≡ Swept ∷ reply 12 (r.Error (codes "permission denied")) ∷ OfFids 1 (Clunked 3) ∷ asks
+pub a_remove_ends_it : step asks (call 1 12) (t.Remove 3) ≡ Swept ∷ reply 12 (r.Error (codes "permission denied")) ∷ OfFids 1 (Clunked 3) ∷ withdrawn asks
 unfolding refusal after reply_of fid_fault
 a_remove_ends_it = refl
 
@@ -359,7 +372,7 @@ pub a_hang_tells_none : (waits (OfConnection 1 Hung ∷ asks) 1 ≡ []) × (ques
 a_hang_tells_none = (refl, refl)
 
 abbrev renewed : List Deed
-renewed = reply 12 (r.Version 256 (codes "9P2000")) ∷ OfFids 1 (Versioned (Some 256)) ∷ asks
+renewed = reply 12 (r.Version 256 (codes "9P2000")) ∷ OfFids 1 (Versioned (Some 256)) ∷ withdrawn asks
 
 pub a_version_tells_none : step asks (call 1 12) (t.Version 256 (codes "9P2000")) ≡ renewed
 unfolding refusal after reply_of

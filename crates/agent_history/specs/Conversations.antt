@@ -1,25 +1,31 @@
--- The conversations of an agent and their questions for the authentication server, read off a list of deeds. After
--- factotum(4) of the Plan 9 manual: each opening of rpc is a conversation, which ends with its fid.
-use Rattle.std.specs.Prelude.{ℕ, ◌+◌, List, [], ◌∷◌, ◌++◌, length, drop, map, filter, find, Bool, true, false, not, ◌&&◌, ◌==◌, nat_le, nat_lt, Option, Some, None, is_some, option_map, codes, if◌then◌else◌}
+-- The conversations of an agent, their questions for the authentication server and what they ask their users, read off a
+-- list of deeds. After factotum(4) of the Plan 9 manual: each opening of rpc is a conversation, which ends with its fid.
+use Rattle.std.specs.Prelude.{ℕ, ◌+◌, List, [], ◌∷◌, ◌++◌, length, drop, map, filter, find, Bool, true, false, not, ◌&&◌, ◌==◌, nat_le, nat_lt, Option, Some, None, is_some, option_map, if◌then◌else◌}
 use Rattle.std.specs.List.{list_any}
 use Rattle.wire_base.specs.declared.shape.Shape.{Shape}
 use Rattle.wire_base.specs.declared.shape.Shape.TheVariants.{Challenge, Vouch, Tickets}
 use Rattle.nine_messages.specs.declared.message.RBody.{RBody}
 use Rattle.nine_messages.specs.declared.message.RBody.TheVariants as r
 use Rattle.file_tree.specs.declared.tree.Node.TheVariants.{Rpc, Confirm, Needkey}
+use Rattle.attr_tuples.specs.Printing.{public_text}
 use Rattle.key_lists.specs.Lists.{KeyEntry}
 use Rattle.roles.specs.declared.need.Need.{Need}
 use Rattle.roles.specs.declared.need.Need.TheVariants.{Nothing, Key, Offers, Pick, Exchange}
 use Rattle.roles.specs.declared.need.Outcome.{Outcome}
-use Rattle.conv_set.specs.Protocols.{is_over}
+use Rattle.roles.specs.Templates.{shown_text}
 use Rattle.rpc_file.specs.Answers.{answer_text}
 use Rattle.rpc_file.specs.declared.answer.RpcAnswer.{RpcAnswer}
+use Rattle.side_files.specs.declared.line.PromptKind.{PromptKind}
+use Rattle.side_files.specs.declared.line.PromptKind.TheVariants as k
+use Rattle.side_files.specs.Calls as side
 use Rattle.talks.specs.Calls as calls
 use Rattle.talks.specs.Calls.{Call}
 use Rattle.talks.specs.declared.said.Asking.{Asking}
-use Rattle.talks.specs.Standings.{Phase, Standing, Kept, OnServer, Seeking, finds, key_of, outcome_of, question_of, standing}
-use Rattle.agent_history.specs.Deeds.{Deed, OfFids, OfReplies, OfConnection, OfTalk, Raised, HandedOut, DropTaken, Halted, Versioned, Opened, Clunked, Settled, Hung, fid_of, holder_of, keys_of, names}
-use Rattle.agent_history.specs.Replies.{Wait, is_unsettled, waits}
+use Rattle.talks.specs.Lines.{is_end, log_lines}
+use Rattle.talks.specs.Standings.{Phase, Standing, Kept, OnServer, Seeking, finds, key_of, outcome_of, question_of, standing, template_of}
+use Rattle.agent_history.specs.Deeds.{Deed, OfFids, OfReplies, OfConnection, OfTalk, OfPrompts, OfLog, Raised, HandedOut, DropTaken, Halted, Versioned, Opened, Clunked, Settled, Hung, fid_of, holder_of, is_debug, keys_of, names}
+use Rattle.agent_history.specs.Replies.{Wait, reader, too_small}
+use Rattle.agent_history.specs.SideFiles.{all_served, askers, file_of}
 
 -- ---- conversations
 
@@ -149,11 +155,6 @@ asks_challenge (Offers template) = false
 asks_challenge (Pick templates) = false
 asks_challenge Nothing = false
 
--- a conversation has come to its end
-abbrev pub is_end : Option Outcome → Bool
-is_end None = false
-is_end (Some outcome) = is_over outcome
-
 -- behind a question that is handed out: its own conversation keeps the connection over which it asks for a challenge, and
 -- uses up the one that it kept by any other question
 abbrev pub kept_by : List Deed → Option Question → ℕ → Bool → Bool
@@ -225,9 +226,20 @@ raising conv phase done = done
 abbrev pub then_raised : ℕ → List Deed → List Deed
 then_raised conv done = raising conv (standing_of done conv).phase done
 
+-- the user is asked where a search comes to that: whether a key may be used, which is shown without its secrets, or for a
+-- key, by the template that was searched for
+abbrev pub prompting : ℕ → calls.Found → List Deed → List Deed
+prompting conv (calls.AsksConsent key) done = OfPrompts k.Confirm (side.Asked conv (public_text key.tuple)) ∷ done
+prompting conv calls.AsksKey done = OfPrompts k.Needkey (side.Asked conv (shown_text (template_of (standing_of done conv).begun))) ∷ done
+prompting conv came done = done
+
+-- a conversation came to this by a search
+abbrev pub sought : ℕ → calls.Found → List Deed → List Deed
+sought conv came done = prompting conv came (OfTalk conv (calls.Sought came) ∷ done)
+
 -- what is needed of the keys is searched for, where something is, among the keys of this moment
 abbrev pub seeking : ℕ → Phase → List Deed → List Deed
-seeking conv Seeking done = OfTalk conv (calls.Sought (finds (standing_of done conv) (asking done) (keys_of done))) ∷ done
+seeking conv Seeking done = sought conv (finds (standing_of done conv) (asking done) (keys_of done)) done
 seeking conv phase done = done
 
 abbrev pub sought_once : ℕ → List Deed → List Deed
@@ -242,9 +254,19 @@ seeking_all false conv done = sought_once conv done
 abbrev pub then_sought : ℕ → List Deed → List Deed
 then_sought conv done = seeking_all (standing_of done conv).starting conv done
 
--- a conversation met something, and what it needs then is got for it
+-- lines are written into the log
+abbrev pub logged : List (List ℕ) → List Deed → List Deed
+logged [] done = done
+logged (line ∷ more) done = logged more (OfLog (side.Pushed line) ∷ done)
+
+-- what became of a conversation that stood so is written into the log
+abbrev pub then_logged : ℕ → Standing → List Deed → List Deed
+then_logged conv before done = logged (log_lines (is_debug done) conv before (standing_of done conv)) done
+
+-- a conversation met something, and what it needs then is got for it or asked for; the reads of the three files that wait
+-- are given the lines that came
 abbrev pub met : ℕ → Call → List Deed → List Deed
-met conv call done = then_raised conv (then_sought conv (OfTalk conv call ∷ done))
+met conv call done = all_served (then_logged conv (standing_of done conv) (then_raised conv (then_sought conv (OfTalk conv call ∷ done))))
 
 -- ---- answers
 
@@ -254,7 +276,7 @@ fits count answer = nat_le (length (answer_text answer)) count
 
 -- what the read is told: the answer's text, or that it holds too little
 abbrev pub told : ℕ → RpcAnswer → RBody
-told count answer = if fits count answer then r.Read (answer_text answer) else r.Error (codes "read too small")
+told count answer = if fits count answer then r.Read (answer_text answer) else too_small
 
 -- an answer that was read is gone, and one that doesn't fit is kept
 abbrev pub then_took : ℕ → ℕ → RpcAnswer → List Deed → List Deed
@@ -262,7 +284,7 @@ then_took conv count answer done = if fits count answer then OfTalk conv calls.T
 
 -- the read that waits for the answers of a fid
 abbrev pub reader_of : List Deed → Speaker → Option Wait
-reader_of done s = find (λ wait. wait.fid == s.fid && is_unsettled wait) (waits done s.conn)
+reader_of done s = reader done s.conn s.fid
 
 -- an answer goes to the read that waits for it, if one does
 abbrev pub give_to : ℕ → ℕ → RpcAnswer → Option Wait → List Deed → List Deed
@@ -276,7 +298,34 @@ deliver_to conv phase speaker done = done
 abbrev pub delivered : ℕ → List Deed → List Deed
 delivered conv done = deliver_to conv (standing_of done conv).phase (speaker_of done conv) done
 
--- the authentication server is done with the question of a number
+-- a conversation meets what it waited for: the authentication server is done with its question, or its user replied
 abbrev pub resumed : Option ℕ → Call → List Deed → List Deed
 resumed None call done = done
 resumed (Some conv) call done = delivered conv (met conv call done)
+
+-- ---- ends
+
+-- the questions of a conversation to its user are withdrawn
+abbrev pub all_withdrawn : List ℕ → List Deed → List Deed
+all_withdrawn [] done = done
+all_withdrawn (conv ∷ more) done = all_withdrawn more (OfPrompts k.Needkey (side.Withdrawn conv) ∷ OfPrompts k.Confirm (side.Withdrawn conv) ∷ done)
+
+-- the conversations that end by a deed
+abbrev pub ended_by : Deed → List Deed → List ℕ
+ended_by deed before = map (λ s. s.conv) (filter (λ s. not (stands (deed ∷ before) s.conv)) (speakers before))
+
+-- the file of its question was closed: the question is withdrawn, and the request that waits for its reply is refused
+abbrev pub shut : PromptKind → ℕ → List Deed → List Deed
+shut kind conv done = delivered conv (OfTalk conv calls.Shut ∷ OfPrompts kind (side.Withdrawn conv) ∷ done)
+
+abbrev pub all_shut : PromptKind → List ℕ → List Deed → List Deed
+all_shut kind [] done = done
+all_shut kind (conv ∷ more) done = all_shut kind more (shut kind conv done)
+
+-- whoever waits for a reply in a file that nobody has open
+abbrev pub closed : PromptKind → List Deed → List Deed
+closed kind done = if is_some (holder_of done (file_of kind)) then done else all_shut kind (askers done kind) done
+
+-- fids are given up by a deed, and with them conversations, whose questions are withdrawn first, and open files
+abbrev pub given_up_by : Deed → List Deed → List Deed
+given_up_by deed before = closed k.Needkey (closed k.Confirm (deed ∷ all_withdrawn (ended_by deed before) before))

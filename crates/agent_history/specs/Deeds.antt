@@ -1,8 +1,9 @@
 -- What an agent did, as a list of deeds, the newest first: what stands behind a deed is all that was done before it. What
 -- is asked of it is one recursion a question; a deed that a question doesn't name leaves its answer as it was. Each deed
 -- has a meaning at each place of a list: where it finds nothing it does nothing.
--- After section 5 of the Plan 9 manual (version, attach, walk, open, read, clunk, flush) and factotum(4) (ctl).
-use Rattle.std.specs.Prelude.{ℕ, ◌+◌, ◌-◌, List, [], ◌∷◌, Bool, true, false, ◌&&◌, ◌||◌, ◌==◌, Option, Some, None, if◌then◌else◌}
+-- After section 5 of the Plan 9 manual (version, attach, walk, open, read, clunk, flush) and factotum(4) (ctl, confirm,
+-- needkey, log).
+use Rattle.std.specs.Prelude.{ℕ, ◌+◌, ◌-◌, List, [], ◌∷◌, Bool, true, false, not, ◌&&◌, ◌||◌, ◌==◌, Option, Some, None, if◌then◌else◌}
 use Rattle.nine_messages.specs.declared.message.RBody.{RBody}
 use Rattle.file_tree.specs.declared.tree.Node.{Node}
 use Rattle.file_tree.specs.declared.tree.FidState.{FidState}
@@ -11,6 +12,8 @@ use Rattle.file_tree.specs.Calls.{attached, at_rest, opened}
 use Rattle.key_lists.specs.Lists.{KeyList}
 use Rattle.key_lists.specs.Edits.{KeyEdit, keys_after}
 use Rattle.key_lists.specs.Listing.{list_text}
+use Rattle.side_files.specs.Calls as side
+use Rattle.side_files.specs.declared.line.PromptKind.{PromptKind}
 use Rattle.talks.specs.Calls.{Call}
 
 -- what was done with the fids of a connection
@@ -66,6 +69,10 @@ pub data Deed : Type 0 where
   OfConnection : (conn : ℕ) (deed : ConnectionDeed) → Deed
   -- what the conversation of a number met
   OfTalk : (conv : ℕ) (call : Call) → Deed
+  -- what was done with the questions of confirm, or of needkey
+  OfPrompts : (kind : PromptKind) (call : side.Call) → Deed
+  -- what was done with the log
+  OfLog : (call : side.LogCall) → Deed
   -- a conversation asks the authentication server, under the next number
   Raised : (conv : ℕ) → Deed
   -- the oldest question that wasn't handed out yet was handed out
@@ -191,6 +198,12 @@ edits_of (deed ∷ before) = edits_of before
 -- the keys
 abbrev pub keys_of : List Deed → KeyList
 keys_of done = keys_after (edits_of done)
+
+-- the further lines of the log are wanted: each such line of ctl switches them on or off
+abbrev pub is_debug : List Deed → Bool
+is_debug [] = false
+is_debug (OfKeys at Switched ∷ before) = not (is_debug before)
+is_debug (deed ∷ before) = is_debug before
 
 -- the text that a fid open on ctl reads: the list at its last read from 0, none before it
 abbrev pub text_of : List Deed → ℕ → ℕ → List ℕ

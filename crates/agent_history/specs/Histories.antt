@@ -15,7 +15,7 @@ use Rattle.roles.specs.declared.need.Need.TheVariants.{Nothing, Key, Offers, Pic
 use Rattle.talks.specs.Calls.{Heard, Unheard, Roomless}
 use Rattle.talks.specs.Standings.{question_of}
 use Rattle.agent_history.specs.Replies.{swept, untaken}
-use Rattle.agent_history.specs.Conversations.{Question, Due, NoneDue, DropDue, QuestionDue, asker, due, resumed, standing_of}
+use Rattle.agent_history.specs.Conversations.{Question, Due, NoneDue, DropDue, QuestionDue, asker, due, given_up_by, resumed, standing_of}
 use Rattle.agent_history.specs.Requests.{answered, call_of}
 
 -- an entry: who made it, and what happened
@@ -55,7 +55,7 @@ handing (QuestionDue question) done = HandedOut ∷ done
 abbrev pub does : List Deed → Event → List Deed
 does done (Request at frame word) = if was_hung done at then done else swept (answered (entered at done) (call_of at frame word) frame)
 does done (Take at) = if was_hung done at then done else taking at (untaken done at) (entered at done)
-does done (Hang at) = if was_opened done at && not (was_hung done at) then OfConnection at Hung ∷ done else done
+does done (Hang at) = if was_opened done at && not (was_hung done at) then swept (given_up_by (OfConnection at Hung) done) else done
 does done (AnswerCame call bytes) = swept (resumed (asker done call) (Heard bytes) done)
 does done (NoAnswer call) = swept (resumed (asker done call) Unheard done)
 does done (NoRoom call) = swept (resumed (asker done call) Roomless done)

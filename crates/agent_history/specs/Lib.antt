@@ -1,5 +1,6 @@
 pub mod Deeds
 pub mod Replies
+pub mod SideFiles
 pub mod Conversations
 pub mod Requests
 pub mod Histories

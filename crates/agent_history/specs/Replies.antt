@@ -1,6 +1,6 @@
 -- Replies and the reads that wait for one, read off a list of deeds. After section 5 of the Plan 9 manual (intro, read,
 -- flush, clunk, version): a tag is a request's until its reply, and a flush gives it up.
-use Rattle.std.specs.Prelude.{ℕ, ◌+◌, List, [], ◌∷◌, ◌++◌, length, drop, map, filter, reverse, Bool, false, not, ◌&&◌, ◌||◌, ◌==◌, nat_lt, Option, Some, None, is_some, option_map, codes, if◌then◌else◌}
+use Rattle.std.specs.Prelude.{ℕ, ◌+◌, List, [], ◌∷◌, ◌++◌, length, drop, map, filter, find, reverse, Bool, false, not, ◌&&◌, ◌||◌, ◌==◌, nat_lt, Option, Some, None, is_some, option_map, codes, if◌then◌else◌}
 use Rattle.std.specs.List.{list_any, filter_map}
 use Rattle.nine_messages.specs.declared.message.RMsg.{RMsg}
 use Rattle.nine_messages.specs.declared.message.RBody.{RBody}
@@ -41,6 +41,10 @@ settle_fid fid body wait = if wait.fid == fid then settled_by body wait else wai
 abbrev pub fid_given_up : RBody
 fid_given_up = Error (codes "unknown fid")
 
+-- what a read is told that may hold less than what there is to read
+abbrev pub too_small : RBody
+too_small = Error (codes "read too small")
+
 -- the reads of a connection that wait, in the order in which they came
 abbrev pub waits : List Deed → ℕ → List Wait
 waits [] conn = []
@@ -60,6 +64,10 @@ waits_under done conn tag = list_any (λ wait. wait.tag == tag) (waits done conn
 
 abbrev pub waits_for : List Deed → ℕ → ℕ → Bool
 waits_for done conn fid = list_any (λ wait. wait.fid == fid) (waits done conn)
+
+-- the first read of a fid that waits and isn't settled
+abbrev pub reader : List Deed → ℕ → ℕ → Option Wait
+reader done conn fid = find (λ wait. wait.fid == fid && is_unsettled wait) (waits done conn)
 
 -- some read was settled since the last sweep
 abbrev pub has_settled : List Deed → Bool

@@ -13,7 +13,7 @@ use Rattle.nine_messages.specs.declared.message.RBody.{RBody}
 use Rattle.nine_messages.specs.declared.message.RBody.TheVariants as r
 use Rattle.nine_messages.specs.Decoding.{request_of}
 use Rattle.file_tree.specs.declared.tree.Node.{Node}
-use Rattle.file_tree.specs.declared.tree.Node.TheVariants.{Root, Factotum, Rpc, Ctl, Confirm, Needkey, Proto, Log}
+use Rattle.file_tree.specs.declared.tree.Node.TheVariants.{Root, Factotum, Rpc, Ctl, Proto}
 use Rattle.file_tree.specs.declared.fault.FidFault.{FidFault}
 use Rattle.file_tree.specs.Faults.{fault_text}
 use Rattle.file_tree.specs.Tree.{qid_of, is_directory, is_exclusive, visited, lead_to}
@@ -22,15 +22,23 @@ use Rattle.file_tree.specs.Directories.{dir_bytes, dir_end}
 use Rattle.file_tree.specs.Calls.{fid_fault, attach_fault, walk_fault, open_fault, dir_fault, node_of, mode_of, is_open, reads, writes}
 use Rattle.key_lists.specs.Listing.{list_text}
 use Rattle.key_lists.specs.CtlLines.{CtlLine, OnKeys, Debug, lines_of, carried_out, lines_fault}
-use Rattle.agent_history.specs.Deeds.{Deed, KeyDeed, OfFids, OfKeys, OfReplies, OfTalk, Versioned, Attached, Walked, Opened, Listed, Browsed, Clunked, Edited, Switched, Answered, Awaited, Flushed, msize_of, fid_of, held_by, next_of, holder_of, keys_of, text_of}
+use Rattle.agent_history.specs.Deeds.{Deed, KeyDeed, OfFids, OfKeys, OfReplies, OfTalk, OfPrompts, Versioned, Attached, Walked, Opened, Listed, Browsed, Clunked, Edited, Switched, Answered, Awaited, Flushed, msize_of, fid_of, held_by, next_of, holder_of, keys_of, text_of}
 use Rattle.rpc_file.specs.Requests.{RpcRequest}
 use Rattle.rpc_file.specs.Requests as rpc
 use Rattle.rpc_file.specs.declared.request.RpcFault.{RpcFault}
-use Rattle.rpc_file.specs.declared.request.RpcFault.TheVariants.{TooLong, UnknownVerb}
+use Rattle.rpc_file.specs.declared.request.RpcFault.TheVariants as fault
+use Rattle.side_files.specs.declared.line.PromptKind.{PromptKind}
+use Rattle.side_files.specs.declared.line.PromptKind.TheVariants as k
+use Rattle.side_files.specs.declared.reply.Reply.{Reply}
+use Rattle.side_files.specs.Calls as side
+use Rattle.side_files.specs.Lines.{Found, Nothing, TooLong, First, found}
+use Rattle.side_files.specs.Questions.{asker_of}
+use Rattle.side_files.specs.Replies as prompt
 use Rattle.talks.specs.Calls as calls
 use Rattle.talks.specs.Standings.{Phase, Kept, Resting, Waiting}
-use Rattle.agent_history.specs.Replies.{waits, waits_for, waits_under}
-use Rattle.agent_history.specs.Conversations.{conv_of, met, speakers, standing_of, then_took, told}
+use Rattle.agent_history.specs.Replies.{too_small, waits, waits_for, waits_under}
+use Rattle.agent_history.specs.SideFiles.{is_line_file, kind_at, line_read, lines_in, prompts_of}
+use Rattle.agent_history.specs.Conversations.{conv_of, given_up_by, met, resumed, speakers, standing_of, then_took, told}
 
 -- what every request carries: its connection, its tag, and the word that was drawn for it
 pub record Call : Type 0 where
@@ -68,17 +76,6 @@ abbrev pub lets_write : Option ℕ → Bool
 lets_write None = false
 lets_write (Some mode) = writes mode
 
--- a file whose opening isn't served yet
-abbrev pub opens_later : Node → Bool
-opens_later Confirm = true
-opens_later Needkey = true
-opens_later node = false
-
--- a file whose reading isn't served yet
-abbrev pub reads_later : Node → Bool
-reads_later Log = true
-reads_later node = opens_later node
-
 -- the file of conversations
 abbrev pub is_rpc : Node → Bool
 is_rpc Rpc = true
@@ -113,12 +110,36 @@ waits_enough done conn = not (nat_lt (length (waits done conn)) most_waits)
 
 -- what is written is no request of rpc
 abbrev pub is_too_long : Result RpcRequest RpcFault → Bool
-is_too_long (Err TooLong) = true
+is_too_long (Err fault.TooLong) = true
 is_too_long result = false
 
 abbrev pub is_unknown : Result RpcRequest RpcFault → Bool
-is_unknown (Err UnknownVerb) = true
+is_unknown (Err fault.UnknownVerb) = true
 is_unknown result = false
+
+-- how many bytes a reply may hold of what is read: the count asked for, or what a message of the size agreed holds
+abbrev pub effective : ℕ → Option ℕ → ℕ
+effective count None = 0
+effective count (Some msize) = min count (msize - 24)
+
+-- what a read of a file of lines finds
+abbrev pub line_found : List Deed → Call → ℕ → Node → Found
+line_found done call count node = found (effective count (msize_of done call.conn)) (lines_in done node)
+
+abbrev pub finds_none : Found → Bool
+finds_none Nothing = true
+finds_none TooLong = false
+finds_none (First line) = false
+
+abbrev pub finds_too_long : Found → Bool
+finds_too_long TooLong = true
+finds_too_long Nothing = false
+finds_too_long (First line) = false
+
+-- the conversation that waits for a reply that is written to a file of questions
+abbrev pub replier : List Deed → Option PromptKind → Option Reply → Option ℕ
+replier done (Some kind) (Some reply) = asker_of reply.tag (prompts_of done kind)
+replier done kind reply = None
 
 -- a test, and the text that refuses by it: of a list of them the first that holds decides
 abbrev pub Test : Type 0
@@ -148,7 +169,6 @@ refusal done call (t.Open fid mode) =
     fid_first (open_fault (fid_of done call.conn fid) mode) (
     (is_exclusive node && is_some (holder_of done node), codes "exclusive use file already open")
     ∷ (is_rpc node && not (nat_lt (length (speakers done)) most_talks), codes "too many conversations")
-    ∷ (opens_later node, codes "not served")
     ∷ [])
 refusal done call (t.Create fid name perm mode) = fid_first (fid_fault (fid_of done call.conn fid)) ((true, codes "permission denied") ∷ [])
 refusal done call (t.Read fid offset count) =
@@ -160,7 +180,8 @@ refusal done call (t.Read fid offset count) =
     ∷ (is_rpc node && waits_for done call.conn fid, codes "rpc busy")
     ∷ (is_rpc node && is_resting (phase_of done call.conn fid), codes "no rpc pending")
     ∷ (is_rpc node && (not (has_answer (phase_of done call.conn fid)) && waits_enough done call.conn), codes "too many waiting")
-    ∷ (reads_later node, codes "not served")
+    ∷ (is_line_file node && (finds_none (line_found done call count node) && waits_enough done call.conn), codes "too many waiting")
+    ∷ (finds_too_long (line_found done call count node), codes "read too small")
     ∷ [])
 refusal done call (t.Write fid offset content) =
     fid_first (fid_fault (fid_of done call.conn fid)) (
@@ -169,7 +190,8 @@ refusal done call (t.Write fid offset content) =
     ∷ (is_rpc (node_of (fid_of done call.conn fid)) && not (is_resting (phase_of done call.conn fid)), codes "rpc busy")
     ∷ (is_rpc (node_of (fid_of done call.conn fid)) && is_too_long (rpc.request_of content), codes "rpc too long")
     ∷ (is_rpc (node_of (fid_of done call.conn fid)) && is_unknown (rpc.request_of content), codes "unknown rpc verb")
-    ∷ (opens_later (node_of (fid_of done call.conn fid)), codes "not served")
+    ∷ (is_some (kind_at (node_of (fid_of done call.conn fid))) && not (is_some (prompt.reply_of content)), codes "bad reply")
+    ∷ (is_some (kind_at (node_of (fid_of done call.conn fid))) && not (is_some (replier done (kind_at (node_of (fid_of done call.conn fid))) (prompt.reply_of content))), codes "unknown tag")
     ∷ [])
 refusal done call (t.Clunk fid) = fid_first (fid_fault (fid_of done call.conn fid)) []
 refusal done call (t.Remove fid) = fid_first (fid_fault (fid_of done call.conn fid)) []
@@ -186,11 +208,6 @@ agreed msize version = if is_known version then Some (min msize most_msize) else
 abbrev pub walking : ℕ → ℕ → Option Node → List Deed → List Deed
 walking conn newfid None done = done
 walking conn newfid (Some node) done = OfFids conn (Walked newfid node) ∷ done
-
--- how many bytes a reply may hold of what is read: the count asked for, or what a message of the size agreed holds
-abbrev pub effective : ℕ → Option ℕ → ℕ
-effective count None = 0
-effective count (Some msize) = min count (msize - 24)
 
 -- a read of ctl from 0 fixes its text, and one of a directory where the next may begin
 abbrev pub reading : List Deed → ℕ → ℕ → ℕ → ℕ → Node → List Deed
@@ -216,10 +233,17 @@ abbrev pub reading_talk : Call → ℕ → ℕ → Option ℕ → List Deed → 
 reading_talk call fid count None done = done
 reading_talk call fid count (Some conv) done = reading_answer call conv fid count (standing_of (carried conv call.word done) conv).phase (carried conv call.word done)
 
+-- the first line, if one is there, is read, and else the read waits for it
+abbrev pub reading_line : Call → ℕ → ℕ → Node → Found → List Deed → List Deed
+reading_line call fid count node Nothing done = OfReplies call.conn (Awaited call.tag fid count) ∷ done
+reading_line call fid count node TooLong done = done
+reading_line call fid count node (First line) done = line_read node done
+
 -- a read of a file
 abbrev pub reading_file : List Deed → Call → ℕ → ℕ → ℕ → Node → List Deed
 reading_file done call fid offset count node =
     if is_rpc node then reading_talk call fid count (conv_of done call.conn fid) done
+    else if is_line_file node then reading_line call fid count node (found count (lines_in done node)) done
     else reading done call.conn fid offset count node
 
 -- a request is written on rpc
@@ -237,23 +261,34 @@ abbrev pub lines_done : ℕ → List CtlLine → List Deed → List Deed
 lines_done conn [] done = done
 lines_done conn (said ∷ more) done = lines_done conn more (OfKeys conn (line_deed said) ∷ done)
 
+-- what a conversation meets by a reply to a question of a kind
+abbrev pub said_by : PromptKind → Bool → calls.Call
+said_by k.Confirm agrees = calls.Consented agrees
+said_by k.Needkey agrees = calls.KeyTold
+
+-- a reply is written to a file of questions: its question is forgotten, and who asked it goes on
+abbrev pub replying : Option PromptKind → Option Reply → List Deed → List Deed
+replying (Some kind) (Some reply) done = resumed (asker_of reply.tag (prompts_of done kind)) (said_by kind reply.agrees) (OfPrompts kind (side.Replied reply.tag) ∷ done)
+replying kind reply done = done
+
 -- a write of a file
 abbrev pub writing : List Deed → Call → ℕ → List ℕ → Node → List Deed
 writing done call fid content node =
     if is_rpc node then stored (conv_of done call.conn fid) (rpc.request_of content) done
+    else if is_some (kind_at node) then replying (kind_at node) (prompt.reply_of content) done
     else lines_done call.conn (carried_out (keys_of done) (lines_of content)) done
 
 -- the deeds after it, but for its reply
 unfoldable pub after : List Deed → Call → TBody → List Deed
-after done call (t.Version msize version) = OfFids call.conn (Versioned (agreed msize version)) ∷ done
+after done call (t.Version msize version) = given_up_by (OfFids call.conn (Versioned (agreed msize version))) done
 after done call (t.Attach fid afid uname aname) = OfFids call.conn (Attached fid) ∷ done
 after done call (t.Flush oldtag) = OfReplies call.conn (Flushed oldtag) ∷ done
 after done call (t.Walk fid newfid wname) = walking call.conn newfid (lead_to (node_of (fid_of done call.conn fid)) wname) done
 after done call (t.Open fid mode) = OfFids call.conn (Opened fid mode) ∷ done
 after done call (t.Read fid offset count) = reading_file done call fid offset (effective count (msize_of done call.conn)) (node_of (fid_of done call.conn fid))
 after done call (t.Write fid offset content) = writing done call fid content (node_of (fid_of done call.conn fid))
-after done call (t.Clunk fid) = OfFids call.conn (Clunked fid) ∷ done
-after done call (t.Remove fid) = OfFids call.conn (Clunked fid) ∷ done
+after done call (t.Clunk fid) = given_up_by (OfFids call.conn (Clunked fid)) done
+after done call (t.Remove fid) = given_up_by (OfFids call.conn (Clunked fid)) done
 after done call body = done
 
 -- ---- what is replied where nothing refuses it
@@ -292,13 +327,22 @@ abbrev pub talk_read : List ℕ → ℕ → Option ℕ → List Deed → Option 
 talk_read word count None done = None
 talk_read word count (Some conv) done = answer_read count (standing_of (carried conv word done) conv).phase
 
+-- a read of a file of lines is replied to where a line is there, and else it waits
+abbrev pub line_read_reply : Found → Option RBody
+line_read_reply Nothing = None
+line_read_reply TooLong = Some too_small
+line_read_reply (First line) = Some (r.Read line)
+
 abbrev pub read_reply : List Deed → Call → ℕ → ℕ → ℕ → Node → Option RBody
 read_reply done call fid offset count node =
     if is_rpc node then talk_read call.word count (conv_of done call.conn fid) done
+    else if is_line_file node then line_read_reply (found count (lines_in done node))
     else Some (r.Read (content_of done call.conn fid offset count node))
 
 abbrev pub write_reply : List Deed → List ℕ → Node → RBody
-write_reply done content node = if is_rpc node then r.Write (length content) else written content (lines_fault (keys_of done) (lines_of content))
+write_reply done content node =
+    if is_rpc node || is_some (kind_at node) then r.Write (length content)
+    else written content (lines_fault (keys_of done) (lines_of content))
 
 -- none where it waits for its reply
 unfoldable pub reply_of : List Deed → Call → TBody → Option RBody

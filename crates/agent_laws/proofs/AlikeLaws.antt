@@ -11,15 +11,15 @@ use Rattle.talks.specs.Standings.{question_of, standing}
 use Rattle.agent_history.specs.declared.event.StepAnswer.TheVariants.{Stopped}
 use Rattle.agent_history.specs.declared.event.Event.{Event}
 use Rattle.agent_history.specs.declared.event.Event.TheVariants.{Request, Hang, Answer, NoAnswer, NoRoom, Take, TakeAsk, Stop}
-use Rattle.agent_history.specs.Deeds.{Deed, OfFids, OfKeys, OfReplies, OfConnection, OfTalk, Raised, HandedOut, DropTaken, Swept, Halted, Versioned, Attached, Walked, Opened, Listed, Browsed, Clunked, Answered, Taken, Entered, Hung, fid_of, is_halted, was_hung, was_opened}
-use Rattle.agent_history.specs.Conversations.{Question, Speaker, asker, questions, resumed, speakers, stands, Due, NoneDue, DropDue, QuestionDue, due}
+use Rattle.agent_history.specs.Deeds.{Deed, OfFids, OfKeys, OfReplies, OfConnection, OfTalk, Raised, HandedOut, OfPrompts, OfLog, DropTaken, Swept, Halted, Versioned, Attached, Walked, Opened, Listed, Browsed, Clunked, Answered, Taken, Entered, Hung, fid_of, is_halted, was_hung, was_opened}
+use Rattle.agent_history.specs.Conversations.{Question, Speaker, asker, questions, resumed, speakers, stands, Due, NoneDue, DropDue, QuestionDue, due, given_up_by}
 use Rattle.agent_history.specs.Replies.{has_settled, replies, swept, taken, untaken}
 use Rattle.agent_history.specs.Requests.{Call, after_frame, answered, body_to, call_of, is_rpc, replied}
 use Rattle.agent_history.specs.Histories.{History, Answer as IsAnswer, answer, asks, deeds, does, entered, handing, most_events, put_out, taking}
 use Rattle.agent_laws.specs.Laws.{SameButSecrets, all_asked, all_open, asks_server, has_conversed, hidden_deed}
 use Rattle.agent_laws.proofs.KindLaws.{KeepsOf, is_done}
 use Rattle.agent_laws.proofs.GrowLaws.{all_are_asked, conn_of, event_grows, on_its_own}
-use Rattle.agent_laws.proofs.SightLaws.{none_speaks, sight}
+use Rattle.agent_laws.proofs.SightLaws.{none_speaks, sight, quiet_ends}
 use Rattle.agent_laws.proofs.DueLaws.{due_alike}
 use Rattle.agent_laws.proofs.SecretLaws.{body_to_alike, deeds_open, frame_alike}
 
@@ -93,14 +93,21 @@ entered_quiet at done none = by_cases (was_opened done at)
     by_cases true = none
     by_cases false = none
 
+hung_alike : (a b : List Deed) (at : ℕ) → SameButSecrets a b → has_conversed a ≡ false → SameButSecrets (given_up_by (OfConnection at Hung) a) (given_up_by (OfConnection at Hung) b)
+hung_alike a b at s none =
+    let one = quiet_ends (OfConnection at Hung) a none (λ kind. refl) in
+    let other = quiet_ends (OfConnection at Hung) b (sym (sight a b s).conversed ∙ none) (λ kind. refl) in
+    subst (λ (ds : List Deed). SameButSecrets (given_up_by (OfConnection at Hung) a) ds) (sym other)
+    (subst (λ (ds : List Deed). SameButSecrets ds (OfConnection at Hung ∷ b)) (sym one) (more_alike a b (OfConnection at Hung) refl refl s))
+
 does_alike : (e : Event) (a b : List Deed) → SameButSecrets a b → has_conversed a ≡ false → all_asked a ≡ true → SameButSecrets (does a e) (does b e)
 does_alike (Request at frame word) a b s none known =
     on_both (was_hung a at) (was_hung b at) a b _ _ ((sight a b s).hung at) s
     (swept_alike _ _ (answered_alike (entered at a) (entered at b) (call_of at frame word) frame (entered_alike a b at s) (entered_quiet at a none)))
 does_alike (Take at) a b s none known = on_both (was_hung a at) (was_hung b at) a b _ _ ((sight a b s).hung at) s (take_alike a b at s)
 does_alike (Hang at) a b s none known =
-    on_both (was_opened a at && not (was_hung a at)) (was_opened b at && not (was_hung b at)) (OfConnection at Hung ∷ a) (OfConnection at Hung ∷ b) a b
-    (rw ((sight a b s).opened at, (sight a b s).hung at) refl) (more_alike a b (OfConnection at Hung) refl refl s) s
+    on_both (was_opened a at && not (was_hung a at)) (was_opened b at && not (was_hung b at)) _ _ a b
+    (rw ((sight a b s).opened at, (sight a b s).hung at) refl) (swept_alike _ _ (hung_alike a b at s none)) s
 does_alike Stop a b s none known = more_alike a b Halted refl refl s
 does_alike (Answer call bytes) a b s none known = resumed_alike a b call (calls.Heard bytes) s none known
 does_alike (NoAnswer call) a b s none known = resumed_alike a b call calls.Unheard s none known
@@ -142,6 +149,8 @@ quiet_more before conn done (OfTalk conv call) kind fits q = q
 quiet_more before conn done (Raised conv) kind fits q = q
 quiet_more before conn done HandedOut kind fits q = q
 quiet_more before conn done DropTaken kind fits q = q
+quiet_more before conn done (OfPrompts about doing) kind fits q = λ none. absurd cc
+quiet_more before conn done (OfLog doing) kind fits q = q
 quiet_more before conn done Swept kind fits q = q
 quiet_more before conn done Halted kind fits q = q
 

@@ -11,7 +11,7 @@ use Rattle.file_tree.specs.declared.tree.FidState.{FidState}
 use Rattle.file_tree.specs.Tree.{file}
 use Rattle.file_tree.specs.Calls.{at_rest, is_open, node_of, opened}
 use Rattle.talks.specs.Calls as calls
-use Rattle.agent_history.specs.Deeds.{Deed, FidDeed, KeyDeed, OfFids, OfKeys, OfReplies, OfConnection, OfTalk, Raised, HandedOut, DropTaken, Swept, Halted, Versioned, Attached, Walked, Opened, Listed, Browsed, Clunked, Entered, Hung, fid_of, names}
+use Rattle.agent_history.specs.Deeds.{Deed, FidDeed, KeyDeed, OfFids, OfKeys, OfReplies, OfConnection, OfTalk, Raised, HandedOut, OfPrompts, OfLog, DropTaken, Swept, Halted, Versioned, Attached, Walked, Opened, Listed, Browsed, Clunked, Entered, Hung, fid_of, names}
 use Rattle.agent_history.specs.Conversations.{Question, Speaker, chosen_at, conv_of, hand_first, opened_talks, questions, raised, speakers}
 use Rattle.agent_history.specs.Requests.{is_rpc, most_talks}
 use Rattle.agent_history.specs.Histories.{History, deeds}
@@ -152,6 +152,8 @@ openers_more c done (OfTalk conv call) kind fits h = h
 openers_more c done (Raised conv) kind fits h = h
 openers_more c done HandedOut kind fits h = h
 openers_more c done DropTaken kind fits h = h
+openers_more c done (OfPrompts about doing) kind fits h = h
+openers_more c done (OfLog doing) kind fits h = h
 openers_more c done Swept kind fits h = h
 openers_more c done Halted kind fits h = λ conn fid. refl
 
@@ -222,6 +224,8 @@ once_more c done (OfTalk conv call) kind fits h = h.1
 once_more c done (Raised conv) kind fits h = h.1
 once_more c done HandedOut kind fits h = h.1
 once_more c done DropTaken kind fits h = h.1
+once_more c done (OfPrompts about doing) kind fits h = h.1
+once_more c done (OfLog doing) kind fits h = h.1
 once_more c done Swept kind fits h = h.1
 once_more c done Halted kind fits h = tt
 
@@ -290,6 +294,8 @@ few_more c done (OfTalk conv call) kind fits h = h
 few_more c done (Raised conv) kind fits h = h
 few_more c done HandedOut kind fits h = h
 few_more c done DropTaken kind fits h = h
+few_more c done (OfPrompts about doing) kind fits h = h
+few_more c done (OfLog doing) kind fits h = h
 few_more c done Swept kind fits h = h
 few_more c done Halted kind fits h = omega arith
 
@@ -377,6 +383,8 @@ speakers_more c done (OfTalk conv call) kind fits h = h
 speakers_more c done (Raised conv) kind fits h = h
 speakers_more c done HandedOut kind fits h = h
 speakers_more c done DropTaken kind fits h = h
+speakers_more c done (OfPrompts about doing) kind fits h = h
+speakers_more c done (OfLog doing) kind fits h = h
 speakers_more c done Swept kind fits h = h
 speakers_more c done Halted kind fits h = refl
 
@@ -426,6 +434,8 @@ questions_more c done (OfTalk conv call) kind fits h = met_rise done conv call h
 questions_more c done (Raised conv) kind fits h = rise_append call_of (raised done + 1) (questions done) (record { call = raised done + 1; conv = conv; handed = false }) refl h
 questions_more c done HandedOut kind fits h = subst (Rise (raised done + 1)) (sym (handed_same (questions done))) h
 questions_more c done DropTaken kind fits h = h
+questions_more c done (OfPrompts about doing) kind fits h = h
+questions_more c done (OfLog doing) kind fits h = h
 questions_more c done Swept kind fits h = h
 questions_more c done Halted kind fits h = refl
 
@@ -452,6 +462,8 @@ searched_more c done (OfConnection at deed) kind fits h = h
 searched_more c done (Raised conv) kind fits h = h
 searched_more c done HandedOut kind fits h = h
 searched_more c done DropTaken kind fits h = h
+searched_more c done (OfPrompts about doing) kind fits h = h
+searched_more c done (OfLog doing) kind fits h = h
 searched_more c done Swept kind fits h = h
 searched_more c done Halted kind fits h = h
 

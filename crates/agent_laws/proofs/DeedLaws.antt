@@ -4,11 +4,11 @@ use Rattle.std.proofs.Common.{◌≡◌, ℕ, ◌+◌, List, [], ◌∷◌, Bool
 use Rattle.std.proofs.lemmas.Bool.{eqb-true, ne_eqb, not-true}
 use Rattle.agent_history.specs.declared.event.Event.{Event}
 use Rattle.agent_history.specs.declared.event.Event.TheVariants.{Request, Hang, Answer, NoAnswer, NoRoom, Take, TakeAsk, Stop}
-use Rattle.agent_history.specs.Deeds.{Deed, FidDeed, KeyDeed, ReplyDeed, ConnectionDeed, OfFids, OfKeys, OfReplies, OfConnection, OfTalk, Raised, HandedOut, DropTaken, Swept, Halted, Versioned, Attached, Walked, Opened, Listed, Browsed, Clunked, Edited, Switched, Answered, Awaited, Settled, Flushed, Taken, Entered, Hung, msize_of, fid_of, held_by, next_of, text_of, is_halted}
+use Rattle.agent_history.specs.Deeds.{Deed, FidDeed, KeyDeed, ReplyDeed, ConnectionDeed, OfFids, OfKeys, OfReplies, OfConnection, OfTalk, Raised, HandedOut, OfPrompts, OfLog, DropTaken, Swept, Halted, Versioned, Attached, Walked, Opened, Listed, Browsed, Clunked, Edited, Switched, Answered, Awaited, Settled, Flushed, Taken, Entered, Hung, msize_of, fid_of, held_by, next_of, text_of, is_halted}
 use Rattle.agent_history.specs.Requests.{Call, after_frame}
 use Rattle.agent_history.specs.Conversations.{Due, NoneDue, DropDue, QuestionDue, due}
 use Rattle.agent_history.specs.Histories.{History, deeds, does, handing, has_stopped}
-use Rattle.agent_laws.specs.Laws.{Adds, all_asked, has_connection, is_of, is_of_talks, is_on}
+use Rattle.agent_laws.specs.Laws.{Adds, has_connection, is_of, is_of_talks, is_on}
 use Rattle.agent_laws.proofs.KindLaws.{KeepsIf, KeepsOf, done_by_asked, is_asked, is_done, is_told_so}
 use Rattle.agent_laws.proofs.GrowLaws.{answer_does, event_grows, event_on, frame_grows, last_or_not, no_answer_does, no_room_does}
 
@@ -26,6 +26,8 @@ is_done_is_of conn (OfTalk conv call) e = refl
 is_done_is_of conn (Raised conv) e = refl
 is_done_is_of conn HandedOut e = refl
 is_done_is_of conn DropTaken e = refl
+is_done_is_of conn (OfPrompts about doing) e = refl
+is_done_is_of conn (OfLog doing) e = refl
 is_done_is_of conn Swept e = refl
 is_done_is_of conn Halted e = refl
 
@@ -38,7 +40,7 @@ asked_adds Known conn before done deed kind fits h = (deed ∷ h.0, ap (λ (ds :
 
 pub frame_adds : (done : List Deed) (call : Call) (frame : List ℕ) → Adds (is_of call.conn) done (after_frame done call frame)
 frame_adds done call frame =
-    frame_grows (all_asked done ≡ true) (Adds (is_of call.conn) done) call (asked_adds (all_asked done ≡ true) call.conn done) done frame (λ known. known) (adds_none (is_of call.conn) done)
+    frame_grows ⊥ (Adds (is_of call.conn) done) call (asked_adds ⊥ call.conn done) done frame (λ x. absurd x) (adds_none (is_of call.conn) done)
 
 on_its_connection : (e : Event) (conn : ℕ) → is_on conn e ≡ true → event_on conn e
 on_its_connection (Request at frame word) conn on = eqb-true at conn on
@@ -60,6 +62,8 @@ told_is_of_talks (Raised conv) e = refl
 told_is_of_talks (OfReplies at deed) e = refl
 told_is_of_talks HandedOut e = refl
 told_is_of_talks DropTaken e = refl
+told_is_of_talks (OfPrompts about doing) e = refl
+told_is_of_talks (OfLog doing) e = refl
 told_is_of_talks Swept e = refl
 told_is_of_talks Halted e = refl
 told_is_of_talks (OfFids at deed) e = absurd cc
@@ -82,9 +86,9 @@ does_add (Request at frame word) done none = absurd cc
 does_add (Take at) done none = absurd cc
 does_add (Hang at) done none = absurd cc
 does_add Stop done none = (Halted ∷ [], refl, refl)
-does_add (Answer number bytes) done none = answer_does (all_asked done ≡ true) (Adds is_of_talks done) (told_adds (all_asked done ≡ true) done) number bytes done (λ known. known) (adds_none is_of_talks done)
-does_add (NoAnswer number) done none = no_answer_does (all_asked done ≡ true) (Adds is_of_talks done) (told_adds (all_asked done ≡ true) done) number done (λ known. known) (adds_none is_of_talks done)
-does_add (NoRoom number) done none = no_room_does (all_asked done ≡ true) (Adds is_of_talks done) (told_adds (all_asked done ≡ true) done) number done (λ known. known) (adds_none is_of_talks done)
+does_add (Answer number bytes) done none = answer_does ⊥ (Adds is_of_talks done) (told_adds ⊥ done) number bytes done (λ x. absurd x) (adds_none is_of_talks done)
+does_add (NoAnswer number) done none = no_answer_does ⊥ (Adds is_of_talks done) (told_adds ⊥ done) number done (λ x. absurd x) (adds_none is_of_talks done)
+does_add (NoRoom number) done none = no_room_does ⊥ (Adds is_of_talks done) (told_adds ⊥ done) number done (λ x. absurd x) (adds_none is_of_talks done)
 does_add TakeAsk done none = hands_out (due done) done
 
 pub others_add : (e : Event) (H : History) → has_connection e ≡ false → Adds is_of_talks (deeds H) (deeds (e ∷ H))
@@ -144,6 +148,8 @@ same_for (OfTalk conv call) before conn e = record { msize = refl; fids = λ fid
 same_for (Raised conv) before conn e = record { msize = refl; fids = λ fid. refl; texts = λ fid. refl; nexts = λ fid. refl; held = refl }
 same_for HandedOut before conn e = record { msize = refl; fids = λ fid. refl; texts = λ fid. refl; nexts = λ fid. refl; held = refl }
 same_for DropTaken before conn e = record { msize = refl; fids = λ fid. refl; texts = λ fid. refl; nexts = λ fid. refl; held = refl }
+same_for (OfPrompts about doing) before conn e = record { msize = refl; fids = λ fid. refl; texts = λ fid. refl; nexts = λ fid. refl; held = refl }
+same_for (OfLog doing) before conn e = record { msize = refl; fids = λ fid. refl; texts = λ fid. refl; nexts = λ fid. refl; held = refl }
 same_for Swept before conn e = record { msize = refl; fids = λ fid. refl; texts = λ fid. refl; nexts = λ fid. refl; held = refl }
 same_for Halted before conn e = absurd cc
 
@@ -172,6 +178,8 @@ same_more before at conn off done (OfTalk conv call) kind fits s = λ going. sam
 same_more before at conn off done (Raised conv) kind fits s = λ going. same_then before done conn (Raised conv) (s going) (record { msize = refl; fids = λ fid. refl; texts = λ fid. refl; nexts = λ fid. refl; held = refl })
 same_more before at conn off done HandedOut kind fits s = λ going. same_then before done conn HandedOut (s going) (record { msize = refl; fids = λ fid. refl; texts = λ fid. refl; nexts = λ fid. refl; held = refl })
 same_more before at conn off done DropTaken kind fits s = λ going. same_then before done conn DropTaken (s going) (record { msize = refl; fids = λ fid. refl; texts = λ fid. refl; nexts = λ fid. refl; held = refl })
+same_more before at conn off done (OfPrompts about doing) kind fits s = λ going. same_then before done conn (OfPrompts about doing) (s going) (record { msize = refl; fids = λ fid. refl; texts = λ fid. refl; nexts = λ fid. refl; held = refl })
+same_more before at conn off done (OfLog doing) kind fits s = λ going. same_then before done conn (OfLog doing) (s going) (record { msize = refl; fids = λ fid. refl; texts = λ fid. refl; nexts = λ fid. refl; held = refl })
 same_more before at conn off done Swept kind fits s = λ going. same_then before done conn Swept (s going) (record { msize = refl; fids = λ fid. refl; texts = λ fid. refl; nexts = λ fid. refl; held = refl })
 same_more before at conn off done Halted kind fits s = λ going. absurd cc
 

@@ -11,7 +11,7 @@ use Rattle.agent_history.specs.declared.event.Event.{Event}
 use Rattle.agent_history.specs.declared.event.Event.TheVariants.{Request, Hang, Answer, NoAnswer, NoRoom, Take, TakeAsk, Stop}
 use Rattle.agent_history.specs.declared.event.StepAnswer.{StepAnswer}
 use Rattle.agent_history.specs.declared.event.StepAnswer.TheVariants.{DropCall, Gone, NoAsk, Stopped}
-use Rattle.agent_history.specs.Deeds.{Deed, OfFids, OfKeys, OfReplies, OfConnection, OfTalk, Raised, HandedOut, DropTaken, Swept, Halted, Entered, is_gone, is_halted, was_hung, was_opened}
+use Rattle.agent_history.specs.Deeds.{Deed, OfFids, OfKeys, OfReplies, OfConnection, OfTalk, Raised, HandedOut, OfPrompts, OfLog, DropTaken, Swept, Halted, Entered, is_gone, is_halted, was_hung, was_opened}
 use Rattle.agent_history.specs.Conversations.{Drop, Due, DropDue, NoneDue, Question, QuestionDue, drops, due, due_of, next_question, standing_of, talk}
 use Rattle.agent_history.specs.Replies.{untaken}
 use Rattle.agent_history.specs.Histories.{History, answer, asks, deeds, entered, first_reply, handing, most_events, put_out, taking}
@@ -97,6 +97,8 @@ dropped_more conv at done (OfTalk c call) kind fits h = h
 dropped_more conv at done (Raised c) kind fits h = h
 dropped_more conv at done HandedOut kind fits h = h
 dropped_more conv at done DropTaken kind fits h = or_more (is_first (drops done) conv) (was_dropped done conv) h
+dropped_more conv at done (OfPrompts about doing) kind fits h = h
+dropped_more conv at done (OfLog doing) kind fits h = h
 dropped_more conv at done Swept kind fits h = h
 dropped_more conv at done Halted kind fits h = h
 
@@ -137,6 +139,8 @@ put_more conv at shape done (OfTalk c call) kind fits h = h
 put_more conv at shape done (Raised c) kind fits h = h
 put_more conv at shape done HandedOut kind fits h = absurd cc
 put_more conv at shape done DropTaken kind fits h = absurd cc
+put_more conv at shape done (OfPrompts about doing) kind fits h = h
+put_more conv at shape done (OfLog doing) kind fits h = h
 put_more conv at shape done Swept kind fits h = h
 put_more conv at shape done Halted kind fits h = h
 

@@ -11,8 +11,9 @@ use Rattle.roles.specs.declared.need.Need.TheVariants.{Nothing, Key, Offers, Pic
 use Rattle.file_tree.specs.declared.tree.Node.TheVariants.{Rpc}
 use Rattle.talks.specs.Calls as calls
 use Rattle.talks.specs.Standings.{Standing, outcome_of, question_of, standing}
-use Rattle.agent_history.specs.Deeds.{Deed, FidDeed, ConnectionDeed, OfFids, OfKeys, OfReplies, OfConnection, OfTalk, Raised, HandedOut, DropTaken, Swept, Halted, Versioned, Attached, Walked, Opened, Listed, Browsed, Clunked, Entered, Hung, fid_of, names}
-use Rattle.agent_history.specs.Conversations.{Drop, Question, Speaker, asks_challenge, drop_of, drops, given_up, gives_up, is_end, keeps, kept_by, next_question, opened_talks, questions, speakers, standing_of, stands, talk}
+use Rattle.agent_history.specs.Deeds.{Deed, FidDeed, ConnectionDeed, OfFids, OfKeys, OfReplies, OfConnection, OfTalk, Raised, HandedOut, OfPrompts, OfLog, DropTaken, Swept, Halted, Versioned, Attached, Walked, Opened, Listed, Browsed, Clunked, Entered, Hung, fid_of, names}
+use Rattle.talks.specs.Lines.{is_end}
+use Rattle.agent_history.specs.Conversations.{Drop, Question, Speaker, asks_challenge, drop_of, drops, given_up, gives_up, keeps, kept_by, next_question, opened_talks, questions, speakers, standing_of, stands, talk}
 use Rattle.agent_history.specs.Histories.{History, deeds}
 use Rattle.agent_laws.specs.Laws.{all_asked, asks_server}
 use Rattle.agent_laws.proofs.KindLaws.{KeepsOf, is_done}
@@ -484,6 +485,8 @@ well_more c done (OfConnection at deed) kind fits h =
 well_more c done (OfTalk at call) kind fits h = talk_well done at call h (asked_more c done (OfTalk at call) kind fits h.asked)
 well_more c done HandedOut kind fits h = hands_well done h (asked_more c done HandedOut kind fits h.asked)
 well_more c done DropTaken kind fits h = record { asked = h.asked; rise = h.rise; kept = h.kept; fit = take_fit done (λ conv. was_dropped done conv) (drops done) h.fit }
+well_more c done (OfPrompts about doing) kind fits h = record { asked = h.asked; rise = h.rise; kept = h.kept; fit = record { gone = h.fit.gone; shapes = h.fit.shapes; once = h.fit.once; apart = h.fit.apart } }
+well_more c done (OfLog doing) kind fits h = record { asked = h.asked; rise = h.rise; kept = h.kept; fit = record { gone = h.fit.gone; shapes = h.fit.shapes; once = h.fit.once; apart = h.fit.apart } }
 well_more c done (OfKeys at deed) kind fits h = record { asked = h.asked; rise = h.rise; kept = h.kept; fit = record { gone = h.fit.gone; shapes = h.fit.shapes; once = h.fit.once; apart = h.fit.apart } }
 well_more c done (OfReplies at deed) kind fits h = record { asked = h.asked; rise = h.rise; kept = h.kept; fit = record { gone = h.fit.gone; shapes = h.fit.shapes; once = h.fit.once; apart = h.fit.apart } }
 well_more c done (Raised conv) kind fits h =

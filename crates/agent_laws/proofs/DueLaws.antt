@@ -4,8 +4,9 @@ use Rattle.std.specs.Prelude.{find}
 use Rattle.std.specs.List.{filter, list_any}
 use Rattle.talks.specs.Calls as calls
 use Rattle.talks.specs.Standings.{outcome_of, question_of, standing}
-use Rattle.agent_history.specs.Deeds.{Deed, OfFids, OfKeys, OfReplies, OfConnection, OfTalk, Raised, HandedOut, DropTaken, Swept, Halted, Edited, Switched}
-use Rattle.agent_history.specs.Conversations.{Drop, Question, Speaker, asks_challenge, drops, due, due_of, given_up, gives_up, is_end, keeps, kept_by, next_question, raised, speakers}
+use Rattle.agent_history.specs.Deeds.{Deed, OfFids, OfKeys, OfReplies, OfConnection, OfTalk, Raised, HandedOut, OfPrompts, OfLog, DropTaken, Swept, Halted, Edited, Switched}
+use Rattle.talks.specs.Lines.{is_end}
+use Rattle.agent_history.specs.Conversations.{Drop, Question, Speaker, asks_challenge, drops, due, due_of, given_up, gives_up, keeps, kept_by, next_question, raised, speakers}
 use Rattle.agent_laws.specs.Laws.{SameButSecrets, hidden_deed}
 use Rattle.agent_laws.proofs.SightLaws.{alike, questions_hidden, raised_hidden, sight, speakers_hidden, talk_hidden}
 
@@ -39,6 +40,8 @@ keeps_hidden (OfKeys at Switched ∷ done) conv = keeps_hidden done conv
 keeps_hidden (OfReplies at deed ∷ done) conv = keeps_hidden done conv
 keeps_hidden (Raised talker ∷ done) conv = keeps_hidden done conv
 keeps_hidden (DropTaken ∷ done) conv = keeps_hidden done conv
+keeps_hidden (OfPrompts about doing ∷ done) conv = keeps_hidden done conv
+keeps_hidden (OfLog doing ∷ done) conv = keeps_hidden done conv
 keeps_hidden (Swept ∷ done) conv = keeps_hidden done conv
 keeps_hidden (Halted ∷ done) conv = refl
 
@@ -79,6 +82,8 @@ drops_hidden (OfTalk talker call ∷ done) =
 drops_hidden (OfFids at deed ∷ done) = both_hidden _ _ _ _ (drops_hidden done) (given_hidden (OfFids at deed) done (keeps_hidden (OfFids at deed ∷ done)))
 drops_hidden (OfConnection at deed ∷ done) = both_hidden _ _ _ _ (drops_hidden done) (given_hidden (OfConnection at deed) done (keeps_hidden (OfConnection at deed ∷ done)))
 drops_hidden (DropTaken ∷ done) = ap (λ (ds : List Drop). drop 1 ds) (drops_hidden done)
+drops_hidden (OfPrompts about doing ∷ done) = drops_hidden done
+drops_hidden (OfLog doing ∷ done) = drops_hidden done
 drops_hidden (OfKeys at (Edited edit) ∷ done) = drops_hidden done
 drops_hidden (OfKeys at Switched ∷ done) = drops_hidden done
 drops_hidden (OfReplies at deed ∷ done) = drops_hidden done

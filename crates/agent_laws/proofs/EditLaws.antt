@@ -1,7 +1,7 @@
 -- No event both edits keys and lets a conversation meet something, so that a search is over the keys of the history before
 -- its event.
 use Rattle.std.proofs.Common.{◌≡◌, ℕ, List, [], ◌∷◌, ◌++◌, Bool, true, false, cond, eqb, ◌&&◌, not, Option, Some, None, refl, sym, ap, subst, ◌∙◌, inl, inr, append_assoc}
-use Rattle.std.specs.Prelude.{◌⊎◌, Result, Ok, Err}
+use Rattle.std.specs.Prelude.{◌⊎◌, Result, Ok, Err, is_some}
 use Rattle.std.specs.List.{list_all}
 use Rattle.std.proofs.lemmas.Bool.{and_parts}
 use Rattle.std.proofs.lemmas.List.{append_cancel_right}
@@ -22,15 +22,19 @@ use Rattle.talks.specs.Calls.{Found}
 use Rattle.talks.specs.Standings.{finds}
 use Rattle.agent_history.specs.declared.event.Event.{Event}
 use Rattle.agent_history.specs.declared.event.Event.TheVariants.{Request, Hang, Answer, NoAnswer, NoRoom, Take, TakeAsk, Stop}
-use Rattle.agent_history.specs.Deeds.{Deed, OfFids, OfKeys, OfReplies, OfConnection, OfTalk, Raised, HandedOut, DropTaken, Swept, Halted, Versioned, Attached, Walked, Opened, Listed, Browsed, Clunked, Answered, Flushed, Taken, Entered, Hung, fid_of, keys_of, was_hung, was_opened}
+use Rattle.agent_history.specs.Deeds.{Deed, OfFids, OfKeys, OfReplies, OfConnection, OfTalk, Raised, HandedOut, OfPrompts, OfLog, DropTaken, Swept, Halted, Versioned, Attached, Walked, Opened, Listed, Browsed, Clunked, Answered, Flushed, Taken, Entered, Hung, fid_of, keys_of, was_hung, was_opened}
 use Rattle.agent_history.specs.Replies.{has_settled, swept, untaken, waits_under}
-use Rattle.agent_history.specs.Conversations.{asking, conv_of, standing_of, Due, NoneDue, DropDue, QuestionDue, due}
+use Rattle.agent_history.specs.Conversations.{asking, conv_of, standing_of, Due, NoneDue, DropDue, QuestionDue, due, given_up_by}
 use Rattle.agent_history.specs.Requests.{Call, after, after_frame, after_granted, agreed, answered, body_to, call_of, comes_first, granted, is_rpc, reading, refusal, replied, walking}
 use Rattle.agent_history.specs.Histories.{History, deeds, does, entered, handing, taking}
-use Rattle.agent_laws.specs.Laws.{Adds, AllSearched, all_asked, is_edit, is_talk}
-use Rattle.agent_laws.proofs.KindLaws.{KeepsIf, KeepsOf, is_line, is_spoken, is_told_so}
-use Rattle.agent_laws.proofs.GrowLaws.{Passed, answer_does, last_or_not, lines_grow, no_answer_does, no_room_does, none_refuses, not_first, read_count, read_waits, stored_grows, talk_grows}
+use Rattle.agent_laws.specs.Laws.{Adds, AllSearched, is_edit, is_talk}
+use Rattle.agent_laws.proofs.KindLaws.{KeepsIf, KeepsOf, is_line, is_spoken, is_told_so, is_met}
+use Rattle.agent_laws.proofs.MetLaws.{lines_grow, stored_grows, talk_grows, line_file_grows}
+use Rattle.agent_laws.proofs.GrowLaws.{Passed, answer_does, last_or_not, no_answer_does, no_room_does, none_refuses, not_first, read_count, read_waits, KeepsAny, given_up_any, line_read_waits, met_by, replying_any}
 use Rattle.agent_laws.proofs.ConversationLaws.{all_searched}
+use Rattle.agent_history.specs.SideFiles.{is_line_file, kind_at, lines_in}
+use Rattle.side_files.specs.Lines.{found}
+use Rattle.side_files.specs.Replies as prompt
 
 -- ---- deeds of one kind
 
@@ -86,6 +90,8 @@ spoken_edits conn (OfTalk conv call) e = refl
 spoken_edits conn (Raised conv) e = refl
 spoken_edits conn HandedOut e = refl
 spoken_edits conn DropTaken e = refl
+spoken_edits conn (OfPrompts about doing) e = refl
+spoken_edits conn (OfLog doing) e = refl
 spoken_edits conn Swept e = refl
 spoken_edits conn Halted e = refl
 
@@ -98,8 +104,24 @@ told_edits (OfTalk conv call) e = refl
 told_edits (Raised conv) e = refl
 told_edits HandedOut e = refl
 told_edits DropTaken e = refl
+told_edits (OfPrompts about doing) e = refl
+told_edits (OfLog doing) e = refl
 told_edits Swept e = refl
 told_edits Halted e = refl
+
+met_edits : (deed : Deed) → is_met deed ≡ true → no_edit deed ≡ true
+met_edits (OfKeys at deed) e = absurd cc
+met_edits (OfTalk conv call) e = refl
+met_edits (OfPrompts about doing) e = refl
+met_edits (OfLog doing) e = refl
+met_edits (Raised conv) e = refl
+met_edits (OfFids at deed) e = refl
+met_edits (OfConnection at deed) e = refl
+met_edits (OfReplies at deed) e = refl
+met_edits HandedOut e = refl
+met_edits DropTaken e = refl
+met_edits Swept e = refl
+met_edits Halted e = refl
 
 line_talks : (conn : ℕ) (deed : Deed) → is_line conn deed ≡ true → no_talk deed ≡ true
 line_talks conn (OfKeys at deed) e = refl
@@ -110,6 +132,8 @@ line_talks conn (OfConnection at deed) e = refl
 line_talks conn (Raised conv) e = refl
 line_talks conn HandedOut e = refl
 line_talks conn DropTaken e = refl
+line_talks conn (OfPrompts about doing) e = refl
+line_talks conn (OfLog doing) e = refl
 line_talks conn Swept e = refl
 line_talks conn Halted e = refl
 
@@ -121,6 +145,12 @@ told_adds Known before done deed kind fits h = adds_one no_edit before done deed
 
 line_adds : (conn : ℕ) (before : List Deed) → KeepsOf (is_line conn) (Adds no_talk before)
 line_adds conn before done deed kind fits h = adds_one no_talk before done deed (line_talks conn deed kind) h
+
+met_adds : (before : List Deed) → KeepsAny is_met (Adds no_edit before)
+met_adds before done deed is h = adds_one no_edit before done deed (met_edits deed is) h
+
+ends_apart : (deed : Deed) → no_edit deed ≡ true → (done : List Deed) → Adds no_edit done (given_up_by deed done)
+ends_apart deed plain done = given_up_any (Adds no_edit done) (met_by (Adds no_edit done) (met_adds done)) deed done (λ d h. adds_one no_edit done d deed plain h) (adds_none no_edit done)
 
 -- ---- requests
 
@@ -152,7 +182,7 @@ either_apart false done one other h k = k
 
 body_apart : (done : List Deed) (call : Call) (body : TBody) → refusal done call body ≡ None → waits_under done call.conn call.tag ≡ false ⊎ (comes_first body ≡ true) → Apart done (after done call body)
 unfolding after
-body_apart done call (t.Version msize version) e unused = inl (OfFids call.conn (Versioned (agreed msize version)) ∷ [], refl, refl)
+body_apart done call (t.Version msize version) e unused = inl (ends_apart (OfFids call.conn (Versioned (agreed msize version))) refl done)
 body_apart done call (t.Auth afid uname aname) e unused = inl (adds_none no_edit done)
 body_apart done call (t.Attach fid afid uname aname) e unused = inl (OfFids call.conn (Attached fid) ∷ [], refl, refl)
 body_apart done call (t.Flush oldtag) e unused = inl (OfReplies call.conn (Flushed oldtag) ∷ [], refl, refl)
@@ -162,18 +192,20 @@ body_apart done call (t.Create fid name perm mode) e unused = inl (adds_none no_
 body_apart done call (t.Read fid offset count) e unused =
     let node = node_of (fid_of done call.conn fid) in
     let most = read_count done call count in
-    let Known = all_asked done ≡ true in
-    inl (either_edits (is_rpc node) done _ (reading done call.conn fid offset most node)
-    (λ is. talk_grows Known (Adds no_edit done) call (spoken_adds Known call.conn done) fid most (conv_of done call.conn fid) done refl (λ known. known)
-    (λ none. read_waits done call fid offset count e (not_first (waits_under done call.conn call.tag) unused) is none) (adds_none no_edit done))
-    (reading_apart call.conn fid offset most node done))
+    let free = not_first (waits_under done call.conn call.tag) unused in
+    inl (either_edits (is_rpc node) done _ _
+    (λ is. talk_grows ⊥ (Adds no_edit done) call (λ d p x. absurd x) (spoken_adds ⊥ call.conn done) fid most (conv_of done call.conn fid) done refl (λ none. read_waits done call fid offset count e free is none) (adds_none no_edit done))
+    (either_edits (is_line_file node) done _ (reading done call.conn fid offset most node)
+    (λ is. line_file_grows ⊥ (Adds no_edit done) call (spoken_adds ⊥ call.conn done) fid most node (found most (lines_in done node)) done (λ none. line_read_waits done call fid offset count e free is none) (adds_none no_edit done))
+    (reading_apart call.conn fid offset most node done)))
 body_apart done call (t.Write fid offset content) e unused =
-    let Known = all_asked done ≡ true in
+    let kind = kind_at (node_of (fid_of done call.conn fid)) in
     either_apart (is_rpc (node_of (fid_of done call.conn fid))) done _ _
-    (inl (stored_grows Known (Adds no_edit done) call.conn (spoken_adds Known call.conn done) (conv_of done call.conn fid) (request_of content) done (adds_none no_edit done)))
-    (inr (lines_grow (Adds no_talk done) call.conn (line_adds call.conn done) (lines_of content) done (adds_none no_talk done)))
-body_apart done call (t.Clunk fid) e unused = inl (OfFids call.conn (Clunked fid) ∷ [], refl, refl)
-body_apart done call (t.Remove fid) e unused = inl (OfFids call.conn (Clunked fid) ∷ [], refl, refl)
+    (inl (stored_grows ⊥ (Adds no_edit done) call.conn (spoken_adds ⊥ call.conn done) (conv_of done call.conn fid) (request_of content) done (adds_none no_edit done)))
+    (either_apart (is_some kind) done _ _ (inl (replying_any (Adds no_edit done) (met_adds done) kind (prompt.reply_of content) done (adds_none no_edit done)))
+    (inr (lines_grow (Adds no_talk done) call.conn (line_adds call.conn done) (lines_of content) done (adds_none no_talk done))))
+body_apart done call (t.Clunk fid) e unused = inl (ends_apart (OfFids call.conn (Clunked fid)) refl done)
+body_apart done call (t.Remove fid) e unused = inl (ends_apart (OfFids call.conn (Clunked fid)) refl done)
 body_apart done call (t.Stat fid) e unused = inl (adds_none no_edit done)
 body_apart done call (t.Wstat fid stat) e unused = inl (adds_none no_edit done)
 
@@ -219,11 +251,11 @@ event_apart (Request at frame word) done =
 event_apart (Take at) done =
     let opened = entered at done in
     either_apart (was_hung done at) done done _ (inl (adds_none no_edit done)) (taking_apart at (untaken done at) done opened (inl (entered_plain at done no_edit no_edit_plain)))
-event_apart (Hang at) done = either_apart (was_opened done at && not (was_hung done at)) done (OfConnection at Hung ∷ done) done (inl (OfConnection at Hung ∷ [], refl, refl)) (inl (adds_none no_edit done))
+event_apart (Hang at) done = either_apart (was_opened done at && not (was_hung done at)) done _ done (swept_apart done (given_up_by (OfConnection at Hung) done) (inl (ends_apart (OfConnection at Hung) refl done))) (inl (adds_none no_edit done))
 event_apart Stop done = inl (Halted ∷ [], refl, refl)
-event_apart (Answer number bytes) done = inl (answer_does (all_asked done ≡ true) (Adds no_edit done) (told_adds (all_asked done ≡ true) done) number bytes done (λ known. known) (adds_none no_edit done))
-event_apart (NoAnswer number) done = inl (no_answer_does (all_asked done ≡ true) (Adds no_edit done) (told_adds (all_asked done ≡ true) done) number done (λ known. known) (adds_none no_edit done))
-event_apart (NoRoom number) done = inl (no_room_does (all_asked done ≡ true) (Adds no_edit done) (told_adds (all_asked done ≡ true) done) number done (λ known. known) (adds_none no_edit done))
+event_apart (Answer number bytes) done = inl (answer_does ⊥ (Adds no_edit done) (told_adds ⊥ done) number bytes done (λ x. absurd x) (adds_none no_edit done))
+event_apart (NoAnswer number) done = inl (no_answer_does ⊥ (Adds no_edit done) (told_adds ⊥ done) number done (λ x. absurd x) (adds_none no_edit done))
+event_apart (NoRoom number) done = inl (no_room_does ⊥ (Adds no_edit done) (told_adds ⊥ done) number done (λ x. absurd x) (adds_none no_edit done))
 event_apart TakeAsk done = handing_apart (due done) done
 
 pub edits_or_talks : (e : Event) (H : History) → Adds no_edit (deeds H) (deeds (e ∷ H)) ⊎ Adds no_talk (deeds H) (deeds (e ∷ H))
@@ -249,6 +281,8 @@ searched_behind (OfConnection at deed) done h = h
 searched_behind (Raised conv) done h = h
 searched_behind HandedOut done h = h
 searched_behind DropTaken done h = h
+searched_behind (OfPrompts about doing) done h = h
+searched_behind (OfLog doing) done h = h
 searched_behind Swept done h = h
 searched_behind Halted done h = h
 
@@ -266,6 +300,8 @@ key_step (OfTalk conv call) done e = refl
 key_step (Raised conv) done e = refl
 key_step HandedOut done e = refl
 key_step DropTaken done e = refl
+key_step (OfPrompts about doing) done e = refl
+key_step (OfLog doing) done e = refl
 key_step Swept done e = refl
 key_step Halted done e = refl
 

@@ -8,7 +8,7 @@ use Rattle.file_tree.specs.declared.tree.FidState.{FidState}
 use Rattle.file_tree.specs.Tree.{file, is_exclusive}
 use Rattle.file_tree.specs.Calls.{is_open, node_of, at_rest, attached, opened}
 use Rattle.file_tree.proofs.WalkLaws.{one_path}
-use Rattle.agent_history.specs.Deeds.{Deed, OfFids, OfKeys, OfReplies, OfConnection, OfTalk, Raised, HandedOut, DropTaken, Swept, Halted, Versioned, Attached, Walked, Opened, Listed, Browsed, Clunked, Edited, Switched, Entered, Hung, fid_of, holder_of, names, without}
+use Rattle.agent_history.specs.Deeds.{Deed, OfFids, OfKeys, OfReplies, OfConnection, OfTalk, Raised, HandedOut, OfPrompts, OfLog, DropTaken, Swept, Halted, Versioned, Attached, Walked, Opened, Listed, Browsed, Clunked, Edited, Switched, Entered, Hung, fid_of, holder_of, names, without}
 use Rattle.agent_history.specs.Histories.{History, deeds}
 use Rattle.agent_laws.specs.Laws.{has_open}
 use Rattle.agent_laws.proofs.KindLaws.{KeepsOf, is_done}
@@ -125,6 +125,8 @@ holder_more c done (OfTalk conv call) own fits h node x conn fid p = h node x co
 holder_more c done (Raised conv) own fits h node x conn fid p = h node x conn fid p
 holder_more c done HandedOut own fits h node x conn fid p = h node x conn fid p
 holder_more c done DropTaken own fits h node x conn fid p = h node x conn fid p
+holder_more c done (OfPrompts about doing) own fits h node x conn fid p = h node x conn fid p
+holder_more c done (OfLog doing) own fits h node x conn fid p = h node x conn fid p
 holder_more c done Swept own fits h node x conn fid p = h node x conn fid p
 holder_more c done Halted own fits h node x conn fid p = absurd cc
 
@@ -194,6 +196,8 @@ opener_more c done (OfTalk conv call) own fits h node conn fid e = h node conn f
 opener_more c done (Raised conv) own fits h node conn fid e = h node conn fid e
 opener_more c done HandedOut own fits h node conn fid e = h node conn fid e
 opener_more c done DropTaken own fits h node conn fid e = h node conn fid e
+opener_more c done (OfPrompts about doing) own fits h node conn fid e = h node conn fid e
+opener_more c done (OfLog doing) own fits h node conn fid e = h node conn fid e
 opener_more c done Swept own fits h node conn fid e = h node conn fid e
 opener_more c done Halted own fits h node conn fid e = absurd cc
 

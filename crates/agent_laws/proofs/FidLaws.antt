@@ -2,7 +2,7 @@
 use Rattle.std.proofs.Common.{◌≡◌, ℕ, List, [], ◌∷◌, ◌++◌, true, false, not, refl, ap, ◌∙◌}
 use Rattle.std.proofs.lemmas.Bool.{and_parts, not-true}
 use Rattle.agent_history.specs.declared.event.Event.{Event}
-use Rattle.agent_history.specs.Deeds.{Deed, FidDeed, OfFids, OfKeys, OfReplies, OfConnection, OfTalk, Raised, HandedOut, DropTaken, Swept, Halted, Versioned, Attached, Walked, Opened, Listed, Browsed, Clunked, Entered, Hung, fid_of}
+use Rattle.agent_history.specs.Deeds.{Deed, FidDeed, OfFids, OfKeys, OfReplies, OfConnection, OfTalk, Raised, HandedOut, OfPrompts, OfLog, DropTaken, Swept, Halted, Versioned, Attached, Walked, Opened, Listed, Browsed, Clunked, Entered, Hung, fid_of}
 use Rattle.agent_history.specs.Histories.{History, deeds}
 use Rattle.agent_laws.specs.Laws.{concerns, none_concerns}
 
@@ -25,6 +25,8 @@ fid_same (OfTalk conv call) before conn fid e = refl
 fid_same (Raised conv) before conn fid e = refl
 fid_same HandedOut before conn fid e = refl
 fid_same DropTaken before conn fid e = refl
+fid_same (OfPrompts about doing) before conn fid e = refl
+fid_same (OfLog doing) before conn fid e = refl
 fid_same Swept before conn fid e = refl
 fid_same Halted before conn fid e = absurd cc
 

@@ -1,6 +1,6 @@
 -- Every reply fits what was agreed on its connection.
-use Rattle.std.proofs.Common.{◌≡◌, ℕ, zero, suc, ◌+◌, ◌-◌, ◌*◌, ◌≤◌, List, [], ◌∷◌, length, drop, map, reverse, ◌++◌, Bool, true, false, cond, eqb, leb, ltb, ◌&&◌, not, Option, Some, None, refl, sym, ap, subst, ◌∙◌, inl, inr, arith, codes, length-append}
-use Rattle.std.specs.Prelude.{Result, Ok, Err, All, find, option_map}
+use Rattle.std.proofs.Common.{◌≡◌, ℕ, zero, suc, ◌+◌, ◌-◌, ◌*◌, ◌≤◌, List, [], ◌∷◌, length, drop, map, reverse, ◌++◌, Bool, true, false, cond, eqb, leb, ltb, ◌&&◌, not, Option, Some, None, refl, sym, ap, subst, ◌∙◌, inl, inr, arith, codes, length-append, ◌||◌}
+use Rattle.std.specs.Prelude.{Result, Ok, Err, All, find, option_map, is_some}
 use Rattle.std.specs.List.{filter, filter_map, flat_map, cons_option, AllByRecursion}
 use Rattle.std.specs.Int.{Width, w8, w16, w32, w64}
 use Rattle.std.proofs.lemmas.Bool.{cases_Bool, eq-eqb, eqb-true, leb-true, ltb-false}
@@ -31,17 +31,20 @@ use Rattle.rpc_file.specs.declared.answer.RpcAnswer.{RpcAnswer}
 use Rattle.talks.specs.Standings.{Phase, Resting, Waiting as IsStored, Seeking, OnConfirm, OnNeedkey, OnServer, Kept}
 use Rattle.agent_history.specs.declared.event.Event.{Event}
 use Rattle.agent_history.specs.declared.event.Event.TheVariants.{Request, Hang, Answer, NoAnswer, NoRoom, Take, TakeAsk, Stop}
-use Rattle.agent_history.specs.Deeds.{Deed, OfFids, OfKeys, OfReplies, OfConnection, OfTalk, Raised, HandedOut, DropTaken, Swept, Halted, Versioned, Attached, Walked, Opened, Listed, Browsed, Clunked, Answered, Awaited, Settled, Flushed, Taken, Entered, Hung, fid_of, keys_of, msize_of, was_hung, was_opened}
+use Rattle.agent_history.specs.Deeds.{Deed, OfFids, OfKeys, OfReplies, OfConnection, OfTalk, Raised, HandedOut, OfPrompts, OfLog, DropTaken, Swept, Halted, Versioned, Attached, Walked, Opened, Listed, Browsed, Clunked, Answered, Awaited, Settled, Flushed, Taken, Entered, Hung, fid_of, keys_of, msize_of, was_hung, was_opened}
 use Rattle.key_lists.specs.CtlLines.{lines_of, lines_fault}
-use Rattle.agent_history.specs.Replies.{Wait, fid_given_up, first_of, is_unsettled, replies, reply_in, settle_fid, settle_tag, settled_by, taken, untaken, waits}
-use Rattle.agent_history.specs.Conversations.{conv_of, fits, standing_of, told, Due, NoneDue, DropDue, QuestionDue, due}
-use Rattle.agent_history.specs.Requests.{Call, after_frame, answer_read, answered, body_for, body_to, call_of, carried, content_of, ctl_text, effective, granted, is_known, is_rpc, least_msize, most_msize, piece, proto_text, read_reply, replied, reply_of, tag_of, talk_read, write_reply, written}
+use Rattle.agent_history.specs.Replies.{Wait, fid_given_up, first_of, is_unsettled, replies, reply_in, settle_fid, settle_tag, settled_by, taken, untaken, waits, swept, too_small}
+use Rattle.agent_history.specs.Conversations.{conv_of, fits, standing_of, told, Due, NoneDue, DropDue, QuestionDue, due, all_withdrawn, ended_by, given_up_by}
+use Rattle.agent_history.specs.Requests.{Call, after_frame, answer_read, answered, body_for, body_to, call_of, carried, content_of, ctl_text, effective, granted, is_known, is_rpc, least_msize, most_msize, piece, proto_text, read_reply, replied, reply_of, tag_of, talk_read, write_reply, written, line_read_reply}
 use Rattle.agent_history.specs.Histories.{History, deeds, does, entered, handing, taking}
-use Rattle.agent_laws.specs.Laws.{all_asked, gives_content, given, longest_reply, most_read, put_out, reply_to}
-use Rattle.agent_laws.proofs.KindLaws.{Fits, KeepsOf, SizeFits, is_asked, is_done, is_told_so}
-use Rattle.agent_laws.proofs.GrowLaws.{all_are_asked, answer_does, either_way, entered_known, frame_grows, history_grows, last_or_not, no_answer_does, no_room_does, swept_grows}
+use Rattle.agent_laws.specs.Laws.{gives_content, given, longest_reply, most_read, put_out, reply_to, IsToldOf}
+use Rattle.agent_laws.proofs.KindLaws.{SizeFits, is_asked, is_done, is_told_so, FitsIf, KeepsIf, asked_by_met, is_handed, met_by_handed}
+use Rattle.agent_laws.proofs.MetLaws.{found_fits, given_up_grows, withdrawn_speakers}
+use Rattle.agent_laws.proofs.GrowLaws.{answer_does, either_way, frame_grows, history_grows, last_or_not, no_answer_does, no_room_does, swept_grows, hang_speakers}
 use Rattle.agent_laws.proofs.ReplyLaws.{given_in_order, frames_put_out}
 use Rattle.agent_laws.proofs.ToldLaws.{is_told, told_short, Tells, Gives, lines_tell, frame_gives}
+use Rattle.agent_history.specs.SideFiles.{is_line_file, kind_at, lines_in}
+use Rattle.side_files.specs.Lines.{Found, Nothing, TooLong, First, found}
 
 -- ---- what is agreed
 
@@ -52,27 +55,29 @@ either_agreed : (b : Bool) (x y : Option ℕ) → SizeFits x → SizeFits y → 
 either_agreed true x y p q = p
 either_agreed false x y p q = q
 
-deed_agreed : (at : ℕ) → KeepsOf (is_done at) AllAgreed
-deed_agreed at done (OfFids c (Versioned msize)) own fits p = λ conn. either_agreed (eqb c conn) msize (msize_of done conn) fits (p conn)
-deed_agreed at done (OfFids c (Attached fid)) own fits p = p
-deed_agreed at done (OfFids c (Walked fid node)) own fits p = p
-deed_agreed at done (OfFids c (Opened fid mode)) own fits p = p
-deed_agreed at done (OfFids c (Listed fid)) own fits p = p
-deed_agreed at done (OfFids c (Browsed fid next)) own fits p = p
-deed_agreed at done (OfFids c (Clunked fid)) own fits p = p
-deed_agreed at done (OfKeys c deed) own fits p = p
-deed_agreed at done (OfReplies c deed) own fits p = p
-deed_agreed at done (OfConnection c Entered) own fits p = p
-deed_agreed at done (OfConnection c Hung) own fits p = λ conn. either_agreed (eqb c conn) None (msize_of done conn) tt (p conn)
-deed_agreed at done (OfTalk conv call) own fits p = p
-deed_agreed at done (Raised conv) own fits p = p
-deed_agreed at done HandedOut own fits p = p
-deed_agreed at done DropTaken own fits p = p
-deed_agreed at done Swept own fits p = p
-deed_agreed at done Halted own fits p = λ conn. tt
+deed_agreed : (Known : Type 0) (at : ℕ) → KeepsIf Known (is_done at) AllAgreed
+deed_agreed Known at done (OfFids c (Versioned msize)) own fits p = λ conn. either_agreed (eqb c conn) msize (msize_of done conn) fits.0 (p conn)
+deed_agreed Known at done (OfFids c (Attached fid)) own fits p = p
+deed_agreed Known at done (OfFids c (Walked fid node)) own fits p = p
+deed_agreed Known at done (OfFids c (Opened fid mode)) own fits p = p
+deed_agreed Known at done (OfFids c (Listed fid)) own fits p = p
+deed_agreed Known at done (OfFids c (Browsed fid next)) own fits p = p
+deed_agreed Known at done (OfFids c (Clunked fid)) own fits p = p
+deed_agreed Known at done (OfKeys c deed) own fits p = p
+deed_agreed Known at done (OfReplies c deed) own fits p = p
+deed_agreed Known at done (OfConnection c Entered) own fits p = p
+deed_agreed Known at done (OfConnection c Hung) own fits p = λ conn. either_agreed (eqb c conn) None (msize_of done conn) tt (p conn)
+deed_agreed Known at done (OfTalk conv call) own fits p = p
+deed_agreed Known at done (Raised conv) own fits p = p
+deed_agreed Known at done HandedOut own fits p = p
+deed_agreed Known at done DropTaken own fits p = p
+deed_agreed Known at done (OfPrompts about doing) own fits p = p
+deed_agreed Known at done (OfLog doing) own fits p = p
+deed_agreed Known at done Swept own fits p = p
+deed_agreed Known at done Halted own fits p = λ conn. tt
 
 pub all_agreed : (H : History) → AllAgreed (deeds H)
-all_agreed H = history_grows AllAgreed deed_agreed (λ conn. tt) H
+all_agreed H = history_grows AllAgreed (deed_agreed (Unit {0})) (λ conn. tt) H
 
 pub agreed_between : (H : History) (conn msize : ℕ) → msize_of (deeds H) conn ≡ Some msize → (least_msize ≤ msize) × (msize ≤ most_msize)
 agreed_between H conn msize e = subst SizeFits e (all_agreed H conn)
@@ -298,15 +303,21 @@ talk_each : (P : RBody → Type 0) (word : List ℕ) (count : ℕ) (o : Option �
 talk_each P word count None done p = tt
 talk_each P word count (Some conv) done p = answer_each P count (standing_of (carried conv word done) conv).phase p
 
--- a read is answered by what rpc answers, or by what the file gives
-pub read_each : (P : RBody → Type 0) (done : List Deed) (call : Call) (fid offset count : ℕ) (node : Node) → ((answer : RpcAnswer) → P (told count answer)) → P (r.Read (content_of done call.conn fid offset count node))
-    → Each P (read_reply done call fid offset count node)
-read_each P done call fid offset count node p q =
-    either_each P (is_rpc node) (talk_read call.word count (conv_of done call.conn fid) done) (Some (r.Read (content_of done call.conn fid offset count node))) (talk_each P call.word count (conv_of done call.conn fid) done p) q
+line_each : (P : RBody → Type 0) (count : ℕ) (lines : List (List ℕ)) (what : Found) → found count lines ≡ what → ((line : List ℕ) → length line ≤ count → P (r.Read line)) → P too_small → Each P (line_read_reply what)
+line_each P count lines Nothing e p q = tt
+line_each P count lines TooLong e p q = q
+line_each P count lines (First line) e p q = p line (found_fits count lines line e)
+
+-- a read is answered by what rpc answers, by a line, or by what the file gives
+pub read_each : (P : RBody → Type 0) (done : List Deed) (call : Call) (fid offset count : ℕ) (node : Node) → ((answer : RpcAnswer) → P (told count answer)) → ((line : List ℕ) → length line ≤ count → P (r.Read line)) → P too_small
+    → P (r.Read (content_of done call.conn fid offset count node)) → Each P (read_reply done call fid offset count node)
+read_each P done call fid offset count node p line small q =
+    either_each P (is_rpc node) (talk_read call.word count (conv_of done call.conn fid) done) _ (talk_each P call.word count (conv_of done call.conn fid) done p)
+    (either_each P (is_line_file node) (line_read_reply (found count (lines_in done node))) (Some (r.Read (content_of done call.conn fid offset count node))) (line_each P count (lines_in done node) (found count (lines_in done node)) refl line small) q)
 
 -- a write is answered by its count, or by a text
 pub write_each : (P : RBody → Type 0) (done : List Deed) (content : List ℕ) (node : Node) → P (r.Write (length content)) → ((o : Option (List ℕ)) → Tells o → P (written content o)) → P (write_reply done content node)
-write_each P done content node p q = by_file (is_rpc node)
+write_each P done content node p q = by_file (is_rpc node || is_some (kind_at node))
   where
     by_file : (b : Bool) → P (cond b (r.Write (length content)) (written content (lines_fault (keys_of done) (lines_of content))))
     by_file true = p
@@ -329,7 +340,7 @@ other_fits done call (t.Open fid mode) few = λ other. omega arith
 other_fits done call (t.Create fid name perm mode) few = λ other. omega arith
 other_fits done call (t.Read fid offset count) few =
     let most = effective count (msize_of done call.conn) in
-    read_each OtherFits done call fid offset most (node_of (fid_of done call.conn fid)) (λ answer. told_each OtherFits most answer (λ small other. absurd cc) (λ other. omega arith)) (λ other. absurd cc)
+    read_each OtherFits done call fid offset most (node_of (fid_of done call.conn fid)) (λ answer. told_each OtherFits most answer (λ small other. absurd cc) (λ other. omega arith)) (λ line small other. absurd cc) (λ other. omega arith) (λ other. absurd cc)
 other_fits done call (t.Write fid offset content) few = write_each OtherFits done content (node_of (fid_of done call.conn fid)) (λ other. omega arith) (λ o tells other. written_fits content o tells)
 other_fits done call (t.Clunk fid) few = λ other. omega arith
 other_fits done call (t.Remove fid) few = λ other. omega arith
@@ -363,6 +374,7 @@ content_agreed done call (t.Read fid offset count) h =
     let node = node_of (fid_of done call.conn fid) in
     read_each (ContentFits (longest_reply o)) done call fid offset most node
     (λ answer. told_each (ContentFits (longest_reply o)) most answer (λ small gives. omega (arith, small, effective_fits count o h)) (λ gives. absurd cc))
+    (λ line small gives. omega (arith, small, effective_fits count o h)) (λ gives. absurd cc)
     (λ gives. omega (arith, content_fits done call.conn fid offset most node, effective_fits count o h))
 content_agreed done call (t.Write fid offset content) h =
     let room = longest_reply (msize_of done call.conn) in
@@ -445,6 +457,12 @@ told_fits : (o : Option ℕ) (count : ℕ) (answer : RpcAnswer) → SizeFits o �
 told_fits o count answer h small =
     told_each (FitsIn (longest_reply o)) count answer (λ fitting. omega (arith, fitting, read_fits o count h small)) (omega (arith, room_least o h))
 
+told_so_fits : (o : Option ℕ) (done : List Deed) (conn : ℕ) (wait : Wait) (body : RBody) → SizeFits o → wait.count ≤ most_read o → IsToldOf done conn wait body → FitsIn (longest_reply o) body
+told_so_fits o done conn wait body h small (inl told_) = subst (FitsIn (longest_reply o)) (sym told_.1) (told_fits o wait.count told_.0 h small)
+told_so_fits o done conn wait body h small (inr (inl (node, earlier, line, is, held, first, e))) =
+    subst (FitsIn (longest_reply o)) (sym e) (omega (arith, found_fits wait.count (lines_in earlier node) line first, read_fits o wait.count h small))
+told_so_fits o done conn wait body h small (inr (inr (node, held, over, e))) = subst (FitsIn (longest_reply o)) (sym e) (omega (arith, room_least o h))
+
 append_waiting : (o : Option ℕ) (ws : List Wait) (w : Wait) → Waiting o ws → WaitFitsIn o w → Waiting o (ws ++ w ∷ [])
 append_waiting o [] w h f = (f, tt)
 append_waiting o (x ∷ ws) w h f = (h.0, append_waiting o ws w h.1 f)
@@ -524,6 +542,8 @@ other_by_asked conn (OfTalk conv call) e = refl
 other_by_asked conn (Raised conv) e = refl
 other_by_asked conn HandedOut e = refl
 other_by_asked conn DropTaken e = refl
+other_by_asked conn (OfPrompts about doing) e = refl
+other_by_asked conn (OfLog doing) e = refl
 other_by_asked conn Swept e = refl
 other_by_asked conn Halted e = refl
 
@@ -540,6 +560,8 @@ other_by_told (OfTalk conv call) e = refl
 other_by_told (Raised conv) e = refl
 other_by_told HandedOut e = refl
 other_by_told DropTaken e = refl
+other_by_told (OfPrompts about doing) e = refl
+other_by_told (OfLog doing) e = refl
 other_by_told Swept e = refl
 other_by_told Halted e = refl
 
@@ -556,67 +578,72 @@ on_it : (b : Bool) (o : Option ℕ) (one other : List Wait) → (b ≡ true → 
 on_it true o one other h k = h refl
 on_it false o one other h k = k
 
-deed_shorts : (done : List Deed) (deed : Deed) → is_other deed ≡ true → Fits done deed → Shorts done → Shorts (deed ∷ done)
-deed_shorts done (OfFids c (Versioned msize)) own fits h = record {
-  agreed = deed_agreed c done (OfFids c (Versioned msize)) (eq-eqb c c refl) fits h.agreed;
+deed_shorts : (Known : Type 0) (done : List Deed) (deed : Deed) → is_other deed ≡ true → FitsIf Known done deed → Shorts done → Shorts (deed ∷ done)
+deed_shorts Known done (OfFids c (Versioned msize)) own fits h = record {
+  agreed = deed_agreed Known c done (OfFids c (Versioned msize)) (eq-eqb c c refl) fits h.agreed;
   waiting = λ conn. dropped (eqb c conn) msize (msize_of done conn) (waits done conn) (h.waiting conn);
   given = h.given;
 }
-deed_shorts done (OfFids c (Clunked fid)) own fits h = record {
+deed_shorts Known done (OfFids c (Clunked fid)) own fits h = record {
   agreed = h.agreed;
   waiting = λ conn. on_one (eqb c conn) (msize_of done conn) _ (waits done conn)
       (fid_waiting (msize_of done conn) fid fid_given_up (waits done conn) (omega (arith, room_least (msize_of done conn) (h.agreed conn))) (h.waiting conn)) (h.waiting conn);
   given = h.given;
 }
-deed_shorts done (OfFids c (Attached fid)) own fits h = record { agreed = h.agreed; waiting = h.waiting; given = h.given }
-deed_shorts done (OfFids c (Walked fid node)) own fits h = record { agreed = h.agreed; waiting = h.waiting; given = h.given }
-deed_shorts done (OfFids c (Opened fid mode)) own fits h = record { agreed = h.agreed; waiting = h.waiting; given = h.given }
-deed_shorts done (OfFids c (Listed fid)) own fits h = record { agreed = h.agreed; waiting = h.waiting; given = h.given }
-deed_shorts done (OfFids c (Browsed fid next)) own fits h = record { agreed = h.agreed; waiting = h.waiting; given = h.given }
-deed_shorts done (OfKeys c deed) own fits h = record { agreed = h.agreed; waiting = h.waiting; given = h.given }
-deed_shorts done (OfReplies c (Answered tag body)) own fits h = absurd cc
-deed_shorts done (OfReplies c (Awaited tag fid count)) own fits h = record {
+deed_shorts Known done (OfFids c (Attached fid)) own fits h = record { agreed = h.agreed; waiting = h.waiting; given = h.given }
+deed_shorts Known done (OfFids c (Walked fid node)) own fits h = record { agreed = h.agreed; waiting = h.waiting; given = h.given }
+deed_shorts Known done (OfFids c (Opened fid mode)) own fits h = record { agreed = h.agreed; waiting = h.waiting; given = h.given }
+deed_shorts Known done (OfFids c (Listed fid)) own fits h = record { agreed = h.agreed; waiting = h.waiting; given = h.given }
+deed_shorts Known done (OfFids c (Browsed fid next)) own fits h = record { agreed = h.agreed; waiting = h.waiting; given = h.given }
+deed_shorts Known done (OfKeys c deed) own fits h = record { agreed = h.agreed; waiting = h.waiting; given = h.given }
+deed_shorts Known done (OfReplies c (Answered tag body)) own fits h = absurd cc
+deed_shorts Known done (OfReplies c (Awaited tag fid count)) own fits h = record {
   agreed = h.agreed;
   waiting = λ conn. on_it (eqb c conn) (msize_of done conn) _ (waits done conn)
       (λ on. append_waiting (msize_of done conn) (waits done conn) (record { tag = tag; fid = fid; count = count; reply = None }) (h.waiting conn) (subst (λ (n : ℕ). count ≤ most_read (msize_of done n)) (eqb-true c conn on) fits.size, tt)) (h.waiting conn);
   given = h.given;
 }
-deed_shorts done (OfReplies c (Settled tag body)) own fits h = record {
+deed_shorts Known done (OfReplies c (Settled tag body)) own fits h = record {
   agreed = h.agreed;
   waiting = λ conn. on_it (eqb c conn) (msize_of done conn) _ (waits done conn)
       (λ on. tag_waiting (msize_of done conn) tag body (waits done conn) (subst (λ (n : ℕ). FitsIn (longest_reply (msize_of done n)) body) (eqb-true c conn on)
-      (subst (FitsIn (longest_reply (msize_of done c))) (sym fits.told_so) (told_fits (msize_of done c) fits.wait.count fits.answer (h.agreed c) (found_waiting (msize_of done c) fits.test fits.wait (waits done c) fits.found (h.waiting c)).0))) (h.waiting conn)) (h.waiting conn);
+      (told_so_fits (msize_of done c) done c fits.wait body (h.agreed c) (found_waiting (msize_of done c) fits.test fits.wait (waits done c) fits.found (h.waiting c)).0 fits.told_so)) (h.waiting conn)) (h.waiting conn);
   given = h.given;
 }
-deed_shorts done (OfReplies c (Flushed tag)) own fits h = record {
+deed_shorts Known done (OfReplies c (Flushed tag)) own fits h = record {
   agreed = h.agreed;
   waiting = λ conn. on_one (eqb c conn) (msize_of done conn) _ (waits done conn) (filter_waiting (msize_of done conn) (λ (w : Wait). not (eqb w.tag tag)) (waits done conn) (h.waiting conn)) (h.waiting conn);
   given = h.given;
 }
-deed_shorts done (OfReplies c Taken) own fits h = record { agreed = h.agreed; waiting = h.waiting; given = h.given }
-deed_shorts done (OfConnection c Entered) own fits h = record { agreed = h.agreed; waiting = h.waiting; given = h.given }
-deed_shorts done (OfConnection c Hung) own fits h = record {
-  agreed = deed_agreed c done (OfConnection c Hung) (eq-eqb c c refl) fits h.agreed;
+deed_shorts Known done (OfReplies c Taken) own fits h = record { agreed = h.agreed; waiting = h.waiting; given = h.given }
+deed_shorts Known done (OfConnection c Entered) own fits h = record { agreed = h.agreed; waiting = h.waiting; given = h.given }
+deed_shorts Known done (OfConnection c Hung) own fits h = record {
+  agreed = deed_agreed Known c done (OfConnection c Hung) (eq-eqb c c refl) fits h.agreed;
   waiting = λ conn. dropped (eqb c conn) None (msize_of done conn) (waits done conn) (h.waiting conn);
   given = h.given;
 }
-deed_shorts done (OfTalk conv call) own fits h = record { agreed = h.agreed; waiting = h.waiting; given = h.given }
-deed_shorts done (Raised conv) own fits h = record { agreed = h.agreed; waiting = h.waiting; given = h.given }
-deed_shorts done HandedOut own fits h = record { agreed = h.agreed; waiting = h.waiting; given = h.given }
-deed_shorts done DropTaken own fits h = record { agreed = h.agreed; waiting = h.waiting; given = h.given }
-deed_shorts done Swept own fits h = record {
+deed_shorts Known done (OfTalk conv call) own fits h = record { agreed = h.agreed; waiting = h.waiting; given = h.given }
+deed_shorts Known done (Raised conv) own fits h = record { agreed = h.agreed; waiting = h.waiting; given = h.given }
+deed_shorts Known done HandedOut own fits h = record { agreed = h.agreed; waiting = h.waiting; given = h.given }
+deed_shorts Known done DropTaken own fits h = record { agreed = h.agreed; waiting = h.waiting; given = h.given }
+deed_shorts Known done (OfPrompts about doing) own fits h = record { agreed = h.agreed; waiting = h.waiting; given = h.given }
+deed_shorts Known done (OfLog doing) own fits h = record { agreed = h.agreed; waiting = h.waiting; given = h.given }
+deed_shorts Known done Swept own fits h = record {
   agreed = h.agreed;
   waiting = λ conn. filter_waiting (msize_of done conn) is_unsettled (waits done conn) (h.waiting conn);
   given = λ conn. both_short (reverse (filter_map reply_in (waits done conn))) (replies done conn)
       (reversed_short (filter_map reply_in (waits done conn)) (settled_all (msize_of done conn) (waits done conn) (room_most (msize_of done conn) (h.agreed conn)) (h.waiting conn))) (h.given conn);
 }
-deed_shorts done Halted own fits h = record { agreed = λ conn. tt; waiting = λ conn. tt; given = h.given }
+deed_shorts Known done Halted own fits h = record { agreed = λ conn. tt; waiting = λ conn. tt; given = h.given }
 
-asked_short : (at : ℕ) → KeepsOf (is_asked at) Shorts
-asked_short at done deed kind fits h = deed_shorts done deed (other_by_asked at deed kind) fits h
+asked_short : (at : ℕ) → KeepsIf ⊥ (is_asked at) Shorts
+asked_short at done deed kind fits h = deed_shorts ⊥ done deed (other_by_asked at deed kind) fits h
 
-told_short_too : KeepsOf is_told_so Shorts
-told_short_too done deed kind fits h = deed_shorts done deed (other_by_told deed kind) fits h
+told_short_too : KeepsIf ⊥ is_told_so Shorts
+told_short_too done deed kind fits h = deed_shorts ⊥ done deed (other_by_told deed kind) fits h
+
+handed_short : KeepsIf ⊥ is_handed Shorts
+handed_short done deed kind fits h = deed_shorts ⊥ done deed (other_by_asked 0 deed (asked_by_met 0 deed (met_by_handed deed kind))) fits h
 
 -- ---- events
 
@@ -640,39 +667,46 @@ own_short done at frame word agreed body e =
     omega (arith, no_longer done at frame word reply (ap (option_map (λ (b : RBody). record { tag = tag_of frame; body = b })) e) (agreed at), room_most (msize_of done at) (agreed at))
 
 entered_short : (at : ℕ) (done : List Deed) → Shorts done → Shorts (entered at done)
-entered_short at done h = either_way Shorts (was_opened done at) done (OfConnection at Entered ∷ done) h (deed_shorts done (OfConnection at Entered) refl tt h)
+entered_short at done h = either_way Shorts (was_opened done at) done (OfConnection at Entered ∷ done) h (deed_shorts ⊥ done (OfConnection at Entered) refl tt h)
 
-request_short : (done : List Deed) (at : ℕ) (frame word : List ℕ) → all_asked done ≡ true → Shorts done → Shorts (does done (Request at frame word))
-request_short done at frame word known h =
+request_short : (done : List Deed) (at : ℕ) (frame word : List ℕ) → Shorts done → Shorts (does done (Request at frame word))
+request_short done at frame word h =
     let opened = entered at done in
     let call = call_of at frame word in
     let start = entered_short at done h in
-    let after = frame_grows (Unit {0}) Shorts call (asked_short at) opened frame (entered_known (Unit {0}) at done (λ x. known)) start in
+    let after = frame_grows ⊥ Shorts call (asked_short at) opened frame (λ x. absurd x) start in
     either_way Shorts (was_hung done at) done _ h
-    (swept_grows (Unit {0}) Shorts told_short_too (answered opened call frame) (replied_short call (body_to opened call frame) (after_frame opened call frame) (own_short opened at frame word start.agreed) after))
+    (swept_grows ⊥ Shorts told_short_too (answered opened call frame) (replied_short call (body_to opened call frame) (after_frame opened call frame) (own_short opened at frame word start.agreed) after))
 
 taking_short : (at : ℕ) (left : List RMsg) (done : List Deed) → Shorts done → Shorts (taking at left done)
 taking_short at [] done h = h
-taking_short at (reply ∷ rest) done h = deed_shorts done (OfReplies at Taken) refl tt h
+taking_short at (reply ∷ rest) done h = deed_shorts ⊥ done (OfReplies at Taken) refl tt h
 
 handing_short : (o : Due) (done : List Deed) → Shorts done → Shorts (handing o done)
 handing_short NoneDue done h = h
-handing_short (DropDue drop) done h = deed_shorts done DropTaken refl tt h
-handing_short (QuestionDue question) done h = deed_shorts done HandedOut refl tt h
+handing_short (DropDue drop) done h = deed_shorts ⊥ done DropTaken refl tt h
+handing_short (QuestionDue question) done h = deed_shorts ⊥ done HandedOut refl tt h
 
-event_short : (e : Event) (done : List Deed) → all_asked done ≡ true → Shorts done → Shorts (does done e)
-event_short (Request at frame word) done known h = request_short done at frame word known h
-event_short (Take at) done known h = either_way Shorts (was_hung done at) done (taking at (untaken done at) (entered at done)) h (taking_short at (untaken done at) (entered at done) (entered_short at done h))
-event_short (Hang at) done known h = either_way Shorts (was_opened done at && not (was_hung done at)) (OfConnection at Hung ∷ done) done (deed_shorts done (OfConnection at Hung) refl tt h) h
-event_short Stop done known h = deed_shorts done Halted refl tt h
-event_short (Answer call bytes) done known h = answer_does (Unit {0}) Shorts told_short_too call bytes done (λ x. known) h
-event_short (NoAnswer call) done known h = no_answer_does (Unit {0}) Shorts told_short_too call done (λ x. known) h
-event_short (NoRoom call) done known h = no_room_does (Unit {0}) Shorts told_short_too call done (λ x. known) h
-event_short TakeAsk done known h = handing_short (due done) done h
+hang_short : (done : List Deed) (at : ℕ) → Shorts done → Shorts (swept (given_up_by (OfConnection at Hung) done))
+hang_short done at h =
+    let deed = OfConnection at Hung in
+    let d = all_withdrawn (ended_by deed done) done in
+    swept_grows ⊥ Shorts told_short_too (given_up_by deed done)
+    (given_up_grows ⊥ Shorts (λ x p y. absurd y) handed_short deed done (hang_speakers at done d (withdrawn_speakers (ended_by deed done) done)) (λ stay q. deed_shorts ⊥ d deed refl stay q) h)
+
+event_short : (e : Event) (done : List Deed) → Shorts done → Shorts (does done e)
+event_short (Request at frame word) done h = request_short done at frame word h
+event_short (Take at) done h = either_way Shorts (was_hung done at) done (taking at (untaken done at) (entered at done)) h (taking_short at (untaken done at) (entered at done) (entered_short at done h))
+event_short (Hang at) done h = either_way Shorts (was_opened done at && not (was_hung done at)) _ done (hang_short done at h) h
+event_short Stop done h = deed_shorts ⊥ done Halted refl tt h
+event_short (Answer call bytes) done h = answer_does ⊥ Shorts told_short_too call bytes done (λ x. absurd x) h
+event_short (NoAnswer call) done h = no_answer_does ⊥ Shorts told_short_too call done (λ x. absurd x) h
+event_short (NoRoom call) done h = no_room_does ⊥ Shorts told_short_too call done (λ x. absurd x) h
+event_short TakeAsk done h = handing_short (due done) done h
 
 pub all_short : (H : History) → Shorts (deeds H)
 all_short [] = record { agreed = λ conn. tt; waiting = λ conn. tt; given = λ conn. tt }
-all_short (e ∷ H) = last_or_not Shorts H e (λ done q. deed_shorts done Halted refl tt q) (all_short H) (event_short e (deeds H) (all_are_asked H) (all_short H))
+all_short (e ∷ H) = last_or_not Shorts H e (λ done q. deed_shorts ⊥ done Halted refl tt q) (all_short H) (event_short e (deeds H) (all_short H))
 
 -- no read that waits is of more bytes than may be read
 counts_all : (o : Option ℕ) (ws : List Wait) → Waiting o ws → All (λ (wait : Wait). wait.count ≤ most_read o) ws

@@ -8,7 +8,7 @@ use Rattle.attr_tuples.proofs.EqualityLemmas.{eqb_swap}
 use Rattle.file_tree.specs.declared.tree.FidState.{FidState}
 use Rattle.file_tree.specs.declared.tree.Node.TheVariants.{Root}
 use Rattle.file_tree.specs.Calls.{at_rest, opened}
-use Rattle.agent_history.specs.Deeds.{Deed, FidDeed, OfFids, OfKeys, OfReplies, OfConnection, OfTalk, Raised, HandedOut, DropTaken, Swept, Halted, Versioned, Attached, Walked, Opened, Listed, Browsed, Clunked, Edited, Switched, Entered, Hung, fid_of, held_by, one_less, one_more}
+use Rattle.agent_history.specs.Deeds.{Deed, FidDeed, OfFids, OfKeys, OfReplies, OfConnection, OfTalk, Raised, HandedOut, OfPrompts, OfLog, DropTaken, Swept, Halted, Versioned, Attached, Walked, Opened, Listed, Browsed, Clunked, Edited, Switched, Entered, Hung, fid_of, held_by, one_less, one_more}
 use Rattle.agent_history.specs.Histories.{History, deeds}
 use Rattle.agent_laws.specs.Laws.{AreHeld}
 use Rattle.agent_laws.proofs.DeedLaws.{SameFor, fids_same_for}
@@ -166,7 +166,7 @@ holds_own conn at done (Attached fid) own fits h = holds_set conn done (OfFids a
 holds_own conn at done (Walked fid node) own fits h = holds_set conn done (OfFids at (Walked fid node) ∷ done) fid (at_rest node) (fid_of done conn fid) refl (rw own refl) (λ f. rw own refl) h
 holds_own conn at done (Opened fid mode) own fits h = holds_same conn done (OfFids at (Opened fid mode) ∷ done) refl (λ f. opened_same (eqb at conn && eqb fid f) mode (fid_of done conn f)) h
 holds_own conn at done (Clunked fid) own fits h =
-    let held : is_some (fid_of done conn fid) ≡ true = ap (λ (n : ℕ). is_some (fid_of done n fid)) (sym (eqb-true at conn own)) ∙ fits in
+    let held : is_some (fid_of done conn fid) ≡ true = ap (λ (n : ℕ). is_some (fid_of done n fid)) (sym (eqb-true at conn own)) ∙ fits.0 in
     holds_fewer conn done (OfFids at (Clunked fid) ∷ done) fid held (rw own (one_less_held (fid_of done conn fid) (held_by done conn) held)) (λ f. rw own refl) h
 holds_own conn at done (Listed fid) own fits h = holds_same conn done (OfFids at (Listed fid) ∷ done) refl (λ f. refl) h
 holds_own conn at done (Browsed fid next) own fits h = holds_same conn done (OfFids at (Browsed fid next) ∷ done) refl (λ f. refl) h
@@ -193,6 +193,8 @@ holds_deed conn at done (OfTalk conv call) kind fits h = holds_same conn done (O
 holds_deed conn at done (Raised conv) kind fits h = holds_same conn done (Raised conv ∷ done) refl (λ f. refl) h
 holds_deed conn at done HandedOut kind fits h = holds_same conn done (HandedOut ∷ done) refl (λ f. refl) h
 holds_deed conn at done DropTaken kind fits h = holds_same conn done (DropTaken ∷ done) refl (λ f. refl) h
+holds_deed conn at done (OfPrompts about doing) kind fits h = holds_same conn done ((OfPrompts about doing) ∷ done) refl (λ f. refl) h
+holds_deed conn at done (OfLog doing) kind fits h = holds_same conn done ((OfLog doing) ∷ done) refl (λ f. refl) h
 holds_deed conn at done Swept kind fits h = holds_same conn done (Swept ∷ done) refl (λ f. refl) h
 holds_deed conn at done Halted kind fits h = holds_none conn (Halted ∷ done) refl (λ fid. refl)
 

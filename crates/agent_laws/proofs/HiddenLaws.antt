@@ -12,7 +12,7 @@ use Rattle.attr_tuples.specs.declared.attr.Value.{Value}
 use Rattle.attr_tuples.specs.declared.attr.Value.TheVariants.{Is, Ask, Bare}
 use Rattle.attr_tuples.specs.Attributes.{is_secret, is_named, is_given}
 use Rattle.attr_tuples.specs.Equality.{public_equal, same_attr}
-use Rattle.attr_tuples.specs.Matching.{is_null, meets, matches}
+use Rattle.attr_tuples.specs.Matching.{has_name, has_null, is_null, meets, matches}
 use Rattle.attr_tuples.specs.Printing.{hidden}
 use Rattle.attr_tuples.proofs.EqualityLemmas.{public_equal_left, public_equal_right}
 use Rattle.key_lists.specs.declared.fault.AddFault.TheVariants.{Full}
@@ -34,7 +34,7 @@ hidden_again a = elim (cases_Bool (is_secret a.name)) [
   | inr shown ↦ rw shown (rw shown refl)
 ]
 
-key_hidden_again : (key : List Attr) → map hidden (map hidden key) ≡ map hidden key
+pub key_hidden_again : (key : List Attr) → map hidden (map hidden key) ≡ map hidden key
 key_hidden_again [] = refl
 key_hidden_again (a ∷ key) = ap (λ (b : Attr). b ∷ map hidden (map hidden key)) (hidden_again a) ∙ ap (λ (attrs : List Attr). hidden a ∷ attrs) (key_hidden_again key)
 
@@ -45,7 +45,7 @@ apart x y shown secret = elim (cases_Bool (bytes_eq x y)) [
   | inr other ↦ other
 ]
 
-apart_too : (x y : List ℕ) → is_secret x ≡ true → is_secret y ≡ false → bytes_eq x y ≡ false
+pub apart_too : (x y : List ℕ) → is_secret x ≡ true → is_secret y ≡ false → bytes_eq x y ≡ false
 apart_too x y secret shown = elim (cases_Bool (bytes_eq x y)) [
   | inl same ↦ absurd (let no_way : true ≡ false = sym secret ∙ ap is_secret ((bytes_eq-Decides x y).0 same) ∙ shown in cc)
   | inr other ↦ other
@@ -57,7 +57,7 @@ same_attr_hidden a b shown = elim (cases_Bool (is_secret b.name)) [
   | inr too ↦ rw too refl
 ]
 
-named_hidden : (name : List ℕ) (b : Attr) → is_named name (hidden b) ≡ is_named name b
+pub named_hidden : (name : List ℕ) (b : Attr) → is_named name (hidden b) ≡ is_named name b
 named_hidden name b = elim (cases_Bool (is_secret b.name)) [
   | inl secret ↦ rw secret refl
   | inr shown ↦ rw shown refl
@@ -71,7 +71,7 @@ null_hidden name b shown = elim (cases_Bool (is_secret b.name)) [
 
 -- ---- what a template matches
 
-any_hidden : (p q : Attr → Bool) → ((b : Attr) → p (hidden b) ≡ q b) → (key : List Attr) → list_any p (map hidden key) ≡ list_any q key
+pub any_hidden : (p q : Attr → Bool) → ((b : Attr) → p (hidden b) ≡ q b) → (key : List Attr) → list_any p (map hidden key) ≡ list_any q key
 any_hidden p q h [] = refl
 any_hidden p q h (b ∷ key) = ap (λ (x : Bool). x || list_any p (map hidden key)) (h b) ∙ ap (λ (x : Bool). q b || x) (any_hidden p q h key)
 
@@ -100,7 +100,7 @@ equal_hidden key old = public_equal_left (map hidden key) key (map hidden old) (
 
 -- ---- lists
 
-pub hidden_entry : KeyEntry → KeyEntry
+unfoldable pub hidden_entry : KeyEntry → KeyEntry
 hidden_entry entry = record { tuple = map hidden entry.tuple; serial = entry.serial }
 
 abbrev pub hidden_list : KeyList → KeyList
@@ -110,7 +110,7 @@ filter_step : (entry : KeyEntry) (more rest : List KeyEntry) → more ≡ map hi
 filter_step entry more rest h x true e = rw e (ap (λ (ks : List KeyEntry). hidden_entry entry ∷ ks) h)
 filter_step entry more rest h x false e = rw e h
 
-filter_hidden : (p q : KeyEntry → Bool) → ((entry : KeyEntry) → p (hidden_entry entry) ≡ q entry) → (keys : List KeyEntry) → filter p (map hidden_entry keys) ≡ map hidden_entry (filter q keys)
+pub filter_hidden : (p q : KeyEntry → Bool) → ((entry : KeyEntry) → p (hidden_entry entry) ≡ q entry) → (keys : List KeyEntry) → filter p (map hidden_entry keys) ≡ map hidden_entry (filter q keys)
 filter_hidden p q h [] = refl
 filter_hidden p q h (entry ∷ keys) = filter_step entry (filter p (map hidden_entry keys)) (filter q keys) (filter_hidden p q h keys) (p (hidden_entry entry)) (q entry) (h entry)
 
@@ -118,7 +118,7 @@ length_hidden : (keys : List KeyEntry) → length (map hidden_entry keys) ≡ le
 length_hidden [] = refl
 length_hidden (entry ∷ keys) = ap suc (length_hidden keys)
 
-any_entry_hidden : (p q : KeyEntry → Bool) → ((entry : KeyEntry) → p (hidden_entry entry) ≡ q entry) → (keys : List KeyEntry) → list_any p (map hidden_entry keys) ≡ list_any q keys
+pub any_entry_hidden : (p q : KeyEntry → Bool) → ((entry : KeyEntry) → p (hidden_entry entry) ≡ q entry) → (keys : List KeyEntry) → list_any p (map hidden_entry keys) ≡ list_any q keys
 any_entry_hidden p q h [] = refl
 any_entry_hidden p q h (entry ∷ keys) = ap (λ (x : Bool). x || list_any p (map hidden_entry keys)) (h entry) ∙ ap (λ (x : Bool). q entry || x) (any_entry_hidden p q h keys)
 
@@ -180,3 +180,35 @@ tuples_hidden (entry ∷ keys) =
 
 pub list_text_hidden : (list : KeyList) → list_text (hidden_list list) ≡ list_text list
 list_text_hidden list = list_text_alike (hidden_list list) list (tuples_hidden list.keys)
+
+-- ---- templates whose secrets are hidden
+
+-- a secret name alone, and a question for it, want the same
+demand_hidden : (key : List Attr) (a : Attr) (secret : Bool) → is_secret a.name ≡ secret → (value : Value) → a.value ≡ value → (secret && is_given is_any value) ≡ false → meets key (hidden a).name (hidden a).value ≡ meets key a.name a.value
+demand_hidden key a false e value f open_ = ap (λ (b : Bool). meets key (cond b (record { name = a.name; value = Ask }) a).name (cond b (record { name = a.name; value = Ask }) a).value) e
+demand_hidden key a true e (Is text) f open_ = absurd cc
+demand_hidden key a true e Ask f open_ = ap (λ (b : Bool). meets key (cond b (record { name = a.name; value = Ask }) a).name (cond b (record { name = a.name; value = Ask }) a).value) e ∙ ap (meets key a.name) (sym f)
+demand_hidden key a true e Bare f open_ =
+    ap (λ (b : Bool). meets key (cond b (record { name = a.name; value = Ask }) a).name (cond b (record { name = a.name; value = Ask }) a).value) e
+    ∙ sym (ap (λ (b : Bool). cond b (has_name key a.name) (has_null key a.name)) e)
+    ∙ ap (meets key a.name) (sym f)
+
+demands_hidden : (template key : List Attr) → list_any tells_secret template ≡ false → list_all (λ a. meets key a.name a.value) (map hidden template) ≡ list_all (λ a. meets key a.name a.value) template
+demands_hidden [] key open_ = refl
+demands_hidden (a ∷ template) key open_ =
+    let parts = or_parts (tells_secret a) (list_any tells_secret template) open_ in
+    ap (λ (x : Bool). x && list_all (λ b. meets key b.name b.value) (map hidden template)) (demand_hidden key a (is_secret a.name) refl a.value refl parts.0)
+    ∙ ap (λ (x : Bool). meets key a.name a.value && x) (demands_hidden template key parts.1)
+
+pub template_hidden : (template key : List Attr) → list_any tells_secret template ≡ false → matches (map hidden template) key ≡ matches template key
+unfolding matches
+template_hidden template key open_ = demands_hidden template key open_
+
+kept_alike : (p q : KeyEntry → Bool) → ((entry : KeyEntry) → p entry ≡ q entry) → (keys : List KeyEntry) → filter p keys ≡ filter q keys
+kept_alike p q h [] = refl
+kept_alike p q h (entry ∷ keys) = rw (h entry, kept_alike p q h keys) refl
+
+pub deleted_by_hidden : (template : List Attr) (list : KeyList) → list_any tells_secret template ≡ false → deleted (map hidden template) list ≡ deleted template list
+deleted_by_hidden template list open_ =
+    ap (λ (keys : List KeyEntry). record { keys = keys; ever_added = list.ever_added })
+    (kept_alike (λ entry. not (matches (map hidden template) entry.tuple)) (λ entry. not (matches template entry.tuple)) (λ entry. ap not (template_hidden template entry.tuple open_)) list.keys)

@@ -2,7 +2,7 @@
 use Rattle.std.proofs.Common.{ℕ, ◌≤◌, List, [], ◌∷◌, length, reverse, eqb, ltb, ◌&&◌, inl, inr, arith, length-append}
 use Rattle.std.specs.List.{filter_map}
 use Rattle.std.proofs.lemmas.Bool.{cases_Bool, and_parts, ltb-true}
-use Rattle.agent_history.specs.Deeds.{Deed, OfFids, OfKeys, OfReplies, OfConnection, OfTalk, Raised, HandedOut, DropTaken, Swept, Halted, Answered, Awaited, Settled, Flushed, Taken}
+use Rattle.agent_history.specs.Deeds.{Deed, OfFids, OfKeys, OfReplies, OfConnection, OfTalk, Raised, HandedOut, OfPrompts, OfLog, DropTaken, Swept, Halted, Answered, Awaited, Settled, Flushed, Taken}
 use Rattle.agent_history.specs.Replies.{replies, reply_in, taken, waits}
 
 -- no more replies are taken than were given
@@ -26,5 +26,7 @@ taken_given (OfTalk conv call ∷ done) conn = taken_given done conn
 taken_given (Raised conv ∷ done) conn = taken_given done conn
 taken_given (HandedOut ∷ done) conn = taken_given done conn
 taken_given (DropTaken ∷ done) conn = taken_given done conn
+taken_given (OfPrompts about doing ∷ done) conn = taken_given done conn
+taken_given (OfLog doing ∷ done) conn = taken_given done conn
 taken_given (Swept ∷ done) conn = omega (arith, length-append (reverse (filter_map reply_in (waits done conn))) (replies done conn), taken_given done conn)
 taken_given (Halted ∷ done) conn = taken_given done conn

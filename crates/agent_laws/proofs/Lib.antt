@@ -1,5 +1,8 @@
 mod AskLaws
+mod SettleLaws
 mod KindLaws
+mod PromptLaws
+mod MetLaws
 mod GrowLaws
 mod DeedLaws
 mod FidLaws
@@ -18,11 +21,31 @@ mod DueLaws
 mod SecretLaws
 mod AlikeLaws
 mod WriteLaws
-mod ConversationLaws
+pub mod ConversationLaws
 mod WaitLaws
+mod PublicLaws
+mod SeenLaws
+mod SizeLaws
+mod SizedLaws
+mod ShutLaws
+mod LineLaws
+mod ClosedLaws
 mod EditLaws
 mod PutLaws
+mod KeyedLaws
+pub mod ChosenLaws
 mod OverLaws
 mod DropLaws
 mod DropHistoryLaws
 mod RaiseLaws
+mod LeadLaws
+mod SideLaws
+mod AloneLaws
+mod SeekLaws
+mod ShownLaws
+mod CallLaws
+mod AlongLaws
+mod ResumeLaws
+mod GoesLaws
+mod FrameLaws
+mod RedactLaws

@@ -14,7 +14,7 @@ use Rattle.talks.specs.Answers.{attributes}
 use Rattle.talks.specs.Calls as calls
 use Rattle.talks.specs.Calls.{Found, Chosen, AsksConsent, AsksKey, Denied, NoneServes, Offered, Picked}
 use Rattle.talks.specs.Standings.{Begun, Phase, Resting, Waiting, Seeking, OnConfirm, OnNeedkey, OnServer, Kept, Standing, answered, begin_once, carried_out, if_begun, made, make_move, need_in, outcome_of, outcome_unless, question_of, standing, then_stands, waits_for_user}
-use Rattle.agent_history.specs.Conversations.{is_end}
+use Rattle.talks.specs.Lines.{is_end}
 use Rattle.agent_laws.proofs.PutLaws.{IsAsked, Wants, waits_with_question}
 
 -- what was begun has come to its end

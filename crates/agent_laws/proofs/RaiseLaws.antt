@@ -22,18 +22,27 @@ use Rattle.rpc_file.specs.declared.request.RpcFault.{RpcFault}
 use Rattle.conv_set.specs.Protocols.{needs}
 use Rattle.conv_set.proofs.Laws.{heard_needs, roomless_needs, unheard_needs}
 use Rattle.talks.specs.Calls as calls
-use Rattle.talks.specs.Standings.{Begun, Phase, Resting, Waiting, Seeking, OnConfirm, OnNeedkey, OnServer, Kept, Standing, made, need_in, phase_after, question_of, standing, then_stands}
+use Rattle.talks.specs.Standings.{Begun, Phase, Resting, Waiting, Seeking, OnConfirm, OnNeedkey, OnServer, Kept, Standing, made, need_in, phase_after, question_of, standing, then_stands, finds}
 use Rattle.agent_history.specs.declared.event.Event.{Event}
 use Rattle.agent_history.specs.declared.event.Event.TheVariants.{Request, Hang, Answer, NoAnswer, NoRoom, Take, TakeAsk, Stop}
-use Rattle.agent_history.specs.Deeds.{Deed, OfFids, OfKeys, OfConnection, OfTalk, Swept, Halted, Listed, Entered, Hung, fid_of, is_halted, keys_of, msize_of, was_hung, was_opened}
+use Rattle.agent_history.specs.Deeds.{Deed, OfFids, OfKeys, OfConnection, OfTalk, Swept, Halted, Listed, Entered, Hung, fid_of, is_halted, keys_of, msize_of, was_hung, was_opened, OfPrompts, OfLog, OfReplies, Raised, HandedOut, DropTaken, Versioned, Clunked, Answered, Awaited, Settled, Flushed, Taken}
 use Rattle.agent_history.specs.Replies.{Wait, has_settled, swept, untaken}
-use Rattle.agent_history.specs.Conversations.{Due, DropDue, NoneDue, QuestionDue, Speaker, asker, conv_of, deliver_to, due, fits, give_to, met, raised, raising, reader_of, resumed, seeking, seeking_all, sought_once, speaker_of, stands, standing_of, talk, then_raised, then_sought, then_took}
-use Rattle.agent_history.specs.Requests.{Call, after, after_frame, after_granted, answered, body_to, call_of, carried, carrying_out, effective, granted, is_rpc, line_deed, lines_done, reading, reading_answer, reading_talk, replied, stored, walking}
+use Rattle.agent_history.specs.Conversations.{Due, DropDue, NoneDue, QuestionDue, Speaker, asker, conv_of, deliver_to, due, fits, give_to, met, raised, raising, reader_of, resumed, seeking, seeking_all, sought_once, speaker_of, stands, standing_of, talk, then_raised, then_sought, then_took, asking, given_up_by, sought, then_logged}
+use Rattle.agent_history.specs.Requests.{Call, after, after_frame, after_granted, answered, body_to, call_of, carried, carrying_out, effective, granted, is_rpc, line_deed, lines_done, reading, reading_answer, reading_talk, replied, stored, walking, agreed, reading_line, replying, said_by}
 use Rattle.agent_history.specs.Histories.{History, deeds, does, entered, handing, most_events, taking}
 use Rattle.agent_laws.specs.Laws.{all_asked, asks_server, is_request}
 use Rattle.agent_laws.proofs.AskLaws.{asker_is_asked}
-use Rattle.agent_laws.proofs.GrowLaws.{all_are_asked}
+use Rattle.agent_laws.proofs.GrowLaws.{all_are_asked, KeepsAny, given_up_any, logged_any, served_any}
 use Rattle.agent_laws.proofs.PutLaws.{IsAsked, asked_there, on_server, waits_with_question}
+use Rattle.agent_laws.proofs.KindLaws.{is_handed}
+use Rattle.agent_history.specs.SideFiles.{is_line_file, kind_at, line_read, lines_in, prompts_of}
+use Rattle.side_files.specs.Lines.{Found, Nothing as NoLine, TooLong, First, found}
+use Rattle.side_files.specs.Questions.{asker_of}
+use Rattle.side_files.specs.declared.line.PromptKind.{PromptKind}
+use Rattle.side_files.specs.declared.reply.Reply.{Reply}
+use Rattle.side_files.specs.Calls as side
+use Rattle.side_files.specs.Replies as prompt
+use Rattle.std.specs.Prelude.{is_some}
 
 -- ---- what raises none
 
@@ -67,6 +76,35 @@ swept_raised done = by_cases (has_settled done)
 
 entered_raised : (at : ℕ) (done : List Deed) → raised (entered at done) ≡ raised done
 entered_raised at done = either_raised (was_opened done at) done (OfConnection at Entered ∷ done) (raised done) refl refl
+
+-- what is handed on raises none
+same_raised : (n : ℕ) → KeepsAny is_handed (λ done. raised done ≡ n)
+same_raised n done (OfTalk conv call) is p = p
+same_raised n done (OfPrompts about doing) is p = p
+same_raised n done (OfLog doing) is p = p
+same_raised n done (Raised conv) is p = absurd cc
+same_raised n done (OfReplies at (Settled tag body)) is p = p
+same_raised n done (OfFids at deed) is p = absurd cc
+same_raised n done (OfKeys at deed) is p = absurd cc
+same_raised n done (OfConnection at deed) is p = absurd cc
+same_raised n done (OfReplies at (Answered tag body)) is p = absurd cc
+same_raised n done (OfReplies at (Awaited tag f count)) is p = absurd cc
+same_raised n done (OfReplies at (Flushed tag)) is p = absurd cc
+same_raised n done (OfReplies at Taken) is p = absurd cc
+same_raised n done HandedOut is p = absurd cc
+same_raised n done DropTaken is p = absurd cc
+same_raised n done Swept is p = absurd cc
+same_raised n done Halted is p = absurd cc
+
+met_raised : (conv : ℕ) (call : calls.Call) (done : List Deed) → raised (met conv call done) ≡ raised (then_raised conv (then_sought conv (OfTalk conv call ∷ done)))
+met_raised conv call done =
+    let s = standing_of done conv in
+    let two = then_raised conv (then_sought conv (OfTalk conv call ∷ done)) in
+    let n = raised two in
+    served_any (λ d. raised d ≡ n) (same_raised n) (then_logged conv s two) (logged_any (λ d. raised d ≡ n) (same_raised n) conv s two refl)
+
+ends_raised : (deed : Deed) (done : List Deed) → ((d : List Deed) → raised d ≡ raised done → raised (deed ∷ d) ≡ raised done) → raised (given_up_by deed done) ≡ raised done
+ends_raised deed done more = given_up_any (λ d. raised d ≡ raised done) (same_raised (raised done)) deed done more refl
 
 -- ---- the authentication server is done with, and nothing is needed then
 
@@ -141,6 +179,7 @@ resumed_raised done number call leaves known (Some conv) e =
     let waits = on_server (standing_of done conv).phase (and_parts (stands done conv) (asks_server done conv) (asker_is_asked done number conv e known)).1 in
     let after = met conv call done in
     deliver_raised conv (standing_of after conv).phase (speaker_of after conv) after
+    ∙ met_raised conv call done
     ∙ ap raised (quiet_follows conv (OfTalk conv call ∷ done) (then_quiet done conv call leaves waits))
 
 -- ---- what raises one at most
@@ -161,8 +200,17 @@ raising_one conv (OnConfirm serial) done = omega arith
 raising_one conv OnNeedkey done = omega arith
 raising_one conv (Kept answer) done = omega arith
 
+sought_raised : (conv : ℕ) (came : calls.Found) (done : List Deed) → raised (sought conv came done) ≡ raised done
+sought_raised conv (calls.AsksConsent key) done = refl
+sought_raised conv calls.AsksKey done = refl
+sought_raised conv (calls.Chosen key) done = refl
+sought_raised conv calls.Denied done = refl
+sought_raised conv calls.NoneServes done = refl
+sought_raised conv (calls.Offered list) done = refl
+sought_raised conv (calls.Picked place) done = refl
+
 seeking_raised : (conv : ℕ) (ph : Phase) (done : List Deed) → raised (seeking conv ph done) ≡ raised done
-seeking_raised conv Seeking done = refl
+seeking_raised conv Seeking done = sought_raised conv (finds (standing_of done conv) (asking done) (keys_of done)) done
 seeking_raised conv OnServer done = refl
 seeking_raised conv Resting done = refl
 seeking_raised conv (Waiting request) done = refl
@@ -181,7 +229,7 @@ met_one : (conv : ℕ) (call : calls.Call) (done : List Deed) → OneMore done (
 met_one conv call done =
     let one = OfTalk conv call ∷ done in
     let found = then_sought conv one in
-    omega (arith, raising_one conv (standing_of found conv).phase found, all_raised (standing_of one conv).starting conv one)
+    omega (arith, met_raised conv call done, raising_one conv (standing_of found conv).phase found, all_raised (standing_of one conv).starting conv one)
 
 carrying_one : (conv : ℕ) (word : List ℕ) (ph : Phase) (done : List Deed) → OneMore done (carrying_out conv word ph done)
 carrying_one conv word (Waiting request) done = met_one conv (calls.CarriedOut word) done
@@ -234,9 +282,36 @@ walking_raised : (conn newfid : ℕ) (o : Option Node) (done : List Deed) → ra
 walking_raised conn newfid None done = refl
 walking_raised conn newfid (Some node) done = refl
 
+line_raised : (node : Node) (done : List Deed) → raised (line_read node done) ≡ raised done
+line_raised Confirm done = refl
+line_raised Needkey done = refl
+line_raised Log done = refl
+line_raised Root done = refl
+line_raised Factotum done = refl
+line_raised Rpc done = refl
+line_raised Ctl done = refl
+line_raised Proto done = refl
+
+lines_read_raised : (call : Call) (fid count : ℕ) (node : Node) (what : Found) (done : List Deed) → raised (reading_line call fid count node what done) ≡ raised done
+lines_read_raised call fid count node NoLine done = refl
+lines_read_raised call fid count node TooLong done = refl
+lines_read_raised call fid count node (First line) done = line_raised node done
+
+-- a reply to a question raises one at most
+resumed_one : (o : Option ℕ) (call : calls.Call) (done : List Deed) → OneMore done (resumed o call done)
+resumed_one None call done = omega arith
+resumed_one (Some conv) call done =
+    let after = met conv call done in
+    omega (arith, deliver_raised conv (standing_of after conv).phase (speaker_of after conv) after, met_one conv call done)
+
+replying_one : (kind : Option PromptKind) (reply : Option Reply) (done : List Deed) → OneMore done (replying kind reply done)
+replying_one None reply done = omega arith
+replying_one (Some kind) None done = omega arith
+replying_one (Some kind) (Some reply) done = resumed_one (asker_of reply.tag (prompts_of done kind)) (said_by kind reply.agrees) (OfPrompts kind (side.Replied reply.tag) ∷ done)
+
 body_one : (done : List Deed) (call : Call) (body : TBody) → OneMore done (after done call body)
 unfolding after
-body_one done call (t.Version msize version) = omega arith
+body_one done call (t.Version msize version) = same_one done (given_up_by (OfFids call.conn (Versioned (agreed msize version))) done) (ends_raised (OfFids call.conn (Versioned (agreed msize version))) done (λ d e. e))
 body_one done call (t.Auth afid uname aname) = omega arith
 body_one done call (t.Attach fid afid uname aname) = omega arith
 body_one done call (t.Flush oldtag) = omega arith
@@ -248,17 +323,22 @@ body_one done call (t.Create fid name perm mode) = omega arith
 body_one done call (t.Read fid offset count) =
     let node = node_of (fid_of done call.conn fid) in
     let most = effective count (msize_of done call.conn) in
-    either_one done (is_rpc node) (reading_talk call fid most (conv_of done call.conn fid) done) (reading done call.conn fid offset most node)
+    let what = found most (lines_in done node) in
+    either_one done (is_rpc node) (reading_talk call fid most (conv_of done call.conn fid) done) _
     (talk_one call fid most (conv_of done call.conn fid) done)
-    (same_one done (reading done call.conn fid offset most node) (reading_raised done call.conn fid offset most node))
+    (either_one done (is_line_file node) (reading_line call fid most node what done) (reading done call.conn fid offset most node)
+    (same_one done (reading_line call fid most node what done) (lines_read_raised call fid most node what done))
+    (same_one done (reading done call.conn fid offset most node) (reading_raised done call.conn fid offset most node)))
 body_one done call (t.Write fid offset content) =
     let lines = carried_out (keys_of done) (lines_of content) in
     let request = stored (conv_of done call.conn fid) (rpc.request_of content) done in
-    either_one done (is_rpc (node_of (fid_of done call.conn fid))) request (lines_done call.conn lines done)
+    let kind = kind_at (node_of (fid_of done call.conn fid)) in
+    let reply = prompt.reply_of content in
+    either_one done (is_rpc (node_of (fid_of done call.conn fid))) request _
     (same_one done request (stored_raised (conv_of done call.conn fid) (rpc.request_of content) done))
-    (same_one done (lines_done call.conn lines done) (lines_raised call.conn lines done))
-body_one done call (t.Clunk fid) = omega arith
-body_one done call (t.Remove fid) = omega arith
+    (either_one done (is_some kind) (replying kind reply done) (lines_done call.conn lines done) (replying_one kind reply done) (same_one done (lines_done call.conn lines done) (lines_raised call.conn lines done)))
+body_one done call (t.Clunk fid) = same_one done (given_up_by (OfFids call.conn (Clunked fid)) done) (ends_raised (OfFids call.conn (Clunked fid)) done (λ d e. e))
+body_one done call (t.Remove fid) = same_one done (given_up_by (OfFids call.conn (Clunked fid)) done) (ends_raised (OfFids call.conn (Clunked fid)) done (λ d e. e))
 body_one done call (t.Stat fid) = omega arith
 body_one done call (t.Wstat fid stat) = omega arith
 
@@ -309,7 +389,8 @@ others_do (Request at frame word) H none = absurd cc
 others_do (Take at) H none =
     let done = deeds H in
     either_raised (was_hung done at) done (taking at (untaken done at) (entered at done)) (raised done) refl (taking_raised at (untaken done at) (entered at done) ∙ entered_raised at done)
-others_do (Hang at) H none = either_raised (was_opened (deeds H) at && not (was_hung (deeds H) at)) (OfConnection at Hung ∷ deeds H) (deeds H) (raised (deeds H)) refl refl
+others_do (Hang at) H none = either_raised (was_opened (deeds H) at && not (was_hung (deeds H) at)) _ (deeds H) (raised (deeds H))
+    (swept_raised (given_up_by (OfConnection at Hung) (deeds H)) ∙ ends_raised (OfConnection at Hung) (deeds H) (λ d e. e)) refl
 others_do Stop H none = refl
 others_do (Answer call bytes) H none = done_raised H call (calls.Heard bytes) (heard_quiet bytes)
 others_do (NoAnswer call) H none = done_raised H call calls.Unheard unheard_quiet

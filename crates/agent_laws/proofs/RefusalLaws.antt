@@ -8,8 +8,11 @@ use Rattle.nine_messages.specs.declared.message.RBody.TheVariants as r
 use Rattle.file_tree.specs.Calls.{node_of}
 use Rattle.key_lists.specs.Lists.{KeyList}
 use Rattle.key_lists.specs.CtlLines.{CtlLine, after_lines, carried_out, keys_with, keys_with_all, line_over, lines_fault}
-use Rattle.agent_history.specs.Deeds.{Deed, fid_of}
-use Rattle.agent_history.specs.Requests.{Call, after, after_frame, after_granted, body_for, body_to, granted, is_rpc, reply_of}
+use Rattle.side_files.specs.Lines.{Found, Nothing, TooLong, First, found}
+use Rattle.file_tree.specs.declared.tree.Node.{Node}
+use Rattle.agent_history.specs.Deeds.{Deed, fid_of, msize_of}
+use Rattle.agent_history.specs.SideFiles.{is_line_file, lines_in}
+use Rattle.agent_history.specs.Requests.{Call, after, after_frame, after_granted, body_for, body_to, effective, granted, is_rpc, line_read_reply, reading_line, reply_of}
 use Rattle.agent_laws.specs.Laws.{HasFirstRefused, IsFirstRefused, may_err_and_act}
 
 -- ---- requests
@@ -22,10 +25,17 @@ pub refused_is_told : (done : List Deed) (call : Call) (frame text : List ℕ) �
 unfolding body_to
 refused_is_told done call frame text e = ap (body_for done call) e
 
--- a read of another file is answered by no error
-read_errs : (X : Type 0) (b : Bool) (o : Option RBody) (content text : List ℕ) → cond b o (Some (r.Read content)) ≡ Some (r.Error text) → X ⊎ (b ≡ true)
-read_errs X true o content text e = inr refl
-read_errs X false o content text e = absurd cc
+-- a read of a file of lines that is answered by an error leaves the line, and one of another file is answered by none
+line_errs : (call : Call) (fid count : ℕ) (node : Node) (what : Found) (done : List Deed) (text : List ℕ) → line_read_reply what ≡ Some (r.Error text) → reading_line call fid count node what done ≡ done
+line_errs call fid count node Nothing done text e = absurd cc
+line_errs call fid count node TooLong done text e = refl
+line_errs call fid count node (First line) done text e = absurd cc
+
+read_errs : (b c : Bool) (o : Option RBody) (what : Found) (content text : List ℕ) (call : Call) (fid count : ℕ) (node : Node) (done one other : List Deed) → cond b o (cond c (line_read_reply what) (Some (r.Read content))) ≡ Some (r.Error text)
+    → (cond b one (cond c (reading_line call fid count node what done) other) ≡ done) ⊎ (b ≡ true)
+read_errs true c o what content text call fid count node done one other e = inr refl
+read_errs false true o what content text call fid count node done one other e = inl (line_errs call fid count node what done text e)
+read_errs false false o what content text call fid count node done one other e = absurd cc
 
 -- a request that is carried out and answered by an error changes nothing, but for those that may err and act
 body_errs : (done : List Deed) (call : Call) (body : TBody) (text : List ℕ) → reply_of done call body ≡ Some (r.Error text) → (after done call body ≡ done) ⊎ (may_err_and_act done call body ≡ true)
@@ -37,7 +47,10 @@ body_errs done call (t.Flush oldtag) text e = absurd cc
 body_errs done call (t.Walk fid newfid wname) text e = absurd cc
 body_errs done call (t.Open fid mode) text e = absurd cc
 body_errs done call (t.Create fid name perm mode) text e = inl refl
-body_errs done call (t.Read fid offset count) text e = read_errs _ (is_rpc (node_of (fid_of done call.conn fid))) _ _ text e
+body_errs done call (t.Read fid offset count) text e =
+    let node = node_of (fid_of done call.conn fid) in
+    let most = effective count (msize_of done call.conn) in
+    read_errs (is_rpc node) (is_line_file node) _ (found most (lines_in done node)) _ text call fid most node done _ _ e
 body_errs done call (t.Write fid offset content) text e = inr refl
 body_errs done call (t.Clunk fid) text e = absurd cc
 body_errs done call (t.Remove fid) text e = inr refl

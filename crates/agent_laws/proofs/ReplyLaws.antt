@@ -9,7 +9,7 @@ use Rattle.nine_messages.specs.Messages.{r_frame}
 use Rattle.agent_history.specs.declared.event.Event.{Event}
 use Rattle.agent_history.specs.declared.event.Event.TheVariants.{Request, Hang, Answer, NoAnswer, NoRoom, Take, TakeAsk, Stop}
 use Rattle.agent_history.specs.declared.event.StepAnswer.TheVariants.{Gone}
-use Rattle.agent_history.specs.Deeds.{Deed, OfFids, OfKeys, OfReplies, OfConnection, OfTalk, Raised, HandedOut, DropTaken, Swept, Halted, Answered, Awaited, Settled, Flushed, Taken, Entered, is_gone, is_halted, was_hung, was_opened}
+use Rattle.agent_history.specs.Deeds.{Deed, OfFids, OfKeys, OfReplies, OfConnection, OfTalk, Raised, HandedOut, OfPrompts, OfLog, DropTaken, Swept, Halted, Answered, Awaited, Settled, Flushed, Taken, Entered, is_gone, is_halted, was_hung, was_opened}
 use Rattle.agent_history.specs.Replies.{replies, reply_in, taken, untaken, waits}
 use Rattle.agent_history.specs.Conversations.{Due, NoneDue, DropDue, QuestionDue, due}
 use Rattle.agent_history.specs.Histories.{History, answer, deeds, does, entered, first_reply, handing, is_reply, most_events, taking}
@@ -66,6 +66,8 @@ said_gives at n rs conn done (OfTalk conv call) kind fits g = g
 said_gives at n rs conn done (Raised conv) kind fits g = g
 said_gives at n rs conn done HandedOut kind fits g = absurd cc
 said_gives at n rs conn done DropTaken kind fits g = absurd cc
+said_gives at n rs conn done (OfPrompts about doing) kind fits g = g
+said_gives at n rs conn done (OfLog doing) kind fits g = g
 said_gives at n rs conn done Swept kind fits g =
     let settled = reverse (filter_map reply_in (waits done conn)) in
     (g.0, (settled ++ g.1.0, ap (λ (xs : List RMsg). settled ++ xs) g.1.1 ∙ sym (append_assoc settled g.1.0 rs)))

@@ -1,7 +1,7 @@
 -- What is done, what is refused and what is answered is the same of deeds that are the same but for the secrets of the
 -- keys added.
-use Rattle.std.proofs.Common.{◌≡◌, ℕ, List, [], ◌∷◌, length, map, Bool, true, false, cond, eqb, ◌&&◌, not, Option, Some, None, refl, sym, ap, ◌∙◌, codes}
-use Rattle.std.specs.Prelude.{Result, Ok, Err, find, option_map}
+use Rattle.std.proofs.Common.{◌≡◌, ℕ, List, [], ◌∷◌, length, map, Bool, true, false, cond, eqb, ◌&&◌, not, Option, Some, None, refl, sym, ap, ◌∙◌, codes, ◌||◌}
+use Rattle.std.specs.Prelude.{Result, Ok, Err, find, option_map, is_some}
 use Rattle.std.specs.List.{list_any}
 use Rattle.nine_messages.specs.declared.message.TMsg.{TMsg}
 use Rattle.nine_messages.specs.declared.message.RBody.{RBody}
@@ -26,17 +26,26 @@ use Rattle.key_lists.specs.CtlLines.{CtlLine, OnKeys, Debug, carried_out, delete
 use Rattle.rpc_file.specs.Requests.{request_of as request_in}
 use Rattle.talks.specs.Calls as calls
 use Rattle.talks.specs.Standings.{standing}
-use Rattle.agent_history.specs.Deeds.{Deed, OfFids, OfKeys, OfReplies, OfConnection, OfTalk, Raised, HandedOut, DropTaken, Swept, Halted, Versioned, Attached, Walked, Opened, Listed, Browsed, Clunked, Edited, Switched, Flushed, fid_of, keys_of, msize_of}
-use Rattle.agent_history.specs.Conversations.{Speaker, conv_of}
-use Rattle.agent_history.specs.Requests.{Call, call_of, tag_of, after, after_frame, after_granted, agreed, body_for, body_to, content_of, effective, granted, granted_body, is_over, is_rpc, lines_done, phase_in, phase_of, read_reply, reading, reading_file, reading_talk, refusal, reply_of, stored, talk_read, walking, write_reply, writing, written}
+use Rattle.agent_history.specs.Deeds.{Deed, OfFids, OfKeys, OfReplies, OfConnection, OfTalk, Raised, HandedOut, OfPrompts, OfLog, DropTaken, Swept, Halted, Versioned, Attached, Walked, Opened, Listed, Browsed, Clunked, Edited, Switched, Flushed, fid_of, keys_of, msize_of, Awaited}
+use Rattle.agent_history.specs.Conversations.{Speaker, conv_of, given_up_by, resumed}
+use Rattle.agent_history.specs.Requests.{Call, call_of, tag_of, after, after_frame, after_granted, agreed, body_for, body_to, content_of, effective, granted, granted_body, is_over, is_rpc, lines_done, phase_in, phase_of, read_reply, reading, reading_file, reading_talk, refusal, reply_of, stored, talk_read, walking, write_reply, writing, written, line_read_reply, reading_line, replier, replying, said_by}
 use Rattle.agent_history.specs.declared.event.Event.{Event}
 use Rattle.agent_history.specs.Histories.{History, deeds, does}
-use Rattle.agent_laws.specs.Laws.{SameButSecrets, all_asked, all_open, has_conversed, hidden_deed, hidden_edit, is_open_deed, reply_to}
+use Rattle.agent_laws.specs.Laws.{SameButSecrets, all_open, has_conversed, hidden_deed, hidden_edit, is_open_deed, reply_to}
 use Rattle.agent_laws.proofs.KindLaws.{FitsIf, KeepsIf, is_asked, is_done, is_line}
-use Rattle.agent_laws.proofs.GrowLaws.{choice_none, conn_of, does_grows, frame_grows, history_grows, line_is_right, lines_grow, of_message, on_its_own, said_over, unless_wrong}
+use Rattle.agent_laws.proofs.MetLaws.{choice_none, line_is_right, lines_grow, said_over, unless_wrong}
+use Rattle.agent_laws.proofs.GrowLaws.{conn_of, does_grows, frame_grows, history_grows, of_message, on_its_own}
 use Rattle.agent_laws.proofs.RefusalLaws.{then_fault, then_lines}
 use Rattle.agent_laws.proofs.HiddenLaws.{hidden_list, added_hidden, deleted_hidden, line_fault_hidden}
-use Rattle.agent_laws.proofs.SightLaws.{SameSight, none_open, sight}
+use Rattle.agent_laws.proofs.SightLaws.{SameSight, none_open, sight, none_asked, quiet_ends}
+use Rattle.agent_history.specs.SideFiles.{is_line_file, kind_at, line_read, lines_in, prompt_calls, prompts_of}
+use Rattle.side_files.specs.declared.line.PromptKind.{PromptKind}
+use Rattle.side_files.specs.declared.reply.Reply.{Reply}
+use Rattle.side_files.specs.Lines.{Found, Nothing, TooLong, First, found}
+use Rattle.side_files.specs.Questions.{asker_of, unread_lines}
+use Rattle.side_files.specs.declared.line.PromptKind.TheVariants as k
+use Rattle.side_files.specs.Calls as side
+use Rattle.side_files.specs.Replies as prompt
 
 -- ---- no deed deletes by a secret
 
@@ -55,6 +64,8 @@ fitting_open Known done (OfTalk talker call) fits = refl
 fitting_open Known done (Raised talker) fits = refl
 fitting_open Known done HandedOut fits = refl
 fitting_open Known done DropTaken fits = refl
+fitting_open Known done (OfPrompts about doing) fits = refl
+fitting_open Known done (OfLog doing) fits = refl
 fitting_open Known done Swept fits = refl
 fitting_open Known done Halted fits = refl
 
@@ -71,7 +82,7 @@ pub does_open : (H : History) (e : Event) → all_open (does (deeds H) e) ≡ tr
 does_open H e = does_grows AllOpen (conn_of e) (open_more (Unit {0}) (is_done (conn_of e))) e H (on_its_own e) (deeds_open H)
 
 pub frame_open : (done : List Deed) (call : Call) (frame : List ℕ) → all_open done ≡ true → all_open (after_frame done call frame) ≡ true
-frame_open done call frame o = frame_grows (all_asked done ≡ true) AllOpen call (open_more (all_asked done ≡ true) (is_asked call.conn)) done frame (λ known. known) o
+frame_open done call frame o = frame_grows ⊥ AllOpen call (open_more ⊥ (is_asked call.conn)) done frame (λ x. absurd x) o
 
 pub lines_open : (done : List Deed) (conn : ℕ) (lines : List (List ℕ)) → all_open done ≡ true → all_open (lines_done conn (carried_out (keys_of done) lines) done) ≡ true
 lines_open done conn lines o = lines_grow AllOpen conn (open_more (Unit {0}) (is_line conn)) lines done o
@@ -157,6 +168,25 @@ phase_alike a b s conn fid =
     by_conv None = refl
     by_conv (Some conv) = ap (λ (calls_ : List calls.Call). (standing calls_).phase) (s.talking conv)
 
+-- files of lines are read alike, and replied to alike
+prompts_alike : (a b : List Deed) → SameSight a b → (of : PromptKind) → prompts_of a of ≡ prompts_of b of
+prompts_alike a b s of = ap (side.after of) (s.prompting of)
+
+lines_in_alike : (a b : List Deed) → SameSight a b → (node : Node) → lines_in a node ≡ lines_in b node
+lines_in_alike a b s Confirm = ap unread_lines (prompts_alike a b s k.Confirm)
+lines_in_alike a b s Needkey = ap unread_lines (prompts_alike a b s k.Needkey)
+lines_in_alike a b s Log = ap side.held s.logging
+lines_in_alike a b s Root = refl
+lines_in_alike a b s Factotum = refl
+lines_in_alike a b s Rpc = refl
+lines_in_alike a b s Ctl = refl
+lines_in_alike a b s Proto = refl
+
+replier_alike : (a b : List Deed) → SameSight a b → (kind : Option PromptKind) (reply : Option Reply) → replier a kind reply ≡ replier b kind reply
+replier_alike a b s None reply = refl
+replier_alike a b s (Some kind) None = refl
+replier_alike a b s (Some kind) (Some reply) = ap (asker_of reply.tag) (prompts_alike a b s kind)
+
 refusal_alike : (a b : List Deed) (call : Call) → SameSight a b → (body : TBody) → refusal a call body ≡ refusal b call body
 unfolding refusal
 refusal_alike a b call s (t.Version msize version) = refl
@@ -166,8 +196,8 @@ refusal_alike a b call s (t.Flush oldtag) = refl
 refusal_alike a b call s (t.Walk fid newfid wname) = rw (s.fids call.conn fid, s.fids call.conn newfid, s.counts call.conn) refl
 refusal_alike a b call s (t.Open fid mode) = rw (s.fids call.conn fid, s.holders (node_of (fid_of b call.conn fid)), s.speaking) refl
 refusal_alike a b call s (t.Create fid name perm mode) = rw (s.fids call.conn fid) refl
-refusal_alike a b call s (t.Read fid offset count) = rw (phase_alike a b s call.conn fid, s.fids call.conn fid, s.nexts call.conn fid, s.waiting call.conn) refl
-refusal_alike a b call s (t.Write fid offset content) = rw (phase_alike a b s call.conn fid, s.fids call.conn fid) refl
+refusal_alike a b call s (t.Read fid offset count) = rw (phase_alike a b s call.conn fid, s.fids call.conn fid, s.nexts call.conn fid, s.waiting call.conn, s.msizes call.conn, lines_in_alike a b s (node_of (fid_of b call.conn fid))) refl
+refusal_alike a b call s (t.Write fid offset content) = rw (phase_alike a b s call.conn fid, s.fids call.conn fid, replier_alike a b s (kind_at (node_of (fid_of b call.conn fid))) (prompt.reply_of content)) refl
 refusal_alike a b call s (t.Clunk fid) = rw (s.fids call.conn fid) refl
 refusal_alike a b call s (t.Remove fid) = rw (s.fids call.conn fid) refl
 refusal_alike a b call s (t.Stat fid) = rw (s.fids call.conn fid) refl
@@ -211,28 +241,61 @@ reading_alike conn fid offset count Log a b e = e
 pub record NoneOpen (a b : List Deed) : Type 0 where
   pub one : (conn fid : ℕ) → conv_of a conn fid ≡ None
   pub other : (conn fid : ℕ) → conv_of b conn fid ≡ None
+  pub quiet_one : has_conversed a ≡ false
+  pub quiet_other : has_conversed b ≡ false
 
 file_alike : (x : Bool) (one other a b : List Deed) → map hidden_deed one ≡ map hidden_deed other → map hidden_deed a ≡ map hidden_deed b → map hidden_deed (cond x one a) ≡ map hidden_deed (cond x other b)
 file_alike true one other a b e f = e
 file_alike false one other a b e f = f
 
-read_alike : (a b : List Deed) (call : Call) (fid offset count : ℕ) (node : Node) → NoneOpen a b → map hidden_deed a ≡ map hidden_deed b
+line_read_alike : (node : Node) (a b : List Deed) → map hidden_deed a ≡ map hidden_deed b → map hidden_deed (line_read node a) ≡ map hidden_deed (line_read node b)
+line_read_alike Confirm a b e = ap (λ (ds : List Deed). OfPrompts k.Confirm side.Read ∷ ds) e
+line_read_alike Needkey a b e = ap (λ (ds : List Deed). OfPrompts k.Needkey side.Read ∷ ds) e
+line_read_alike Log a b e = ap (λ (ds : List Deed). OfLog side.Taken ∷ ds) e
+line_read_alike Root a b e = e
+line_read_alike Factotum a b e = e
+line_read_alike Rpc a b e = e
+line_read_alike Ctl a b e = e
+line_read_alike Proto a b e = e
+
+line_alike : (call : Call) (fid count : ℕ) (node : Node) (what : Found) (a b : List Deed) → map hidden_deed a ≡ map hidden_deed b → map hidden_deed (reading_line call fid count node what a) ≡ map hidden_deed (reading_line call fid count node what b)
+line_alike call fid count node Nothing a b e = ap (λ (ds : List Deed). OfReplies call.conn (Awaited call.tag fid count) ∷ ds) e
+line_alike call fid count node TooLong a b e = e
+line_alike call fid count node (First line) a b e = line_read_alike node a b e
+
+-- a reply finds nobody who asked
+nobody_replies : (kind : Option PromptKind) (reply : Option Reply) (a b : List Deed) → has_conversed a ≡ false → has_conversed b ≡ false → map hidden_deed a ≡ map hidden_deed b → map hidden_deed (replying kind reply a) ≡ map hidden_deed (replying kind reply b)
+nobody_replies None reply a b f g e = e
+nobody_replies (Some kind) None a b f g e = e
+nobody_replies (Some kind) (Some reply) a b f g e =
+    ap (λ (cs : List side.Call). map hidden_deed (resumed (asker_of reply.tag (side.after kind cs)) (said_by kind reply.agrees) (OfPrompts kind (side.Replied reply.tag) ∷ a))) (none_asked a f kind)
+    ∙ ap (λ (ds : List Deed). OfPrompts kind (side.Replied reply.tag) ∷ ds) e
+    ∙ sym (ap (λ (cs : List side.Call). map hidden_deed (resumed (asker_of reply.tag (side.after kind cs)) (said_by kind reply.agrees) (OfPrompts kind (side.Replied reply.tag) ∷ b))) (none_asked b g kind))
+
+-- fids that are given up end nothing else
+ends_alike : (deed : Deed) (a b : List Deed) → ((d : List Deed) (kind : PromptKind) → prompt_calls (deed ∷ d) kind ≡ prompt_calls d kind) → has_conversed a ≡ false → has_conversed b ≡ false → map hidden_deed a ≡ map hidden_deed b
+    → map hidden_deed (given_up_by deed a) ≡ map hidden_deed (given_up_by deed b)
+ends_alike deed a b same f g e = ap (map hidden_deed) (quiet_ends deed a f (same a)) ∙ ap (λ (ds : List Deed). hidden_deed deed ∷ ds) e ∙ sym (ap (map hidden_deed) (quiet_ends deed b g (same b)))
+
+read_alike : (a b : List Deed) (call : Call) (fid offset count : ℕ) (node : Node) → SameSight a b → NoneOpen a b → map hidden_deed a ≡ map hidden_deed b
     → map hidden_deed (reading_file a call fid offset count node) ≡ map hidden_deed (reading_file b call fid offset count node)
-read_alike a b call fid offset count node none e =
-    file_alike (is_rpc node) _ _ (reading a call.conn fid offset count node) (reading b call.conn fid offset count node)
+read_alike a b call fid offset count node s none e =
+    file_alike (is_rpc node) _ _ _ _
     (ap (λ (o : Option ℕ). map hidden_deed (reading_talk call fid count o a)) (none.one call.conn fid) ∙ e ∙ sym (ap (λ (o : Option ℕ). map hidden_deed (reading_talk call fid count o b)) (none.other call.conn fid)))
-    (reading_alike call.conn fid offset count node a b e)
+    (file_alike (is_line_file node) _ _ (reading a call.conn fid offset count node) (reading b call.conn fid offset count node)
+    (ap (λ (lines : List (List ℕ)). map hidden_deed (reading_line call fid count node (found count lines) a)) (lines_in_alike a b s node) ∙ line_alike call fid count node (found count (lines_in b node)) a b e)
+    (reading_alike call.conn fid offset count node a b e))
 
 write_alike : (a b : List Deed) (call : Call) (fid : ℕ) (content : List ℕ) (node : Node) → SameSight a b → NoneOpen a b → map hidden_deed a ≡ map hidden_deed b
     → map hidden_deed (writing a call fid content node) ≡ map hidden_deed (writing b call fid content node)
 write_alike a b call fid content node s none e =
     file_alike (is_rpc node) _ _ _ _
     (ap (λ (o : Option ℕ). map hidden_deed (stored o (request_in content) a)) (none.one call.conn fid) ∙ e ∙ sym (ap (λ (o : Option ℕ). map hidden_deed (stored o (request_in content) b)) (none.other call.conn fid)))
-    (lines_alike a b call.conn (lines_of content) s e)
+    (file_alike (is_some (kind_at node)) _ _ _ _ (nobody_replies (kind_at node) (prompt.reply_of content) a b none.quiet_one none.quiet_other e) (lines_alike a b call.conn (lines_of content) s e))
 
 after_alike : (a b : List Deed) (call : Call) → SameSight a b → NoneOpen a b → map hidden_deed a ≡ map hidden_deed b → (body : TBody) → map hidden_deed (after a call body) ≡ map hidden_deed (after b call body)
 unfolding after
-after_alike a b call s none e (t.Version msize version) = ap (λ (ds : List Deed). OfFids call.conn (Versioned (agreed msize version)) ∷ ds) e
+after_alike a b call s none e (t.Version msize version) = ends_alike (OfFids call.conn (Versioned (agreed msize version))) a b (λ d kind. refl) none.quiet_one none.quiet_other e
 after_alike a b call s none e (t.Auth afid uname aname) = e
 after_alike a b call s none e (t.Attach fid afid uname aname) = ap (λ (ds : List Deed). OfFids call.conn (Attached fid) ∷ ds) e
 after_alike a b call s none e (t.Flush oldtag) = ap (λ (ds : List Deed). OfReplies call.conn (Flushed oldtag) ∷ ds) e
@@ -244,12 +307,12 @@ after_alike a b call s none e (t.Create fid name perm mode) = e
 after_alike a b call s none e (t.Read fid offset count) =
     ap (λ (o : Option FidState). map hidden_deed (reading_file a call fid offset (effective count (msize_of a call.conn)) (node_of o))) (s.fids call.conn fid)
     ∙ ap (λ (m : Option ℕ). map hidden_deed (reading_file a call fid offset (effective count m) (node_of (fid_of b call.conn fid)))) (s.msizes call.conn)
-    ∙ read_alike a b call fid offset (effective count (msize_of b call.conn)) (node_of (fid_of b call.conn fid)) none e
+    ∙ read_alike a b call fid offset (effective count (msize_of b call.conn)) (node_of (fid_of b call.conn fid)) s none e
 after_alike a b call s none e (t.Write fid offset content) =
     ap (λ (o : Option FidState). map hidden_deed (writing a call fid content (node_of o))) (s.fids call.conn fid)
     ∙ write_alike a b call fid content (node_of (fid_of b call.conn fid)) s none e
-after_alike a b call s none e (t.Clunk fid) = ap (λ (ds : List Deed). OfFids call.conn (Clunked fid) ∷ ds) e
-after_alike a b call s none e (t.Remove fid) = ap (λ (ds : List Deed). OfFids call.conn (Clunked fid) ∷ ds) e
+after_alike a b call s none e (t.Clunk fid) = ends_alike (OfFids call.conn (Clunked fid)) a b (λ d kind. refl) none.quiet_one none.quiet_other e
+after_alike a b call s none e (t.Remove fid) = ends_alike (OfFids call.conn (Clunked fid)) a b (λ d kind. refl) none.quiet_one none.quiet_other e
 after_alike a b call s none e (t.Stat fid) = e
 after_alike a b call s none e (t.Wstat fid stat) = e
 
@@ -258,7 +321,9 @@ after_granted_alike a b call s none e (Err text) = e
 after_granted_alike a b call s none e (Ok body) = after_alike a b call s none e body
 
 pub none_is_open : (a b : List Deed) → SameButSecrets a b → has_conversed a ≡ false → NoneOpen a b
-none_is_open a b s none = record { one = none_open a none; other = none_open b (sym (sight a b s).conversed ∙ none) }
+none_is_open a b s none =
+    let off = sym (sight a b s).conversed ∙ none in
+    record { one = none_open a none; other = none_open b off; quiet_one = none; quiet_other = off }
 
 frame_is_alike : (a b : List Deed) → SameButSecrets a b → has_conversed a ≡ false → (call : Call) (frame : List ℕ) → map hidden_deed (after_frame a call frame) ≡ map hidden_deed (after_frame b call frame)
 unfolding after_frame
@@ -287,12 +352,17 @@ read_replies_alike a b call fid offset count node s none = by_file (is_rpc node)
     none_waits : talk_read call.word count (conv_of a call.conn fid) a ≡ talk_read call.word count (conv_of b call.conn fid) b
     none_waits = ap (λ (o : Option ℕ). talk_read call.word count o a) (none.one call.conn fid) ∙ sym (ap (λ (o : Option ℕ). talk_read call.word count o b) (none.other call.conn fid))
 
-    by_file : (x : Bool) → cond x (talk_read call.word count (conv_of a call.conn fid) a) (Some (r.Read (content_of a call.conn fid offset count node))) ≡ cond x (talk_read call.word count (conv_of b call.conn fid) b) (Some (r.Read (content_of b call.conn fid offset count node)))
+    by_lines : (x : Bool) → cond x (line_read_reply (found count (lines_in a node))) (Some (r.Read (content_of a call.conn fid offset count node))) ≡ cond x (line_read_reply (found count (lines_in b node))) (Some (r.Read (content_of b call.conn fid offset count node)))
+    by_lines true = ap (λ (lines : List (List ℕ)). line_read_reply (found count lines)) (lines_in_alike a b s node)
+    by_lines false = ap (λ (content : List ℕ). Some (r.Read content)) (content_alike a b call.conn fid offset count s node)
+
+    by_file : (x : Bool) → cond x (talk_read call.word count (conv_of a call.conn fid) a) (cond (is_line_file node) (line_read_reply (found count (lines_in a node))) (Some (r.Read (content_of a call.conn fid offset count node))))
+        ≡ cond x (talk_read call.word count (conv_of b call.conn fid) b) (cond (is_line_file node) (line_read_reply (found count (lines_in b node))) (Some (r.Read (content_of b call.conn fid offset count node))))
     by_file true = none_waits
-    by_file false = ap (λ (content : List ℕ). Some (r.Read content)) (content_alike a b call.conn fid offset count s node)
+    by_file false = by_lines (is_line_file node)
 
 write_replies_alike : (a b : List Deed) (content : List ℕ) (node : Node) → SameSight a b → write_reply a content node ≡ write_reply b content node
-write_replies_alike a b content node s = by_file (is_rpc node)
+write_replies_alike a b content node s = by_file (is_rpc node || is_some (kind_at node))
   where
     by_file : (x : Bool) → cond x (r.Write (length content)) (written content (lines_fault (keys_of a) (lines_of content))) ≡ cond x (r.Write (length content)) (written content (lines_fault (keys_of b) (lines_of content)))
     by_file true = refl

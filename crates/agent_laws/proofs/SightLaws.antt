@@ -1,6 +1,6 @@
 -- What is read off the deeds stays when the secrets of the keys added are hidden.
 use Rattle.std.proofs.Common.{◌≡◌, ℕ, List, [], ◌∷◌, ◌++◌, map, Bool, true, false, cond, eqb, ◌&&◌, ◌||◌, not, Option, Some, None, refl, sym, ap, ◌∙◌}
-use Rattle.std.specs.Prelude.{find, option_map}
+use Rattle.std.specs.Prelude.{find, option_map, is_some}
 use Rattle.std.specs.List.{filter, list_any}
 use Rattle.std.proofs.lemmas.Bool.{and_parts, not-true, or_parts}
 use Rattle.file_tree.specs.declared.tree.Node.{Node}
@@ -13,12 +13,18 @@ use Rattle.key_lists.specs.Lists.{added, deleted, tells_secret}
 use Rattle.key_lists.specs.Edits.{KeyEdit, Add, Delete}
 use Rattle.key_lists.specs.Listing.{list_text}
 use Rattle.talks.specs.Calls as calls
-use Rattle.agent_history.specs.Deeds.{Deed, OfFids, OfKeys, OfReplies, OfConnection, OfTalk, Raised, HandedOut, DropTaken, Swept, Halted, Versioned, Attached, Walked, Opened, Listed, Browsed, Clunked, Edited, Switched, Answered, Awaited, Settled, Flushed, Taken, Entered, Hung, fid_of, held_by, holder_of, is_halted, keys_of, msize_of, next_of, text_of, was_hung, was_opened, names}
+use Rattle.agent_history.specs.Deeds.{Deed, OfFids, OfKeys, OfReplies, OfConnection, OfTalk, Raised, HandedOut, OfPrompts, OfLog, DropTaken, Swept, Halted, Versioned, Attached, Walked, Opened, Listed, Browsed, Clunked, Edited, Switched, Answered, Awaited, Settled, Flushed, Taken, Entered, Hung, fid_of, held_by, holder_of, is_halted, keys_of, msize_of, next_of, text_of, was_hung, was_opened, names}
 use Rattle.agent_history.specs.Replies.{has_settled, replies, taken, waits}
-use Rattle.agent_history.specs.Conversations.{Speaker, conv_of, hand_first, of_speakers, opened_talks, questions, raised, speakers, talk}
+use Rattle.agent_history.specs.Conversations.{Speaker, conv_of, hand_first, of_speakers, opened_talks, questions, raised, speakers, talk, all_shut, all_withdrawn, closed, ended_by, given_up_by, stands}
 use Rattle.agent_history.specs.Requests.{is_rpc}
 use Rattle.agent_laws.specs.Laws.{SameButSecrets, all_open, has_conversed, hidden_deed, hidden_edit, is_open_edit}
 use Rattle.agent_laws.proofs.HiddenLaws.{hidden_list, added_hidden, deleted_hidden, list_text_hidden}
+use Rattle.side_files.specs.declared.line.PromptKind.{PromptKind}
+use Rattle.agent_history.specs.SideFiles.{log_calls, prompt_calls, askers, file_of}
+use Rattle.side_files.specs.declared.prompt.Asker.{Asker}
+use Rattle.side_files.specs.declared.line.PromptKind.TheVariants as k
+use Rattle.side_files.specs.Calls as side
+use Rattle.side_files.specs.Questions as asked
 
 -- ---- what is read off the deeds
 
@@ -36,6 +42,8 @@ keys_hidden (OfTalk talker call ∷ done) o = keys_hidden done o
 keys_hidden (Raised talker ∷ done) o = keys_hidden done o
 keys_hidden (HandedOut ∷ done) o = keys_hidden done o
 keys_hidden (DropTaken ∷ done) o = keys_hidden done o
+keys_hidden (OfPrompts about doing ∷ done) o = keys_hidden done o
+keys_hidden (OfLog doing ∷ done) o = keys_hidden done o
 keys_hidden (Swept ∷ done) o = keys_hidden done o
 keys_hidden (Halted ∷ done) o = keys_hidden done o
 
@@ -64,6 +72,8 @@ msize_hidden (OfTalk talker call ∷ done) conn = msize_hidden done conn
 msize_hidden (Raised talker ∷ done) conn = msize_hidden done conn
 msize_hidden (HandedOut ∷ done) conn = msize_hidden done conn
 msize_hidden (DropTaken ∷ done) conn = msize_hidden done conn
+msize_hidden (OfPrompts about doing ∷ done) conn = msize_hidden done conn
+msize_hidden (OfLog doing ∷ done) conn = msize_hidden done conn
 msize_hidden (Swept ∷ done) conn = msize_hidden done conn
 msize_hidden (Halted ∷ done) conn = refl
 
@@ -89,6 +99,8 @@ fid_hidden (OfTalk talker call ∷ done) conn fid = fid_hidden done conn fid
 fid_hidden (Raised talker ∷ done) conn fid = fid_hidden done conn fid
 fid_hidden (HandedOut ∷ done) conn fid = fid_hidden done conn fid
 fid_hidden (DropTaken ∷ done) conn fid = fid_hidden done conn fid
+fid_hidden (OfPrompts about doing ∷ done) conn fid = fid_hidden done conn fid
+fid_hidden (OfLog doing ∷ done) conn fid = fid_hidden done conn fid
 fid_hidden (Swept ∷ done) conn fid = fid_hidden done conn fid
 fid_hidden (Halted ∷ done) conn fid = refl
 
@@ -114,6 +126,8 @@ held_hidden (OfTalk talker call ∷ done) conn = held_hidden done conn
 held_hidden (Raised talker ∷ done) conn = held_hidden done conn
 held_hidden (HandedOut ∷ done) conn = held_hidden done conn
 held_hidden (DropTaken ∷ done) conn = held_hidden done conn
+held_hidden (OfPrompts about doing ∷ done) conn = held_hidden done conn
+held_hidden (OfLog doing ∷ done) conn = held_hidden done conn
 held_hidden (Swept ∷ done) conn = held_hidden done conn
 held_hidden (Halted ∷ done) conn = refl
 
@@ -139,6 +153,8 @@ next_hidden (OfTalk talker call ∷ done) conn fid = next_hidden done conn fid
 next_hidden (Raised talker ∷ done) conn fid = next_hidden done conn fid
 next_hidden (HandedOut ∷ done) conn fid = next_hidden done conn fid
 next_hidden (DropTaken ∷ done) conn fid = next_hidden done conn fid
+next_hidden (OfPrompts about doing ∷ done) conn fid = next_hidden done conn fid
+next_hidden (OfLog doing ∷ done) conn fid = next_hidden done conn fid
 next_hidden (Swept ∷ done) conn fid = next_hidden done conn fid
 next_hidden (Halted ∷ done) conn fid = refl
 
@@ -164,6 +180,8 @@ holder_hidden (OfTalk talker call ∷ done) node = holder_hidden done node
 holder_hidden (Raised talker ∷ done) node = holder_hidden done node
 holder_hidden (HandedOut ∷ done) node = holder_hidden done node
 holder_hidden (DropTaken ∷ done) node = holder_hidden done node
+holder_hidden (OfPrompts about doing ∷ done) node = holder_hidden done node
+holder_hidden (OfLog doing ∷ done) node = holder_hidden done node
 holder_hidden (Swept ∷ done) node = holder_hidden done node
 holder_hidden (Halted ∷ done) node = refl
 
@@ -189,6 +207,8 @@ waits_hidden (OfTalk talker call ∷ done) conn = waits_hidden done conn
 waits_hidden (Raised talker ∷ done) conn = waits_hidden done conn
 waits_hidden (HandedOut ∷ done) conn = waits_hidden done conn
 waits_hidden (DropTaken ∷ done) conn = waits_hidden done conn
+waits_hidden (OfPrompts about doing ∷ done) conn = waits_hidden done conn
+waits_hidden (OfLog doing ∷ done) conn = waits_hidden done conn
 waits_hidden (Swept ∷ done) conn = rw (waits_hidden done conn) refl
 waits_hidden (Halted ∷ done) conn = refl
 
@@ -214,6 +234,8 @@ settled_hidden (OfTalk talker call ∷ done) = settled_hidden done
 settled_hidden (Raised talker ∷ done) = settled_hidden done
 settled_hidden (HandedOut ∷ done) = settled_hidden done
 settled_hidden (DropTaken ∷ done) = settled_hidden done
+settled_hidden (OfPrompts about doing ∷ done) = settled_hidden done
+settled_hidden (OfLog doing ∷ done) = settled_hidden done
 settled_hidden (Swept ∷ done) = refl
 settled_hidden (Halted ∷ done) = refl
 
@@ -239,6 +261,8 @@ replies_hidden (OfTalk talker call ∷ done) conn = replies_hidden done conn
 replies_hidden (Raised talker ∷ done) conn = replies_hidden done conn
 replies_hidden (HandedOut ∷ done) conn = replies_hidden done conn
 replies_hidden (DropTaken ∷ done) conn = replies_hidden done conn
+replies_hidden (OfPrompts about doing ∷ done) conn = replies_hidden done conn
+replies_hidden (OfLog doing ∷ done) conn = replies_hidden done conn
 replies_hidden (Swept ∷ done) conn = rw (replies_hidden done conn, waits_hidden done conn) refl
 replies_hidden (Halted ∷ done) conn = replies_hidden done conn
 
@@ -264,6 +288,8 @@ taken_hidden (OfTalk talker call ∷ done) conn = taken_hidden done conn
 taken_hidden (Raised talker ∷ done) conn = taken_hidden done conn
 taken_hidden (HandedOut ∷ done) conn = taken_hidden done conn
 taken_hidden (DropTaken ∷ done) conn = taken_hidden done conn
+taken_hidden (OfPrompts about doing ∷ done) conn = taken_hidden done conn
+taken_hidden (OfLog doing ∷ done) conn = taken_hidden done conn
 taken_hidden (Swept ∷ done) conn = taken_hidden done conn
 taken_hidden (Halted ∷ done) conn = taken_hidden done conn
 
@@ -289,6 +315,8 @@ opened_hidden (OfTalk talker call ∷ done) conn = opened_hidden done conn
 opened_hidden (Raised talker ∷ done) conn = opened_hidden done conn
 opened_hidden (HandedOut ∷ done) conn = opened_hidden done conn
 opened_hidden (DropTaken ∷ done) conn = opened_hidden done conn
+opened_hidden (OfPrompts about doing ∷ done) conn = opened_hidden done conn
+opened_hidden (OfLog doing ∷ done) conn = opened_hidden done conn
 opened_hidden (Swept ∷ done) conn = opened_hidden done conn
 opened_hidden (Halted ∷ done) conn = opened_hidden done conn
 
@@ -314,6 +342,8 @@ hung_hidden (OfTalk talker call ∷ done) conn = hung_hidden done conn
 hung_hidden (Raised talker ∷ done) conn = hung_hidden done conn
 hung_hidden (HandedOut ∷ done) conn = hung_hidden done conn
 hung_hidden (DropTaken ∷ done) conn = hung_hidden done conn
+hung_hidden (OfPrompts about doing ∷ done) conn = hung_hidden done conn
+hung_hidden (OfLog doing ∷ done) conn = hung_hidden done conn
 hung_hidden (Swept ∷ done) conn = hung_hidden done conn
 hung_hidden (Halted ∷ done) conn = hung_hidden done conn
 
@@ -339,6 +369,8 @@ halted_hidden (OfTalk talker call ∷ done) = halted_hidden done
 halted_hidden (Raised talker ∷ done) = halted_hidden done
 halted_hidden (HandedOut ∷ done) = halted_hidden done
 halted_hidden (DropTaken ∷ done) = halted_hidden done
+halted_hidden (OfPrompts about doing ∷ done) = halted_hidden done
+halted_hidden (OfLog doing ∷ done) = halted_hidden done
 halted_hidden (Swept ∷ done) = halted_hidden done
 halted_hidden (Halted ∷ done) = refl
 
@@ -364,6 +396,8 @@ text_hidden (OfTalk talker call ∷ done) o conn fid = text_hidden done o conn f
 text_hidden (Raised talker ∷ done) o conn fid = text_hidden done o conn fid
 text_hidden (HandedOut ∷ done) o conn fid = text_hidden done o conn fid
 text_hidden (DropTaken ∷ done) o conn fid = text_hidden done o conn fid
+text_hidden (OfPrompts about doing ∷ done) o conn fid = text_hidden done o conn fid
+text_hidden (OfLog doing ∷ done) o conn fid = text_hidden done o conn fid
 text_hidden (Swept ∷ done) o conn fid = text_hidden done o conn fid
 text_hidden (Halted ∷ done) o conn fid = refl
 
@@ -389,6 +423,8 @@ opened_talks_hidden (OfTalk talker call ∷ done) = opened_talks_hidden done
 opened_talks_hidden (Raised talker ∷ done) = opened_talks_hidden done
 opened_talks_hidden (HandedOut ∷ done) = opened_talks_hidden done
 opened_talks_hidden (DropTaken ∷ done) = opened_talks_hidden done
+opened_talks_hidden (OfPrompts about doing ∷ done) = opened_talks_hidden done
+opened_talks_hidden (OfLog doing ∷ done) = opened_talks_hidden done
 opened_talks_hidden (Swept ∷ done) = opened_talks_hidden done
 opened_talks_hidden (Halted ∷ done) = opened_talks_hidden done
 
@@ -414,6 +450,8 @@ speakers_hidden (OfTalk talker call ∷ done) = speakers_hidden done
 speakers_hidden (Raised talker ∷ done) = speakers_hidden done
 speakers_hidden (HandedOut ∷ done) = speakers_hidden done
 speakers_hidden (DropTaken ∷ done) = speakers_hidden done
+speakers_hidden (OfPrompts about doing ∷ done) = speakers_hidden done
+speakers_hidden (OfLog doing ∷ done) = speakers_hidden done
 speakers_hidden (Swept ∷ done) = speakers_hidden done
 speakers_hidden (Halted ∷ done) = refl
 
@@ -439,6 +477,8 @@ talk_hidden (OfTalk talker call ∷ done) conv = rw (talk_hidden done conv) refl
 talk_hidden (Raised talker ∷ done) conv = talk_hidden done conv
 talk_hidden (HandedOut ∷ done) conv = talk_hidden done conv
 talk_hidden (DropTaken ∷ done) conv = talk_hidden done conv
+talk_hidden (OfPrompts about doing ∷ done) conv = talk_hidden done conv
+talk_hidden (OfLog doing ∷ done) conv = talk_hidden done conv
 talk_hidden (Swept ∷ done) conv = talk_hidden done conv
 talk_hidden (Halted ∷ done) conv = talk_hidden done conv
 
@@ -464,8 +504,65 @@ raised_hidden (OfTalk talker call ∷ done) = raised_hidden done
 raised_hidden (Raised talker ∷ done) = rw (raised_hidden done) refl
 raised_hidden (HandedOut ∷ done) = raised_hidden done
 raised_hidden (DropTaken ∷ done) = raised_hidden done
+raised_hidden (OfPrompts about doing ∷ done) = raised_hidden done
+raised_hidden (OfLog doing ∷ done) = raised_hidden done
 raised_hidden (Swept ∷ done) = raised_hidden done
 raised_hidden (Halted ∷ done) = raised_hidden done
+
+-- what was done with questions to users, and with the log
+pub prompts_hidden : (done : List Deed) (of : PromptKind) → prompt_calls (map hidden_deed done) of ≡ prompt_calls done of
+prompts_hidden [] of = refl
+prompts_hidden (OfFids at (Versioned msize) ∷ done) of = prompts_hidden done of
+prompts_hidden (OfFids at (Attached f) ∷ done) of = prompts_hidden done of
+prompts_hidden (OfFids at (Walked f to) ∷ done) of = prompts_hidden done of
+prompts_hidden (OfFids at (Opened f mode) ∷ done) of = prompts_hidden done of
+prompts_hidden (OfFids at (Listed f) ∷ done) of = prompts_hidden done of
+prompts_hidden (OfFids at (Browsed f place) ∷ done) of = prompts_hidden done of
+prompts_hidden (OfFids at (Clunked f) ∷ done) of = prompts_hidden done of
+prompts_hidden (OfKeys at (Edited edit) ∷ done) of = prompts_hidden done of
+prompts_hidden (OfKeys at Switched ∷ done) of = prompts_hidden done of
+prompts_hidden (OfReplies at (Answered tag body) ∷ done) of = prompts_hidden done of
+prompts_hidden (OfReplies at (Awaited tag f count) ∷ done) of = prompts_hidden done of
+prompts_hidden (OfReplies at (Settled tag body) ∷ done) of = prompts_hidden done of
+prompts_hidden (OfReplies at (Flushed tag) ∷ done) of = prompts_hidden done of
+prompts_hidden (OfReplies at Taken ∷ done) of = prompts_hidden done of
+prompts_hidden (OfConnection at Entered ∷ done) of = prompts_hidden done of
+prompts_hidden (OfConnection at Hung ∷ done) of = prompts_hidden done of
+prompts_hidden (OfTalk talker call ∷ done) of = prompts_hidden done of
+prompts_hidden (Raised talker ∷ done) of = prompts_hidden done of
+prompts_hidden (HandedOut ∷ done) of = prompts_hidden done of
+prompts_hidden (DropTaken ∷ done) of = prompts_hidden done of
+prompts_hidden (OfPrompts about doing ∷ done) of = rw (prompts_hidden done of) refl
+prompts_hidden (OfLog doing ∷ done) of = prompts_hidden done of
+prompts_hidden (Swept ∷ done) of = prompts_hidden done of
+prompts_hidden (Halted ∷ done) of = refl
+
+pub log_hidden : (done : List Deed) → log_calls (map hidden_deed done) ≡ log_calls done
+log_hidden [] = refl
+log_hidden (OfFids at (Versioned msize) ∷ done) = log_hidden done
+log_hidden (OfFids at (Attached f) ∷ done) = log_hidden done
+log_hidden (OfFids at (Walked f to) ∷ done) = log_hidden done
+log_hidden (OfFids at (Opened f mode) ∷ done) = log_hidden done
+log_hidden (OfFids at (Listed f) ∷ done) = log_hidden done
+log_hidden (OfFids at (Browsed f place) ∷ done) = log_hidden done
+log_hidden (OfFids at (Clunked f) ∷ done) = log_hidden done
+log_hidden (OfKeys at (Edited edit) ∷ done) = log_hidden done
+log_hidden (OfKeys at Switched ∷ done) = log_hidden done
+log_hidden (OfReplies at (Answered tag body) ∷ done) = log_hidden done
+log_hidden (OfReplies at (Awaited tag f count) ∷ done) = log_hidden done
+log_hidden (OfReplies at (Settled tag body) ∷ done) = log_hidden done
+log_hidden (OfReplies at (Flushed tag) ∷ done) = log_hidden done
+log_hidden (OfReplies at Taken ∷ done) = log_hidden done
+log_hidden (OfConnection at Entered ∷ done) = log_hidden done
+log_hidden (OfConnection at Hung ∷ done) = log_hidden done
+log_hidden (OfTalk talker call ∷ done) = log_hidden done
+log_hidden (Raised talker ∷ done) = log_hidden done
+log_hidden (HandedOut ∷ done) = log_hidden done
+log_hidden (DropTaken ∷ done) = log_hidden done
+log_hidden (OfPrompts about doing ∷ done) = log_hidden done
+log_hidden (OfLog doing ∷ done) = rw (log_hidden done) refl
+log_hidden (Swept ∷ done) = log_hidden done
+log_hidden (Halted ∷ done) = refl
 
 -- the questions of the conversations that stand
 left_hidden : (deed : Deed) (done : List Deed) → speakers (deed ∷ map hidden_deed done) ≡ speakers (deed ∷ done) → questions (map hidden_deed done) ≡ questions done
@@ -495,6 +592,8 @@ questions_hidden (OfTalk talker call ∷ done) = met_hidden talker call done (qu
 questions_hidden (Raised talker ∷ done) = rw (questions_hidden done, raised_hidden done) refl
 questions_hidden (HandedOut ∷ done) = ap hand_first (questions_hidden done)
 questions_hidden (DropTaken ∷ done) = questions_hidden done
+questions_hidden (OfPrompts about doing ∷ done) = questions_hidden done
+questions_hidden (OfLog doing ∷ done) = questions_hidden done
 questions_hidden (Swept ∷ done) = questions_hidden done
 questions_hidden (Halted ∷ done) = refl
 
@@ -520,6 +619,8 @@ conversed_hidden (OfTalk talker call ∷ done) = conversed_hidden done
 conversed_hidden (Raised talker ∷ done) = conversed_hidden done
 conversed_hidden (HandedOut ∷ done) = conversed_hidden done
 conversed_hidden (DropTaken ∷ done) = conversed_hidden done
+conversed_hidden (OfPrompts about doing ∷ done) = refl
+conversed_hidden (OfLog doing ∷ done) = conversed_hidden done
 conversed_hidden (Swept ∷ done) = conversed_hidden done
 conversed_hidden (Halted ∷ done) = conversed_hidden done
 
@@ -564,12 +665,61 @@ none_speaks (OfTalk talker call ∷ done) e = none_speaks done e
 none_speaks (Raised talker ∷ done) e = none_speaks done e
 none_speaks (HandedOut ∷ done) e = none_speaks done e
 none_speaks (DropTaken ∷ done) e = none_speaks done e
+none_speaks (OfPrompts about doing ∷ done) e = absurd cc
+none_speaks (OfLog doing ∷ done) e = none_speaks done e
 none_speaks (Swept ∷ done) e = none_speaks done e
 none_speaks (Halted ∷ done) e = refl
+
+-- and nobody was asked anything
+pub none_asked : (done : List Deed) → has_conversed done ≡ false → (of : PromptKind) → prompt_calls done of ≡ []
+none_asked [] e of = refl
+none_asked (OfFids at (Versioned msize) ∷ done) e of = none_asked done e of
+none_asked (OfFids at (Attached f) ∷ done) e of = none_asked done e of
+none_asked (OfFids at (Walked f to) ∷ done) e of = none_asked done e of
+none_asked (OfFids at (Opened f mode) ∷ done) e of = none_asked done (or_parts (is_rpc (node_of (fid_of done at f))) (has_conversed done) e).1 of
+none_asked (OfFids at (Listed f) ∷ done) e of = none_asked done e of
+none_asked (OfFids at (Browsed f place) ∷ done) e of = none_asked done e of
+none_asked (OfFids at (Clunked f) ∷ done) e of = none_asked done e of
+none_asked (OfKeys at (Edited edit) ∷ done) e of = none_asked done e of
+none_asked (OfKeys at Switched ∷ done) e of = none_asked done e of
+none_asked (OfReplies at (Answered tag body) ∷ done) e of = none_asked done e of
+none_asked (OfReplies at (Awaited tag f count) ∷ done) e of = none_asked done e of
+none_asked (OfReplies at (Settled tag body) ∷ done) e of = none_asked done e of
+none_asked (OfReplies at (Flushed tag) ∷ done) e of = none_asked done e of
+none_asked (OfReplies at Taken ∷ done) e of = none_asked done e of
+none_asked (OfConnection at Entered ∷ done) e of = none_asked done e of
+none_asked (OfConnection at Hung ∷ done) e of = none_asked done e of
+none_asked (OfTalk talker call ∷ done) e of = none_asked done e of
+none_asked (Raised talker ∷ done) e of = none_asked done e of
+none_asked (HandedOut ∷ done) e of = none_asked done e of
+none_asked (DropTaken ∷ done) e of = none_asked done e of
+none_asked (OfPrompts about doing ∷ done) e of = absurd cc
+none_asked (OfLog doing ∷ done) e of = none_asked done e of
+none_asked (Swept ∷ done) e of = none_asked done e of
+none_asked (Halted ∷ done) e of = refl
 
 -- nor has a fid one open
 pub none_open : (done : List Deed) → has_conversed done ≡ false → (conn fid : ℕ) → conv_of done conn fid ≡ None
 none_open done e conn fid = ap (λ (standing : List Speaker). option_map (λ s. s.conv) (find (λ s. eqb s.conn conn && eqb s.fid fid) standing)) (none_speaks done e)
+
+-- so nothing else ends with fids that are given up
+nobody_shut : (kind : PromptKind) (done : List Deed) → askers done kind ≡ [] → closed kind done ≡ done
+nobody_shut kind done e = by_cases (is_some (holder_of done (file_of kind)))
+  where
+    by_cases : (b : Bool) → cond b done (all_shut kind (askers done kind) done) ≡ done
+    by_cases true = refl
+    by_cases false = ap (λ (convs : List ℕ). all_shut kind convs done) e
+
+no_askers : (done : List Deed) (kind : PromptKind) → prompt_calls done kind ≡ [] → askers done kind ≡ []
+no_askers done kind e = ap (λ (cs : List side.Call). map (λ (a : Asker). a.conv) (asked.standing (side.after kind cs))) e
+
+pub quiet_ends : (deed : Deed) (done : List Deed) → has_conversed done ≡ false → ((kind : PromptKind) → prompt_calls (deed ∷ done) kind ≡ prompt_calls done kind) → given_up_by deed done ≡ deed ∷ done
+quiet_ends deed done e same =
+    let none : ended_by deed done ≡ [] = ap (λ (ss : List Speaker). map (λ (s : Speaker). s.conv) (filter (λ (s : Speaker). not (stands (deed ∷ done) s.conv)) ss)) (none_speaks done e) in
+    let off = λ (kind : PromptKind). no_askers (deed ∷ done) kind (same kind ∙ none_asked done e kind) in
+    ap (λ (leaving : List ℕ). closed k.Needkey (closed k.Confirm (deed ∷ all_withdrawn leaving done))) none
+    ∙ ap (closed k.Needkey) (nobody_shut k.Confirm (deed ∷ done) (off k.Confirm))
+    ∙ nobody_shut k.Needkey (deed ∷ done) (off k.Needkey)
 
 -- ---- two lists of deeds that are the same but for secrets
 
@@ -588,6 +738,8 @@ open_hidden (OfTalk talker call ∷ done) = open_hidden done
 open_hidden (Raised talker ∷ done) = open_hidden done
 open_hidden (HandedOut ∷ done) = open_hidden done
 open_hidden (DropTaken ∷ done) = open_hidden done
+open_hidden (OfPrompts about doing ∷ done) = open_hidden done
+open_hidden (OfLog doing ∷ done) = open_hidden done
 open_hidden (Swept ∷ done) = open_hidden done
 open_hidden (Halted ∷ done) = open_hidden done
 
@@ -619,6 +771,8 @@ pub record SameSight (a b : List Deed) : Type 0 where
   pub asking : questions a ≡ questions b
   pub talking : (conv : ℕ) → talk a conv ≡ talk b conv
   pub conversed : has_conversed a ≡ has_conversed b
+  pub prompting : (of : PromptKind) → prompt_calls a of ≡ prompt_calls b of
+  pub logging : log_calls a ≡ log_calls b
 
 pub sight : (a b : List Deed) → SameButSecrets a b → SameSight a b
 sight a b s = record {
@@ -641,4 +795,6 @@ sight a b s = record {
   asking = alike questions (λ done o. questions_hidden done) a b s;
   talking = λ conv. alike (λ done. talk done conv) (λ done o. talk_hidden done conv) a b s;
   conversed = alike has_conversed (λ done o. conversed_hidden done) a b s;
+  prompting = λ of. alike (λ done. prompt_calls done of) (λ done o. prompts_hidden done of) a b s;
+  logging = alike log_calls (λ done o. log_hidden done) a b s;
 }

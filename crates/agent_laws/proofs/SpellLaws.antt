@@ -21,12 +21,14 @@ use Rattle.file_tree.specs.Calls.{node_of}
 use Rattle.file_tree.proofs.RecordLaws.{size_small}
 use Rattle.file_tree.proofs.WalkLaws.{at_most}
 use Rattle.rpc_file.specs.declared.answer.RpcAnswer.{RpcAnswer}
-use Rattle.agent_history.specs.Deeds.{Deed, fid_of, msize_of}
+use Rattle.agent_history.specs.Deeds.{Deed, fid_of, msize_of, OfFids, OfKeys, OfReplies, OfConnection, OfTalk, OfPrompts, OfLog, Raised, HandedOut, DropTaken, Swept, Halted, Versioned, Answered, Awaited, Settled, Flushed, Taken}
 use Rattle.agent_history.specs.Conversations.{fits, told}
-use Rattle.agent_history.specs.Requests.{Call, after, after_frame, after_granted, body_for, body_to, call_of, effective, granted, is_known, most_msize, reply_of, tag_of, written}
+use Rattle.agent_history.specs.Requests.{Call, after, after_frame, after_granted, body_for, body_to, call_of, effective, granted, is_known, most_msize, reply_of, tag_of, written, agreed}
 use Rattle.agent_laws.specs.Laws.{reply_to}
 use Rattle.agent_laws.proofs.ToldLaws.{told_string, Tells, Gives, frame_gives}
 use Rattle.agent_laws.proofs.FitLaws.{Each, content_fits, each_reply, effective_asked, read_each, request_fits, told_each, version_text, version_told, write_each}
+use Rattle.agent_laws.proofs.GrowLaws.{KeepsAny, given_up_after}
+use Rattle.agent_laws.proofs.KindLaws.{is_handed}
 
 -- ---- what the reply to a version tells
 
@@ -57,9 +59,29 @@ not_each msize (Some body) h e = h (says_it body msize e)
 answer_no_version : (count msize : ℕ) (answer : RpcAnswer) → NoVersion msize (told count answer)
 answer_no_version count msize answer = told_each (NoVersion msize) count answer (λ small e. cc) (λ e. cc)
 
+same_size : (conn : ℕ) (o : Option ℕ) → KeepsAny is_handed (λ done. msize_of done conn ≡ o)
+same_size conn o done (OfTalk conv call) is p = p
+same_size conn o done (OfPrompts about doing) is p = p
+same_size conn o done (OfLog doing) is p = p
+same_size conn o done (Raised conv) is p = absurd cc
+same_size conn o done (OfReplies at (Settled tag body)) is p = p
+same_size conn o done (OfFids at deed) is p = absurd cc
+same_size conn o done (OfKeys at deed) is p = absurd cc
+same_size conn o done (OfConnection at deed) is p = absurd cc
+same_size conn o done (OfReplies at (Answered tag body)) is p = absurd cc
+same_size conn o done (OfReplies at (Awaited tag f count)) is p = absurd cc
+same_size conn o done (OfReplies at (Flushed tag)) is p = absurd cc
+same_size conn o done (OfReplies at Taken) is p = absurd cc
+same_size conn o done HandedOut is p = absurd cc
+same_size conn o done DropTaken is p = absurd cc
+same_size conn o done Swept is p = absurd cc
+same_size conn o done Halted is p = absurd cc
+
 body_told : (done : List Deed) (call : Call) (body : TBody) (msize : ℕ) → SaysVersion msize (reply_of done call body) → msize_of (after done call body) call.conn ≡ Some msize
 unfolding reply_of after
-body_told done call (t.Version offered version) msize e = rw (eq-eqb call.conn call.conn refl) (known_is_told (is_known version) (min offered most_msize) msize (says_it _ msize e))
+body_told done call (t.Version offered version) msize e =
+    given_up_after (λ d. msize_of d call.conn ≡ Some msize) (same_size call.conn (Some msize)) (OfFids call.conn (Versioned (agreed offered version))) done
+    (λ d. rw (eq-eqb call.conn call.conn refl) (known_is_told (is_known version) (min offered most_msize) msize (says_it _ msize e)))
 body_told done call (t.Auth afid uname aname) msize e = absurd cc
 body_told done call (t.Attach fid afid uname aname) msize e = absurd cc
 body_told done call (t.Flush oldtag) msize e = absurd cc
@@ -69,7 +91,7 @@ body_told done call (t.Create fid name perm mode) msize e = absurd cc
 body_told done call (t.Read fid offset count) msize e =
     let most = effective count (msize_of done call.conn) in
     let node = node_of (fid_of done call.conn fid) in
-    absurd (not_each msize _ (read_each (NoVersion msize) done call fid offset most node (λ answer. answer_no_version most msize answer) (λ f. cc)) e)
+    absurd (not_each msize _ (read_each (NoVersion msize) done call fid offset most node (λ answer. answer_no_version most msize answer) (λ line small f. cc) (λ f. cc) (λ f. cc)) e)
 body_told done call (t.Write fid offset content) msize e =
     absurd (not_each msize _ (write_each (NoVersion msize) done content (node_of (fid_of done call.conn fid)) (λ f. cc) (λ o tells. not_version content o msize)) e)
 body_told done call (t.Clunk fid) msize e = absurd cc
@@ -124,6 +146,7 @@ body_valid done call (t.Read fid offset count) fits =
     let most = effective count (msize_of done call.conn) in
     let node = node_of (fid_of done call.conn fid) in
     read_each r_fits done call fid offset most node (λ answer. answer_valid most answer (omega (arith, fits.1, effective_asked count (msize_of done call.conn))))
+    (λ line small. omega (arith, small, fits.1, effective_asked count (msize_of done call.conn))) (told_string _ refl)
     (omega (arith, fits.1, content_fits done call.conn fid offset most node, effective_asked count (msize_of done call.conn)))
 body_valid done call (t.Write fid offset content) fits = write_each r_fits done content (node_of (fid_of done call.conn fid)) fits.1 (λ o tells. written_valid content o tells fits.1)
 body_valid done call (t.Clunk fid) fits = tt

@@ -1,6 +1,6 @@
 -- What a fid reads of ctl is a list that stood at one moment.
-use Rattle.std.proofs.Common.{◌≡◌, ℕ, ◌+◌, List, [], ◌∷◌, ◌++◌, length, Bool, true, false, cond, eqb, ltb, ◌&&◌, not, Option, Some, None, refl, sym, ap, ◌∙◌, inl, inr, append-nil}
-use Rattle.std.specs.Prelude.{Result, Ok, Err, ◌⊎◌}
+use Rattle.std.proofs.Common.{◌≡◌, ℕ, ◌+◌, List, [], ◌∷◌, ◌++◌, length, Bool, true, false, cond, eqb, ltb, ◌&&◌, not, Option, Some, None, refl, sym, ap, ◌∙◌, inl, inr, append-nil, subst}
+use Rattle.std.specs.Prelude.{Result, Ok, Err, ◌⊎◌, is_some}
 use Rattle.std.specs.List.{list_all}
 use Rattle.std.proofs.lemmas.Bool.{and_parts, not-true, eq-eqb}
 use Rattle.nine_messages.specs.declared.message.TBody.{TBody}
@@ -19,16 +19,22 @@ use Rattle.talks.specs.Calls as calls
 use Rattle.talks.specs.Standings.{Phase, Resting, Waiting, Seeking, OnConfirm, OnNeedkey, OnServer, Kept}
 use Rattle.agent_history.specs.declared.event.Event.{Event}
 use Rattle.agent_history.specs.declared.event.Event.TheVariants.{Request, Hang, Answer, NoAnswer, NoRoom, Take, TakeAsk, Stop}
-use Rattle.agent_history.specs.Deeds.{Deed, FidDeed, OfFids, OfKeys, OfReplies, OfConnection, OfTalk, Raised, HandedOut, DropTaken, Swept, Halted, Versioned, Attached, Walked, Opened, Listed, Browsed, Clunked, Edited, Switched, Entered, Hung, fid_of, is_halted, keys_of, msize_of, text_of, was_hung, was_opened}
+use Rattle.agent_history.specs.Deeds.{Deed, FidDeed, OfFids, OfKeys, OfReplies, OfConnection, OfTalk, Raised, HandedOut, OfPrompts, OfLog, DropTaken, Swept, Halted, Versioned, Attached, Walked, Opened, Listed, Browsed, Clunked, Edited, Switched, Entered, Hung, fid_of, is_halted, keys_of, msize_of, text_of, was_hung, was_opened, Answered, Awaited, Settled, Flushed, Taken}
 use Rattle.nine_messages.specs.declared.message.RMsg.{RMsg}
 use Rattle.key_lists.specs.CtlLines.{carried_out, lines_of}
-use Rattle.agent_history.specs.Replies.{Wait, has_settled, swept, untaken}
-use Rattle.agent_history.specs.Conversations.{Speaker, asker, conv_of, deliver_to, fits, give_to, met, raising, reader_of, resumed, seeking, speaker_of, standing_of, then_sought, then_took, Due, NoneDue, DropDue, QuestionDue, due, sought_once, seeking_all}
-use Rattle.agent_history.specs.Requests.{Call, after, after_frame, after_granted, answered, body_to, call_of, carried, carrying_out, ctl_text, effective, granted, is_rpc, lines_done, piece, read_reply, reading, reading_answer, reading_talk, replied, reply_of, stored, walking}
+use Rattle.agent_history.specs.Replies.{has_settled, swept, untaken}
+use Rattle.agent_history.specs.Conversations.{asker, conv_of, fits, resumed, standing_of, then_took, Due, NoneDue, DropDue, QuestionDue, due, given_up_by}
+use Rattle.agent_history.specs.Requests.{Call, after, after_frame, after_granted, answered, body_to, call_of, carried, ctl_text, effective, granted, is_rpc, lines_done, piece, read_reply, reading, reading_answer, reading_talk, replied, reply_of, stored, walking, agreed, reading_line, replying}
 use Rattle.agent_history.specs.Histories.{History, deeds, does, entered, handing, most_events, taking}
 use Rattle.agent_laws.specs.Laws.{StoodOnce, sets_text}
-use Rattle.agent_laws.proofs.KindLaws.{KeepsOf, is_line}
-use Rattle.agent_laws.proofs.GrowLaws.{lines_grow}
+use Rattle.agent_laws.proofs.KindLaws.{KeepsOf, is_handed, is_line, is_met}
+use Rattle.agent_laws.proofs.MetLaws.{lines_grow}
+use Rattle.agent_laws.proofs.GrowLaws.{KeepsAny, carried_any, given_up_any, met_by, replying_any, resumed_any}
+use Rattle.agent_history.specs.SideFiles.{is_line_file, kind_at, lines_in}
+use Rattle.side_files.specs.Lines.{Found, Nothing, TooLong, First, found}
+use Rattle.side_files.specs.declared.line.PromptKind.{PromptKind}
+use Rattle.side_files.specs.declared.reply.Reply.{Reply}
+use Rattle.side_files.specs.Replies as prompt
 
 -- ---- what a request makes of a fid's text: it stays, or there is none, or it is the list of this moment
 
@@ -77,6 +83,8 @@ line_sets_none before at conn fid done (OfTalk conv call) line fits e = absurd c
 line_sets_none before at conn fid done (Raised conv) line fits e = absurd cc
 line_sets_none before at conn fid done HandedOut line fits e = absurd cc
 line_sets_none before at conn fid done DropTaken line fits e = absurd cc
+line_sets_none before at conn fid done (OfPrompts about doing) line fits e = absurd cc
+line_sets_none before at conn fid done (OfLog doing) line fits e = absurd cc
 line_sets_none before at conn fid done Swept line fits e = absurd cc
 line_sets_none before at conn fid done Halted line fits e = absurd cc
 
@@ -88,35 +96,26 @@ either_finds true before one other conn fid f g = f
 either_finds false before one other conn fid f g = g
 
 -- what conversations meet sets no text
-raising_finds : (conv : ℕ) (ph : Phase) (done : List Deed) (conn fid : ℕ) → text_of (raising conv ph done) conn fid ≡ text_of done conn fid
-raising_finds conv OnServer done conn fid = refl
-raising_finds conv Resting done conn fid = refl
-raising_finds conv (Waiting request) done conn fid = refl
-raising_finds conv Seeking done conn fid = refl
-raising_finds conv (OnConfirm serial) done conn fid = refl
-raising_finds conv OnNeedkey done conn fid = refl
-raising_finds conv (Kept answer) done conn fid = refl
+met_text : (before : List Deed) (conn fid : ℕ) → KeepsAny is_met (λ done. Finds before conn fid (text_of done conn fid))
+met_text before conn fid done (OfTalk conv call) is p = p
+met_text before conn fid done (OfPrompts about doing) is p = p
+met_text before conn fid done (OfLog doing) is p = p
+met_text before conn fid done (Raised conv) is p = p
+met_text before conn fid done (OfReplies at (Settled tag body)) is p = p
+met_text before conn fid done (OfFids at deed) is p = absurd cc
+met_text before conn fid done (OfKeys at deed) is p = absurd cc
+met_text before conn fid done (OfConnection at deed) is p = absurd cc
+met_text before conn fid done (OfReplies at (Answered tag body)) is p = absurd cc
+met_text before conn fid done (OfReplies at (Awaited tag f count)) is p = absurd cc
+met_text before conn fid done (OfReplies at (Flushed tag)) is p = absurd cc
+met_text before conn fid done (OfReplies at Taken) is p = absurd cc
+met_text before conn fid done HandedOut is p = absurd cc
+met_text before conn fid done DropTaken is p = absurd cc
+met_text before conn fid done Swept is p = absurd cc
+met_text before conn fid done Halted is p = absurd cc
 
-seeking_finds : (conv : ℕ) (ph : Phase) (done : List Deed) (conn fid : ℕ) → text_of (seeking conv ph done) conn fid ≡ text_of done conn fid
-seeking_finds conv Seeking done conn fid = refl
-seeking_finds conv OnServer done conn fid = refl
-seeking_finds conv Resting done conn fid = refl
-seeking_finds conv (Waiting request) done conn fid = refl
-seeking_finds conv (OnConfirm serial) done conn fid = refl
-seeking_finds conv OnNeedkey done conn fid = refl
-seeking_finds conv (Kept answer) done conn fid = refl
-
-once_finds : (conv : ℕ) (done : List Deed) (conn fid : ℕ) → text_of (sought_once conv done) conn fid ≡ text_of done conn fid
-once_finds conv done conn fid = seeking_finds conv (standing_of done conv).phase done conn fid
-
-chain_finds : (starting : Bool) (conv : ℕ) (done : List Deed) (conn fid : ℕ) → text_of (seeking_all starting conv done) conn fid ≡ text_of done conn fid
-chain_finds true conv done conn fid = once_finds conv (sought_once conv (sought_once conv done)) conn fid ∙ once_finds conv (sought_once conv done) conn fid ∙ once_finds conv done conn fid
-chain_finds false conv done conn fid = once_finds conv done conn fid
-
-met_finds : (conv : ℕ) (call : calls.Call) (done : List Deed) (conn fid : ℕ) → text_of (met conv call done) conn fid ≡ text_of done conn fid
-met_finds conv call done conn fid =
-    let one = OfTalk conv call ∷ done in
-    raising_finds conv (standing_of (then_sought conv one) conv).phase (then_sought conv one) conn fid ∙ chain_finds (standing_of one conv).starting conv one conn fid
+handed_text : (before : List Deed) (conn fid : ℕ) → KeepsAny is_handed (λ done. Finds before conn fid (text_of done conn fid))
+handed_text before conn fid = met_by (λ done. Finds before conn fid (text_of done conn fid)) (met_text before conn fid)
 
 took_finds : (conv count : ℕ) (answer : RpcAnswer) (done : List Deed) (conn fid : ℕ) → text_of (then_took conv count answer done) conn fid ≡ text_of done conn fid
 took_finds conv count answer done conn fid = by_cases (fits count answer)
@@ -134,20 +133,41 @@ answer_finds call conv f count (OnConfirm serial) done conn fid = refl
 answer_finds call conv f count OnNeedkey done conn fid = refl
 answer_finds call conv f count OnServer done conn fid = refl
 
-carrying_finds : (conv : ℕ) (word : List ℕ) (ph : Phase) (done : List Deed) (conn fid : ℕ) → text_of (carrying_out conv word ph done) conn fid ≡ text_of done conn fid
-carrying_finds conv word (Waiting request) done conn fid = met_finds conv (calls.CarriedOut word) done conn fid
-carrying_finds conv word Resting done conn fid = refl
-carrying_finds conv word Seeking done conn fid = refl
-carrying_finds conv word (OnConfirm serial) done conn fid = refl
-carrying_finds conv word OnNeedkey done conn fid = refl
-carrying_finds conv word OnServer done conn fid = refl
-carrying_finds conv word (Kept answer) done conn fid = refl
-
 talk_finds : (call : Call) (f count : ℕ) (o : Option ℕ) (done : List Deed) (conn fid : ℕ) → Finds done conn fid (text_of (reading_talk call f count o done) conn fid)
 talk_finds call f count None done conn fid = stays done conn fid
 talk_finds call f count (Some conv) done conn fid =
     let after = carried conv call.word done in
-    inl (answer_finds call conv f count (standing_of after conv).phase after conn fid ∙ carrying_finds conv call.word (standing_of done conv).phase done conn fid)
+    subst (Finds done conn fid) (sym (answer_finds call conv f count (standing_of after conv).phase after conn fid))
+    (carried_any (λ now. Finds done conn fid (text_of now conn fid)) (met_text done conn fid) conv call.word (standing_of done conv).phase done (stays done conn fid))
+
+line_finds : (call : Call) (f count : ℕ) (node : Node) (what : Found) (done : List Deed) (conn fid : ℕ) → Finds done conn fid (text_of (reading_line call f count node what done) conn fid)
+line_finds call f count node Nothing done conn fid = stays done conn fid
+line_finds call f count node TooLong done conn fid = stays done conn fid
+line_finds call f count Confirm (First line) done conn fid = stays done conn fid
+line_finds call f count Needkey (First line) done conn fid = stays done conn fid
+line_finds call f count Log (First line) done conn fid = stays done conn fid
+line_finds call f count Root (First line) done conn fid = stays done conn fid
+line_finds call f count Factotum (First line) done conn fid = stays done conn fid
+line_finds call f count Rpc (First line) done conn fid = stays done conn fid
+line_finds call f count Ctl (First line) done conn fid = stays done conn fid
+line_finds call f count Proto (First line) done conn fid = stays done conn fid
+
+-- fids are given up
+none_or : (b : Bool) (before : List Deed) (conn fid : ℕ) (text : List ℕ) → Finds before conn fid text → Finds before conn fid (cond b [] text)
+none_or true before conn fid text f = inr (inl refl)
+none_or false before conn fid text f = f
+
+clunked_finds : (done : List Deed) (at f conn fid : ℕ) → Finds done conn fid (text_of (given_up_by (OfFids at (Clunked f)) done) conn fid)
+clunked_finds done at f conn fid = given_up_any (λ now. Finds done conn fid (text_of now conn fid)) (handed_text done conn fid) (OfFids at (Clunked f)) done (λ d g. none_or _ done conn fid (text_of d conn fid) g) (stays done conn fid)
+
+versioned_finds : (done : List Deed) (at : ℕ) (msize : Option ℕ) (conn fid : ℕ) → Finds done conn fid (text_of (given_up_by (OfFids at (Versioned msize)) done) conn fid)
+versioned_finds done at msize conn fid = given_up_any (λ now. Finds done conn fid (text_of now conn fid)) (handed_text done conn fid) (OfFids at (Versioned msize)) done (λ d g. none_or _ done conn fid (text_of d conn fid) g) (stays done conn fid)
+
+hung_finds : (done : List Deed) (at conn fid : ℕ) → Finds done conn fid (text_of (given_up_by (OfConnection at Hung) done) conn fid)
+hung_finds done at conn fid = given_up_any (λ now. Finds done conn fid (text_of now conn fid)) (handed_text done conn fid) (OfConnection at Hung) done (λ d g. none_or _ done conn fid (text_of d conn fid) g) (stays done conn fid)
+
+replying_finds : (kind : Option PromptKind) (reply : Option Reply) (done : List Deed) (conn fid : ℕ) → Finds done conn fid (text_of (replying kind reply done) conn fid)
+replying_finds kind reply done conn fid = replying_any (λ now. Finds done conn fid (text_of now conn fid)) (met_text done conn fid) kind reply done (stays done conn fid)
 
 storing_finds : (o : Option ℕ) (came : Result RpcRequest RpcFault) (done : List Deed) (conn fid : ℕ) → Finds done conn fid (text_of (stored o came done) conn fid)
 storing_finds None came done conn fid = stays done conn fid
@@ -156,7 +176,7 @@ storing_finds (Some conv) (Err fault) done conn fid = stays done conn fid
 
 body_finds : (done : List Deed) (call : Call) (body : TBody) (conn fid : ℕ) → Finds done conn fid (text_of (after done call body) conn fid)
 unfolding after
-body_finds done call (t.Version msize version) conn fid = anew _ done conn fid
+body_finds done call (t.Version msize version) conn fid = versioned_finds done call.conn (agreed msize version) conn fid
 body_finds done call (t.Auth afid uname aname) conn fid = stays done conn fid
 body_finds done call (t.Attach f afid uname aname) conn fid = anew _ done conn fid
 body_finds done call (t.Flush oldtag) conn fid = stays done conn fid
@@ -166,11 +186,13 @@ body_finds done call (t.Create f name perm mode) conn fid = stays done conn fid
 body_finds done call (t.Read f offset count) conn fid =
     let node = node_of (fid_of done call.conn f) in
     let most = effective count (msize_of done call.conn) in
-    either_finds (is_rpc node) done _ _ conn fid (talk_finds call f most (conv_of done call.conn f) done conn fid) (reading_finds call.conn f offset most node done conn fid)
+    either_finds (is_rpc node) done _ _ conn fid (talk_finds call f most (conv_of done call.conn f) done conn fid)
+    (either_finds (is_line_file node) done _ _ conn fid (line_finds call f most node (found most (lines_in done node)) done conn fid) (reading_finds call.conn f offset most node done conn fid))
 body_finds done call (t.Write f offset content) conn fid =
-    either_finds (is_rpc (node_of (fid_of done call.conn f))) done _ _ conn fid (storing_finds (conv_of done call.conn f) (request_of content) done conn fid) (writing_finds call.conn (lines_of content) done conn fid)
-body_finds done call (t.Clunk f) conn fid = anew _ done conn fid
-body_finds done call (t.Remove f) conn fid = anew _ done conn fid
+    either_finds (is_rpc (node_of (fid_of done call.conn f))) done _ _ conn fid (storing_finds (conv_of done call.conn f) (request_of content) done conn fid)
+    (either_finds (is_some (kind_at (node_of (fid_of done call.conn f)))) done _ _ conn fid (replying_finds (kind_at (node_of (fid_of done call.conn f))) (prompt.reply_of content) done conn fid) (writing_finds call.conn (lines_of content) done conn fid))
+body_finds done call (t.Clunk f) conn fid = clunked_finds done call.conn f conn fid
+body_finds done call (t.Remove f) conn fid = clunked_finds done call.conn f conn fid
 body_finds done call (t.Stat f) conn fid = stays done conn fid
 body_finds done call (t.Wstat f stat) conn fid = stays done conn fid
 
@@ -199,28 +221,9 @@ taking_finds : (at : ℕ) (left : List RMsg) (done : List Deed) (conn fid : ℕ)
 taking_finds at [] done conn fid = stays done conn fid
 taking_finds at (reply ∷ rest) done conn fid = stays done conn fid
 
-given_finds : (conv at : ℕ) (answer : RpcAnswer) (o : Option Wait) (done : List Deed) (conn fid : ℕ) → text_of (give_to conv at answer o done) conn fid ≡ text_of done conn fid
-given_finds conv at answer None done conn fid = refl
-given_finds conv at answer (Some wait) done conn fid = took_finds conv wait.count answer done conn fid
-
-deliver_finds : (conv : ℕ) (ph : Phase) (o : Option Speaker) (done : List Deed) (conn fid : ℕ) → text_of (deliver_to conv ph o done) conn fid ≡ text_of done conn fid
-deliver_finds conv (Kept answer) (Some s) done conn fid = given_finds conv s.conn answer (reader_of done s) done conn fid
-deliver_finds conv (Kept answer) None done conn fid = refl
-deliver_finds conv Resting o done conn fid = refl
-deliver_finds conv (Waiting request) o done conn fid = refl
-deliver_finds conv Seeking o done conn fid = refl
-deliver_finds conv (OnConfirm serial) o done conn fid = refl
-deliver_finds conv OnNeedkey o done conn fid = refl
-deliver_finds conv OnServer o done conn fid = refl
-
-told_finds : (o : Option ℕ) (call : calls.Call) (done : List Deed) (conn fid : ℕ) → text_of (resumed o call done) conn fid ≡ text_of done conn fid
-told_finds None call done conn fid = refl
-told_finds (Some conv) call done conn fid =
-    let after = met conv call done in
-    deliver_finds conv (standing_of after conv).phase (speaker_of after conv) after conn fid ∙ met_finds conv call done conn fid
-
-resumed_finds : (before done : List Deed) (conn fid : ℕ) → text_of done conn fid ≡ text_of before conn fid → Finds before conn fid (text_of (swept done) conn fid)
-resumed_finds before done conn fid e = swept_finds (has_settled done) before done conn fid (inl e)
+resumed_finds : (before : List Deed) (o : Option ℕ) (call : calls.Call) (conn fid : ℕ) → Finds before conn fid (text_of (swept (resumed o call before)) conn fid)
+resumed_finds before o call conn fid =
+    swept_finds (has_settled (resumed o call before)) before (resumed o call before) conn fid (resumed_any (λ now. Finds before conn fid (text_of now conn fid)) (met_text before conn fid) o call before (stays before conn fid))
 
 handing_finds : (o : Due) (done : List Deed) (conn fid : ℕ) → Finds done conn fid (text_of (handing o done) conn fid)
 handing_finds NoneDue done conn fid = stays done conn fid
@@ -237,11 +240,11 @@ does_finds done (Request at frame word) conn fid =
 does_finds done (Take at) conn fid =
     either_finds (was_hung done at) done done _ conn fid (stays done conn fid)
     (entered_finds (was_opened done at) at done conn fid _ (taking_finds at (untaken done at) (entered at done) conn fid))
-does_finds done (Hang at) conn fid = either_finds (was_opened done at && not (was_hung done at)) done (OfConnection at Hung ∷ done) done conn fid (anew _ done conn fid) (stays done conn fid)
+does_finds done (Hang at) conn fid = either_finds (was_opened done at && not (was_hung done at)) done _ done conn fid (swept_finds (has_settled (given_up_by (OfConnection at Hung) done)) done (given_up_by (OfConnection at Hung) done) conn fid (hung_finds done at conn fid)) (stays done conn fid)
 does_finds done Stop conn fid = inr (inl refl)
-does_finds done (Answer call bytes) conn fid = resumed_finds done (resumed (asker done call) (calls.Heard bytes) done) conn fid (told_finds (asker done call) (calls.Heard bytes) done conn fid)
-does_finds done (NoAnswer call) conn fid = resumed_finds done (resumed (asker done call) calls.Unheard done) conn fid (told_finds (asker done call) calls.Unheard done conn fid)
-does_finds done (NoRoom call) conn fid = resumed_finds done (resumed (asker done call) calls.Roomless done) conn fid (told_finds (asker done call) calls.Roomless done conn fid)
+does_finds done (Answer call bytes) conn fid = resumed_finds done (asker done call) (calls.Heard bytes) conn fid
+does_finds done (NoAnswer call) conn fid = resumed_finds done (asker done call) calls.Unheard conn fid
+does_finds done (NoRoom call) conn fid = resumed_finds done (asker done call) calls.Roomless conn fid
 does_finds done TakeAsk conn fid = handing_finds (due done) done conn fid
 
 -- ---- histories
@@ -308,6 +311,8 @@ text_same (OfTalk conv call) done conn fid e = refl
 text_same (Raised conv) done conn fid e = refl
 text_same HandedOut done conn fid e = refl
 text_same DropTaken done conn fid e = refl
+text_same (OfPrompts about doing) done conn fid e = refl
+text_same (OfLog doing) done conn fid e = refl
 text_same Swept done conn fid e = refl
 text_same Halted done conn fid e = absurd cc
 

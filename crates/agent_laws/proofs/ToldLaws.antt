@@ -26,12 +26,15 @@ use Rattle.key_lists.specs.Lists.{KeyList, add_fault, delete_fault}
 use Rattle.key_lists.specs.Edits.{KeyEdit, Add, Delete}
 use Rattle.agent_history.specs.Deeds.{Deed, fid_of, next_of, holder_of}
 use Rattle.key_lists.specs.CtlLines.{CtlLine, OnKeys, Debug, add_text, delete_text, few_of, keys_with, line_with, line_fault, line_over, lines_fault, read_line}
-use Rattle.agent_history.specs.Requests.{Call, has_answer, is_resting, is_rpc, is_too_long, is_unknown, most_talks, phase_of, refusal, granted, lacks_version, repeats_tag, opens_later, reads_later, is_elsewhere, lets_read, lets_write, waits_enough}
+use Rattle.agent_history.specs.Requests.{Call, has_answer, is_resting, is_rpc, is_too_long, is_unknown, most_talks, phase_of, refusal, granted, lacks_version, repeats_tag, finds_none, finds_too_long, line_found, replier, is_elsewhere, lets_read, lets_write, waits_enough}
 use Rattle.rpc_file.specs.Requests as rpc
 use Rattle.agent_history.specs.Replies.{waits_for}
 use Rattle.agent_history.specs.Conversations.{speakers}
-use Rattle.agent_laws.proofs.GrowLaws.{of_message, said_over, unless_refused, unless_wrong}
+use Rattle.agent_laws.proofs.MetLaws.{said_over, unless_wrong}
+use Rattle.agent_laws.proofs.GrowLaws.{of_message, unless_refused}
 use Rattle.agent_laws.proofs.RefusalLaws.{then_fault}
+use Rattle.agent_history.specs.SideFiles.{is_line_file, kind_at}
+use Rattle.side_files.specs.Replies as prompt
 
 -- ---- one text
 
@@ -130,17 +133,18 @@ refusal_tells done call (t.Flush oldtag) = none_tells
 refusal_tells done call (t.Walk fid newfid wname) = fid_tells _
 refusal_tells done call (t.Open fid mode) =
     let node = node_of (fid_of done call.conn fid) in
-    let last = test_tells (opens_later node) (codes "not served") None refl none_tells in
-    let many = test_tells (is_rpc node && not (ltb (length (speakers done)) most_talks)) (codes "too many conversations") _ refl last in
+    let many = test_tells (is_rpc node && not (ltb (length (speakers done)) most_talks)) (codes "too many conversations") _ refl none_tells in
     either_tells (option_map fault_text (open_fault (fid_of done call.conn fid) mode)) _ (fid_tells _)
     (test_tells (is_exclusive node && is_some (holder_of done node)) (codes "exclusive use file already open") _ refl many)
 refusal_tells done call (t.Create fid name perm mode) = either_tells _ _ (fid_tells _) (text_tells _ refl)
 refusal_tells done call (t.Read fid offset count) =
     let state = fid_of done call.conn fid in
-    let later = test_tells (reads_later (node_of state)) (codes "not served") None refl none_tells in
     let rpc_ = is_rpc (node_of state) in
     let phase = phase_of done call.conn fid in
-    let many = test_tells (rpc_ && (not (has_answer phase) && waits_enough done call.conn)) (codes "too many waiting") _ refl later in
+    let what = line_found done call count (node_of state) in
+    let small = test_tells (finds_too_long what) (codes "read too small") None refl none_tells in
+    let lines = test_tells (is_line_file (node_of state) && (finds_none what && waits_enough done call.conn)) (codes "too many waiting") _ refl small in
+    let many = test_tells (rpc_ && (not (has_answer phase) && waits_enough done call.conn)) (codes "too many waiting") _ refl lines in
     let none = test_tells (rpc_ && is_resting phase) (codes "no rpc pending") _ refl many in
     let busy = test_tells (rpc_ && waits_for done call.conn fid) (codes "rpc busy") _ refl none in
     let elsewhere = test_tells (is_elsewhere (node_of state) (next_of done call.conn fid) offset) (codes "bad directory offset") _ refl busy in
@@ -148,9 +152,11 @@ refusal_tells done call (t.Read fid offset count) =
     either_tells (option_map fault_text (fid_fault state)) _ (fid_tells _) (test_tells (not (is_open state)) (codes "not open") _ refl unread)
 refusal_tells done call (t.Write fid offset content) =
     let state = fid_of done call.conn fid in
-    let later = test_tells (opens_later (node_of state)) (codes "not served") None refl none_tells in
+    let kind = kind_at (node_of state) in
+    let nobody = test_tells (is_some kind && not (is_some (replier done kind (prompt.reply_of content)))) (codes "unknown tag") None refl none_tells in
+    let unread = test_tells (is_some kind && not (is_some (prompt.reply_of content))) (codes "bad reply") _ refl nobody in
     let rpc_ = is_rpc (node_of state) in
-    let unknown = test_tells (rpc_ && is_unknown (rpc.request_of content)) (codes "unknown rpc verb") _ refl later in
+    let unknown = test_tells (rpc_ && is_unknown (rpc.request_of content)) (codes "unknown rpc verb") _ refl unread in
     let long = test_tells (rpc_ && is_too_long (rpc.request_of content)) (codes "rpc too long") _ refl unknown in
     let busy = test_tells (rpc_ && not (is_resting (phase_of done call.conn fid))) (codes "rpc busy") _ refl long in
     let unwritten = test_tells (not (lets_write (mode_of state))) (codes "not open for writing") _ refl busy in

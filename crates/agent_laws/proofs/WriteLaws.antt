@@ -10,7 +10,7 @@ use Rattle.key_lists.specs.CtlLines.{CtlLine, OnKeys, add_text, after_lines, car
 use Rattle.agent_history.specs.Deeds.{Deed, keys_of}
 use Rattle.agent_history.specs.Requests.{lines_done}
 use Rattle.agent_laws.specs.Laws.{AddAlike, SameButSecrets, all_open, hidden_deed}
-use Rattle.agent_laws.proofs.GrowLaws.{said_over, unless_wrong}
+use Rattle.agent_laws.proofs.MetLaws.{said_over, unless_wrong}
 use Rattle.agent_laws.proofs.RefusalLaws.{then_fault, then_lines}
 use Rattle.agent_laws.proofs.SecretLaws.{done_hidden, fault_same, hidden_line, key_more, lines_open, lines_same}
 

@@ -2,7 +2,7 @@
 -- fids that are held, files that are open, lists that stood at one moment, lines up to the first refused one, the
 -- replies that were given and how long they may be, and deeds that differ in secrets alone. After section 5 of the
 -- Plan 9 manual (fids, msize) and factotum(4) (ctl, whose keys are shown without their secrets).
-use Rattle.std.specs.Prelude.{◌≡◌, ◌≤◌, ℕ, ◌-◌, List, [], ◌∷◌, ◌++◌, length, take, map, Bool, true, false, not, ◌&&◌, ◌||◌, ◌==◌, nat_eq, nat_lt, All, Option, Some, None, is_some, option_map, Ok, Err, if◌then◌else◌, find}
+use Rattle.std.specs.Prelude.{◌≡◌, ◌≤◌, ◌⊎◌, ℕ, ◌-◌, List, [], ◌∷◌, ◌++◌, length, take, map, Bool, true, false, not, ◌&&◌, ◌||◌, ◌==◌, nat_eq, nat_lt, All, Option, Some, None, is_some, option_map, Ok, Err, if◌then◌else◌, filter, find}
 use Rattle.std.specs.List.{list_any, list_all, IsDistinct}
 use Rattle.nine_messages.specs.declared.message.RMsg.{RMsg}
 use Rattle.nine_messages.specs.declared.message.TBody.{TBody}
@@ -10,11 +10,12 @@ use Rattle.nine_messages.specs.declared.message.TBody.TheVariants as t
 use Rattle.nine_messages.specs.declared.message.RBody.{RBody}
 use Rattle.nine_messages.specs.declared.message.RBody.TheVariants as r
 use Rattle.attr_tuples.specs.declared.attr.Attr.{Attr}
-use Rattle.attr_tuples.specs.Printing.{hidden}
+use Rattle.attr_tuples.specs.Printing.{hidden, public_text}
 use Rattle.file_tree.specs.declared.tree.Node.{Node}
 use Rattle.file_tree.specs.declared.tree.Node.TheVariants.{Rpc}
+use Rattle.file_tree.specs.declared.tree.FidState.{FidState}
 use Rattle.file_tree.specs.Calls.{is_open, node_of}
-use Rattle.key_lists.specs.Lists.{KeyList, add_fault, tells_secret}
+use Rattle.key_lists.specs.Lists.{KeyEntry, KeyList, add_fault, tells_secret}
 use Rattle.key_lists.specs.Edits.{KeyEdit, Add, Delete}
 use Rattle.key_lists.specs.Listing.{list_text}
 use Rattle.wire_base.specs.declared.shape.Shape.{Shape}
@@ -24,10 +25,17 @@ use Rattle.agent_history.specs.declared.event.Event.{Event}
 use Rattle.agent_history.specs.declared.event.Event.TheVariants.{Request, Hang, Take}
 use Rattle.rpc_file.specs.declared.answer.RpcAnswer.{RpcAnswer}
 use Rattle.talks.specs.Calls as calls
-use Rattle.talks.specs.Standings.{Phase, OnServer, finds}
-use Rattle.agent_history.specs.Deeds.{Deed, OfFids, OfKeys, OfConnection, OfTalk, Halted, Versioned, Attached, Walked, Opened, Listed, Clunked, Edited, Hung, fid_of, held_by, keys_of, msize_of, names, OfReplies, Settled}
+use Rattle.side_files.specs.declared.line.PromptKind.{PromptKind}
+use Rattle.side_files.specs.Calls as side
+use Rattle.side_files.specs.Lines.{First, TooLong, found}
+use Rattle.side_files.specs.declared.line.PromptKind.TheVariants as k
+use Rattle.talks.specs.Standings.{Phase, Standing, OnConfirm, OnNeedkey, OnServer, finds, outcome_of, template_of}
+use Rattle.talks.specs.Lines.{end_line, start_line, start_template}
+use Rattle.roles.specs.Templates.{shown_text}
+use Rattle.agent_history.specs.Deeds.{Deed, OfFids, OfKeys, OfConnection, OfTalk, OfPrompts, OfLog, Raised, HandedOut, DropTaken, Taken, Halted, Versioned, Attached, Walked, Opened, Listed, Clunked, Edited, Hung, fid_of, held_by, holder_of, is_debug, keys_of, msize_of, names, OfReplies, Awaited, Settled, Answered}
 use Rattle.key_lists.specs.CtlLines.{OnKeys, after_lines, line_over, lines_fault, read_line}
-use Rattle.agent_history.specs.Replies.{Wait, is_unsettled, untaken, waits}
+use Rattle.agent_history.specs.Replies.{Wait, is_unsettled, too_small, untaken, waits}
+use Rattle.agent_history.specs.SideFiles.{askers, is_line_file, line_read, lines_in}
 use Rattle.agent_history.specs.Conversations.{asking, questions, standing_of, Speaker, told, stands}
 use Rattle.agent_history.specs.Requests.{Call, body_to, call_of, is_rpc, least_msize, most_waits, tag_of}
 use Rattle.agent_history.specs.Histories.{History, deeds, answer, is_reply}
@@ -141,6 +149,11 @@ abbrev pub reads_rpc : List Deed → Call → TBody → Bool
 reads_rpc done call (t.Read fid offset count) = is_rpc (node_of (fid_of done call.conn fid))
 reads_rpc done call body = false
 
+-- a request that reads the file of conversations or a file of lines
+abbrev pub may_wait : List Deed → Call → TBody → Bool
+may_wait done call (t.Read fid offset count) = is_rpc (node_of (fid_of done call.conn fid)) || is_line_file (node_of (fid_of done call.conn fid))
+may_wait done call body = false
+
 -- a request that may change something although its reply is an error: a remove gives the fid up, a write's lines before
 -- the first refused one stand, and a read of a conversation may have gone on with it when its answer is too long
 abbrev pub may_err_and_act : List Deed → Call → TBody → Bool
@@ -148,9 +161,10 @@ may_err_and_act done call (t.Remove fid) = true
 may_err_and_act done call (t.Write fid offset content) = true
 may_err_and_act done call body = reads_rpc done call body
 
--- a fid opened the file of conversations
+-- a fid opened the file of conversations, or a question to a user was dealt with
 abbrev pub has_conversed : List Deed → Bool
 has_conversed [] = false
+has_conversed (OfPrompts kind call ∷ before) = true
 has_conversed (OfFids at (Opened f mode) ∷ before) = is_rpc (node_of (fid_of before at f)) || has_conversed before
 has_conversed (deed ∷ before) = has_conversed before
 
@@ -182,10 +196,54 @@ asks_server done conv = is_on_server (standing_of done conv).phase
 abbrev pub all_asked : List Deed → Bool
 all_asked done = list_all (λ q. stands done q.conv && asks_server done q.conv) (questions done)
 
+-- it waits for a reply to a question of a kind
+abbrev pub waits_on : PromptKind → Phase → Bool
+waits_on k.Confirm (OnConfirm serial) = true
+waits_on k.Confirm phase = false
+waits_on k.Needkey OnNeedkey = true
+waits_on k.Needkey phase = false
+
+-- a conversation has a question of a kind to its user
+abbrev pub asks_user : List Deed → PromptKind → ℕ → Bool
+asks_user done kind conv = list_any (nat_eq conv) (askers done kind)
+
+-- no number stands twice
+abbrev pub each_once : List ℕ → Bool
+each_once [] = true
+each_once (n ∷ more) = not (list_any (nat_eq n) more) && each_once more
+
+-- each question of a kind to a user is of a conversation that stands and waits for the reply, and no two are of one
+abbrev pub all_prompted : List Deed → PromptKind → Bool
+all_prompted done kind = list_all (λ conv. stands done conv && waits_on kind (standing_of done conv).phase) (askers done kind) && each_once (askers done kind)
+
 -- numbers that rise, all of them below a number
 abbrev pub rise_below : ℕ → List ℕ → Bool
 rise_below top [] = true
 rise_below top (n ∷ more) = nat_lt n top && list_all (nat_lt n) more && rise_below top more
+
+-- a question to a user is asked behind the search that came to it: in confirm by the public text of the key that was found, in
+-- needkey by the template that was searched for, without its secrets
+abbrev pub FollowsSearch : PromptKind → ℕ → List ℕ → List Deed → Type 0
+FollowsSearch k.Confirm conv text before = (key : KeyEntry) × (earlier : List Deed) × (before ≡ OfTalk conv (calls.Sought (calls.AsksConsent key)) ∷ earlier) × (text ≡ public_text key.tuple)
+FollowsSearch k.Needkey conv text before = (earlier : List Deed) × (before ≡ OfTalk conv (calls.Sought calls.AsksKey) ∷ earlier) × (text ≡ shown_text (template_of (standing_of before conv).begun))
+
+abbrev pub AllFollow : List Deed → Type 0
+AllFollow [] = Unit {0}
+AllFollow (OfPrompts kind (side.Asked conv text) ∷ before) = FollowsSearch kind conv text before × AllFollow before
+AllFollow (deed ∷ before) = AllFollow before
+
+-- a line of the log tells of a conversation as it stands then: that it has started, where the further lines are wanted, or how
+-- it ended
+abbrev pub TellsOf : List ℕ → Standing → Bool → ℕ → Type 0
+TellsOf line now debug conv = ((debug ≡ true) × (line ≡ start_line conv (start_template now.begun))) ⊎ (end_line conv (start_template now.begun) (outcome_of now) ≡ line ∷ [])
+
+abbrev pub IsLogged : List ℕ → List Deed → Type 0
+IsLogged line done = (conv : ℕ) × TellsOf line (standing_of done conv) (is_debug done) conv
+
+abbrev pub AllLogged : List Deed → Type 0
+AllLogged [] = Unit {0}
+AllLogged (OfLog (side.Pushed line) ∷ before) = IsLogged line before × AllLogged before
+AllLogged (deed ∷ before) = AllLogged before
 
 -- each search found what is found among the keys of the moment at which it was made
 abbrev pub AllSearched : List Deed → Type 0
@@ -226,26 +284,49 @@ abbrev pub most_read : Option ℕ → ℕ
 most_read None = 0
 most_read (Some msize) = msize - 24
 
+-- a fid has a file open whose reads may wait: rpc, or a file of lines
+abbrev pub may_wait_on : Option FidState → Bool
+may_wait_on state = is_open state && (is_rpc (node_of state) || is_line_file (node_of state))
+
 -- the reads of a connection that wait are so: each waits for its reply and for no more bytes than may be read, and its fid
--- has rpc open; no two have the same tag or the same fid; and they are at most so many
+-- has such a file open; no two have the same tag; of a fid that has rpc open one waits at most; and they are at most so many
 pub record AreWaiting (done : List Deed) (conn : ℕ) (reads : List Wait) : Type 0 where
   pub unsettled : list_all is_unsettled reads ≡ true
   pub fitting : All (λ wait. wait.count ≤ most_read (msize_of done conn)) reads
-  pub opened : list_all (λ wait. has_open done Rpc conn wait.fid) reads ≡ true
+  pub opened : list_all (λ wait. may_wait_on (fid_of done conn wait.fid)) reads ≡ true
   pub tags : IsDistinct nat_eq (map (λ wait. wait.tag) reads)
-  pub fids : IsDistinct nat_eq (map (λ wait. wait.fid) reads)
+  pub alone : (fid : ℕ) → has_open done Rpc conn fid ≡ true → length (filter (λ wait. wait.fid == fid) reads) ≤ 1
   pub few : length reads ≤ most_waits
 
--- the reply is what the read under the tag is told of an answer: it waited until then, and is told no more bytes than it
--- may hold
-abbrev pub IsTold : List Wait → ℕ → RBody → Type 0
-IsTold reads tag body = (wait : Wait) × (answer : RpcAnswer)
-    × (find (λ w. w.tag == tag) reads ≡ Some wait) × (is_unsettled wait ≡ true) × (body ≡ told wait.count answer)
+-- a read as it was when it began to wait
+abbrev pub as_it_came : Wait → Wait
+as_it_came wait = record { tag = wait.tag; fid = wait.fid; count = wait.count; reply = None }
+
+-- a read waits behind those that waited before, some of which may be settled now
+abbrev pub IsBehind : List Wait → List Wait → Wait → Type 0
+IsBehind before after wait = (others : List Wait) × (map as_it_came others ≡ map as_it_came before) × (after ≡ others ++ wait ∷ [])
+
+-- a read was told the first line of the file that its fid has open: the deed before is that this line was read
+abbrev pub IsLineTold : List Deed → ℕ → Wait → RBody → Type 0
+IsLineTold before conn wait body = (node : Node) × (earlier : List Deed) × (line : List ℕ) × (before ≡ line_read node earlier)
+    × (holder_of earlier node ≡ Some (conn, wait.fid)) × (found wait.count (lines_in earlier node) ≡ First line) × (body ≡ r.Read line)
+
+-- it was told that it doesn't hold this line
+abbrev pub IsOverTold : List Deed → ℕ → Wait → RBody → Type 0
+IsOverTold before conn wait body = (node : Node) × (holder_of before node ≡ Some (conn, wait.fid)) × (found wait.count (lines_in before node) ≡ TooLong) × (body ≡ too_small)
+
+-- what a read is told: an answer, or that it doesn't hold it; or what it finds in a file of lines
+abbrev pub IsToldOf : List Deed → ℕ → Wait → RBody → Type 0
+IsToldOf before conn wait body = ((answer : RpcAnswer) × (body ≡ told wait.count answer)) ⊎ (IsLineTold before conn wait body ⊎ IsOverTold before conn wait body)
+
+-- the reply is what the read under the tag is told: it waited until then, and is told no more bytes than it may hold
+abbrev pub IsTold : List Deed → ℕ → ℕ → RBody → Type 0
+IsTold before conn tag body = (wait : Wait) × (find (λ w. w.tag == tag) (waits before conn) ≡ Some wait) × (is_unsettled wait ≡ true) × IsToldOf before conn wait body
 
 -- each read that was settled was told so
 abbrev pub AllTold : List Deed → Type 0
 AllTold [] = Unit {0}
-AllTold (OfReplies conn (Settled tag body) ∷ before) = IsTold (waits before conn) tag body × AllTold before
+AllTold (OfReplies conn (Settled tag body) ∷ before) = IsTold before conn tag body × AllTold before
 AllTold (deed ∷ before) = AllTold before
 
 -- whether a reply gives what was read
@@ -264,6 +345,31 @@ hidden_edit (Delete template) = Delete template
 abbrev pub hidden_deed : Deed → Deed
 hidden_deed (OfKeys conn (Edited edit)) = OfKeys conn (Edited (hidden_edit edit))
 hidden_deed deed = deed
+
+-- an edit in public
+abbrev pub public_edit : KeyEdit → KeyEdit
+public_edit (Add key) = Add (map hidden key)
+public_edit (Delete template) = Delete (map hidden template)
+
+-- what deeds are in public: the secrets of keys are hidden, and what reads were told that waited; what conversations met,
+-- what they asked the authentication server, and the replies to requests aren't there
+abbrev pub in_public : List Deed → List Deed
+in_public [] = []
+in_public (OfKeys conn (Edited edit) ∷ before) = OfKeys conn (Edited (public_edit edit)) ∷ in_public before
+in_public (OfReplies conn (Settled tag body) ∷ before) = OfReplies conn (Settled tag r.Flush) ∷ in_public before
+in_public (OfReplies conn (Answered tag body) ∷ before) = in_public before
+in_public (OfReplies conn Taken ∷ before) = in_public before
+in_public (OfTalk conv call ∷ before) = in_public before
+in_public (Raised conv ∷ before) = in_public before
+in_public (HandedOut ∷ before) = in_public before
+in_public (DropTaken ∷ before) = in_public before
+in_public (deed ∷ before) = deed ∷ in_public before
+
+-- the deeds, but for how many bytes reads of rpc may hold that wait
+abbrev pub unsized : List Deed → List Deed
+unsized [] = []
+unsized (OfReplies conn (Awaited tag fid count) ∷ before) = OfReplies conn (Awaited tag fid (if is_rpc (node_of (fid_of before conn fid)) then 0 else count)) ∷ unsized before
+unsized (deed ∷ before) = deed ∷ unsized before
 
 -- a line doesn't delete by the value of a secret
 abbrev pub is_open_edit : KeyEdit → Bool

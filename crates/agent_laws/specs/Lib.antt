@@ -1,2 +1,4 @@
 pub mod Laws
+pub mod Redaction
 pub mod Sentences
+pub mod Shown

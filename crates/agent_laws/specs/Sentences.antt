@@ -2,20 +2,24 @@
 use Rattle.std.specs.Prelude.{◌≡◌, ◌≤◌, ◌<◌, ◌⊎◌, ◌+◌, ℕ, List, [], ◌∷◌, ◌++◌, All, Ok, Err, None, Some, is_some, true, false, codes, drop, length, map, reverse, take, not}
 use Rattle.std.specs.List.{IsDistinct}
 use Rattle.nine_messages.specs.Messages.{IsReply, r_frame}
-use Rattle.nine_messages.specs.Decoding.{r_reading}
+use Rattle.nine_messages.specs.Decoding.{r_reading, request_of}
 use Rattle.nine_messages.specs.declared.message.TBody.{TBody}
 use Rattle.nine_messages.specs.declared.message.TBody.TheVariants.{Read}
 use Rattle.nine_messages.specs.declared.message.RMsg.{RMsg}
 use Rattle.nine_messages.specs.declared.message.RBody.TheVariants as r
 use Rattle.file_tree.specs.declared.tree.Node.{Node}
-use Rattle.file_tree.specs.declared.tree.Node.TheVariants.{Ctl, Rpc}
+use Rattle.file_tree.specs.declared.tree.Node.TheVariants.{Ctl, Rpc, Confirm, Needkey}
 use Rattle.file_tree.specs.Tree.{is_exclusive}
 use Rattle.file_tree.specs.Calls.{node_of}
-use Rattle.key_lists.specs.Lists.{KeyList}
+use Rattle.key_lists.specs.Lists.{KeyList, KeyEntry}
 use Rattle.key_lists.specs.Edits.{standing}
 use Rattle.key_lists.specs.Listing.{list_text}
 use Rattle.key_lists.specs.CtlLines.{after_lines, carried_out, lines_fault}
-use Rattle.talks.specs.Calls.{Found, Sought}
+use Rattle.roles.specs.Starts.{Start}
+use Rattle.roles.specs.Talks.{Call as Move}
+use Rattle.conv_set.specs.Protocols.{needs}
+use Rattle.agent_laws.specs.Shown.{asks_in_public, shown_need}
+use Rattle.talks.specs.Calls.{AsksConsent, AsksKey, Found, Sought}
 use Rattle.talks.specs.Standings.{finds}
 use Rattle.agent_history.specs.declared.event.Event.{Event}
 use Rattle.agent_history.specs.declared.event.Event.TheVariants.{Take, TakeAsk, Request}
@@ -24,10 +28,14 @@ use Rattle.wire_base.specs.declared.shape.Shape.{Shape}
 use Rattle.wire_base.specs.declared.shape.Shape.TheVariants.{Challenge}
 use Rattle.agent_history.specs.Deeds.{Deed, KeyDeed, OfFids, OfKeys, Listed, edits_of, fid_of, held_by, holder_of, keys_of, msize_of, next_of, text_of, OfTalk}
 use Rattle.agent_history.specs.Replies.{has_settled, replies, taken, untaken, waits}
-use Rattle.agent_history.specs.Conversations.{chosen_at, conv_of, opened_talks, questions, raised, speakers, asking, standing_of, Question, Drop, NoneDue, DropDue, QuestionDue, due}
-use Rattle.agent_history.specs.Requests.{Call, after_frame, body_to, effective, granted, least_msize, lines_done, most_msize, most_talks, piece, reply_of}
+use Rattle.agent_history.specs.Conversations.{given_up_by, chosen_at, conv_of, opened_talks, questions, raised, speakers, asking, standing_of, Question, Drop, NoneDue, DropDue, QuestionDue, due}
+use Rattle.agent_history.specs.Requests.{Call, after_frame, body_to, effective, granted, least_msize, lines_done, most_msize, most_talks, piece, reply_of, is_rpc}
 use Rattle.agent_history.specs.Histories.{History, answer, deeds, does, has_stopped}
-use Rattle.agent_laws.specs.Laws.{AddAlike, Adds, AllSearched, AreHeld, AreWaiting, HasFirstRefused, IsFirstRefused, SameButSecrets, StoodOnce, all_asked, all_open, given, gives, gives_content, has_connection, has_conversed, has_open, hidden_deed, is_of, is_of_talks, is_on, longest_reply, may_err_and_act, none_concerns, none_sets_text, put_out, reads_rpc, reply_to, rise_below, AllTold, is_same_place, is_edit, is_talk, last_asked, is_request}
+use Rattle.agent_laws.specs.Laws.{AddAlike, Adds, AllFollow, AllLogged, AllSearched, AreHeld, AreWaiting, HasFirstRefused, IsBehind, IsFirstRefused, SameButSecrets, StoodOnce, all_asked, all_open, given, gives, gives_content, has_connection, has_conversed, has_open, hidden_deed, is_of, is_of_talks, is_on, longest_reply, may_err_and_act, may_wait, none_concerns, none_sets_text, put_out, reply_to, rise_below, AllTold, is_same_place, is_edit, is_talk, last_asked, is_request, all_prompted, in_public, unsized}
+use Rattle.agent_history.specs.SideFiles.{askers, file_of}
+use Rattle.agent_laws.specs.Redaction.{redact}
+use Rattle.nine_messages.specs.declared.message.TMsg.{TMsg}
+use Rattle.side_files.specs.declared.line.PromptKind.{PromptKind}
 
 -- ---- keys are the lines in order
 
@@ -200,12 +208,12 @@ SettledAreTold = (history : History) → AllTold (deeds history)
 
 abbrev pub OnlyReadsWait : Type 0
 OnlyReadsWait = (done : List Deed) (call : Call) (frame : List ℕ) → body_to done call frame ≡ None
-    → (body : TBody) × (granted done call frame ≡ Ok body) × (reads_rpc done call body ≡ true)
+    → (body : TBody) × (granted done call frame ≡ Ok body) × (may_wait done call body ≡ true)
 
 abbrev pub WaitsBehind : Type 0
 WaitsBehind = (done : List Deed) (call : Call) (frame : List ℕ) → body_to done call frame ≡ None
     → (fid : ℕ) × (count : ℕ)
-    × (waits (after_frame done call frame) call.conn ≡ waits done call.conn ++ record { tag = call.tag; fid = fid; count = count; reply = None } ∷ [])
+    × IsBehind (waits done call.conn) (waits (after_frame done call frame) call.conn) (record { tag = call.tag; fid = fid; count = count; reply = None })
 
 -- ---- conversations
 
@@ -270,6 +278,11 @@ SearchesKeysBefore = (event : Event) (history : History) (later earlier : List D
 abbrev pub ChosenStays : Type 0
 ChosenStays = (done : List Deed) (at conn fid : ℕ) (deed : KeyDeed) → chosen_at (OfKeys at deed ∷ done) conn fid ≡ chosen_at done conn fid
 
+abbrev pub ChosenStaysWhileItStands : Type 0
+ChosenStaysWhileItStands = (event : Event) (history : History) (conn fid conv : ℕ) (key : KeyEntry)
+    → conv_of (deeds history) conn fid ≡ Some conv → conv_of (deeds (event ∷ history)) conn fid ≡ Some conv
+    → chosen_at (deeds history) conn fid ≡ Some key → chosen_at (deeds (event ∷ history)) conn fid ≡ Some key
+
 -- ---- ctl shows no secret
 
 abbrev pub ListHides : Type 0
@@ -322,3 +335,55 @@ WritesAlike = (conn : ℕ) (done : List Deed) (front : List (List ℕ)) (one oth
 abbrev pub WritesToldAlike : Type 0
 WritesToldAlike = (keys : KeyList) (front : List (List ℕ)) (one other : List ℕ) (later : List (List ℕ)) → AddAlike (after_lines keys front) one other
     → lines_fault keys (front ++ one ∷ later) ≡ lines_fault keys (front ++ other ∷ later)
+
+-- ---- questions to users
+
+abbrev pub UsersAreAsked : Type 0
+UsersAreAsked = (history : History) (kind : PromptKind) → all_prompted (deeds history) kind ≡ true
+
+abbrev pub QuestionsFollowSearches : Type 0
+QuestionsFollowSearches = (history : History) → AllFollow (deeds history)
+
+-- ---- reads of all files but rpc are public
+
+abbrev pub ReadsArePublic : Type 0
+ReadsArePublic = (one other : History) → in_public (deeds one) ≡ in_public (deeds other)
+    → (call : Call) (frame : List ℕ) (m : TMsg) (fid offset count : ℕ) → request_of frame ≡ Some m → m.body ≡ Read fid offset count
+    → is_rpc (node_of (fid_of (deeds other) call.conn fid)) ≡ false → body_to (deeds one) call frame ≡ body_to (deeds other) call frame
+
+abbrev pub WaitsArePublic : Type 0
+WaitsArePublic = (one other : History) → in_public (deeds one) ≡ in_public (deeds other) → (conn : ℕ) → waits (deeds one) conn ≡ waits (deeds other) conn
+
+-- ---- histories of one redaction
+
+abbrev pub RedactionsArePublic : Type 0
+RedactionsArePublic = (one other : History) → redact one ≡ redact other → in_public (unsized (deeds one)) ≡ in_public (unsized (deeds other))
+
+abbrev pub ReadsAreRedacted : Type 0
+ReadsAreRedacted = (one other : History) → redact one ≡ redact other
+    → (call : Call) (frame : List ℕ) (m : TMsg) (fid offset count : ℕ) → request_of frame ≡ Some m → m.body ≡ Read fid offset count
+    → is_rpc (node_of (fid_of (deeds other) call.conn fid)) ≡ false → body_to (deeds one) call frame ≡ body_to (deeds other) call frame
+
+abbrev pub WaitsAreRedacted : Type 0
+WaitsAreRedacted = (one other : History) → redact one ≡ redact other → (conn : ℕ) → waits (unsized (deeds one)) conn ≡ waits (unsized (deeds other)) conn
+
+-- ---- what is searched for
+
+abbrev pub SearchesArePublic : Type 0
+SearchesArePublic = (start : Start) (talk : List Move) → asks_in_public (shown_need (needs start talk)) ≡ true
+
+-- ---- files that nobody has open
+
+abbrev pub NoneAsksConsent : Type 0
+NoneAsksConsent = (done : List Deed) (conv : ℕ) (key : KeyEntry) → holder_of done Confirm ≡ None → finds (standing_of done conv) (asking done) (keys_of done) ≡ AsksConsent key → ⊥
+
+abbrev pub NoneAsksKey : Type 0
+NoneAsksKey = (done : List Deed) (conv : ℕ) → holder_of done Needkey ≡ None → finds (standing_of done conv) (asking done) (keys_of done) ≡ AsksKey → ⊥
+
+abbrev pub ClosedAsksNobody : Type 0
+ClosedAsksNobody = (deed : Deed) (done : List Deed) (kind : PromptKind) → holder_of (given_up_by deed done) (file_of kind) ≡ None → askers (given_up_by deed done) kind ≡ []
+
+-- ---- the log
+
+abbrev pub LinesTell : Type 0
+LinesTell = (history : History) → AllLogged (deeds history)

@@ -1,5 +1,5 @@
 // Laws of the definitions, each the contract of a function that does nothing.
-ghost use Rattle.agent_laws.specs.Sentences.{ActsOnItsConnection, AgreedBetween, ChangesItsOwn, ChosenStays, CountsHide, DeedsHide, DropsArePut, DropsComeOnce, DropsFollowChallenges, EditsOrTalks, ErrorChangesNothing, EventLeavesFid, FidStays, FidsHeldAreCounted, FidsHide, FirstIsFound, FirstIsTold, FramesFit, FramesPutOut, FrontStands, GivenAndLeft, GivenInOrder, HolderOpened, HoldersHide, IsOpenOnce, KeysAreTheLines, LeftAfterTake, ListHides, ListedStays, NextsHide, NoAnswerTells, NoneDeletesBySecret, NothingIsPut, OnlyReadsWait, OpenerHolds, OpenersSpeak, OpenersSpeakOnce, OthersChangeNone, OthersFit, OthersLeaveCounts, OthersLeaveFids, OthersLeaveNexts, OthersLeaveSizes, OthersLeaveTexts, OthersRaiseNone, QuestionsAreAsked, QuestionsArePut, QuestionsRise, ReadsStood, ReadsWait, RefusedChangesNothing, RefusedIsTold, RepliesHide, ReplyFits, ReplyIsRead, ReplyIsValid, RequestsRaiseOne, SearchesAreOfTheMoment, SearchesKeysBefore, SettledAreSwept, SettledAreTold, SizesHide, SpeakersAreFew, SpeakersRise, TextsHide, TextsStood, ToldIsAgreed, WaitsBehind, WriteMakesKeys, WritesAlike, WritesToldAlike};
+ghost use Rattle.agent_laws.specs.Sentences.{ActsOnItsConnection, AgreedBetween, ChangesItsOwn, ChosenStays, ChosenStaysWhileItStands, CountsHide, DeedsHide, DropsArePut, DropsComeOnce, DropsFollowChallenges, EditsOrTalks, ErrorChangesNothing, EventLeavesFid, FidStays, FidsHeldAreCounted, FidsHide, FirstIsFound, FirstIsTold, FramesFit, FramesPutOut, FrontStands, GivenAndLeft, GivenInOrder, HolderOpened, HoldersHide, IsOpenOnce, KeysAreTheLines, LeftAfterTake, ListHides, ListedStays, NextsHide, NoAnswerTells, NoneDeletesBySecret, NothingIsPut, OnlyReadsWait, OpenerHolds, OpenersSpeak, OpenersSpeakOnce, OthersChangeNone, OthersFit, OthersLeaveCounts, OthersLeaveFids, OthersLeaveNexts, OthersLeaveSizes, OthersLeaveTexts, OthersRaiseNone, QuestionsAreAsked, QuestionsArePut, QuestionsRise, ReadsArePublic, ReadsStood, ReadsWait, RefusedChangesNothing, RefusedIsTold, RepliesHide, ReplyFits, ReplyIsRead, ReplyIsValid, RequestsRaiseOne, SearchesAreOfTheMoment, SearchesArePublic, SearchesKeysBefore, SettledAreSwept, SettledAreTold, SizesHide, SpeakersAreFew, SpeakersRise, TextsHide, TextsStood, ToldIsAgreed, UsersAreAsked, WaitsArePublic, WaitsBehind, WriteMakesKeys, WritesAlike, WritesToldAlike, RedactionsArePublic, ReadsAreRedacted, WaitsAreRedacted, ClosedAsksNobody, NoneAsksConsent, NoneAsksKey, QuestionsFollowSearches, LinesTell};
 
 /// The keys are those of the accepted lines of ctl, in order: of lines that are the same in public the last one alone
 /// stands, at its own place, and none that a later line deleted.
@@ -104,11 +104,12 @@ pub fn a_reply_fits_what_was_agreed()
     ensures read { ReplyIsRead }
 {}
 
-/// The reads of a connection that wait are reads of rpc by fids that have it open, no two under one tag or of one fid, at
-/// most as many as may wait, each for no more bytes than the message agreed holds. Between two events none of them is
-/// settled; one that is settled is told an answer, or that it may hold too few bytes. A frame has no reply only where it
-/// is a read of rpc, and then it waits behind the others, under its tag.
-pub fn a_read_waits_for_an_answer_of_rpc()
+/// The reads of a connection that wait are reads by fids that have rpc or a file of lines open, no two under one tag, of a
+/// fid that has rpc open one at most, at most as many as may wait, each for no more bytes than the message agreed holds.
+/// Between two events none of them is settled; one that is settled is told an answer, or the first line of the file that its
+/// fid has open, or that it may hold too few bytes. A frame has no reply only where it is such a read, and then it waits
+/// behind the others, under its tag.
+pub fn a_read_waits_for_an_answer_or_a_line()
     ensures waits { ReadsWait }
     ensures swept { SettledAreSwept }
     ensures told { SettledAreTold }
@@ -149,18 +150,20 @@ pub fn a_connection_is_given_up_once()
 
 /// A search finds what is found among the keys of the moment at which it is made. No event both edits keys and lets a
 /// conversation meet something, so that these are the keys of the history before its event. The key that a conversation
-/// has chosen stays, whatever lines of ctl do to the keys.
+/// has chosen stays, whatever lines of ctl do to the keys, and as long as the conversation stands it is the same after every
+/// later event.
 pub fn a_search_is_over_the_keys_of_its_moment()
     ensures searches { SearchesAreOfTheMoment }
     ensures apart { EditsOrTalks }
     ensures before { SearchesKeysBefore }
     ensures chosen { ChosenStays }
+    ensures standing { ChosenStaysWhileItStands }
 {}
 
 /// What is read of ctl doesn't depend on the value of a secret: deeds that are the same but for the secrets of the keys
 /// added have the same text of ctl, the same fids, offsets, holders and largest messages. As long as no conversation was
-/// opened they have the same replies to every frame, and deeds after it that are again the same but for secrets. No keys
-/// were ever deleted by the value of a secret.
+/// opened and nobody was asked anything they have the same replies to every frame, and deeds after it that are again the
+/// same but for secrets. No keys were ever deleted by the value of a secret.
 pub fn ctl_shows_no_secret()
     ensures list { ListHides }
     ensures texts { TextsHide }
@@ -174,8 +177,9 @@ pub fn ctl_shows_no_secret()
     ensures open_deletes { NoneDeletesBySecret }
 {}
 
-/// No later answer tells a secret, as long as no conversation was opened: of two events that do the same but for the
-/// secrets of keys, their replies among it, whatever happens then, no answer to any event tells which of them it was.
+/// No later answer tells a secret, as long as no conversation was opened and nobody was asked anything: of two events that
+/// do the same but for the secrets of keys, their replies among it, whatever happens then, no answer to any event tells
+/// which of them it was.
 pub fn no_later_answer_tells_a_secret()
     ensures { NoAnswerTells }
 {}
@@ -185,4 +189,48 @@ pub fn no_later_answer_tells_a_secret()
 pub fn a_write_hides_its_secrets()
     ensures deeds { WritesAlike }
     ensures told { WritesToldAlike }
+{}
+
+/// Each question to a user is of a conversation that stands and waits for the reply: in confirm of one that waits for consent,
+/// in needkey of one that waits for a key. No two of a file are of one conversation. Each was asked behind the search that came
+/// to it, in confirm by the public text of the key that was found, in needkey by the template that was searched for.
+pub fn a_user_is_asked_for_a_conversation_that_waits()
+    ensures asked { UsersAreAsked }
+    ensures follows { QuestionsFollowSearches }
+{}
+
+/// Reads of all files but rpc, among them ctl, confirm, needkey, proto and log, are answered by what is public: after two
+/// histories that did the same in public, whatever their conversations met and their requests were answered, such a read
+/// has the same reply, or waits after both; and the same reads wait.
+pub fn reads_of_other_files_are_public()
+    ensures reads { ReadsArePublic }
+    ensures waits { WaitsArePublic }
+{}
+
+/// Histories that are the same without their secrets, entry by entry, did the same in public, but for how many bytes reads of
+/// rpc may hold that wait: reads of all files but rpc are answered alike after both, and the same reads wait.
+pub fn reads_show_no_more_than_a_redaction()
+    ensures public { RedactionsArePublic }
+    ensures reads { ReadsAreRedacted }
+    ensures waits { WaitsAreRedacted }
+{}
+
+/// Whatever a conversation was started with and met, it searches for keys and offers by templates of public attributes alone, so
+/// that what is kept of a search tells no secret.
+pub fn a_search_is_public()
+    ensures { SearchesArePublic }
+{}
+
+/// A file that nobody has open asks nobody: no search comes to a question in confirm, or in needkey, that isn't open; and after
+/// fids were given up nobody waits for a reply in one that isn't.
+pub fn a_closed_file_asks_nobody()
+    ensures consent { NoneAsksConsent }
+    ensures key { NoneAsksKey }
+    ensures ended { ClosedAsksNobody }
+{}
+
+/// Each line of the log tells of a conversation as it stands when the line is written: that it has started, where the further
+/// lines are wanted then, or how it ended.
+pub fn a_line_of_the_log_tells_of_a_conversation()
+    ensures { LinesTell }
 {}

@@ -1,5 +1,5 @@
 use Rattle.agent_laws.proofs.WaitLaws.{all_told, none_settled, only_reads_wait, reads_wait, waits_behind}
-use Rattle.agent_laws.proofs.laws.a_read_waits_for_an_answer_of_rpc.Goals as goal
+use Rattle.agent_laws.proofs.laws.a_read_waits_for_an_answer_or_a_line.Goals as goal
 
 pub returns : goal.returns
 returns c = record {
