@@ -9,11 +9,11 @@ use Rattle.talks.specs.Calls as calls
 use Rattle.talks.specs.Calls.{Call}
 use Rattle.talks.specs.Standings.{Kept, Phase, standing}
 use Rattle.agent_history.specs.Deeds.{Deed, HandedOut, OfTalk}
-use Rattle.agent_history.specs.Conversations.{Question, asker, hand_first, met, next_question, questions, raising, seeking, seeking_all, sought_once, standing_of, talk, then_raised}
+use Rattle.agent_history.specs.Conversations.{Question, asker, hand_first, next_question, questions, raising, seeking, seeking_all, sought_once, standing_of, talk, then_raised}
 use Rattle.agent_talks.specs.declared.question.Question.{Question as HeldQuestion}
 use Rattle.agent_talks.specs.declared.held.Talks.{Talks}
 use Rattle.agent_talks.specs.Kept.{question_of}
-use Rattle.agent_talks.specs.Speaks.{OnServerNow, Speak, asks_for, met_by}
+use Rattle.agent_talks.specs.Speaks.{OnServerNow, Speak, asks_for, talked, talked_by}
 use Rattle.agent_talks.specs.Changes.{Ended, Hands}
 use Rattle.conversations.proofs.WaitLaws.{heard_rests, unheard_rests, roomless_rests}
 use Rattle.agent_talks.proofs.StandLemmas.{asker_asks, filter_map_same, find_map, handed_asks, left_asks, other_way, same}
@@ -101,13 +101,13 @@ rests_all : (done : List Deed) (conv : ℕ) (starting : Bool) → sought_once co
 rests_all done conv false once = once
 rests_all done conv true once = ap (λ (d : List Deed). sought_once conv (sought_once conv d)) once ∙ (ap (sought_once conv) once ∙ once)
 
-pub met_rests : (done : List Deed) (conv : ℕ) (call : Call) (answer : RpcAnswer) → (standing_of (OfTalk conv call ∷ done) conv).phase ≡ Kept answer → met conv call done ≡ OfTalk conv call ∷ done
+pub met_rests : (done : List Deed) (conv : ℕ) (call : Call) (answer : RpcAnswer) → (standing_of (OfTalk conv call ∷ done) conv).phase ≡ Kept answer → talked conv call done ≡ OfTalk conv call ∷ done
 met_rests done conv call answer e =
     ap (then_raised conv) (rests_all (OfTalk conv call ∷ done) conv (standing_of (OfTalk conv call ∷ done) conv).starting (rests_once (OfTalk conv call ∷ done) conv answer e))
     ∙ ap (λ (p : Phase). raising conv p (OfTalk conv call ∷ done)) e
 
 pub over_speak : (done : List Deed) (old new : Talks) (conv : ℕ) (call : Call) → questions (OfTalk conv call ∷ done) ≡ filter (λ q. not (q.conv == conv)) (questions done)
-    → OnServerNow done conv → (answer : RpcAnswer) × ((standing (call ∷ talk done conv)).phase ≡ Kept answer) → Ended old new conv call → Speak done old → Speak (met conv call done) new
+    → OnServerNow done conv → (answer : RpcAnswer) × ((standing (call ∷ talk done conv)).phase ≡ Kept answer) → Ended old new conv call → Speak done old → Speak (talked conv call done) new
 over_speak done old new conv call gone on rest ended h =
     let met_it : talk (OfTalk conv call ∷ done) conv ≡ call ∷ talk done conv = rw (same conv) refl in
     let rests : (standing_of (OfTalk conv call ∷ done) conv).phase ≡ Kept rest.0 = ap (λ (cs : List Call). (standing cs).phase) met_it ∙ rest.1 in
@@ -126,21 +126,21 @@ over_speak done old new conv call gone on rest ended h =
 pub is_asked : (done : List Deed) (t : Talks) (call conv : ℕ) → Some conv ≡ asker done call → Speak done t → OnServerNow done conv
 is_asked done t call conv e h = h.asked conv (asker_asks (questions done) (λ q. q.call == call) conv (sym e))
 
-pub heard_speak : (done : List Deed) (old new : Talks) (call conv : ℕ) (bytes : List ℕ) → Some conv ≡ asker done call → Ended old new conv (calls.Heard bytes) → Speak done old → Speak (met_by (asker done call) (calls.Heard bytes) done) new
+pub heard_speak : (done : List Deed) (old new : Talks) (call conv : ℕ) (bytes : List ℕ) → Some conv ≡ asker done call → Ended old new conv (calls.Heard bytes) → Speak done old → Speak (talked_by (asker done call) (calls.Heard bytes) done) new
 heard_speak done old new call conv bytes e ended h =
     let on = is_asked done old call conv e h in
-    subst (λ (o : Option ℕ). Speak (met_by o (calls.Heard bytes) done) new) e (over_speak done old new conv (calls.Heard bytes) refl on (heard_rests (talk done conv) bytes on.phase) ended h)
+    subst (λ (o : Option ℕ). Speak (talked_by o (calls.Heard bytes) done) new) e (over_speak done old new conv (calls.Heard bytes) refl on (heard_rests (talk done conv) bytes on.phase) ended h)
 
-pub unheard_speak : (done : List Deed) (old new : Talks) (call conv : ℕ) → Some conv ≡ asker done call → Ended old new conv calls.Unheard → Speak done old → Speak (met_by (asker done call) calls.Unheard done) new
+pub unheard_speak : (done : List Deed) (old new : Talks) (call conv : ℕ) → Some conv ≡ asker done call → Ended old new conv calls.Unheard → Speak done old → Speak (talked_by (asker done call) calls.Unheard done) new
 unheard_speak done old new call conv e ended h =
     let on = is_asked done old call conv e h in
-    subst (λ (o : Option ℕ). Speak (met_by o calls.Unheard done) new) e (over_speak done old new conv calls.Unheard refl on (a.NoServer, unheard_rests (talk done conv) on.phase) ended h)
+    subst (λ (o : Option ℕ). Speak (talked_by o calls.Unheard done) new) e (over_speak done old new conv calls.Unheard refl on (a.NoServer, unheard_rests (talk done conv) on.phase) ended h)
 
-pub roomless_speak : (done : List Deed) (old new : Talks) (call conv : ℕ) → Some conv ≡ asker done call → Ended old new conv calls.Roomless → Speak done old → Speak (met_by (asker done call) calls.Roomless done) new
+pub roomless_speak : (done : List Deed) (old new : Talks) (call conv : ℕ) → Some conv ≡ asker done call → Ended old new conv calls.Roomless → Speak done old → Speak (talked_by (asker done call) calls.Roomless done) new
 roomless_speak done old new call conv e ended h =
     let on = is_asked done old call conv e h in
-    subst (λ (o : Option ℕ). Speak (met_by o calls.Roomless done) new) e (over_speak done old new conv calls.Roomless refl on (a.NoRoom, roomless_rests (talk done conv) on.phase) ended h)
+    subst (λ (o : Option ℕ). Speak (talked_by o calls.Roomless done) new) e (over_speak done old new conv calls.Roomless refl on (a.NoRoom, roomless_rests (talk done conv) on.phase) ended h)
 
 -- a number of no question
-pub unasked_speak : (done : List Deed) (t : Talks) (number : ℕ) (call : Call) → None ≡ asker done number → Speak done t → Speak (met_by (asker done number) call done) t
-unasked_speak done t number call e h = subst (λ (o : Option ℕ). Speak (met_by o call done) t) e h
+pub unasked_speak : (done : List Deed) (t : Talks) (number : ℕ) (call : Call) → None ≡ asker done number → Speak done t → Speak (talked_by (asker done number) call done) t
+unasked_speak done t number call e h = subst (λ (o : Option ℕ). Speak (talked_by o call done) t) e h

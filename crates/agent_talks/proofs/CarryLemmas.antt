@@ -2,21 +2,23 @@
 use Rattle.std.proofs.Common.{◌≡◌, ℕ, ◌+◌, ◌≤◌, List, [], ◌∷◌, ◌++◌, Bool, true, false, cond, eqb, Option, Some, None, refl, sym, ap, subst, ◌∙◌, inl, inr}
 use Rattle.std.proofs.lemmas.Bool.{cases_Bool, eq-eqb, eqb-true, false≢true}
 use Rattle.key_lists.specs.Lists.{KeyList}
-use Rattle.rpc_file.specs.Requests.{RpcRequest}
-use Rattle.talks.specs.Calls.{Call, CarriedOut, Sought}
+use Rattle.talks.specs.Calls.{AsksConsent, AsksKey, Call, CarriedOut, Chosen, Consented, Denied, Found, Heard, KeyTold, NoneServes, Offered, Picked, Roomless, Shut, Sought, Stored, Took, Unheard}
 use Rattle.talks.specs.declared.said.Asking.{Asking}
-use Rattle.talks.specs.Standings.{Phase, Resting, Waiting, Seeking, OnConfirm, OnNeedkey, OnServer, Kept, finds, standing}
+use Rattle.talks.specs.Standings.{Phase, Resting, Waiting, Seeking, OnConfirm, OnNeedkey, OnServer, Kept, Standing, finds, standing}
 use Rattle.conversations.specs.declared.conversation.Conversation.{Conversation}
-use Rattle.conversations.specs.Fits.{Holds, with_request, with_search, with_search_once}
-use Rattle.conversations.specs.Shown.{has_request, is_seeking, waits_for_server}
+use Rattle.conversations.specs.declared.asks.Asks.{Asks}
+use Rattle.conversations.specs.Asking.{IsReady as Made, ReadyIn, asks_that}
+use Rattle.agent_talks.specs.declared.carry.Step.{Step}
+use Rattle.agent_talks.specs.declared.carry.Step.TheVariants as p
+use Rattle.conversations.specs.Fits.{Holds, with_answer, with_request, with_search, with_search_once}
+use Rattle.begun_talks.specs.Shown.{asks_user, has_request, is_seeking, waits_for_server}
 use Rattle.agent_history.specs.Deeds.{Deed, OfTalk, Raised, keys_of}
-use Rattle.agent_history.specs.Conversations.{Question, Speaker, opened_talks, questions, raised, raising, seeking, seeking_all, sought_once, speakers, standing_of, talk, then_sought}
+use Rattle.agent_history.specs.Conversations.{Question, Speaker, opened_talks, prompting, questions, raised, raising, seeking, seeking_all, sought, sought_once, speakers, standing_of, talk, then_sought}
 use Rattle.agent_history.specs.Conversations as told
-use Rattle.agent_history.specs.Requests.{carried, carrying_out}
 use Rattle.agent_talks.specs.declared.held.Talks.{Talks}
 use Rattle.agent_talks.specs.Kept.{kept_at, questions_in, speakers_in}
-use Rattle.agent_talks.specs.Speaks.{IsKept, IsReady, OnServerNow, Speak, asks_for, is_among, stands}
-use Rattle.agent_talks.specs.Changes.{BothPerformed, Carries, IsAsking, more_asked, more_raised}
+use Rattle.agent_talks.specs.Speaks.{IsKept, IsReady, OnServerNow, Readied, Speak, asks_for, carried_in, carried_talk, is_among, stands, talked}
+use Rattle.agent_talks.specs.Changes.{BothGo, BothReady, Goes, IsAsking, may_take, more_asked, more_raised, next_by}
 use Rattle.agent_talks.proofs.StandLemmas.{asks_last, or_cases, same}
 use Rattle.agent_talks.proofs.SpeakLemmas.{AllAsked, below_opened}
 
@@ -45,8 +47,23 @@ only_then done one two conv first then = record {
   files = then.files ∙ first.files;
 }
 
+only_prompting : (done : List Deed) (conv : ℕ) (came : Found) → OnlyTalk done (prompting conv came done) conv
+only_prompting done conv (AsksConsent key) = record { opened = refl; speakers = refl; talks = λ q e. refl; raised = refl; questions = refl; keys = refl; files = refl }
+only_prompting done conv AsksKey = record { opened = refl; speakers = refl; talks = λ q e. refl; raised = refl; questions = refl; keys = refl; files = refl }
+only_prompting done conv (Chosen key) = only_same done conv
+only_prompting done conv Denied = only_same done conv
+only_prompting done conv NoneServes = only_same done conv
+only_prompting done conv (Offered list) = only_same done conv
+only_prompting done conv (Picked place) = only_same done conv
+
+only_found : (done : List Deed) (conv : ℕ) (came : Found) → OnlyTalk done (sought conv came done) conv
+only_found done conv came =
+    only_then done (OfTalk conv (Sought came) ∷ done) (sought conv came done) conv
+    (record { opened = refl; speakers = refl; talks = λ q e. rw e refl; raised = refl; questions = refl; keys = refl; files = refl })
+    (only_prompting (OfTalk conv (Sought came) ∷ done) conv came)
+
 only_seeking : (done : List Deed) (conv : ℕ) (p : Phase) → OnlyTalk done (seeking conv p done) conv
-only_seeking done conv Seeking = record { opened = refl; speakers = refl; talks = λ q e. rw e refl; raised = refl; questions = refl; keys = refl; files = refl }
+only_seeking done conv Seeking = only_found done conv (finds (standing_of done conv) (told.asking done) (keys_of done))
 only_seeking done conv Resting = only_same done conv
 only_seeking done conv (Waiting request) = only_same done conv
 only_seeking done conv (OnConfirm serial) = only_same done conv
@@ -64,21 +81,33 @@ only_sought done conv true =
     let two : List Deed = sought_once conv one in
     only_then done one (sought_once conv two) conv (only_once done conv) (only_then one two (sought_once conv two) conv (only_once one conv) (only_once two conv))
 
--- the deeds after its request was carried out and the searches that this wants
-abbrev performed : List Deed → ℕ → List ℕ → List Deed
-performed done conv word = then_sought conv (OfTalk conv (CarriedOut word) ∷ done)
+-- the deeds after it met something and the searches that this wants
+abbrev pub searched_for : List Deed → ℕ → Call → List Deed
+searched_for done conv call = then_sought conv (OfTalk conv call ∷ done)
 
-only_performed : (done : List Deed) (conv : ℕ) (word : List ℕ) → OnlyTalk done (performed done conv word) conv
-only_performed done conv word =
-    let one : List Deed = OfTalk conv (CarriedOut word) ∷ done in
-    only_then done one (performed done conv word) conv
-    (record { opened = refl; speakers = refl; talks = λ q e. rw e refl; raised = refl; questions = refl; keys = refl; files = refl })
+only_met : (done : List Deed) (conv : ℕ) (call : Call) → questions (OfTalk conv call ∷ done) ≡ questions done → OnlyTalk done (searched_for done conv call) conv
+only_met done conv call same_questions =
+    let one : List Deed = OfTalk conv call ∷ done in
+    only_then done one (searched_for done conv call) conv
+    (record { opened = refl; speakers = refl; talks = λ q e. rw e refl; raised = refl; questions = same_questions; keys = refl; files = refl })
     (only_sought one conv (standing_of one conv).starting)
 
 -- what it met then
+prompting_talk : (done : List Deed) (conv : ℕ) (came : Found) → talk (prompting conv came done) conv ≡ talk done conv
+prompting_talk done conv (AsksConsent key) = refl
+prompting_talk done conv AsksKey = refl
+prompting_talk done conv (Chosen key) = refl
+prompting_talk done conv Denied = refl
+prompting_talk done conv NoneServes = refl
+prompting_talk done conv (Offered list) = refl
+prompting_talk done conv (Picked place) = refl
+
+found_talk : (done : List Deed) (conv : ℕ) (came : Found) → talk (sought conv came done) conv ≡ Sought came ∷ talk done conv
+found_talk done conv came = prompting_talk (OfTalk conv (Sought came) ∷ done) conv came ∙ rw (same conv) refl
+
 seeking_talk : (done : List Deed) (conv : ℕ) (p : Phase) → talk (seeking conv p done) conv
     ≡ cond (is_seeking p) (Sought (finds (standing_of done conv) (told.asking done) (keys_of done)) ∷ talk done conv) (talk done conv)
-seeking_talk done conv Seeking = rw (same conv) refl
+seeking_talk done conv Seeking = found_talk done conv (finds (standing_of done conv) (told.asking done) (keys_of done))
 seeking_talk done conv Resting = refl
 seeking_talk done conv (Waiting request) = refl
 seeking_talk done conv (OnConfirm serial) = refl
@@ -109,12 +138,25 @@ sought_talk done conv true =
     once_more done two conv met_two (only_then done one two conv only_one (only_once one conv))
     (once_more done one conv met_one only_one (once_talk done conv))
 
-performed_talk : (done : List Deed) (conv : ℕ) (word : List ℕ) → talk (performed done conv word) conv ≡ with_search (told.asking done) (keys_of done) (CarriedOut word ∷ talk done conv)
-performed_talk done conv word =
-    let one : List Deed = OfTalk conv (CarriedOut word) ∷ done in
-    let met_it : talk one conv ≡ CarriedOut word ∷ talk done conv = rw (same conv) refl in
+met_talk : (done : List Deed) (conv : ℕ) (call : Call) → talk (searched_for done conv call) conv ≡ with_search (told.asking done) (keys_of done) (call ∷ talk done conv)
+met_talk done conv call =
+    let one : List Deed = OfTalk conv call ∷ done in
+    let met_it : talk one conv ≡ call ∷ talk done conv = rw (same conv) refl in
     sought_talk one conv (standing_of one conv).starting
     ∙ ap (with_search (told.asking done) (keys_of done)) met_it
+
+raising_talk : (done : List Deed) (conv : ℕ) (p : Phase) → talk (raising conv p done) conv ≡ talk done conv
+raising_talk done conv OnServer = refl
+raising_talk done conv Resting = refl
+raising_talk done conv (Waiting request) = refl
+raising_talk done conv Seeking = refl
+raising_talk done conv (OnConfirm serial) = refl
+raising_talk done conv OnNeedkey = refl
+raising_talk done conv (Kept answer) = refl
+
+-- what a conversation met behind a call and all that this wants
+pub talked_talk : (done : List Deed) (conv : ℕ) (call : Call) → talk (talked conv call done) conv ≡ with_search (told.asking done) (keys_of done) (call ∷ talk done conv)
+talked_talk done conv call = raising_talk (searched_for done conv call) conv (standing_of (searched_for done conv call) conv).phase ∙ met_talk done conv call
 
 -- ---- a question is raised
 
@@ -151,39 +193,33 @@ raised_speak done t conv (OnConfirm serial) e there b r q = none_raised done t b
 raised_speak done t conv OnNeedkey e there b r q = none_raised done t b r q
 raised_speak done t conv (Kept answer) e there b r q = none_raised done t b r q
 
--- ---- the request is carried out
-
-requested : (talk : List Call) (c : Conversation) (word : List ℕ) (asking : Asking) (list : KeyList) → has_request (standing talk).phase ≡ true → Holds c (with_request word asking list talk) → Holds c (with_search asking list (CarriedOut word ∷ talk))
-requested talk c word asking list has h = subst (λ (b : Bool). Holds c (cond b (with_search asking list (CarriedOut word ∷ talk)) talk)) has h
-
-performed_kept : (b : Bool) (talk : List Call) (old new : Option Conversation) (word : List ℕ) (asking : Asking) (list : KeyList) → b ≡ true → has_request (standing talk).phase ≡ true → BothPerformed old new word asking list → IsKept b talk old → IsKept true (with_search asking list (CarriedOut word ∷ talk)) new
-performed_kept true talk (Some c) (Some d) word asking list e has p h = requested talk d word asking list has (p talk h)
-performed_kept true talk (Some c) None word asking list e has p h = absurd p
-performed_kept true talk None new word asking list e has p h = absurd h
-performed_kept false talk old new word asking list e has p h = absurd (false≢true e)
+-- ---- it met something, and all that follows
 
 asks_now : (talk : List Call) (o : Option Conversation) (asks : Bool) → IsKept true talk o → IsAsking o asks → asks ≡ waits_for_server (standing talk).phase
 asks_now talk (Some c) asks h shows = shows talk h
 asks_now talk None asks h shows = absurd h
 
--- what waits for the server isn't what has a request
-apart_from : (done : List Deed) (conv q : ℕ) (request : RpcRequest) → (standing_of done conv).phase ≡ Waiting request → OnServerNow done q → eqb conv q ≡ false
-apart_from done conv q request e on = elim (cases_Bool (eqb conv q)) [
-  | inl is ↦ absurd (let no_way : Waiting request ≡ OnServer = sym e ∙ (ap (λ (n : ℕ). (standing_of done n).phase) (eqb-true conv q is) ∙ on.phase) in cc)
+-- what waits for the server is in no other phase
+apart_from : (done : List Deed) (conv q : ℕ) → waits_for_server (standing_of done conv).phase ≡ false → OnServerNow done q → eqb conv q ≡ false
+apart_from done conv q e on = elim (cases_Bool (eqb conv q)) [
+  | inl is ↦ absurd (false≢true (sym e ∙ (ap (λ (n : ℕ). waits_for_server (standing_of done n).phase) (eqb-true conv q is) ∙ ap waits_for_server on.phase)))
   | inr is ↦ is
 ]
 
 moved_kept : (b c : Bool) (xs ys : List Call) (o p : Option Conversation) → c ≡ b → ys ≡ xs → p ≡ o → IsKept b xs o → IsKept c ys p
 moved_kept b c xs ys o p e f g h = rw (e, f, g) h
 
-performed_base : (done : List Deed) (old new : Talks) (conv : ℕ) (word : List ℕ) (asks : Bool) (request : RpcRequest) → (standing_of done conv).phase ≡ Waiting request → Carries old new conv word (told.asking done) (keys_of done) asks → stands done conv ≡ true → Speak done old → Base (performed done conv word) new
-performed_base done old new conv word asks request e c there h =
-    let after : List Deed = performed done conv word in
-    let only = only_performed done conv word in
+-- what was kept for a number holds now for the talk with this call and the searches that it wants
+abbrev Becomes : List Deed → Talks → ℕ → Call → Type 0
+Becomes done new conv call = IsKept true (with_search (told.asking done) (keys_of done) (call ∷ talk done conv)) (kept_at new conv)
+
+met_base : (done : List Deed) (old new : Talks) (conv : ℕ) (call : Call) (asks : Bool) → questions (OfTalk conv call ∷ done) ≡ questions done → waits_for_server (standing_of done conv).phase ≡ false → Goes old new conv asks → Becomes done new conv call → stands done conv ≡ true → Speak done old → Base (searched_for done conv call) new
+met_base done old new conv call asks quiet e c now there h =
+    let after : List Deed = searched_for done conv call in
+    let only = only_met done conv call quiet in
     let standing_same : (q : ℕ) → stands after q ≡ stands done q = λ q. ap (λ (xs : List Speaker). is_among xs q) only.speakers in
     let here : IsKept (stands after conv) (talk after conv) (kept_at new conv) =
-    moved_kept true (stands after conv) (with_search (told.asking done) (keys_of done) (CarriedOut word ∷ talk done conv)) (talk after conv) (kept_at new conv) (kept_at new conv) (standing_same conv ∙ there) (performed_talk done conv word) refl
-    (performed_kept (stands done conv) (talk done conv) (kept_at old conv) (kept_at new conv) word (told.asking done) (keys_of done) there (ap has_request e) c.this (h.table conv)) in
+    moved_kept true (stands after conv) (with_search (told.asking done) (keys_of done) (call ∷ talk done conv)) (talk after conv) (kept_at new conv) (kept_at new conv) (standing_same conv ∙ there) (met_talk done conv call) refl now in
     record {
       opened = c.opened ∙ (h.opened ∙ sym only.opened);
       speakers = c.speakers ∙ (h.speakers ∙ sym only.speakers);
@@ -196,15 +232,15 @@ performed_base done old new conv word asks request e c there h =
           only.talks q (below_opened done conv q there le_done) ∙ h.fresh q le_done;
       asked = λ q is.
           let on = h.asked q (ap (λ (qs : List Question). asks_for qs q) (sym only.questions) ∙ is) in
-          let apart : eqb conv q ≡ false = apart_from done conv q request e on in
+          let apart : eqb conv q ≡ false = apart_from done conv q e on in
           record { stands = standing_same q ∙ on.stands; phase = ap (λ (cs : List Call). (standing cs).phase) (only.talks q apart) ∙ on.phase };
     }
 
-waiting_speak : (done : List Deed) (old new : Talks) (conv : ℕ) (word : List ℕ) (asks : Bool) (request : RpcRequest) → (standing_of done conv).phase ≡ Waiting request → Carries old new conv word (told.asking done) (keys_of done) asks → stands done conv ≡ true → Speak done old → Speak (carrying_out conv word (Waiting request) done) new
-waiting_speak done old new conv word asks request e c there h =
-    let after : List Deed = performed done conv word in
-    let only = only_performed done conv word in
-    let base = performed_base done old new conv word asks request e c there h in
+talked_speak : (done : List Deed) (old new : Talks) (conv : ℕ) (call : Call) (asks : Bool) → questions (OfTalk conv call ∷ done) ≡ questions done → waits_for_server (standing_of done conv).phase ≡ false → Goes old new conv asks → Becomes done new conv call → stands done conv ≡ true → Speak done old → Speak (talked conv call done) new
+talked_speak done old new conv call asks quiet e c became there h =
+    let after : List Deed = searched_for done conv call in
+    let only = only_met done conv call quiet in
+    let base = met_base done old new conv call asks quiet e c became there h in
     let still : stands after conv ≡ true = ap (λ (xs : List Speaker). is_among xs conv) only.speakers ∙ there in
     let kept : IsKept true (talk after conv) (kept_at new conv) = subst (λ (b : Bool). IsKept b (talk after conv) (kept_at new conv)) still (base.table conv) in
     let now : asks ≡ waits_for_server (standing_of after conv).phase = asks_now (talk after conv) (kept_at new conv) asks kept c.asked in
@@ -214,16 +250,121 @@ waiting_speak done old new conv word asks request e c there h =
     ∙ (ap (λ (n : ℕ). more_asked (waits_for_server (standing_of after conv).phase) n conv (questions_in old)) (h.raised ∙ sym only.raised)
     ∙ ap (more_asked (waits_for_server (standing_of after conv).phase) (raised after) conv) (h.questions ∙ sym only.questions))))
 
-by_phase : (done : List Deed) (old new : Talks) (conv : ℕ) (word : List ℕ) (asks : Bool) (p : Phase) → (standing_of done conv).phase ≡ p → has_request p ≡ true → Carries old new conv word (told.asking done) (keys_of done) asks → stands done conv ≡ true → Speak done old → Speak (carrying_out conv word p done) new
-by_phase done old new conv word asks (Waiting request) e has c there h = waiting_speak done old new conv word asks request e c there h
-by_phase done old new conv word asks Resting e has c there h = absurd (false≢true has)
-by_phase done old new conv word asks Seeking e has c there h = absurd (false≢true has)
-by_phase done old new conv word asks (OnConfirm serial) e has c there h = absurd (false≢true has)
-by_phase done old new conv word asks OnNeedkey e has c there h = absurd (false≢true has)
-by_phase done old new conv word asks OnServer e has c there h = absurd (false≢true has)
-by_phase done old new conv word asks (Kept answer) e has c there h = absurd (false≢true has)
+-- among these keys, and with these files
+among : (done : List Deed) (old new : Talks) (conv : ℕ) (asking : Asking) (list : KeyList) (next : Asking → KeyList → List Call → List Call) → IsReady done conv list asking → BothGo (kept_at old conv) (kept_at new conv) (next asking list) → BothGo (kept_at old conv) (kept_at new conv) (next (told.asking done) (keys_of done))
+among done old new conv asking list next ready goes =
+    subst (λ (a : Asking). BothGo (kept_at old conv) (kept_at new conv) (next a (keys_of done))) (sym ready.files) (subst (λ (l : KeyList). BothGo (kept_at old conv) (kept_at new conv) (next asking l)) (sym ready.keys) goes)
 
-pub carried_speak : (done : List Deed) (old new : Talks) (conv : ℕ) (word : List ℕ) (asking : Asking) (list : KeyList) (asks : Bool) → has_request (standing_of done conv).phase ≡ true → IsReady done conv list asking → Carries old new conv word asking list asks → Speak done old → Speak (carried conv word done) new
-carried_speak done old new conv word asking list asks has ready c h =
-    by_phase done old new conv word asks (standing_of done conv).phase refl has
-    (subst (λ (a : Asking). Carries old new conv word a (keys_of done) asks) (sym ready.files) (subst (λ (l : KeyList). Carries old new conv word asking l asks) (sym ready.keys) c)) ready.stands h
+gone_kept : (b : Bool) (talk after : List Call) (old new : Option Conversation) (next : List Call → List Call) → b ≡ true → next talk ≡ after → BothGo old new next → IsKept b talk old → IsKept true after new
+gone_kept true talk after (Some c) (Some d) next e is goes h = subst (λ (t : List Call). Holds d t) is (goes talk h)
+gone_kept true talk after (Some c) None next e is goes h = absurd goes
+gone_kept true talk after None new next e is goes h = absurd h
+gone_kept false talk after old new next e is goes h = absurd (false≢true e)
+
+-- ---- the request is carried out
+
+not_on_server : (p : Phase) → has_request p ≡ true → waits_for_server p ≡ false
+not_on_server (Waiting request) has = refl
+not_on_server Resting has = absurd (false≢true has)
+not_on_server Seeking has = absurd (false≢true has)
+not_on_server (OnConfirm serial) has = absurd (false≢true has)
+not_on_server OnNeedkey has = absurd (false≢true has)
+not_on_server OnServer has = absurd (false≢true has)
+not_on_server (Kept answer) has = absurd (false≢true has)
+
+by_phase : (done : List Deed) (new : Talks) (conv : ℕ) (word : List ℕ) (p : Phase) → has_request p ≡ true → Speak (talked conv (CarriedOut word) done) new → Speak (carried_in conv word p done) new
+by_phase done new conv word (Waiting request) has h = h
+by_phase done new conv word Resting has h = absurd (false≢true has)
+by_phase done new conv word Seeking has h = absurd (false≢true has)
+by_phase done new conv word (OnConfirm serial) has h = absurd (false≢true has)
+by_phase done new conv word OnNeedkey has h = absurd (false≢true has)
+by_phase done new conv word OnServer has h = absurd (false≢true has)
+by_phase done new conv word (Kept answer) has h = absurd (false≢true has)
+
+pub carried_speak : (done : List Deed) (old new : Talks) (conv : ℕ) (word : List ℕ) (asking : Asking) (list : KeyList) (asks : Bool) → has_request (standing_of done conv).phase ≡ true → IsReady done conv list asking → BothGo (kept_at old conv) (kept_at new conv) (with_request word asking list) → Goes old new conv asks → Speak done old → Speak (carried_talk conv word done) new
+carried_speak done old new conv word asking list asks has ready goes c h =
+    let request : with_request word (told.asking done) (keys_of done) (talk done conv) ≡ with_search (told.asking done) (keys_of done) (CarriedOut word ∷ talk done conv) =
+    ap (λ (b : Bool). cond b (with_search (told.asking done) (keys_of done) (CarriedOut word ∷ talk done conv)) (talk done conv)) has in
+    by_phase done new conv word (standing_of done conv).phase has
+    (talked_speak done old new conv (CarriedOut word) asks refl (not_on_server (standing_of done conv).phase has) c
+    (gone_kept (stands done conv) (talk done conv) _ (kept_at old conv) (kept_at new conv) (with_request word (told.asking done) (keys_of done)) ready.stands request
+    (among done old new conv asking list (λ a l. with_request word a l) ready goes) (h.table conv)) ready.stands h)
+
+-- ---- its user answered
+
+not_asking : (p : Phase) → asks_user p ≡ true → waits_for_server p ≡ false
+not_asking (OnConfirm serial) asks = refl
+not_asking OnNeedkey asks = refl
+not_asking (Waiting request) asks = absurd (false≢true asks)
+not_asking Resting asks = absurd (false≢true asks)
+not_asking Seeking asks = absurd (false≢true asks)
+not_asking OnServer asks = absurd (false≢true asks)
+not_asking (Kept answer) asks = absurd (false≢true asks)
+
+pub resumed_speak : (done : List Deed) (old new : Talks) (conv : ℕ) (call : Call) (asking : Asking) (list : KeyList) (asks : Bool) → questions (OfTalk conv call ∷ done) ≡ questions done → asks_user (standing_of done conv).phase ≡ true → IsReady done conv list asking → BothGo (kept_at old conv) (kept_at new conv) (with_answer call asking list) → Goes old new conv asks → Speak done old → Speak (talked conv call done) new
+resumed_speak done old new conv call asking list asks quiet asked ready goes c h =
+    let answer : with_answer call (told.asking done) (keys_of done) (talk done conv) ≡ with_search (told.asking done) (keys_of done) (call ∷ talk done conv) =
+    ap (λ (b : Bool). cond b (with_search (told.asking done) (keys_of done) (call ∷ talk done conv)) (call ∷ talk done conv)) asked in
+    talked_speak done old new conv call asks quiet (not_asking (standing_of done conv).phase asked) c
+    (gone_kept (stands done conv) (talk done conv) _ (kept_at old conv) (kept_at new conv) (with_answer call (told.asking done) (keys_of done)) ready.stands answer
+    (among done old new conv asking list (λ a l. with_answer call a l) ready goes) (h.table conv)) ready.stands h
+
+-- ---- the question to its user is made
+
+-- a request that waits asks nobody
+waiting_ready : (p : Phase) (s : Standing) (asking : Asking) (list : KeyList) (asks : Asks) → has_request p ≡ true → ReadyIn p s asking list asks
+waiting_ready (Waiting request) s asking list asks has = tt
+waiting_ready Resting s asking list asks has = absurd (false≢true has)
+waiting_ready Seeking s asking list asks has = absurd (false≢true has)
+waiting_ready (OnConfirm serial) s asking list asks has = absurd (false≢true has)
+waiting_ready OnNeedkey s asking list asks has = absurd (false≢true has)
+waiting_ready OnServer s asking list asks has = absurd (false≢true has)
+waiting_ready (Kept answer) s asking list asks has = absurd (false≢true has)
+
+pub request_ready : (talk : List Call) (asking : Asking) (list : KeyList) (asks : Asks) → has_request (standing talk).phase ≡ true → Made asking list (standing talk) asks
+request_ready talk asking list asks has = waiting_ready (standing talk).phase (standing talk) asking list asks has
+
+kept_ready : (b : Bool) (talk after : List Call) (o : Option Conversation) (step : Step) (asking : Asking) (list : KeyList) (asks : Asks) → b ≡ true → may_take step (standing talk).phase ≡ true → next_by step asking list talk ≡ after → BothReady o step asking list asks → IsKept b talk o → Made asking list (standing after) asks
+kept_ready true talk after (Some c) step asking list asks e may is ready h = subst (λ (t : List Call). Made asking list (standing t) asks) is (ready talk h may)
+kept_ready true talk after None step asking list asks e may is ready h = absurd h
+kept_ready false talk after o step asking list asks e may is ready h = absurd (false≢true e)
+
+pub carried_ready : (done : List Deed) (old : Talks) (conv : ℕ) (word : List ℕ) (asking : Asking) (list : KeyList) (asks : Asks) → stands done conv ≡ true → has_request (standing_of done conv).phase ≡ true → BothReady (kept_at old conv) (p.CarryOut word) asking list asks → Speak done old → Readied done conv (CarriedOut word) asking list asks
+carried_ready done old conv word asking list asks there has ready h =
+    kept_ready (stands done conv) (talk done conv) _ (kept_at old conv) (p.CarryOut word) asking list asks there has
+    (ap (λ (b : Bool). cond b (with_search asking list (CarriedOut word ∷ talk done conv)) (talk done conv)) has) ready (h.table conv)
+
+asks_so : (call : Call) (p : Phase) → asks_that call p ≡ true → asks_user p ≡ true
+asks_so (Consented agrees) (OnConfirm serial) e = refl
+asks_so (Consented agrees) OnNeedkey e = refl
+asks_so (Consented agrees) Resting e = absurd (false≢true e)
+asks_so (Consented agrees) (Waiting request) e = absurd (false≢true e)
+asks_so (Consented agrees) Seeking e = absurd (false≢true e)
+asks_so (Consented agrees) OnServer e = absurd (false≢true e)
+asks_so (Consented agrees) (Kept answer) e = absurd (false≢true e)
+asks_so KeyTold (OnConfirm serial) e = refl
+asks_so KeyTold OnNeedkey e = refl
+asks_so KeyTold Resting e = absurd (false≢true e)
+asks_so KeyTold (Waiting request) e = absurd (false≢true e)
+asks_so KeyTold Seeking e = absurd (false≢true e)
+asks_so KeyTold OnServer e = absurd (false≢true e)
+asks_so KeyTold (Kept answer) e = absurd (false≢true e)
+asks_so (Stored request) p e = absurd (false≢true e)
+asks_so (CarriedOut word) p e = absurd (false≢true e)
+asks_so (Sought came) p e = absurd (false≢true e)
+asks_so Shut p e = absurd (false≢true e)
+asks_so (Heard bytes) p e = absurd (false≢true e)
+asks_so Unheard p e = absurd (false≢true e)
+asks_so Roomless p e = absurd (false≢true e)
+asks_so Took p e = absurd (false≢true e)
+
+answered : (done : List Deed) (conv : ℕ) (call : Call) (asking : Asking) (list : KeyList) → asks_that call (standing_of done conv).phase ≡ true → with_answer call asking list (talk done conv) ≡ with_search asking list (call ∷ talk done conv)
+answered done conv call asking list e = ap (λ (b : Bool). cond b (with_search asking list (call ∷ talk done conv)) (call ∷ talk done conv)) (asks_so call (standing_of done conv).phase e)
+
+pub consented_ready : (done : List Deed) (old : Talks) (conv : ℕ) (agrees : Bool) (asking : Asking) (list : KeyList) (asks : Asks) → stands done conv ≡ true → asks_that (Consented agrees) (standing_of done conv).phase ≡ true → BothReady (kept_at old conv) (p.Consent agrees) asking list asks → Speak done old → Readied done conv (Consented agrees) asking list asks
+consented_ready done old conv agrees asking list asks there may ready h =
+    kept_ready (stands done conv) (talk done conv) _ (kept_at old conv) (p.Consent agrees) asking list asks there may (answered done conv (Consented agrees) asking list may) ready (h.table conv)
+
+pub told_ready : (done : List Deed) (old : Talks) (conv : ℕ) (asking : Asking) (list : KeyList) (asks : Asks) → stands done conv ≡ true → asks_that KeyTold (standing_of done conv).phase ≡ true → BothReady (kept_at old conv) p.KeyTold asking list asks → Speak done old → Readied done conv KeyTold asking list asks
+told_ready done old conv asking list asks there may ready h =
+    kept_ready (stands done conv) (talk done conv) _ (kept_at old conv) p.KeyTold asking list asks there may (answered done conv KeyTold asking list may) ready (h.table conv)

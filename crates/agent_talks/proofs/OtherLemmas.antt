@@ -3,7 +3,9 @@ use Rattle.std.proofs.Common.{◌≡◌, ℕ, List, [], ◌∷◌, Bool, true, f
 use Rattle.file_tree.specs.declared.tree.Node.{Node}
 use Rattle.file_tree.specs.declared.tree.Node.TheVariants.{Rpc}
 use Rattle.key_lists.specs.CtlLines.{CtlLine}
-use Rattle.agent_history.specs.Deeds.{Deed, KeyDeed, ReplyDeed, OfFids, OfKeys, OfReplies, OfConnection, DropTaken, Swept, Attached, Walked, Opened, Listed, Browsed, Entered, fid_of, names, was_opened}
+use Rattle.side_files.specs.Calls as side
+use Rattle.side_files.specs.declared.line.PromptKind.{PromptKind}
+use Rattle.agent_history.specs.Deeds.{Deed, KeyDeed, ReplyDeed, OfFids, OfKeys, OfReplies, OfConnection, OfPrompts, OfLog, DropTaken, Swept, Attached, Walked, Opened, Listed, Browsed, Entered, fid_of, names, was_opened}
 use Rattle.agent_history.specs.Conversations.{questions, speakers}
 use Rattle.agent_history.specs.Histories.{entered}
 use Rattle.agent_history.specs.Replies.{has_settled, swept}
@@ -28,6 +30,29 @@ replies_speak done t conn deed h = record {
 
 pub keys_speak : (done : List Deed) (t : Talks) (conn : ℕ) (deed : KeyDeed) → Speak done t → Speak (OfKeys conn deed ∷ done) t
 keys_speak done t conn deed h = record {
+  opened = h.opened;
+  speakers = h.speakers;
+  table = h.table;
+  raised = h.raised;
+  questions = h.questions;
+  fresh = h.fresh;
+  asked = λ q e. record { stands = (h.asked q e).stands; phase = (h.asked q e).phase };
+}
+
+-- questions to users, and the log
+pub prompts_speak : (done : List Deed) (t : Talks) (kind : PromptKind) (call : side.Call) → Speak done t → Speak (OfPrompts kind call ∷ done) t
+prompts_speak done t kind call h = record {
+  opened = h.opened;
+  speakers = h.speakers;
+  table = h.table;
+  raised = h.raised;
+  questions = h.questions;
+  fresh = h.fresh;
+  asked = λ q e. record { stands = (h.asked q e).stands; phase = (h.asked q e).phase };
+}
+
+pub log_speak : (done : List Deed) (t : Talks) (call : side.LogCall) → Speak done t → Speak (OfLog call ∷ done) t
+log_speak done t call h = record {
   opened = h.opened;
   speakers = h.speakers;
   table = h.table;

@@ -214,6 +214,9 @@ stored_speak done old new conv request m asks there h = met_speak done old new c
 pub took_speak : (done : List Deed) (old new : Talks) (conv : ℕ) → Meets old new conv calls.Took → questions_in new ≡ questions_in old → stands done conv ≡ true → Speak done old → Speak (OfTalk conv calls.Took ∷ done) new
 took_speak done old new conv m asks there h = met_speak done old new conv calls.Took m (asks ∙ h.questions) (λ q e. still_asked done conv calls.Took (λ t p. p) q (h.asked q e)) there h
 
+pub shut_speak : (done : List Deed) (old new : Talks) (conv : ℕ) → Meets old new conv calls.Shut → questions_in new ≡ questions_in old → stands done conv ≡ true → Speak done old → Speak (OfTalk conv calls.Shut ∷ done) new
+shut_speak done old new conv m asks there h = met_speak done old new conv calls.Shut m (asks ∙ h.questions) (λ q e. still_asked done conv calls.Shut (λ t p. p) q (h.asked q e)) there h
+
 -- ---- deeds that are none of a conversation
 
 pub fids_speak : (done : List Deed) (t : Talks) (at : ℕ) (deed : FidDeed) → opened_talks (OfFids at deed ∷ done) ≡ opened_talks done → speakers (OfFids at deed ∷ done) ≡ speakers done → Speak done t → Speak (OfFids at deed ∷ done) t

@@ -3,7 +3,7 @@ use Rattle.std.proofs.Common.{◌≡◌, ℕ, ◌+◌, ◌<◌, List, [], ◌∷
 use Rattle.std.specs.Prelude.{find, option_map}
 use Rattle.std.specs.List.{list_any}
 use Rattle.std.proofs.lemmas.Bool.{cases_Bool, eq-eqb, eqb-true, false≢true}
-use Rattle.agent_history.specs.Deeds.{Deed, OfFids, OfKeys, OfReplies, OfConnection, OfTalk, Raised, HandedOut, DropTaken, Swept, Halted, Versioned, Attached, Walked, Opened, Listed, Browsed, Clunked, Entered, Hung, fid_of, names}
+use Rattle.agent_history.specs.Deeds.{Deed, OfFids, OfKeys, OfReplies, OfConnection, OfTalk, OfPrompts, OfLog, Raised, HandedOut, DropTaken, Swept, Halted, Versioned, Attached, Walked, Opened, Listed, Browsed, Clunked, Entered, Hung, fid_of, names}
 use Rattle.file_tree.specs.declared.tree.Node.TheVariants.{Rpc}
 use Rattle.agent_history.specs.Conversations.{Question, Speaker, hand_first, opened_talks, speakers}
 use Rattle.agent_talks.specs.Speaks.{asks_for, is_among}
@@ -178,6 +178,8 @@ are_numbered (OfReplies at deed ∷ done) = are_numbered done
 are_numbered (OfConnection at Entered ∷ done) = are_numbered done
 are_numbered (OfConnection at Hung ∷ done) = numbered_left (opened_talks done) (λ s. not (s.conn == at)) (speakers done) (are_numbered done)
 are_numbered (OfTalk conv call ∷ done) = are_numbered done
+are_numbered (OfPrompts kind call ∷ done) = are_numbered done
+are_numbered (OfLog call ∷ done) = are_numbered done
 are_numbered (Raised conv ∷ done) = are_numbered done
 are_numbered (HandedOut ∷ done) = are_numbered done
 are_numbered (DropTaken ∷ done) = are_numbered done

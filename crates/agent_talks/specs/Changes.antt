@@ -1,12 +1,18 @@
 -- Of the code alone: what a method does to what is kept. No public contract cites these words.
-use Rattle.std.specs.Prelude.{◌≡◌, ℕ, ◌+◌, List, [], ◌∷◌, ◌++◌, filter, Bool, false, not, ◌&&◌, ◌==◌, Option, Some, None, is_some, if◌then◌else◌}
+use Rattle.std.specs.Prelude.{◌≡◌, ℕ, ◌+◌, List, [], ◌∷◌, ◌++◌, filter, Bool, true, false, not, ◌&&◌, ◌==◌, Option, Some, None, is_some, if◌then◌else◌}
 use Rattle.std.specs.List.{list_any}
 use Rattle.key_lists.specs.Lists.{KeyList}
-use Rattle.talks.specs.Calls.{Call}
+use Rattle.talks.specs.Calls.{Call, Consented, KeyTold}
 use Rattle.talks.specs.declared.said.Asking.{Asking}
+use Rattle.talks.specs.Standings.{Phase, standing}
 use Rattle.conversations.specs.declared.conversation.Conversation.{Conversation}
-use Rattle.conversations.specs.Fits.{Holds, Keeps, Performs, Shows, Stays}
-use Rattle.conversations.specs.Shown.{waits_for_server}
+use Rattle.conversations.specs.Fits.{Holds, Keeps, Shows, Stays, with_answer, with_request}
+use Rattle.conversations.specs.declared.asks.Asks.{Asks}
+use Rattle.conversations.specs.Asking as C
+use Rattle.conversations.specs.Asking.{asks_that}
+use Rattle.begun_talks.specs.Shown.{has_request, waits_for_server}
+use Rattle.agent_talks.specs.declared.carry.Step.{Step}
+use Rattle.agent_talks.specs.declared.carry.Step.TheVariants as p
 use Rattle.agent_history.specs.Conversations.{Question, hand_first}
 use Rattle.agent_talks.specs.declared.speaker.Speaker.{Speaker as HeldSpeaker}
 use Rattle.agent_talks.specs.declared.speaker.Leaving.{Leaving}
@@ -82,14 +88,34 @@ pub record Ended (old new : Talks) (conv : ℕ) (call : Call) : Type 0 where
   pub meets : Meets old new conv call
   pub questions : questions_in new ≡ filter (λ q. not (q.conv == conv)) (questions_in old)
 
--- ---- a request is carried out
+-- ---- it goes on
 
--- what was kept for a number carried its request out, where something was
-abbrev pub BothPerformed : Option Conversation → Option Conversation → List ℕ → Asking → KeyList → Type 0
-BothPerformed None None word asking list = Unit {0}
-BothPerformed None (Some new) word asking list = ⊥
-BothPerformed (Some old) None word asking list = ⊥
-BothPerformed (Some old) (Some new) word asking list = Performs old new word asking list
+-- what was kept for a number holds for what its talk becomes, where something was
+abbrev pub BothGo : Option Conversation → Option Conversation → (List Call → List Call) → Type 0
+BothGo None None next = Unit {0}
+BothGo None (Some new) next = ⊥
+BothGo (Some old) None next = ⊥
+BothGo (Some old) (Some new) next = (talk : List Call) → Holds old talk → Holds new (next talk)
+
+-- the talk behind a step
+abbrev pub next_by : Step → Asking → KeyList → List Call → List Call
+next_by (p.CarryOut word) asking list talk = with_request word asking list talk
+next_by (p.Consent agrees) asking list talk = with_answer (Consented agrees) asking list talk
+next_by p.KeyTold asking list talk = with_answer KeyTold asking list talk
+
+-- a step can be taken
+abbrev pub may_take : Step → Phase → Bool
+may_take (p.CarryOut word) phase = has_request phase
+may_take (p.Consent agrees) phase = asks_that (Consented agrees) phase
+may_take p.KeyTold phase = asks_that KeyTold phase
+
+-- behind it a question to the user is made, if he is asked
+abbrev pub StepReady : Conversation → Step → Asking → KeyList → Asks → Type 0
+StepReady old step asking list asks = (talk : List Call) → Holds old talk → may_take step (standing talk).phase ≡ true → C.IsReady asking list (standing (next_by step asking list talk)) asks
+
+abbrev pub BothReady : Option Conversation → Step → Asking → KeyList → Asks → Type 0
+BothReady None step asking list asks = Unit {0}
+BothReady (Some old) step asking list asks = StepReady old step asking list asks
 
 -- it holds for all that it held for
 abbrev pub BothStay : Option Conversation → Option Conversation → Type 0
@@ -110,11 +136,10 @@ more_raised asks raised = if asks then raised + 1 else raised
 abbrev pub more_asked : Bool → ℕ → ℕ → List Question → List Question
 more_asked asks raised conv questions = if asks then questions ++ record { call = raised + 1; conv = conv; handed = false } ∷ [] else questions
 
--- the request of a conversation is carried out, and a question is raised where this asks the authentication server
-pub record Carries (old new : Talks) (conv : ℕ) (word : List ℕ) (asking : Asking) (list : KeyList) (asks : Bool) : Type 0 where
+-- a conversation met something, a question is raised where this asks the authentication server, and all else is as before
+pub record Goes (old new : Talks) (conv : ℕ) (asks : Bool) : Type 0 where
   pub opened : new.opened ≡ old.opened
   pub speakers : speakers_in new ≡ speakers_in old
-  pub this : BothPerformed (kept_at old conv) (kept_at new conv) word asking list
   pub asked : IsAsking (kept_at new conv) asks
   pub others : (other : ℕ) → (conv ≡ other → ⊥) → kept_at new other ≡ kept_at old other
   pub raised : new.raised ≡ more_raised asks old.raised

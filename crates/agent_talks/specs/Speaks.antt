@@ -1,16 +1,18 @@
 -- When the conversations that are kept are those that a list of deeds tells of.
-use Rattle.std.specs.Prelude.{◌≡◌, ℕ, ◌≤◌, List, [], Bool, true, false, ◌==◌, Option, Some, None}
+use Rattle.std.specs.Prelude.{◌≡◌, ℕ, ◌≤◌, List, [], ◌∷◌, Bool, true, false, ◌==◌, Option, Some, None}
 use Rattle.std.specs.List.{list_any}
 use Rattle.key_lists.specs.Lists.{KeyList}
-use Rattle.talks.specs.Calls.{Call}
-use Rattle.talks.specs.Standings.{OnServer}
+use Rattle.talks.specs.Calls.{Call, CarriedOut}
+use Rattle.talks.specs.Standings.{OnServer, Phase, Waiting, standing}
 use Rattle.talks.specs.declared.said.Asking.{Asking}
-use Rattle.agent_history.specs.Deeds.{Deed, keys_of}
+use Rattle.agent_history.specs.Deeds.{Deed, OfTalk, keys_of}
 use Rattle.agent_history.specs.Conversations as told
-use Rattle.agent_history.specs.Conversations.{Question, Speaker, met, opened_talks, standing_of, talk}
+use Rattle.agent_history.specs.Conversations.{Question, Speaker, opened_talks, standing_of, talk, then_raised, then_sought}
 use Rattle.conversations.specs.declared.conversation.Conversation.{Conversation}
-use Rattle.conversations.specs.Fits.{Holds}
-use Rattle.conversations.specs.Shown.{has_request}
+use Rattle.conversations.specs.declared.asks.Asks.{Asks}
+use Rattle.conversations.specs.Asking as C
+use Rattle.conversations.specs.Fits.{Holds, with_search}
+use Rattle.begun_talks.specs.Shown.{has_request}
 use Rattle.agent_talks.specs.declared.held.Talks.{Talks}
 use Rattle.agent_talks.specs.Kept.{kept_at, questions_in, speakers_in}
 
@@ -48,10 +50,22 @@ pub record Speak (done : List Deed) (t : Talks) : Type 0 where
   -- a question that stands is of a conversation that stands and waits for its answer
   pub asked : (conv : ℕ) → asks_for (told.questions done) conv ≡ true → OnServerNow done conv
 
+-- a conversation met something, and what it needs then is got for it or asked for
+abbrev pub talked : ℕ → Call → List Deed → List Deed
+talked conv call done = then_raised conv (then_sought conv (OfTalk conv call ∷ done))
+
 -- the conversation of a number, where one is meant, met something
-abbrev pub met_by : Option ℕ → Call → List Deed → List Deed
-met_by None call done = done
-met_by (Some conv) call done = met conv call done
+abbrev pub talked_by : Option ℕ → Call → List Deed → List Deed
+talked_by None call done = done
+talked_by (Some conv) call done = talked conv call done
+
+-- a conversation carried its request out, where it has one
+abbrev pub carried_in : ℕ → List ℕ → Phase → List Deed → List Deed
+carried_in conv word (Waiting request) done = talked conv (CarriedOut word) done
+carried_in conv word phase done = done
+
+abbrev pub carried_talk : ℕ → List ℕ → List Deed → List Deed
+carried_talk conv word done = carried_in conv word (standing_of done conv).phase done
 
 -- the same conversations and the same questions
 pub record SameTalks (old new : Talks) : Type 0 where
@@ -77,3 +91,7 @@ pub record IsReady (done : List Deed) (conv : ℕ) (list : KeyList) (asking : As
 -- the conversation of a number, where it has a request, whatever deeds the conversations are those of
 abbrev pub ShowsRequest : Talks → ℕ → Bool → Type 0
 ShowsRequest t conv has = (done : List Deed) → stands done conv ≡ true → Speak done t → has ≡ has_request (standing_of done conv).phase
+
+-- a conversation met something, and the question to its user that this comes to, if he is asked, is made
+abbrev pub Readied : List Deed → ℕ → Call → Asking → KeyList → Asks → Type 0
+Readied done conv call asking list asks = C.IsReady asking list (standing (with_search asking list (call ∷ talk done conv))) asks

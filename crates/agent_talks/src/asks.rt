@@ -5,7 +5,7 @@ ghost use Rattle.agent_history.specs.Deeds.{Deed, HandedOut};
 ghost use Rattle.agent_history.specs.Conversations.{asker, next_question};
 ghost use Rattle.agent_talks.specs.Kept as kept;
 ghost use Rattle.agent_talks.specs.Changes.{Drops, Ended, Hands, Meets};
-ghost use Rattle.agent_talks.specs.Speaks.{SameTalks, Speak, met_by};
+ghost use Rattle.agent_talks.specs.Speaks.{SameTalks, Speak, talked_by};
 
 use crate::held::Talks;
 use crate::question::{Question, drop_conv, find_asker, find_next, hand_first};
@@ -54,7 +54,7 @@ impl Talks {
     /// The authentication server answered the question of this number, where it stands.
     pub fn heard(&mut self, alloc: Global, call: u64, bytes: &[u8]) -> Result<(), NoMemory>
         ensures kept { OnOk result ((done : List Deed) → Speak done self.old
-            → Speak (met_by (asker done call) (c.Heard bytes.now) done) self.new) }
+            → Speak (talked_by (asker done call) (c.Heard bytes.now) done) self.new) }
         ensures same { OnErr result (SameTalks self.old self.new) }
         ensures fewer { kept.unasked self.new ≤ kept.unasked self.old }
         ensures unknown { kept.is_asked call (kept.questions_in self.old) ≡ false → IsOk result }
@@ -68,7 +68,7 @@ impl Talks {
     /// The authentication server wasn't reached with the question of this number, where it stands. It takes no memory.
     pub fn unheard(&mut self, call: u64)
         ensures met { (done : List Deed) → Speak done self.old
-            → Speak (met_by (asker done call) c.Unheard done) self.new }
+            → Speak (talked_by (asker done call) c.Unheard done) self.new }
         ensures fewer { kept.unasked self.new ≤ kept.unasked self.old }
     {
         if let Some(conv) = self.asker(call) {
@@ -79,7 +79,7 @@ impl Talks {
     /// There was no memory for the answer to the question of this number, where it stands. It takes none itself.
     pub fn roomless(&mut self, call: u64)
         ensures met { (done : List Deed) → Speak done self.old
-            → Speak (met_by (asker done call) c.Roomless done) self.new }
+            → Speak (talked_by (asker done call) c.Roomless done) self.new }
         ensures fewer { kept.unasked self.new ≤ kept.unasked self.old }
     {
         if let Some(conv) = self.asker(call) {

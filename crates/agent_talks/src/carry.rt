@@ -1,25 +1,42 @@
-// The request of a conversation is carried out.
-ghost use Rattle.std.specs.Prelude.{◌≡◌, List, ℕ, IfOk, OnOk, OnErr};
+// A conversation goes on: its request is carried out, or its user answered.
+ghost use Rattle.std.specs.Prelude.{◌≡◌, List, ℕ, true, IfOk, OnOk, OnErr};
 ghost use Rattle.std.specs.BTreeMap.{get};
 ghost use Rattle.std.specs.Ordering.{nat_cmp};
+ghost use Rattle.talks.specs.Calls as c;
+ghost use Rattle.talks.specs.Calls.{Call};
 ghost use Rattle.agent_history.specs.Deeds.{Deed};
-ghost use Rattle.agent_history.specs.Requests.{carried};
-ghost use Rattle.agent_talks.specs.Changes.{Back, BothPerformed, BothStay, Carries, IsAsking};
-ghost use Rattle.agent_talks.specs.Speaks.{IsReady, ShowsRequest, Speak};
+ghost use Rattle.agent_history.specs.Conversations.{standing_of};
+ghost use Rattle.begun_talks.specs.Shown.{asks_user, has_request};
+ghost use Rattle.conversations.specs.Asking.{SameAsks, asks_that};
+ghost use Rattle.conversations.specs.Fits.{Holds, Stays};
+ghost use Rattle.agent_talks.specs.Changes.{Back, BothGo, BothReady, BothStay, Goes, IsAsking, StepReady, next_by};
+ghost use Rattle.agent_talks.specs.Speaks.{IsReady, Readied, ShowsRequest, Speak, carried_talk, talked};
 
 use crate::held::Talks;
 use crate::question::Question;
-use conversations::Conversation;
+use conversations::{Asks, Conversation};
 use key_ring::KeyRing;
 use std::alloc::Global;
 use std::collections::BTreeMap;
 use talks::Asking;
 use wire_base::NoMemory;
 
+// By what a conversation goes on.
+#[derive(Clone, Copy)]
+pub(crate) enum Step {
+    /// Its request is carried out, by a read for which this word was drawn.
+    CarryOut([u8; 8]),
+    /// Its user was asked whether a key may be used, and answered.
+    Consent(bool),
+    /// Its user was asked for a key, and answered.
+    KeyTold,
+}
+
 impl Talks {
     /// The request of a conversation that stands is carried out, by a read for which this word was drawn; the key that
-    /// it needs is searched for among the keys of a ring, where these files are open; and a question for the
-    /// authentication server that this wants is raised. Where no request is there, nothing is done.
+    /// it needs is searched for among the keys of a ring, where these files are open; a question to its user that this
+    /// comes to is made; and a question for the authentication server that this wants is raised. Where no request is
+    /// there, nothing is done.
     pub fn carry_out(
         &mut self,
         alloc: Global,
@@ -27,22 +44,28 @@ impl Talks {
         word: [u8; 8],
         ring: &KeyRing,
         asking: Asking,
+        asks: &mut Asks,
     ) -> Result<(), NoMemory>
         ensures kept { OnOk result ((done : List Deed) → IsReady done conv ring.now asking
-            → Speak done self.old → Speak (carried conv word done) self.new) }
+            → Speak done self.old → Speak (carried_talk conv word done) self.new) }
+        ensures ready { OnOk result ((done : List Deed) → IsReady done conv ring.now asking
+            → Speak done self.old → has_request (standing_of done conv).phase ≡ true
+            → Readied done conv (c.CarriedOut word) asking ring.now asks.new) }
+        ensures asks { SameAsks asks.old asks.new }
         ensures back { OnErr result ((done : List Deed) → Speak done self.old
             → Speak done self.new) }
     {
         if !self.has_request(conv) {
             return Ok(());
         }
-        match self.carry_at(alloc, conv, word, ring, asking) {
+        match self.go_on(alloc, conv, Step::CarryOut(word), ring, asking, asks) {
             Ok(_) => Ok(()),
             Err(fault) => Err(fault),
         }
     }
 
-    fn has_request(&self, conv: u64) -> bool
+    /// Whether a conversation that stands has a request that isn't carried out yet. It takes no memory.
+    pub fn has_request(&self, conv: u64) -> bool
         ensures { ShowsRequest self.now conv result }
     {
         match self.table.get(&conv) {
@@ -51,25 +74,84 @@ impl Talks {
         }
     }
 
-    // Whether the authentication server is asked then.
-    fn carry_at(
+    /// The user of a conversation that stands was asked whether a key may be used, and answered: what follows is as behind
+    /// a request that is carried out.
+    pub fn consented(
         &mut self,
         alloc: Global,
         conv: u64,
-        word: [u8; 8],
+        agrees: bool,
         ring: &KeyRing,
         asking: Asking,
+        asks: &mut Asks,
+    ) -> Result<(), NoMemory>
+        ensures kept { OnOk result ((done : List Deed) → IsReady done conv ring.now asking
+            → Speak done self.old → asks_user (standing_of done conv).phase ≡ true
+            → Speak (talked conv (c.Consented agrees) done) self.new) }
+        ensures ready { OnOk result ((done : List Deed) → IsReady done conv ring.now asking
+            → Speak done self.old
+            → asks_that (c.Consented agrees) (standing_of done conv).phase ≡ true
+            → Readied done conv (c.Consented agrees) asking ring.now asks.new) }
+        ensures asks { SameAsks asks.old asks.new }
+        ensures back { OnErr result ((done : List Deed) → Speak done self.old
+            → Speak done self.new) }
+    {
+        match self.go_on(alloc, conv, Step::Consent(agrees), ring, asking, asks) {
+            Ok(_) => Ok(()),
+            Err(fault) => Err(fault),
+        }
+    }
+
+    /// The user of a conversation that stands was asked for a key, and answered: what follows is as behind a request that
+    /// is carried out.
+    pub fn key_told(
+        &mut self,
+        alloc: Global,
+        conv: u64,
+        ring: &KeyRing,
+        asking: Asking,
+        asks: &mut Asks,
+    ) -> Result<(), NoMemory>
+        ensures kept { OnOk result ((done : List Deed) → IsReady done conv ring.now asking
+            → Speak done self.old → asks_user (standing_of done conv).phase ≡ true
+            → Speak (talked conv c.KeyTold done) self.new) }
+        ensures ready { OnOk result ((done : List Deed) → IsReady done conv ring.now asking
+            → Speak done self.old → asks_that c.KeyTold (standing_of done conv).phase ≡ true
+            → Readied done conv c.KeyTold asking ring.now asks.new) }
+        ensures asks { SameAsks asks.old asks.new }
+        ensures back { OnErr result ((done : List Deed) → Speak done self.old
+            → Speak done self.new) }
+    {
+        match self.go_on(alloc, conv, Step::KeyTold, ring, asking, asks) {
+            Ok(_) => Ok(()),
+            Err(fault) => Err(fault),
+        }
+    }
+
+    // Whether the authentication server is asked then.
+    fn go_on(
+        &mut self,
+        alloc: Global,
+        conv: u64,
+        step: Step,
+        ring: &KeyRing,
+        asking: Asking,
+        asks: &mut Asks,
     ) -> Result<bool, NoMemory>
-        ensures kept { IfOk result (λ asks.
-            Carries self.old self.new conv word asking ring.now asks) }
+        ensures goes { IfOk result (λ on_server. Goes self.old self.new conv on_server) }
+        ensures kept { OnOk result (BothGo (get nat_cmp self.old.table conv)
+            (get nat_cmp self.new.table conv) (next_by step asking ring.now)) }
+        ensures ready { OnOk result (BothReady (get nat_cmp self.old.table conv) step
+            asking ring.now asks.new) }
+        ensures asks { SameAsks asks.old asks.new }
         ensures back { OnErr result (Back self.old self.new conv) }
     {
         let Some(number) = self.raised.checked_add(1) else {
             return Err(NoMemory);
         };
         self.questions.reserve(1)?;
-        let asks = perform(&mut self.table, alloc, conv, word, ring, asking)?;
-        if asks {
+        let on_server = step_at(&mut self.table, alloc, conv, step, ring, asking, asks)?;
+        if on_server {
             self.questions
                 .push(Question {
                     call: number,
@@ -79,22 +161,27 @@ impl Talks {
                 .unwrap();
             self.raised = number;
         }
-        Ok(asks)
+        Ok(on_server)
     }
 }
 
-// The request of a conversation is carried out; whether the authentication server is asked then.
-fn perform(
+// The conversation of a number takes a step, where there is one; whether the authentication server is asked then.
+fn step_at(
     table: &mut BTreeMap<u64, Conversation>,
     alloc: Global,
     conv: u64,
-    word: [u8; 8],
+    step: Step,
     ring: &KeyRing,
     asking: Asking,
+    asks: &mut Asks,
 ) -> Result<bool, NoMemory>
-    ensures performed { OnOk result (BothPerformed (get nat_cmp table.old conv)
-        (get nat_cmp table.new conv) word asking ring.now) }
-    ensures asks { IfOk result (λ asks. IsAsking (get nat_cmp table.new conv) asks) }
+    ensures kept { OnOk result (BothGo (get nat_cmp table.old conv) (get nat_cmp table.new conv)
+        (next_by step asking ring.now)) }
+    ensures ready { OnOk result (BothReady (get nat_cmp table.old conv) step
+        asking ring.now asks.new) }
+    ensures on_server { IfOk result (λ on_server.
+        IsAsking (get nat_cmp table.new conv) on_server) }
+    ensures asks { SameAsks asks.old asks.new }
     ensures back { OnErr result (BothStay (get nat_cmp table.old conv)
         (get nat_cmp table.new conv)) }
     ensures others { (other : ℕ) → (conv ≡ other → ⊥)
@@ -102,9 +189,30 @@ fn perform(
 {
     match table.get_mut(&conv) {
         Some(conversation) => {
-            conversation.perform(alloc, word, ring, asking)?;
+            take_step(conversation, alloc, step, ring, asking, asks)?;
             Ok(conversation.waits_for_server())
         }
         None => Ok(false),
+    }
+}
+
+fn take_step(
+    conversation: &mut Conversation,
+    alloc: Global,
+    step: Step,
+    ring: &KeyRing,
+    asking: Asking,
+    asks: &mut Asks,
+) -> Result<(), NoMemory>
+    ensures kept { OnOk result ((talk : List Call) → Holds conversation.old talk
+        → Holds conversation.new (next_by step asking ring.now talk)) }
+    ensures ready { OnOk result (StepReady conversation.old step asking ring.now asks.new) }
+    ensures asks { SameAsks asks.old asks.new }
+    ensures back { OnErr result (Stays conversation.old conversation.new) }
+{
+    match step {
+        Step::CarryOut(word) => conversation.perform(alloc, word, ring, asking, asks),
+        Step::Consent(agrees) => conversation.consented(alloc, agrees, ring, asking, asks),
+        Step::KeyTold => conversation.key_told(alloc, ring, asking, asks),
     }
 }

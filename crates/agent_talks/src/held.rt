@@ -207,4 +207,22 @@ impl Talks {
     {
         self.store_at(alloc, conv, request)
     }
+
+    fn shut_at(&mut self, conv: u64)
+        ensures meets { Meets self.old self.new conv c.Shut }
+        ensures questions { self.new.questions ≡ self.old.questions }
+    {
+        if let Some(conversation) = self.table.get_mut(&conv) {
+            conversation.shut();
+        }
+    }
+
+    /// The file by which the user of a conversation that stands was asked is closed. It takes no memory.
+    pub fn shut(&mut self, conv: u64)
+        ensures shut { (done : List Deed) → stands done conv ≡ true → Speak done self.old
+            → Speak (OfTalk conv c.Shut ∷ done) self.new }
+        ensures questions { self.new.questions ≡ self.old.questions }
+    {
+        self.shut_at(conv);
+    }
 }

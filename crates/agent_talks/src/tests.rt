@@ -2,6 +2,7 @@
 // those of a login of ann at srv in the domain x, made by bench/vectors over OpenSSL's DES.
 use crate::{Talks, Told};
 use attr_tuples::parse_tuple;
+use conversations::Asks;
 use key_ring::KeyRing;
 use rpc_file::{Request, print_answer};
 use std::alloc::Global;
@@ -70,7 +71,8 @@ fn carry(
     request: Request<'_>,
 ) -> Result<(), Fail> {
     talks.store(alloc, conv, request)?;
-    talks.carry_out(alloc, conv, WORD, ring, CLOSED)?;
+    let mut asks = Asks::new(alloc);
+    talks.carry_out(alloc, conv, WORD, ring, CLOSED, &mut asks)?;
     Ok(())
 }
 

@@ -4,7 +4,9 @@ use Rattle.std.proofs.lemmas.Bool.{false≢true}
 use Rattle.file_tree.specs.declared.tree.Node.{Node}
 use Rattle.file_tree.specs.declared.tree.Node.TheVariants.{Rpc}
 use Rattle.key_lists.specs.CtlLines.{CtlLine}
-use Rattle.agent_history.specs.Deeds.{Deed, FidDeed, KeyDeed, ReplyDeed, OfFids, OfKeys, OfReplies, OfConnection, DropTaken, Swept, Attached, Walked, Opened, Listed, Browsed, Entered, fid_of, names, was_opened}
+use Rattle.side_files.specs.Calls as side
+use Rattle.side_files.specs.declared.line.PromptKind.{PromptKind}
+use Rattle.agent_history.specs.Deeds.{Deed, FidDeed, KeyDeed, ReplyDeed, OfFids, OfKeys, OfReplies, OfConnection, OfPrompts, OfLog, DropTaken, Swept, Attached, Walked, Opened, Listed, Browsed, Entered, fid_of, names, was_opened}
 use Rattle.agent_history.specs.Conversations.{Drop, Speaker, drop_of, drops, keeps, opened_talks, speakers, stands, talk}
 use Rattle.agent_history.specs.Histories.{entered}
 use Rattle.agent_history.specs.Replies.{has_settled, swept}
@@ -26,6 +28,12 @@ replies_keeps done c conn deed k = record { kept = k.kept; drops = k.drops; aliv
 
 keys_keeps : (done : List Deed) (c : Calls) (conn : ℕ) (deed : KeyDeed) → Keeps done c → Keeps (OfKeys conn deed ∷ done) c
 keys_keeps done c conn deed k = record { kept = k.kept; drops = k.drops; alive = λ q e. let was = k.alive q e in record { stands = was.stands; runs = was.runs } }
+
+prompts_keeps : (done : List Deed) (c : Calls) (kind : PromptKind) (call : side.Call) → Keeps done c → Keeps (OfPrompts kind call ∷ done) c
+prompts_keeps done c kind call k = record { kept = k.kept; drops = k.drops; alive = λ q e. let was = k.alive q e in record { stands = was.stands; runs = was.runs } }
+
+log_keeps : (done : List Deed) (c : Calls) (call : side.LogCall) → Keeps done c → Keeps (OfLog call ∷ done) c
+log_keeps done c call k = record { kept = k.kept; drops = k.drops; alive = λ q e. let was = k.alive q e in record { stands = was.stands; runs = was.runs } }
 
 sweep_keeps : (done : List Deed) (c : Calls) → Keeps done c → Keeps (Swept ∷ done) c
 sweep_keeps done c k = record { kept = k.kept; drops = k.drops; alive = λ q e. let was = k.alive q e in record { stands = was.stands; runs = was.runs } }
@@ -90,6 +98,12 @@ replies_converses done k conn deed h = record { speak = talks.replies_speak done
 
 pub keys_converses : (done : List Deed) (k : KeepingTalks) (conn : ℕ) (deed : KeyDeed) → Converses done k → Converses (OfKeys conn deed ∷ done) k
 keys_converses done k conn deed h = record { speak = talks.keys_speak done k.talks conn deed h.speak; calls = keys_keeps done k.calls conn deed h.calls }
+
+pub prompts_converses : (done : List Deed) (k : KeepingTalks) (kind : PromptKind) (call : side.Call) → Converses done k → Converses (OfPrompts kind call ∷ done) k
+prompts_converses done k kind call h = record { speak = talks.prompts_speak done k.talks kind call h.speak; calls = prompts_keeps done k.calls kind call h.calls }
+
+pub log_converses : (done : List Deed) (k : KeepingTalks) (call : side.LogCall) → Converses done k → Converses (OfLog call ∷ done) k
+log_converses done k call h = record { speak = talks.log_speak done k.talks call h.speak; calls = log_keeps done k.calls call h.calls }
 
 -- the lines of a write of ctl
 pub lines_converses : (lines : List CtlLine) (done : List Deed) (k : KeepingTalks) (conn : ℕ) → Converses done k → Converses (lines_done conn lines done) k

@@ -1,6 +1,6 @@
 -- A conversation that seeks something among the keys isn't at its end, and neither a request that is written nor an answer
 -- that is read brings it there.
-use Rattle.std.proofs.Common.{◌≡◌, ℕ, List, Bool, true, false, Option, Some, None, refl, sym, ap, ◌∙◌}
+use Rattle.std.proofs.Common.{◌≡◌, ℕ, List, Bool, true, false, Option, Some, None, refl, sym, ap, ◌∙◌, subst}
 use Rattle.std.specs.Prelude.{option_map}
 use Rattle.std.proofs.lemmas.Bool.{false≢true}
 use Rattle.attr_tuples.specs.declared.attr.Attr.{Attr}
@@ -9,7 +9,7 @@ use Rattle.key_lists.specs.CtlLines.{few_of}
 use Rattle.roles.specs.declared.answer.StartFault.{StartFault}
 use Rattle.roles.specs.declared.need.Need.{Need}
 use Rattle.roles.specs.declared.need.Need.TheVariants.{Nothing, Key, Offers, Pick, Exchange}
-use Rattle.roles.specs.Answers.{is_sought}
+use Rattle.roles.specs.Answers.{IsKey, is_sought}
 use Rattle.roles.specs.Talks.{get, give}
 use Rattle.roles.specs.Talks.{Call as Move}
 use Rattle.rpc_file.specs.Requests.{RpcRequest, starts, reads, writes, asks_info, asks_attributes}
@@ -18,10 +18,10 @@ use Rattle.rpc_file.specs.declared.answer.RpcAnswer.TheVariants as a
 use Rattle.conv_set.specs.Protocols.{answers, ends, needs, puts, refuses}
 use Rattle.conv_set.proofs.EndLaws.{none_at_the_end}
 use Rattle.talks.specs.Answers.{attributes, move_answer}
-use Rattle.talks.specs.Calls.{Found, Chosen, AsksConsent, AsksKey, Denied, NoneServes, Offered, Picked, Stored, Sought, Took}
+use Rattle.talks.specs.Calls.{Call, Found, Chosen, AsksConsent, AsksKey, Consented, Denied, KeyTold, NoneServes, Offered, Picked, Stored, Sought, Took}
 use Rattle.talks.specs.Standings.{Begun, Phase, Resting, Waiting, Seeking, OnConfirm, OnNeedkey, OnServer, Kept, Standing, answered, begin, begin_once, carried_out, if_begun, is_for, made, make_move, moved, need_in, outcome_of, outcome_unless, phase_after, sought, sought_if, start_by, started, then_stands, waits_for_user, with_key, with_move}
-use Rattle.conversations.specs.Shown.{is_seeking}
-use Rattle.agent_history.specs.Conversations.{is_end}
+use Rattle.begun_talks.specs.Shown.{is_seeking}
+use Rattle.talks.specs.Lines.{is_end}
 
 -- ---- at its end it needs nothing
 
@@ -144,6 +144,37 @@ sought_starting s (OnConfirm serial) came = refl
 sought_starting s OnNeedkey came = refl
 sought_starting s OnServer came = refl
 sought_starting s (Kept answer) came = refl
+
+-- ---- what its user answers changes nothing of what was begun
+
+abbrev pub SameBegun : Call → Type 0
+SameBegun call = (s : Standing) (p : Phase) → (then_stands s p call).begun ≡ s.begun
+
+pub consented_begun : (agrees : Bool) → SameBegun (Consented agrees)
+consented_begun agrees s Resting = refl
+consented_begun agrees s (Waiting request) = refl
+consented_begun agrees s Seeking = refl
+consented_begun agrees s (OnConfirm serial) = refl
+consented_begun agrees s OnNeedkey = refl
+consented_begun agrees s OnServer = refl
+consented_begun agrees s (Kept answer) = refl
+
+pub told_begun : SameBegun KeyTold
+told_begun s Resting = refl
+told_begun s (Waiting request) = refl
+told_begun s Seeking = refl
+told_begun s (OnConfirm serial) = refl
+told_begun s OnNeedkey = refl
+told_begun s OnServer = refl
+told_begun s (Kept answer) = refl
+
+-- one that needs a key isn't at its end
+pub needs_quiet : (s : Standing) → IsKey (need_in s.begun) → is_end (outcome_of s) ≡ false
+needs_quiet s key = by_end (is_end (outcome_of s)) refl
+  where
+    by_end : (b : Bool) → is_end (outcome_of s) ≡ b → b ≡ false
+    by_end true over = absurd (subst (λ (n : Need). IsKey n) (over_needs s over) key)
+    by_end false over = refl
 
 -- ---- what brings it to no end
 

@@ -1,19 +1,24 @@
 -- A conversation that has come to its end, by what it met, gives up the connection that it keeps.
-use Rattle.std.proofs.Common.{◌≡◌, ℕ, List, [], ◌∷◌, ◌++◌, Bool, true, false, cond, eqb, not, ◌&&◌, refl, sym, ap, subst, ◌∙◌}
+use Rattle.std.proofs.Common.{◌≡◌, ℕ, List, [], ◌∷◌, ◌++◌, Bool, true, false, cond, eqb, not, ◌&&◌, Option, refl, sym, ap, subst, ◌∙◌}
 use Rattle.std.proofs.lemmas.Bool.{eqb-true, false≢true}
 use Rattle.rpc_file.specs.declared.answer.RpcAnswer.{RpcAnswer}
 use Rattle.rpc_file.specs.Requests.{RpcRequest}
+use Rattle.roles.specs.Answers.{IsKey}
 use Rattle.talks.specs.Calls as calls
 use Rattle.talks.specs.Calls.{Call, Sought}
-use Rattle.talks.specs.Standings.{Phase, Resting, Waiting, Seeking, OnConfirm, OnNeedkey, OnServer, Kept, Standing, finds, outcome_of, then_stands}
-use Rattle.conversations.specs.Shown.{is_seeking}
-use Rattle.agent_history.specs.Deeds.{Deed, OfTalk, keys_of}
-use Rattle.agent_history.specs.Conversations.{Drop, asking, drop_of, drops, fits, gives_up, is_end, keeps, met, raised, raising, seeking, seeking_all, sought_once, standing_of, then_sought, then_took}
-use Rattle.agent_history.specs.Requests.{carried, carrying_out}
+use Rattle.talks.specs.Standings.{Begun, Phase, Resting, Waiting, Seeking, OnConfirm, OnNeedkey, OnServer, Kept, Standing, finds, need_in, outcome_of, then_stands}
+use Rattle.begun_talks.specs.Shown.{asks_user, is_seeking}
+use Rattle.agent_history.specs.Deeds.{Deed, OfTalk, OfPrompts, keys_of}
+use Rattle.agent_history.specs.Conversations.{Drop, asking, drop_of, drops, fits, gives_up, keeps, prompting, raised, raising, seeking, seeking_all, sought, sought_once, standing_of, talk, then_sought, then_took}
+use Rattle.talks.specs.Lines.{is_end}
+use Rattle.agent_talks.specs.Speaks.{carried_in, carried_talk, talked}
+use Rattle.side_files.specs.Calls as side
+use Rattle.side_files.specs.declared.line.PromptKind.{PromptKind}
+use Rattle.conversations.proofs.WaitLaws.{asks_for_key}
 use Rattle.kept_calls.specs.Calls.{Calls, ended_if, is_kept}
 use Rattle.kept_calls.specs.Keeps.{IsAlive, Keeps, is_over_at}
 use Rattle.kept_calls.proofs.CallLemmas.{and_off, and_on, ended_drops, ended_none, ended_others, ended_self, same}
-use Rattle.kept_calls.proofs.SeekLemmas.{carried_quiet, sought_starting, starting_quiet, stored_alike, took_alike}
+use Rattle.kept_calls.proofs.SeekLemmas.{SameBegun, carried_quiet, needs_quiet, sought_starting, starting_quiet, stored_alike, took_alike}
 
 -- ---- one thing was met
 
@@ -116,23 +121,48 @@ record Settles (done : List Deed) (c : Calls) (conv behind : ℕ) : Type 0 where
   pub keeps : Keeps done (ended_if (is_over_at done conv) conv behind c)
   pub raised : raised done ≡ behind
 
+-- a question to a user
+asked_settles : (done : List Deed) (c : Calls) (conv behind : ℕ) (kind : PromptKind) (call : side.Call) → Settles done c conv behind → Settles (OfPrompts kind call ∷ done) c conv behind
+asked_settles done c conv behind kind call s = record { keeps = record { kept = s.keeps.kept; drops = s.keeps.drops; alive = λ q e. let was = s.keeps.alive q e in record { stands = was.stands; runs = was.runs } }; raised = s.raised }
+
+prompting_settles : (done : List Deed) (c : Calls) (conv behind : ℕ) (came : calls.Found) → Settles done c conv behind → Settles (prompting conv came done) c conv behind
+prompting_settles done c conv behind (calls.AsksConsent key) s = asked_settles done c conv behind _ _ s
+prompting_settles done c conv behind calls.AsksKey s = asked_settles done c conv behind _ _ s
+prompting_settles done c conv behind (calls.Chosen key) s = s
+prompting_settles done c conv behind calls.Denied s = s
+prompting_settles done c conv behind calls.NoneServes s = s
+prompting_settles done c conv behind (calls.Offered list) s = s
+prompting_settles done c conv behind (calls.Picked place) s = s
+
 once_settles : (done : List Deed) (c : Calls) (conv behind : ℕ) → IsQuiet done conv → Settles done c conv behind → Settles (sought_once conv done) c conv behind
 once_settles done c conv behind quiet s = by_phase (standing_of done conv).phase refl
   where
     by_phase : (p : Phase) → (standing_of done conv).phase ≡ p → Settles (seeking conv p done) c conv behind
     by_phase Seeking e =
-        let came : Call = Sought (finds (standing_of done conv) (asking done) (keys_of done)) in
+        let found = finds (standing_of done conv) (asking done) (keys_of done) in
+        let came : Call = Sought found in
         let kept : Keeps done c = subst (λ (b : Bool). Keeps done (ended_if b conv behind c)) (quiet (ap is_seeking e)) s.keeps in
-        record {
+        prompting_settles (OfTalk conv came ∷ done) c conv behind found
+        (record {
           keeps = subst (λ (n : ℕ). Keeps (OfTalk conv came ∷ done) (ended_if (is_over_at (OfTalk conv came ∷ done) conv) conv n c)) s.raised (talk_keeps done c conv came kept);
           raised = s.raised;
-        }
+        })
     by_phase Resting e = s
     by_phase (Waiting request) e = s
     by_phase (OnConfirm serial) e = s
     by_phase OnNeedkey e = s
     by_phase OnServer e = s
     by_phase (Kept answer) e = s
+
+-- a question to a user changes no standing
+prompting_stands : (done : List Deed) (conv : ℕ) (came : calls.Found) → standing_of (prompting conv came done) conv ≡ standing_of done conv
+prompting_stands done conv (calls.AsksConsent key) = refl
+prompting_stands done conv calls.AsksKey = refl
+prompting_stands done conv (calls.Chosen key) = refl
+prompting_stands done conv calls.Denied = refl
+prompting_stands done conv calls.NoneServes = refl
+prompting_stands done conv (calls.Offered list) = refl
+prompting_stands done conv (calls.Picked place) = refl
 
 -- a start stays one behind a search
 once_starts : (done : List Deed) (conv : ℕ) → (standing_of done conv).starting ≡ true → (standing_of (sought_once conv done) conv).starting ≡ true
@@ -141,7 +171,7 @@ once_starts done conv begins = by_phase (standing_of done conv).phase refl
     by_phase : (p : Phase) → (standing_of done conv).phase ≡ p → (standing_of (seeking conv p done) conv).starting ≡ true
     by_phase Seeking e =
         let came : Call = Sought (finds (standing_of done conv) (asking done) (keys_of done)) in
-        ap (λ (s : Standing). s.starting) (met_it done conv came) ∙ (sought_starting (standing_of done conv) (standing_of done conv).phase (finds (standing_of done conv) (asking done) (keys_of done)) ∙ begins)
+        ap (λ (s : Standing). s.starting) (prompting_stands (OfTalk conv came ∷ done) conv (finds (standing_of done conv) (asking done) (keys_of done)) ∙ met_it done conv came) ∙ (sought_starting (standing_of done conv) (standing_of done conv).phase (finds (standing_of done conv) (asking done) (keys_of done)) ∙ begins)
     by_phase Resting e = begins
     by_phase (Waiting request) e = begins
     by_phase (OnConfirm serial) e = begins
@@ -168,19 +198,26 @@ raising_keeps done c conv behind (OnConfirm serial) k = k
 raising_keeps done c conv behind OnNeedkey k = k
 raising_keeps done c conv behind (Kept answer) k = k
 
-met_keeps : (done : List Deed) (c : Calls) (conv : ℕ) (call : Call) → IsQuiet (OfTalk conv call ∷ done) conv → Keeps done c → Keeps (met conv call done) (ended_if (is_over_at (met conv call done) conv) conv (raised done) c)
+met_keeps : (done : List Deed) (c : Calls) (conv : ℕ) (call : Call) → IsQuiet (OfTalk conv call ∷ done) conv → Keeps done c → Keeps (talked conv call done) (ended_if (is_over_at (talked conv call done) conv) conv (raised done) c)
 met_keeps done c conv call quiet k =
     let one : List Deed = OfTalk conv call ∷ done in
     let s = all_settle one c conv (raised done) (standing_of one conv).starting refl quiet (record { keeps = talk_keeps done c conv call k; raised = refl }) in
     raising_keeps (then_sought conv one) c conv (raised done) (standing_of (then_sought conv one) conv).phase s.keeps
 
-pub carried_keeps : (done : List Deed) (c : Calls) (conv : ℕ) (word : List ℕ) → Keeps done c → Keeps (carried conv word done) (ended_if (is_over_at (carried conv word done) conv) conv (raised done) c)
+-- its user answered
+pub answered_keeps : (done : List Deed) (c : Calls) (conv : ℕ) (call : Call) → SameBegun call → asks_user (standing_of done conv).phase ≡ true → Keeps done c → Keeps (talked conv call done) (ended_if (is_over_at (talked conv call done) conv) conv (raised done) c)
+answered_keeps done c conv call same_begun asks k =
+    let now : (standing_of (OfTalk conv call ∷ done) conv).begun ≡ (standing_of done conv).begun = ap (λ (s : Standing). s.begun) (met_it done conv call) ∙ same_begun (standing_of done conv) (standing_of done conv).phase in
+    met_keeps done c conv call
+    (λ seeks. needs_quiet (standing_of (OfTalk conv call ∷ done) conv) (subst (λ (b : Option Begun). IsKey (need_in b)) (sym now) (asks_for_key (talk done conv) asks))) k
+
+pub carried_keeps : (done : List Deed) (c : Calls) (conv : ℕ) (word : List ℕ) → Keeps done c → Keeps (carried_talk conv word done) (ended_if (is_over_at (carried_talk conv word done) conv) conv (raised done) c)
 carried_keeps done c conv word k = by_phase (standing_of done conv).phase refl
   where
     none : Keeps done (ended_if (is_over_at done conv) conv (raised done) c)
     none = subst (λ (d : Calls). Keeps done d) (sym (over_keeps done c conv (raised done) k)) k
 
-    by_phase : (p : Phase) → (standing_of done conv).phase ≡ p → Keeps (carrying_out conv word p done) (ended_if (is_over_at (carrying_out conv word p done) conv) conv (raised done) c)
+    by_phase : (p : Phase) → (standing_of done conv).phase ≡ p → Keeps (carried_in conv word p done) (ended_if (is_over_at (carried_in conv word p done) conv) conv (raised done) c)
     by_phase (Waiting request) e =
         let stands : standing_of (OfTalk conv (calls.CarriedOut word) ∷ done) conv ≡ then_stands (standing_of done conv) (Waiting request) (calls.CarriedOut word) =
         met_it done conv (calls.CarriedOut word) ∙ ap (λ (p : Phase). then_stands (standing_of done conv) p (calls.CarriedOut word)) e in

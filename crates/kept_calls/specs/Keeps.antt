@@ -2,7 +2,8 @@
 use Rattle.std.specs.Prelude.{◌≡◌, ◌<◌, ℕ, List, [], length, Bool, true, false, Option, Some, None}
 use Rattle.talks.specs.Standings.{outcome_of}
 use Rattle.agent_history.specs.Deeds.{Deed}
-use Rattle.agent_history.specs.Conversations.{Due, NoneDue, DropDue, QuestionDue, drops, is_end, keeps, stands, standing_of}
+use Rattle.agent_history.specs.Conversations.{Due, NoneDue, DropDue, QuestionDue, drops, keeps, stands, standing_of}
+use Rattle.talks.specs.Lines.{is_end}
 use Rattle.agent_talks.specs.Kept.{question_of, unasked}
 use Rattle.agent_talks.specs.Speaks.{Speak}
 use Rattle.kept_calls.specs.Calls.{Calls, drop_of, ended_if, is_kept}

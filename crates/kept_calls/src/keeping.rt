@@ -3,17 +3,20 @@ ghost use Rattle.std.specs.Prelude.{◌≡◌, ◌≤◌, ◌+◌, ◌-◌, ◌�
 ghost use Rattle.file_tree.specs.declared.tree.Node.TheVariants.{Rpc};
 ghost use Rattle.rpc_file.specs.Requests.{meant};
 ghost use Rattle.talks.specs.Calls as c;
+ghost use Rattle.talks.specs.Lines.{is_end};
 ghost use Rattle.talks.specs.Standings.{question_of};
 ghost use Rattle.agent_history.specs.Deeds.{Deed, DropTaken, HandedOut, OfConnection, OfFids, OfTalk, Clunked, Hung, Opened, Versioned, fid_of, names};
-ghost use Rattle.agent_history.specs.Conversations.{asker, asks_challenge, is_end, stands, standing_of};
-ghost use Rattle.agent_history.specs.Requests.{carried};
+ghost use Rattle.agent_history.specs.Conversations.{asker, asks_challenge, stands, standing_of};
+ghost use Rattle.begun_talks.specs.Shown.{asks_user, has_request};
+ghost use Rattle.conversations.specs.Asking.{SameAsks, asks_that};
 ghost use Rattle.agent_talks.specs.Kept.{is_asked, questions_in, unasked};
-ghost use Rattle.agent_talks.specs.Speaks.{IsReady, Speak, met_by};
+ghost use Rattle.agent_talks.specs.Speaks.{IsReady, Readied, Speak, carried_talk, talked, talked_by};
 ghost use Rattle.agent_talks.specs.Tells.{IsShort, TellsBy};
 ghost use Rattle.kept_calls.specs.Keeps.{Converses, EndsAsker, EndsOver, Keeps, SameConverses, is_over_at};
 
 use crate::kept::KeptCalls;
 use agent_talks::{Leaving, Talks, Told};
+use conversations::Asks;
 use key_ring::KeyRing;
 use roles::Outcome;
 use rpc_file::Request;
@@ -102,8 +105,9 @@ impl KeepingTalks {
     }
 
     /// The request of a conversation that stands is carried out, by a read for which this word was drawn; what it needs is
-    /// searched for among the keys of a ring, where these files are open; and a question for the authentication server that
-    /// this wants is raised. Where no request is there, nothing is done.
+    /// searched for among the keys of a ring, where these files are open; a question to its user that this comes to is
+    /// made; and a question for the authentication server that this wants is raised. Where no request is there, nothing is
+    /// done.
     pub fn carry_out(
         &mut self,
         alloc: Global,
@@ -111,15 +115,84 @@ impl KeepingTalks {
         word: [u8; 8],
         ring: &KeyRing,
         asking: Asking,
+        asks: &mut Asks,
     ) -> Result<(), NoMemory>
         ensures kept { OnOk result ((done : List Deed) → IsReady done conv ring.now asking
-            → Converses done self.old → Converses (carried conv word done) self.new) }
+            → Converses done self.old → Converses (carried_talk conv word done) self.new) }
+        ensures ready { OnOk result ((done : List Deed) → IsReady done conv ring.now asking
+            → Converses done self.old → has_request (standing_of done conv).phase ≡ true
+            → Readied done conv (c.CarriedOut word) asking ring.now asks.new) }
+        ensures asks { SameAsks asks.old asks.new }
         ensures back { OnErr result (SameConverses self.old self.new) }
     {
         let behind = self.talks.raised();
-        self.talks.carry_out(alloc, conv, word, ring, asking)?;
+        self.talks.carry_out(alloc, conv, word, ring, asking, asks)?;
         self.end_if_over(conv, behind);
         Ok(())
+    }
+
+    /// The user of a conversation that stands was asked whether a key may be used, and answered: what follows is as behind
+    /// a request that is carried out.
+    pub fn consented(
+        &mut self,
+        alloc: Global,
+        conv: u64,
+        agrees: bool,
+        ring: &KeyRing,
+        asking: Asking,
+        asks: &mut Asks,
+    ) -> Result<(), NoMemory>
+        ensures kept { OnOk result ((done : List Deed) → IsReady done conv ring.now asking
+            → Converses done self.old → asks_user (standing_of done conv).phase ≡ true
+            → Converses (talked conv (c.Consented agrees) done) self.new) }
+        ensures ready { OnOk result ((done : List Deed) → IsReady done conv ring.now asking
+            → Converses done self.old
+            → asks_that (c.Consented agrees) (standing_of done conv).phase ≡ true
+            → Readied done conv (c.Consented agrees) asking ring.now asks.new) }
+        ensures asks { SameAsks asks.old asks.new }
+        ensures back { OnErr result (SameConverses self.old self.new) }
+    {
+        let behind = self.talks.raised();
+        self.talks
+            .consented(alloc, conv, agrees, ring, asking, asks)?;
+        self.end_if_over(conv, behind);
+        Ok(())
+    }
+
+    /// The user of a conversation that stands was asked for a key, and answered: what follows is as behind a request that
+    /// is carried out.
+    pub fn key_told(
+        &mut self,
+        alloc: Global,
+        conv: u64,
+        ring: &KeyRing,
+        asking: Asking,
+        asks: &mut Asks,
+    ) -> Result<(), NoMemory>
+        ensures kept { OnOk result ((done : List Deed) → IsReady done conv ring.now asking
+            → Converses done self.old → asks_user (standing_of done conv).phase ≡ true
+            → Converses (talked conv c.KeyTold done) self.new) }
+        ensures ready { OnOk result ((done : List Deed) → IsReady done conv ring.now asking
+            → Converses done self.old → asks_that c.KeyTold (standing_of done conv).phase ≡ true
+            → Readied done conv c.KeyTold asking ring.now asks.new) }
+        ensures asks { SameAsks asks.old asks.new }
+        ensures back { OnErr result (SameConverses self.old self.new) }
+    {
+        let behind = self.talks.raised();
+        self.talks.key_told(alloc, conv, ring, asking, asks)?;
+        self.end_if_over(conv, behind);
+        Ok(())
+    }
+
+    /// The file by which the user of a conversation that stands was asked is closed. It takes no memory.
+    pub fn shut(&mut self, conv: u64)
+        ensures shut { (done : List Deed) → stands done conv ≡ true → Converses done self.old
+            → Converses (OfTalk conv c.Shut ∷ done) self.new }
+        ensures questions { self.new.talks.questions ≡ self.old.talks.questions }
+    {
+        let behind = self.talks.raised();
+        self.talks.shut(conv);
+        self.end_if_over(conv, behind);
     }
 
     /// A read that may hold so many bytes is told the answer of a conversation that stands, if one is there: the answer
@@ -138,7 +211,7 @@ impl KeepingTalks {
     /// The authentication server answered the question of this number, where it stands.
     pub fn heard(&mut self, alloc: Global, call: u64, bytes: &[u8]) -> Result<(), NoMemory>
         ensures kept { OnOk result ((done : List Deed) → Converses done self.old
-            → Converses (met_by (asker done call) (c.Heard bytes.now) done) self.new) }
+            → Converses (talked_by (asker done call) (c.Heard bytes.now) done) self.new) }
         ensures same { OnErr result (SameConverses self.old self.new) }
         ensures fewer { unasked self.new.talks ≤ unasked self.old.talks }
         ensures drops { length self.new.calls.drops ≤ length self.old.calls.drops + 1 }
@@ -154,7 +227,7 @@ impl KeepingTalks {
     /// The authentication server wasn't reached with the question of this number, where it stands. It takes no memory.
     pub fn unheard(&mut self, call: u64)
         ensures met { (done : List Deed) → Converses done self.old
-            → Converses (met_by (asker done call) c.Unheard done) self.new }
+            → Converses (talked_by (asker done call) c.Unheard done) self.new }
         ensures fewer { unasked self.new.talks ≤ unasked self.old.talks }
         ensures drops { length self.new.calls.drops ≤ length self.old.calls.drops + 1 }
     {
@@ -167,7 +240,7 @@ impl KeepingTalks {
     /// There was no memory for the answer to the question of this number, where it stands. It takes none itself.
     pub fn roomless(&mut self, call: u64)
         ensures met { (done : List Deed) → Converses done self.old
-            → Converses (met_by (asker done call) c.Roomless done) self.new }
+            → Converses (talked_by (asker done call) c.Roomless done) self.new }
         ensures fewer { unasked self.new.talks ≤ unasked self.old.talks }
         ensures drops { length self.new.calls.drops ≤ length self.old.calls.drops + 1 }
     {

@@ -1,6 +1,7 @@
 // Conversations that come to keep a connection to the authentication server, and how they part with it.
 use crate::{Due, KeepingTalks};
 use attr_tuples::parse_tuple;
+use conversations::Asks;
 use key_ring::KeyRing;
 use rpc_file::Request;
 use std::alloc::Global;
@@ -38,7 +39,8 @@ fn ask(
 ) -> Result<(), Fail> {
     talks.open(alloc, conn, fid)?;
     talks.store(alloc, conv, Request::Start(MAIL))?;
-    talks.carry_out(alloc, conv, WORD, ring, CLOSED)?;
+    let mut asks = Asks::new(alloc);
+    talks.carry_out(alloc, conv, WORD, ring, CLOSED, &mut asks)?;
     Ok(())
 }
 

@@ -8,7 +8,9 @@ use Rattle.file_tree.specs.declared.tree.Node.{Node}
 use Rattle.nine_messages.specs.declared.message.RMsg.{RMsg}
 use Rattle.nine_messages.specs.declared.message.RBody.{RBody}
 use Rattle.nine_messages.specs.Messages.{r_frame}
-use Rattle.agent_history.specs.Deeds.{Deed, OfFids, OfKeys, OfReplies, OfConnection, OfTalk, Raised, HandedOut, DropTaken, Swept, Halted, Entered, Versioned, Attached, Walked, Opened, Listed, Browsed, KeyDeed, Clunked, Answered, Awaited, Settled, Flushed, Taken, Hung, was_hung}
+use Rattle.side_files.specs.Calls as side
+use Rattle.side_files.specs.declared.line.PromptKind.{PromptKind}
+use Rattle.agent_history.specs.Deeds.{Deed, OfFids, OfKeys, OfReplies, OfConnection, OfTalk, OfPrompts, OfLog, Raised, HandedOut, DropTaken, Swept, Halted, Entered, Versioned, Attached, Walked, Opened, Listed, Browsed, KeyDeed, Clunked, Answered, Awaited, Settled, Flushed, Taken, Hung, was_hung}
 use Rattle.talks.specs.Calls.{Call}
 use Rattle.agent_history.specs.Replies as told
 use Rattle.agent_history.specs.Replies.{Wait, waits, waits_under, waits_for, has_settled, replies, taken, untaken, fid_given_up, reply_in}
@@ -71,6 +73,8 @@ taken_given (OfFids at d ∷ done) conn = taken_given done conn
 taken_given (OfKeys at d ∷ done) conn = taken_given done conn
 taken_given (OfConnection at d ∷ done) conn = taken_given done conn
 taken_given (OfTalk conv call ∷ done) conn = taken_given done conn
+taken_given (OfPrompts kind call ∷ done) conn = taken_given done conn
+taken_given (OfLog call ∷ done) conn = taken_given done conn
 taken_given (Raised conv ∷ done) conn = taken_given done conn
 taken_given (HandedOut ∷ done) conn = taken_given done conn
 taken_given (DropTaken ∷ done) conn = taken_given done conn
@@ -294,6 +298,12 @@ reader_waits done m conn fid live h = reader_pending fid (waits done conn) ∙ s
 
 pub talk_delivers : (done : List Deed) (m : Mailboxes) (conv : ℕ) (call : Call) → Delivers done m → Delivers (OfTalk conv call ∷ done) m
 talk_delivers done m conv call h = record { mails = λ conn live. record { replies = (h.mails conn live).replies; waits = (h.mails conn live).waits }; settled = h.settled }
+
+pub prompts_delivers : (done : List Deed) (m : Mailboxes) (kind : PromptKind) (call : side.Call) → Delivers done m → Delivers (OfPrompts kind call ∷ done) m
+prompts_delivers done m kind call h = record { mails = λ conn live. record { replies = (h.mails conn live).replies; waits = (h.mails conn live).waits }; settled = h.settled }
+
+pub log_delivers : (done : List Deed) (m : Mailboxes) (call : side.LogCall) → Delivers done m → Delivers (OfLog call ∷ done) m
+log_delivers done m call h = record { mails = λ conn live. record { replies = (h.mails conn live).replies; waits = (h.mails conn live).waits }; settled = h.settled }
 
 pub raised_delivers : (done : List Deed) (m : Mailboxes) (conv : ℕ) → Delivers done m → Delivers (Raised conv ∷ done) m
 raised_delivers done m conv h = record { mails = λ conn live. record { replies = (h.mails conn live).replies; waits = (h.mails conn live).waits }; settled = h.settled }

@@ -65,9 +65,17 @@ pub record SameMail (old new : Mailboxes) : Type 0 where
 abbrev pub SameRoom : Mailboxes → Mailboxes → Type 0
 SameRoom old new = (conn : ℕ) → has_room new conn ≡ has_room old conn
 
+-- and so does the place that was made for a read that is to wait
+abbrev pub SamePlace : Mailboxes → Mailboxes → Type 0
+SamePlace old new = (conn : ℕ) → has_place new conn ≡ has_place old conn
+
 -- nothing is kept for a connection
 abbrev pub KeepsNone : Mailboxes → ℕ → Type 0
 KeepsNone m conn = get nat_cmp m.boxes conn ≡ None
+
+-- nor is anything from now on for any connection that nothing was kept for
+abbrev pub StillNone : Mailboxes → Mailboxes → Type 0
+StillNone old new = (conn : ℕ) → KeepsNone old conn → KeepsNone new conn
 
 -- of the code alone: of one connection this is kept from now on, and of all others the same as before
 pub record Becomes (old new : Mailboxes) (conn : ℕ) (now : Mail) : Type 0 where

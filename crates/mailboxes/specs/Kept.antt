@@ -18,11 +18,16 @@ error_frame text tag = r_frame (record { tag = tag; body = r.Error text })
 abbrev pub answer_frame : RpcAnswer → ℕ → List ℕ
 answer_frame answer tag = r_frame (record { tag = tag; body = r.Read (answer_text answer) })
 
+-- the frame that hands out a line
+abbrev pub line_frame : List ℕ → ℕ → List ℕ
+line_frame line tag = r_frame (record { tag = tag; body = r.Read line })
+
 -- the frame of a reply
 abbrev pub reply_bytes : Reply → List ℕ
 reply_bytes (y.Spelled bytes) = bytes
 reply_bytes (y.Refused tag text) = error_frame text tag
 reply_bytes (y.Answer tag answer) = answer_frame answer tag
+reply_bytes (y.Line tag line) = line_frame line tag
 
 abbrev pub pending_of : Wait → Pending
 pending_of wait = record { tag = wait.tag; fid = wait.fid; count = wait.count; reply = option_map reply_bytes wait.reply }

@@ -10,5 +10,5 @@ mod tests;
 mod wait;
 
 pub use mailboxes::Mailboxes;
-pub use reply::{ErrorText, Reply, ToldAnswer};
+pub use reply::{ErrorText, Reply, ToldAnswer, ToldLine};
 pub use wait::Read;

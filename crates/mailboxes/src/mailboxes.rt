@@ -24,7 +24,7 @@ impl Mailboxes {
     ghost use Rattle.agent_history.specs.Deeds.{Deed, OfFids, OfReplies, OfConnection, Versioned, Clunked, Answered, Awaited, Settled, Flushed, Hung, Taken, was_hung};
     ghost use Rattle.agent_history.specs.Replies.{is_unsettled, swept, waits, waits_for, waits_under};
     ghost use Rattle.mailboxes.specs.Kept.{reply_bytes};
-    ghost use Rattle.mailboxes.specs.Deliveries.{Becomes, Delivers, KeepsNone, SameMail, SameRoom, given_up, has_place, has_room, mail_at, read_of, replies_at, under};
+    ghost use Rattle.mailboxes.specs.Deliveries.{Becomes, Delivers, KeepsNone, SameMail, SamePlace, SameRoom, StillNone, given_up, has_place, has_room, mail_at, read_of, replies_at, under};
     ghost use Rattle.mailboxes.specs.Mails as mails;
 
     /// No replies, and no reads that wait. It takes no memory.
@@ -214,6 +214,7 @@ impl Mailboxes {
             (mail_at self.old conn)) }
         ensures settled { self.new.settled
             ≡ (mails.has_tag tag (mail_at self.old conn).waits || self.old.settled) }
+        ensures none { StillNone self.old self.new }
     {
         if let Some(mailbox) = self.boxes.get_mut(&conn) {
             let found = mailbox.settle(tag, reply);
@@ -227,6 +228,8 @@ impl Mailboxes {
             → reply_bytes reply ≡ r_frame (under tag body) → Delivers done self.old
             → Delivers (OfReplies conn (Settled tag body) ∷ done) self.new }
         ensures room { SameRoom self.old self.new }
+        ensures place { SamePlace self.old self.new }
+        ensures none { StillNone self.old self.new }
     {
         self.settle_at(conn, tag, reply);
     }
@@ -311,6 +314,7 @@ impl Mailboxes {
     fn sweep_boxes(&mut self)
         ensures mails { (conn : ℕ) → mail_at self.new conn ≡ mails.swept (mail_at self.old conn) }
         ensures settled { self.new.settled ≡ self.old.settled }
+        ensures none { StillNone self.old self.new }
     {
         self.boxes.retain(|_, mailbox| {
             mailbox.sweep();
@@ -324,6 +328,7 @@ impl Mailboxes {
         ensures delivers { (done : List Deed) → Delivers done self.old
             → Delivers (swept done) self.new }
         ensures room { SameRoom self.old self.new }
+        ensures none { StillNone self.old self.new }
     {
         if self.settled {
             self.sweep_boxes();

@@ -83,12 +83,48 @@ impl ToldAnswer {
     }
 }
 
-/// A reply that wasn't taken yet. A refusal and an answer take no memory before they are taken.
+/// A line of a file, which a reply holds: it has fewer than 65536 bytes.
+#[derive(Drop)]
+pub struct ToldLine {
+    line: Bytes,
+}
+
+impl Model for ToldLine {
+    ghost use Rattle.std.specs.Prelude.{ℕ, List, ◌<◌, ◌^◌, length};
+
+    ghost Value = { List ℕ };
+
+    ghost view = { λ t. t.line };
+
+    ghost invariant = { λ t. length t.line < 2 ^ 16 };
+}
+
+impl ToldLine {
+    ghost use Rattle.std.specs.Prelude.{◌≡◌, ◌<◌, ◌^◌, length};
+
+    /// It takes no memory.
+    pub fn new(line: Bytes) -> ToldLine
+        requires { length line < 2 ^ 16 }
+        ensures { result ≡ line }
+    {
+        ToldLine { line }
+    }
+
+    fn as_slice(&self) -> &[u8]
+        ensures line { result.now ≡ self.now }
+        ensures short { length result.now < 2 ^ 16 }
+    {
+        self.line.as_slice()
+    }
+}
+
+/// A reply that wasn't taken yet. A refusal, an answer and a line take no memory before they are taken.
 #[derive(Drop)]
 pub enum Reply {
     Spelled(Bytes),
     Refused { tag: u16, text: ErrorText },
     Answer { tag: u16, answer: ToldAnswer },
+    Line { tag: u16, line: ToldLine },
 }
 
 impl Reply {
@@ -104,6 +140,7 @@ impl Reply {
             Reply::Spelled(bytes) => out.append(bytes.as_slice()),
             Reply::Refused { tag, text } => put_error(*tag, text.bytes(), out),
             Reply::Answer { tag, answer } => answer.put(*tag, out),
+            Reply::Line { tag, line } => put_read(*tag, line.as_slice(), out),
         }
     }
 }

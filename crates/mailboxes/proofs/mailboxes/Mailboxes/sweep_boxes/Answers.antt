@@ -1,4 +1,5 @@
 use Rattle.std.proofs.Common.{rules, ap, ◌∙◌}
+use Rattle.std.specs.Prelude.{option_map}
 use Rattle.std.specs.Ordering.{nat_cmp}
 use Rattle.std.specs.Map.{lookup}
 use Rattle.std.specs.BTreeMap.{is_at}
@@ -13,3 +14,8 @@ returns-clause-mails c = λ conn.
     let left = map_same_pairs _ swept _ (λ k v b w f t. search rules) c.args.self.now.boxes.entries c.retain.new.self.entries c.retain.ensures.filtered in
     ap (λ es. mail_in (lookup (is_at (nat_cmp conn)) es)) left
     ∙ (ap mail_in (lookup-map_values swept (is_at (nat_cmp conn)) c.args.self.now.boxes.entries) ∙ swept_in (lookup (is_at (nat_cmp conn)) c.args.self.now.boxes.entries))
+
+pub returns-clause-none : goal.returns-clause-none
+returns-clause-none c = λ conn none.
+    let left = map_same_pairs _ swept _ (λ k v b w f t. search rules) c.args.self.now.boxes.entries c.retain.new.self.entries c.retain.ensures.filtered in
+    ap (λ es. lookup (is_at (nat_cmp conn)) es) left ∙ (lookup-map_values swept (is_at (nat_cmp conn)) c.args.self.now.boxes.entries ∙ ap (option_map swept) none)

@@ -1,0 +1,4 @@
+pub mod Files
+pub mod Rooms
+pub mod Ends
+pub mod Asked

@@ -1,0 +1,98 @@
+// Lines of the log, and questions to users, by hand from the texts of both.
+use super::{EndLine, LineFiles, build_start};
+use attr_tuples::parse_tuple;
+use file_tree::Node;
+use roles::{Cause, Outcome};
+use side_files::PromptKind;
+use std::alloc::Global;
+use std::process::Abort;
+use std::test::Fail;
+use wire_base::{AuthInfo, Name};
+
+fn check_end(
+    rt: &impl Abort,
+    alloc: Global,
+    template: &[u8],
+    outcome: &Outcome,
+    wanted: &[u8],
+) -> Result<(), Fail> {
+    let template = parse_tuple(alloc, template)?;
+    let line = EndLine::new(alloc, 3, &template)?;
+    match line.tell(outcome) {
+        Some(told) => assert_eq!(rt; told.as_slice(), wanted),
+        None => assert!(rt; wanted.is_empty()),
+    }
+    Ok(())
+}
+
+fn accepted(user: &[u8]) -> Result<Outcome, Fail> {
+    let cuid = Name::from_text(b"ann").ok_or("no name")?;
+    let suid = Name::from_text(user).ok_or("no name")?;
+    Ok(Outcome::Accepted(AuthInfo {
+        cuid,
+        suid,
+        secret: [1; 8],
+    }))
+}
+
+#[test]
+fn ends_are_told_with_who_was_accepted(rt: HostRuntime) -> Result<(), Fail> {
+    let alloc = rt.alloc();
+    let server = b"proto=p9any role=server".as_slice();
+    let ann = b"3 done proto=p9any role=server user=ann\n".as_slice();
+    check_end(&rt, alloc, server, &accepted(b"ann")?, ann)?;
+    let quoted = b"3 done proto=p9any role=server user='it''s me'\n".as_slice();
+    check_end(&rt, alloc, server, &accepted(b"it's me")?, quoted)
+}
+
+#[test]
+fn ends_are_told_with_why_it_broke(rt: HostRuntime) -> Result<(), Fail> {
+    let alloc = rt.alloc();
+    let client = b"proto=apop role=client !x?".as_slice();
+    let done = b"3 done proto=apop role=client\n".as_slice();
+    check_end(&rt, alloc, client, &Outcome::Finished, done)?;
+    let broken = Outcome::Broken(Cause::NoServer);
+    check_end(&rt, alloc, client, &broken, b"3 error no server\n")?;
+    let broken = Outcome::Broken(Cause::BadKey);
+    check_end(&rt, alloc, client, &broken, b"3 error badkey\n")?;
+    check_end(&rt, alloc, client, &Outcome::Running, b"")
+}
+
+#[test]
+fn starts_are_told(rt: HostRuntime) -> Result<(), Fail> {
+    let alloc = rt.alloc();
+    let template = parse_tuple(alloc, b"role=client proto=p9sk1")?;
+    let line = build_start(alloc, 255, &template)?;
+    assert_eq!(rt;
+        line.as_slice(),
+        b"255 start proto=p9sk1 role=client\n".as_slice()
+    );
+    Ok(())
+}
+
+fn take(rt: &impl Abort, files: &mut LineFiles, node: Node, wanted: &[u8]) -> Result<(), Fail> {
+    match files.hand_out(node, 8192) {
+        Ok(Some(line)) => assert_eq!(rt; line.as_slice(), wanted),
+        Ok(None) => assert!(rt; wanted.is_empty()),
+        Err(_) => return Err("too small".into()),
+    }
+    Ok(())
+}
+
+#[test]
+fn a_question_is_read_once_and_replied_to_once(rt: HostRuntime) -> Result<(), Fail> {
+    let mut files = LineFiles::new(rt.alloc())?;
+    take(&rt, &mut files, Node::Confirm, b"")?;
+    if files.asks.confirm.is_spent() {
+        return Err("too many".into());
+    }
+    files.asks.confirm.reserve(b"user=ann")?;
+    files.ask(PromptKind::Confirm, 7);
+    assert!(rt; files.hand_out(Node::Confirm, 22).is_err());
+    take(&rt, &mut files, Node::Confirm, b"confirm tag=1 user=ann\n")?;
+    take(&rt, &mut files, Node::Confirm, b"")?;
+    assert_eq!(rt; files.asker(PromptKind::Confirm, 1), Some(7));
+    assert!(rt; matches!(files.reply(PromptKind::Confirm, 1), Ok(7)));
+    assert!(rt; files.reply(PromptKind::Confirm, 1).is_err());
+    Ok(())
+}
