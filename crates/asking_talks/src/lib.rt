@@ -1,0 +1,9 @@
+//! The conversations of an agent with the questions to their users and the log: they are those that its deeds tell of.
+#![tactic(auto)]
+
+mod asking;
+mod ends;
+#[cfg(test)]
+mod tests;
+
+pub use asking::AskingTalks;
