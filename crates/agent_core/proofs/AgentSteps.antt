@@ -1,20 +1,23 @@
 -- What is told of a history after one more event that doesn't stop the agent.
-use Rattle.std.proofs.Common.{◌≡◌, ◌≢◌, ℕ, ◌+◌, ◌<◌, List, [], ◌∷◌, map, Bool, true, false, not, ◌&&◌, length, Option, Some, None, refl, ap, ◌∙◌, inl, inr, arith}
+use Rattle.std.proofs.Common.{◌≡◌, ◌≢◌, ℕ, ◌+◌, ◌<◌, List, [], ◌∷◌, map, Bool, true, false, not, ◌&&◌, length, Option, Some, None, refl, sym, ap, ◌∙◌, inl, inr, arith}
 use Rattle.std.proofs.lemmas.Bool.{cases_Bool, lt-ltb}
 use Rattle.agent_history.specs.declared.event.Event.{Event}
 use Rattle.nine_messages.specs.declared.message.RMsg.{RMsg}
 use Rattle.nine_messages.specs.Messages.{r_frame}
-use Rattle.agent_history.specs.Deeds.{is_halted, was_hung}
+use Rattle.agent_history.specs.Deeds.{Deed, is_halted, was_hung}
 use Rattle.agent_history.specs.Replies.{untaken}
 use Rattle.mailboxes.specs.Deliveries.{replies_at}
 use Rattle.agent_requests.specs.declared.connection.Connection.{Connection}
-use Rattle.agent_requests.specs.Connections.{is_hung}
+use Rattle.agent_requests.specs.Connections.{IsFresh, Keeps, is_hung, is_opened}
+use Rattle.agent_requests.proofs.KeepLemmas.{keeps_still}
+use Rattle.agent_shared.proofs.ShareLemmas.{shares_still}
 use Rattle.agent_history.specs.Histories.{History, has_stopped, most_events, deeds, does, answer, first_reply, is_reply}
 use Rattle.agent_history.specs.declared.event.Event.TheVariants.{Take}
 use Rattle.agent_core.specs.declared.agent.State.{State}
 use Rattle.agent_core.specs.declared.agent.State.TheVariants.{Runs, Stopped}
-use Rattle.agent_core.specs.Events.{is_stop, phase_at, gives_reply, is_some_left}
-use Rattle.agent_core.specs.Agents.{StandsBy, TakesOneIn, connection_at, replies_in, gives_in}
+use Rattle.agent_core.specs.declared.agent.Running.{Running}
+use Rattle.agent_core.specs.Events.{KeepsNothing, SameAt, Stands, is_stop, phase_at, gives_reply, is_some_left}
+use Rattle.agent_core.specs.Agents.{RunsAfter, SameRunning, StandsBy, TakesOneIn, connection_at, replies_in, gives_in}
 use Rattle.agent_core.proofs.EventSteps.{runs_on}
 
 pub goes_on : (H : History) (event : Event) (count : ℕ) → has_stopped H ≡ false → count ≡ length H → count < most_events → count + 1 ≢ most_events → deeds (event ∷ H) ≡ does (deeds H) event
@@ -50,3 +53,30 @@ gives_told H conn (Runs r) h =
       | inr live ↦ rw (h.running, live) (gives_by (connection_at r conn) (replies_at r.shared.mailboxes conn) false (s.hung ∙ live)
           ∙ left_is (untaken (deeds H) conn) (replies_at r.shared.mailboxes conn) (h.lives.shares.mail.mails conn live).replies)
     ]
+
+-- ---- after want of memory
+
+fresh_keeps : (done : List Deed) (q : ℕ) (c : Connection) → IsFresh c → KeepsNothing done q → Keeps done q c
+fresh_keeps done q c fresh k = record {
+  live = k.live;
+  msize = rw fresh.phase (sym k.msize);
+  fids = λ fid. rw (fresh.fids, k.fids fid) refl;
+  held = rw (fresh.fids, k.held) refl;
+  texts = λ fid. rw (fresh.texts fid, k.texts fid) refl;
+}
+
+pub stands_still : (done : List Deed) (q : ℕ) (o p : Option Connection) → SameAt o p → Stands done q o → Stands done q p
+stands_still done q None None same s = s
+stands_still done q None (Some c) fresh s = record { opened = rw fresh.phase s.opened; hung = rw fresh.phase s.hung; keeps = λ live. fresh_keeps done q c fresh (s.keeps live) }
+stands_still done q (Some c) None same s = absurd same
+stands_still done q (Some c) (Some d) same s = record { opened = ap is_opened same.phase ∙ s.opened; hung = ap is_hung same.phase ∙ s.hung; keeps = λ live. keeps_still done q c d same (s.keeps live) }
+
+pub runs_same : (H : History) (old new : Running) → RunsAfter H old → SameRunning old new → RunsAfter H new
+runs_same H old new h same = record {
+  running = h.running;
+  events = same.events ∙ h.events;
+  lives = record {
+    shares = shares_still (deeds H) old.shared new.shared same.shared h.lives.shares;
+    connections = λ q. stands_still (deeds H) q (connection_at old q) (connection_at new q) (same.connections q) (h.lives.connections q);
+  };
+}

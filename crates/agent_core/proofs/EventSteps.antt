@@ -1,30 +1,35 @@
 -- What is told of a connection after one more event.
-use Rattle.std.proofs.Common.{◌≡◌, ℕ, ◌+◌, List, [], ◌∷◌, ◌++◌, length, map, filter, Bool, true, false, cond, eqb, ltb, not, ◌&&◌, ◌||◌, Equal, Greater, Option, Some, None, refl, sym, subst, ◌∙◌, inl, inr, arith}
+use Rattle.std.proofs.Common.{◌≡◌, ℕ, ◌+◌, List, [], ◌∷◌, length, map, Bool, true, false, cond, eqb, ltb, not, ◌&&◌, ◌||◌, Equal, Greater, Option, Some, None, refl, sym, subst, ◌∙◌, inl, inr, arith}
 use Rattle.std.specs.Prelude.{nat_lt}
 use Rattle.std.specs.Ordering.{nat_cmp, is_eq}
 use Rattle.std.specs.BTreeMap.{is_at}
 use Rattle.std.proofs.lemmas.Bool.{cases_Bool, eq-eqb, eqb-true, ne_eqb, ltb-true, false≢true}
 use Rattle.nine_messages.specs.declared.message.RMsg.{RMsg}
 use Rattle.nine_messages.specs.Messages.{r_frame}
-use Rattle.file_tree.specs.declared.tree.Node.TheVariants.{Rpc}
+use Rattle.side_files.specs.Calls as side
+use Rattle.side_files.specs.declared.line.PromptKind.{PromptKind}
+use Rattle.side_files.specs.declared.line.PromptKind.TheVariants as k
 use Rattle.talks.specs.Calls as calls
 use Rattle.agent_history.specs.declared.event.Event.{Event}
 use Rattle.agent_history.specs.declared.event.Event.TheVariants as v
-use Rattle.agent_history.specs.Deeds.{Deed, FidDeed, KeyDeed, ReplyDeed, OfFids, OfKeys, OfReplies, OfConnection, OfTalk, Raised, HandedOut, DropTaken, Halted, Swept, Versioned, Attached, Walked, Opened, Listed, Browsed, Clunked, Taken, Entered, Hung, was_opened, was_hung, is_halted, fid_of, keys_of, names}
+use Rattle.agent_history.specs.Deeds.{Deed, FidDeed, KeyDeed, ReplyDeed, OfFids, OfKeys, OfReplies, OfConnection, OfTalk, OfPrompts, OfLog, Raised, HandedOut, DropTaken, Halted, Swept, Versioned, Attached, Walked, Opened, Listed, Browsed, Clunked, Taken, Entered, Hung, was_opened, was_hung, is_halted}
 use Rattle.agent_history.specs.Replies.{swept, untaken}
-use Rattle.agent_history.specs.Conversations.{Due, NoneDue, DropDue, QuestionDue, Speaker, asker, due, opened_talks, resumed, speakers}
+use Rattle.agent_history.specs.Conversations.{Due, NoneDue, DropDue, QuestionDue, all_withdrawn, asker, closed, due, ended_by, given_up_by, resumed}
 use Rattle.agent_history.specs.Requests.{answered, call_of}
 use Rattle.agent_history.specs.Histories.{History, deeds, does, entered, handing, has_stopped, most_events, taking}
-use Rattle.kept_calls.specs.declared.keeping.KeepingTalks.{KeepingTalks}
-use Rattle.kept_calls.specs.Keeps.{Converses}
-use Rattle.kept_calls.proofs.OtherLemmas.{enter_converses, replies_converses, swept_converses}
 use Rattle.mailboxes.specs.Deliveries.{Delivers, replies_at}
 use Rattle.agent_requests.specs.declared.connection.Connection.{Connection}
-use Rattle.agent_requests.specs.declared.shared.Shared.{Shared}
-use Rattle.agent_requests.specs.declared.shared.Holders.{Holders}
-use Rattle.agent_requests.specs.Connections.{AllLive, AreLive, Keeps, Holds, Shares, is_opened, is_hung}
-use Rattle.agent_requests.proofs.OwnDeeds.{IsOwn, OfAll, answered_own, entered_by, resumed_all, swept_by}
-use Rattle.agent_requests.proofs.ShareLemmas.{live_all, mail_entered, shares_swept, with_talks}
+use Rattle.agent_requests.specs.Connections.{IsHungUp, Keeps, is_opened, is_hung}
+use Rattle.agent_requests.proofs.OwnRequests.{IsOwn, answered_own, entered_by}
+use Rattle.logged_talks.specs.declared.logged.LoggedTalks.{LoggedTalks}
+use Rattle.logged_talks.specs.Logging.{Logs}
+use Rattle.logged_talks.proofs.DeedLemmas.{replies_logs}
+use Rattle.agent_shared.specs.declared.shared.Shared.{Shared}
+use Rattle.agent_shared.specs.declared.holders.Holders.{Holders}
+use Rattle.agent_shared.specs.Sharing.{Holds, Shares}
+use Rattle.agent_shared.proofs.OwnDeeds.{OfAll, closed_all, ended_all, resumed_all, swept_by}
+use Rattle.agent_shared.proofs.ShareLemmas.{with_talks}
+use Rattle.agent_shared.proofs.FidLemmas.{shares_entered}
 use Rattle.agent_core.specs.Events.{KeepsNothing, KeepsAt, Stands, AllStand, Serves, is_stop}
 
 same : (a : ℕ) → eqb a a ≡ true
@@ -57,6 +62,10 @@ take_own conn P own done h = here (was_hung done conn)
 -- what the authentication server is done with
 resumed_by : (P : List Deed → Type 0) → OfAll P → (conv : Option ℕ) (call : calls.Call) (done : List Deed) → P done → P (swept (resumed conv call done))
 resumed_by P all conv call done h = swept_by P all.swept (resumed conv call done) (resumed_all P all conv call done h)
+
+-- a connection is hung up
+hung_by : (P : List Deed → Type 0) → OfAll P → (conn : ℕ) (done : List Deed) → ((before : List Deed) → P before → P (OfConnection conn Hung ∷ before)) → P done → P (swept (given_up_by (OfConnection conn Hung) done))
+hung_by P all conn done hangs h = swept_by P all.swept (given_up_by (OfConnection conn Hung) done) (ended_all P all (OfConnection conn Hung) done hangs h)
 
 handing_by : (P : List Deed → Type 0) → ((done : List Deed) → P done → P (HandedOut ∷ done)) → ((done : List Deed) → P done → P (DropTaken ∷ done)) → (d : Due) (done : List Deed) → P done → P (handing d done)
 handing_by P hands drops NoneDue done h = h
@@ -99,6 +108,14 @@ at_talk : (q : ℕ) (o : Option Connection) (conv : ℕ) (call : calls.Call) (do
 at_talk q None conv call done k = record { live = k.live; msize = k.msize; fids = k.fids; held = k.held; texts = k.texts }
 at_talk q (Some c) conv call done k = record { live = k.live; msize = k.msize; fids = k.fids; held = k.held; texts = k.texts }
 
+at_asked : (q : ℕ) (o : Option Connection) (kind : PromptKind) (call : side.Call) (done : List Deed) → KeepsAt done q o → KeepsAt (OfPrompts kind call ∷ done) q o
+at_asked q None kind call done k = record { live = k.live; msize = k.msize; fids = k.fids; held = k.held; texts = k.texts }
+at_asked q (Some c) kind call done k = record { live = k.live; msize = k.msize; fids = k.fids; held = k.held; texts = k.texts }
+
+at_logged : (q : ℕ) (o : Option Connection) (call : side.LogCall) (done : List Deed) → KeepsAt done q o → KeepsAt (OfLog call ∷ done) q o
+at_logged q None call done k = record { live = k.live; msize = k.msize; fids = k.fids; held = k.held; texts = k.texts }
+at_logged q (Some c) call done k = record { live = k.live; msize = k.msize; fids = k.fids; held = k.held; texts = k.texts }
+
 at_raised : (q : ℕ) (o : Option Connection) (conv : ℕ) (done : List Deed) → KeepsAt done q o → KeepsAt (Raised conv ∷ done) q o
 at_raised q None conv done k = record { live = k.live; msize = k.msize; fids = k.fids; held = k.held; texts = k.texts }
 at_raised q (Some c) conv done k = record { live = k.live; msize = k.msize; fids = k.fids; held = k.held; texts = k.texts }
@@ -123,6 +140,8 @@ stands_all : (q : ℕ) (o : Option Connection) → OfAll (λ done. Stands done q
 stands_all q o = record {
   talks = record {
     talk = λ conv call done s. record { opened = s.opened; hung = s.hung; keeps = λ live. at_talk q o conv call done (s.keeps live) };
+    asked = λ kind call done s. record { opened = s.opened; hung = s.hung; keeps = λ live. at_asked q o kind call done (s.keeps live) };
+    logged = λ call done s. record { opened = s.opened; hung = s.hung; keeps = λ live. at_logged q o call done (s.keeps live) };
     raised = λ conv done s. record { opened = s.opened; hung = s.hung; keeps = λ live. at_raised q o conv done (s.keeps live) };
   };
   replies = λ at deed done s. record { opened = s.opened; hung = s.hung; keeps = λ live. at_replies at q o deed done (s.keeps live) };
@@ -159,7 +178,7 @@ opened_own conn q = record {
   fids = λ deed done h. h;
   keys = λ deed done h. h;
   entered = λ done h. here (eqb conn q) h;
-  all = record { talks = record { talk = λ conv call done h. h; raised = λ conv done h. h }; replies = λ at deed done h. h; swept = λ done h. h };
+  all = record { talks = record { talk = λ conv call done h. h; asked = λ kind call done h. h; logged = λ call done h. h; raised = λ conv done h. h }; replies = λ at deed done h. h; swept = λ done h. h };
 }
   where
     here : (b : Bool) {x : Bool} → x ≡ true → (b || x) ≡ true
@@ -167,7 +186,7 @@ opened_own conn q = record {
     here false h = h
 
 halted_all : OfAll (λ done. is_halted done ≡ false)
-halted_all = record { talks = record { talk = λ conv call done h. h; raised = λ conv done h. h }; replies = λ at deed done h. h; swept = λ done h. h }
+halted_all = record { talks = record { talk = λ conv call done h. h; asked = λ kind call done h. h; logged = λ call done h. h; raised = λ conv done h. h }; replies = λ at deed done h. h; swept = λ done h. h }
 
 halted_own : (conn : ℕ) → IsOwn conn (λ done. is_halted done ≡ false)
 halted_own conn = record { fids = λ deed done h. h; keys = λ deed done h. h; entered = λ done h. h; all = halted_all }
@@ -180,15 +199,6 @@ was_entered conn done = elim (cases_Bool (was_opened done conn)) [
 
 pub keeps_entered : (conn : ℕ) (c : Connection) (done : List Deed) → Keeps done conn c → Keeps (entered conn done) conn c
 keeps_entered conn c done k = entered_by conn (λ now. Keeps now conn c) (λ now h. at_entered conn conn (Some c) now h) done k
-
-pub shares_entered : (conn : ℕ) (s : Shared) (done : List Deed) → Shares done s → Shares (entered conn done) s
-shares_entered conn s done h = entered_by conn (λ now. Shares now s)
-    (λ now g. record {
-      ring = g.ring;
-      holders = record { confirm = g.holders.confirm; needkey = g.holders.needkey; log = g.holders.log };
-      mail = mail_entered conn s.mailboxes now g.mail;
-      talks = enter_converses now s.talks conn g.talks;
-    }) done h
 
 pub request_stands : (done : List Deed) (conn : ℕ) (frame word : List ℕ) (d : Connection) → was_hung done conn ≡ false → is_opened d.phase ≡ true → is_hung d.phase ≡ false → Keeps (answered (entered conn done) (call_of conn frame word) frame) conn d
     → Stands (does done (v.Request conn frame word)) conn (Some d)
@@ -214,7 +224,7 @@ taking_some conn (m ∷ ms) X x rest e = refl
 pub take_serves : (done : List Deed) (conn : ℕ) (c d : Connection) (s u : Shared) (x : List ℕ) (rest : List (List ℕ)) → was_hung done conn ≡ false → Serves done conn c s → is_opened d.phase ≡ true → is_hung d.phase ≡ false → Keeps done conn d
     → replies_at s.mailboxes conn ≡ x ∷ rest → u.ring ≡ s.ring → u.holders ≡ s.holders → u.talks ≡ s.talks → ((now : List Deed) → Delivers now s.mailboxes → Delivers (OfReplies conn Taken ∷ now) u.mailboxes) → Serves (does done (v.Take conn)) conn d u
 take_serves done conn c d s u x rest live before opened held k some ring holders talks pops =
-    let shares = shares_entered conn s done before.shares in
+    let shares = shares_entered done conn s before.shares in
     let kept = at_replies conn conn (Some d) Taken (entered conn done) (keeps_entered conn d done k) in
     rw (live, taking_some conn (untaken done conn) (entered conn done) x rest (sym some ∙ (before.shares.mail.mails conn live).replies)) (record {
       stands = record { opened = opened ∙ sym (was_entered conn done); hung = held ∙ sym kept.live; keeps = λ h. kept };
@@ -222,7 +232,9 @@ take_serves done conn c d s u x rest live before opened held k some ring holders
         ring = ring ∙ shares.ring;
         holders = subst (λ (now : Holders). Holds (OfReplies conn Taken ∷ entered conn done) now) (sym holders) (record { confirm = shares.holders.confirm; needkey = shares.holders.needkey; log = shares.holders.log });
         mail = pops (entered conn done) shares.mail;
-        talks = subst (λ (now : KeepingTalks). Converses (OfReplies conn Taken ∷ entered conn done) now) (sym talks) (replies_converses (entered conn done) s.talks conn Taken shares.talks);
+        talks = subst (λ (now : LoggedTalks). Logs (OfReplies conn Taken ∷ entered conn done) now) (sym talks) (replies_logs (entered conn done) s.talks conn Taken shares.talks);
+        live = shares.live;
+        held = shares.held;
       };
     })
 
@@ -236,7 +248,7 @@ take_nothing done conn c d s live before opened held k none =
     let kept : Keeps (entered conn done) conn d = keeps_entered conn d done k in
     rw (live, taking_none conn (untaken done conn) (entered conn done) (sym none ∙ (before.shares.mail.mails conn live).replies)) (record {
       stands = record { opened = opened ∙ sym (was_entered conn done); hung = held ∙ sym kept.live; keeps = λ h. kept };
-      shares = shares_entered conn s done before.shares;
+      shares = shares_entered done conn s before.shares;
     })
 
 -- ---- all connections, where the one of the event was changed
@@ -272,8 +284,8 @@ runs_on done (v.Request conn frame word) h go = request_own conn (λ now. is_hal
 runs_on done (v.Take conn) h go = take_own conn (λ now. is_halted now ≡ false) (halted_own conn) done h
 runs_on done (v.Hang conn) h go = here (was_opened done conn && not (was_hung done conn))
   where
-    here : (b : Bool) → is_halted (cond b (OfConnection conn Hung ∷ done) done) ≡ false
-    here true = h
+    here : (b : Bool) → is_halted (cond b (swept (given_up_by (OfConnection conn Hung) done)) done) ≡ false
+    here true = hung_by (λ now. is_halted now ≡ false) halted_all conn done (λ before k. k) h
     here false = h
 runs_on done (v.Answer call bytes) h go = resumed_by (λ now. is_halted now ≡ false) halted_all (asker done call) (calls.Heard bytes) done h
 runs_on done (v.NoAnswer call) h go = resumed_by (λ now. is_halted now ≡ false) halted_all (asker done call) calls.Unheard done h
@@ -282,20 +294,24 @@ runs_on done v.TakeAsk h go = handing_by (λ now. is_halted now ≡ false) (λ n
 runs_on done v.Stop h go = absurd (false≢true (sym go))
 
 -- what is shared after something was handed out
-pub shares_handed : (done : List Deed) (s : Shared) (t : KeepingTalks) → Converses (HandedOut ∷ done) t → Shares done s → Shares (HandedOut ∷ done) (with_talks s t)
-shares_handed done s t speaks h = record {
+pub shares_handed : (done : List Deed) (s : Shared) (t : LoggedTalks) → Logs (HandedOut ∷ done) t → Shares done s → Shares (HandedOut ∷ done) (with_talks s t)
+shares_handed done s t logs h = record {
   ring = h.ring;
   holders = record { confirm = h.holders.confirm; needkey = h.holders.needkey; log = h.holders.log };
   mail = record { mails = λ q live. let k = h.mail.mails q live in record { replies = k.replies; waits = k.waits }; settled = h.mail.settled };
-  talks = speaks;
+  talks = logs;
+  live = h.live;
+  held = h.held;
 }
 
-pub shares_dropped : (done : List Deed) (s : Shared) (t : KeepingTalks) → Converses (DropTaken ∷ done) t → Shares done s → Shares (DropTaken ∷ done) (with_talks s t)
-shares_dropped done s t speaks h = record {
+pub shares_dropped : (done : List Deed) (s : Shared) (t : LoggedTalks) → Logs (DropTaken ∷ done) t → Shares done s → Shares (DropTaken ∷ done) (with_talks s t)
+shares_dropped done s t logs h = record {
   ring = h.ring;
   holders = record { confirm = h.holders.confirm; needkey = h.holders.needkey; log = h.holders.log };
   mail = record { mails = λ q live. let k = h.mail.mails q live in record { replies = k.replies; waits = k.waits }; settled = h.mail.settled };
-  talks = speaks;
+  talks = logs;
+  live = h.live;
+  held = h.held;
 }
 
 -- ---- a hang
@@ -311,91 +327,45 @@ at_hung conn q (Some c) e done k = record { live = rw e k.live; msize = rw e k.m
 pub hang_others : (done : List Deed) (conn q : ℕ) (o : Option Connection) → eqb conn q ≡ false → Stands done q o → Stands (does done (v.Hang conn)) q o
 hang_others done conn q o e s = here (was_opened done conn && not (was_hung done conn))
   where
-    here : (b : Bool) → Stands (cond b (OfConnection conn Hung ∷ done) done) q o
-    here true = record { opened = s.opened; hung = rw e s.hung; keeps = λ live. at_hung conn q o e done (s.keeps (hung_before (eqb conn q) (was_hung done q) live)) }
+    here : (b : Bool) → Stands (cond b (swept (given_up_by (OfConnection conn Hung) done)) done) q o
+    here true = hung_by (λ now. Stands now q o) (stands_all q o) conn done (λ before k. record { opened = k.opened; hung = rw e k.hung; keeps = λ live. at_hung conn q o e before (k.keeps (hung_before (eqb conn q) (was_hung before q) live)) }) s
     here false = s
 
--- ---- conversations are open on connections that are live
+-- the connection itself: of it nothing is kept but that it was hung up
+was_hung_all : (conn : ℕ) → OfAll (λ done. was_hung done conn ≡ true)
+was_hung_all conn = record { talks = record { talk = λ conv call done h. h; asked = λ kind call done h. h; logged = λ call done h. h; raised = λ conv done h. h }; replies = λ at deed done h. h; swept = λ done h. h }
 
-kept_live : (hung : ℕ → Bool) (keep : Speaker → Bool) (xs : List Speaker) → AllLive hung xs → AllLive hung (filter keep xs)
-kept_live hung keep [] h = tt
-kept_live hung keep (x ∷ xs) h = here (keep x) (kept_live hung keep xs h.1)
-  where
-    here : (b : Bool) → AllLive hung (filter keep xs) → AllLive hung (cond b (x ∷ filter keep xs) (filter keep xs))
-    here true rest = (h.0, rest)
-    here false rest = rest
+was_opened_all : (conn : ℕ) → OfAll (λ done. was_opened done conn ≡ true)
+was_opened_all conn = record { talks = record { talk = λ conv call done h. h; asked = λ kind call done h. h; logged = λ call done h. h; raised = λ conv done h. h }; replies = λ at deed done h. h; swept = λ done h. h }
 
-one_more_live : (hung : ℕ → Bool) (s : Speaker) (xs : List Speaker) → hung s.conn ≡ false → AllLive hung xs → AllLive hung (xs ++ s ∷ [])
-one_more_live hung s [] live h = (live, tt)
-one_more_live hung s (x ∷ xs) live h = (h.0, one_more_live hung s xs live h.1)
+hangs_it : (conn : ℕ) (done : List Deed) → was_hung (swept (given_up_by (OfConnection conn Hung) done)) conn ≡ true
+hangs_it conn done =
+    let is_hung : List Deed → Type 0 = λ now. was_hung now conn ≡ true in
+    let all : OfAll is_hung = was_hung_all conn in
+    let one : List Deed = OfConnection conn Hung ∷ all_withdrawn (ended_by (OfConnection conn Hung) done) done in
+    swept_by is_hung all.swept (given_up_by (OfConnection conn Hung) done) (closed_all is_hung all k.Needkey (closed k.Confirm one) (closed_all is_hung all k.Confirm one (rw (same conn) refl)))
 
-left_live : (hung : ℕ → Bool) (conn : ℕ) (xs : List Speaker) → AllLive hung xs → AllLive (λ q. eqb conn q || hung q) (filter (λ s. not (eqb s.conn conn)) xs)
-left_live hung conn [] h = tt
-left_live hung conn (x ∷ xs) h = elim (cases_Bool (eqb x.conn conn)) [
-  | inl is ↦ rw is (left_live hung conn xs h.1)
-  | inr is ↦ rw is ((rw (eqb_not conn x.conn is, h.0) refl, left_live hung conn xs h.1))
-]
-  where
-    eqb_not : (a b : ℕ) → eqb b a ≡ false → eqb a b ≡ false
-    eqb_not a b e = ne_eqb a b (λ same. false≢true (sym e ∙ eq-eqb b a (sym same)))
+-- a connection that is open was opened, and isn't hung up
+pub opened_part : (a b : Bool) → (a && not b) ≡ true → a ≡ true
+opened_part true b e = refl
+opened_part false b e = absurd (false≢true e)
 
--- a connection is live, and so are those of all conversations
-record BothLive (conn : ℕ) (done : List Deed) : Type 0 where
-  own : was_hung done conn ≡ false
-  all : AreLive done
+pub live_part : (a b : Bool) → (a && not b) ≡ true → b ≡ false
+live_part true true e = absurd (false≢true e)
+live_part true false e = refl
+live_part false b e = absurd (false≢true e)
 
-fids_live : (conn : ℕ) (deed : FidDeed) (done : List Deed) → BothLive conn done → BothLive conn (OfFids conn deed ∷ done)
-fids_live conn (Versioned msize) done h = record { own = h.own; all = kept_live (λ q. was_hung done q) (λ s. not (eqb s.conn conn)) (speakers done) h.all }
-fids_live conn (Attached f) done h = record { own = h.own; all = h.all }
-fids_live conn (Walked f node) done h = record { own = h.own; all = h.all }
-fids_live conn (Opened f mode) done h = record { own = h.own; all = here (names Rpc (fid_of done conn f)) }
-  where
-    s : Speaker
-    s = record { conv = opened_talks done; conn = conn; fid = f }
+pub hang_stands : (done : List Deed) (conn : ℕ) (c d : Connection) → is_opened c.phase ≡ true → is_hung c.phase ≡ false → IsHungUp d → Stands done conn (Some c) → Stands (does done (v.Hang conn)) conn (Some d)
+hang_stands done conn c d opened live hung s =
+    let last : List Deed = swept (given_up_by (OfConnection conn Hung) done) in
+    rw (← s.opened, opened, ← s.hung, live) (record {
+      opened = rw hung.phase (sym (hung_by (λ now. was_opened now conn ≡ true) (was_opened_all conn) conn done (λ before k. k) (sym s.opened ∙ opened)));
+      hung = rw hung.phase (sym (hangs_it conn done));
+      keeps = λ live. absurd (false≢true (sym live ∙ hangs_it conn done));
+    })
 
-    here : (b : Bool) → AllLive (λ q. was_hung done q) (cond b (speakers done ++ s ∷ []) (speakers done))
-    here true = one_more_live (λ q. was_hung done q) s (speakers done) h.own h.all
-    here false = h.all
-fids_live conn (Listed f) done h = record { own = h.own; all = h.all }
-fids_live conn (Browsed f next) done h = record { own = h.own; all = h.all }
-fids_live conn (Clunked f) done h = record { own = h.own; all = kept_live (λ q. was_hung done q) (λ s. not (eqb s.conn conn && eqb s.fid f)) (speakers done) h.all }
-
-both_own : (conn : ℕ) → IsOwn conn (BothLive conn)
-both_own conn = record {
-  fids = fids_live conn;
-  keys = λ deed done h. record { own = h.own; all = h.all };
-  entered = λ done h. record { own = h.own; all = h.all };
-  all = record {
-    talks = record { talk = λ conv call done h. record { own = h.own; all = h.all }; raised = λ conv done h. record { own = h.own; all = h.all } };
-    replies = λ at deed done h. record { own = h.own; all = h.all };
-    swept = λ done h. record { own = h.own; all = h.all };
-  };
-}
-
-pub request_live : (done : List Deed) (conn : ℕ) (frame word : List ℕ) → AreLive done → AreLive (does done (v.Request conn frame word))
-request_live done conn frame word h = elim (cases_Bool (was_hung done conn)) [
-  | inl hung ↦ rw hung h
-  | inr live ↦ (request_own conn (BothLive conn) (both_own conn) done frame word (record { own = live; all = h })).all
-]
-
-pub take_live : (done : List Deed) (conn : ℕ) → AreLive done → AreLive (does done (v.Take conn))
-take_live done conn h = elim (cases_Bool (was_hung done conn)) [
-  | inl hung ↦ rw hung h
-  | inr live ↦ (take_own conn (BothLive conn) (both_own conn) done (record { own = live; all = h })).all
-]
-
-pub hang_live : (done : List Deed) (conn : ℕ) → AreLive done → AreLive (does done (v.Hang conn))
-hang_live done conn h = here (was_opened done conn && not (was_hung done conn))
-  where
-    here : (b : Bool) → AreLive (cond b (OfConnection conn Hung ∷ done) done)
-    here true = left_live (λ q. was_hung done q) conn (speakers done) h
-    here false = h
-
-pub resumed_live : (conv : Option ℕ) (call : calls.Call) (done : List Deed) → AreLive done → AreLive (swept (resumed conv call done))
-resumed_live conv call done h = resumed_by AreLive live_all conv call done h
-
-pub handed_live : (d : Due) (done : List Deed) → AreLive done → AreLive (handing d done)
-handed_live d done h = handing_by AreLive (λ now k. k) (λ now k. k) d done h
+pub hang_shares : (done : List Deed) (conn : ℕ) (c : Connection) (u : Shared) → is_opened c.phase ≡ true → is_hung c.phase ≡ false → Stands done conn (Some c) → Shares (swept (given_up_by (OfConnection conn Hung) done)) u → Shares (does done (v.Hang conn)) u
+hang_shares done conn c u opened live s h = rw (← s.opened, opened, ← s.hung, live) h
 
 -- ---- after a stop
 

@@ -10,7 +10,7 @@ use Rattle.agent_core.specs.declared.agent.Running.{Running}
 use Rattle.agent_core.specs.declared.agent.State.{State}
 use Rattle.agent_core.specs.declared.agent.State.TheVariants.{Runs, Stopped}
 use Rattle.agent_core.specs.declared.agent.Agent.{Agent}
-use Rattle.agent_requests.specs.Connections.{SameShared}
+use Rattle.agent_shared.specs.Sharing.{SameShared}
 use Rattle.agent_core.specs.Events.{Lives, SameEach, TakesNoneOf, LeavesOneLess, HadOne, AsksFewer, HadAsk, NoneAsked, GivesUp, gives_to, is_stop, known, left_to_ask}
 
 -- ---- agents

@@ -20,8 +20,10 @@ use Rattle.agent_talks.specs.Kept as kept
 use Rattle.agent_requests.specs.declared.connection.Phase.{Phase}
 use Rattle.agent_requests.specs.declared.connection.Phase.TheVariants.{Fresh}
 use Rattle.agent_requests.specs.declared.connection.Connection.{Connection}
-use Rattle.agent_requests.specs.declared.shared.Shared.{Shared}
-use Rattle.agent_requests.specs.Connections.{AreLive, Keeps, SameKept, Shares, IsFresh, IsHungUp, is_opened, is_hung}
+use Rattle.agent_requests.specs.Connections.{Keeps, SameKept, IsFresh, IsHungUp, is_opened, is_hung}
+use Rattle.agent_shared.specs.declared.shared.Shared.{Shared}
+use Rattle.agent_shared.specs.Sharing.{Shares}
+use Rattle.logged_talks.specs.Logging.{calls_in, talks_in}
 
 -- ---- connections
 
@@ -61,11 +63,10 @@ pub record Serves (done : List Deed) (conn : ℕ) (c : Connection) (s : Shared) 
   pub stands : Stands done conn (Some c)
   pub shares : Shares done s
 
--- what is kept of all connections, and what they share; no conversation that stands is open on one that was hung up
+-- what is kept of all connections, and what they share
 pub record Lives (done : List Deed) (at : ℕ → Option Connection) (s : Shared) : Type 0 where
   pub shares : Shares done s
   pub connections : AllStand done at
-  pub live : AreLive done
 
 -- what lived lives after the event
 abbrev pub LivesOn : Event → (ℕ → Option Connection) → Shared → (ℕ → Option Connection) → Shared → Type 0
@@ -114,16 +115,16 @@ FindsNone (Some c) replies = (is_hung c.phase ≡ true) ⊎ (replies ≡ [])
 
 -- the questions for the authentication server that are out
 abbrev pub questions : Shared → List Question
-questions s = questions_in s.talks.talks
+questions s = questions_in (talks_in s.talks)
 
 -- those that weren't handed out yet
 abbrev pub unasked : Shared → ℕ
-unasked s = kept.unasked s.talks.talks
+unasked s = kept.unasked (talks_in s.talks)
 
 -- how much is left to hand out. A question counts for two: what is answered to it may bring its conversation to its end,
 -- which then gives up the connection that it keeps
 abbrev pub left_to_ask : Shared → ℕ
-left_to_ask s = unasked s * 2 + length s.talks.calls.drops
+left_to_ask s = unasked s * 2 + length (calls_in s.talks).drops
 
 -- what a conversation asks the authentication server was put out, if it asks something
 abbrev pub PutFor : Need → Option Shape → List ℕ → List ℕ → Type 0

@@ -6,7 +6,7 @@ ghost use Rattle.agent_core.specs.Events.{NoneAsked};
 
 use crate::events::{Connections, Stepped, act, has_reply, is_stop};
 use agent_history::{Event, StepAnswer};
-use agent_requests::Shared;
+use agent_shared::Shared;
 use key_ring::Key;
 use roles::Outcome;
 use std::alloc::Global;
@@ -76,9 +76,10 @@ impl Agent {
     pub fn new(alloc: Global) -> Result<Agent, NoMemory>
         ensures { IfOk result (λ agent. StandsFor [] agent) }
     {
+        let shared = Shared::new(alloc)?;
         let running = Running {
             connections: BTreeMap::new(alloc),
-            shared: Shared::new(alloc),
+            shared,
             events: 0,
         };
         Ok(Agent {
@@ -193,7 +194,13 @@ impl Agent {
     {
         match &self.state {
             State::Stopped => None,
-            State::Runs(running) => running.shared.talks.talks.outcome_at(conn, fid),
+            State::Runs(running) => running
+                .shared
+                .talks
+                .asking
+                .talks
+                .talks
+                .outcome_at(conn, fid),
         }
     }
 
@@ -204,7 +211,7 @@ impl Agent {
     {
         match &self.state {
             State::Stopped => None,
-            State::Runs(running) => running.shared.talks.talks.chosen_at(conn, fid),
+            State::Runs(running) => running.shared.talks.asking.talks.talks.chosen_at(conn, fid),
         }
     }
 }

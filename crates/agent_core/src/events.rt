@@ -8,11 +8,13 @@ ghost use Rattle.agent_history.specs.Requests.{tag_of};
 ghost use Rattle.agent_history.specs.Histories.{does, is_reply};
 ghost use Rattle.agent_talks.specs.Kept.{question_of};
 ghost use Rattle.mailboxes.specs.Deliveries.{replies_at};
-ghost use Rattle.agent_requests.specs.Connections.{SameKept, SameShared, Shares};
+ghost use Rattle.agent_shared.specs.Sharing.{SameShared, Shares};
+ghost use Rattle.agent_requests.specs.Connections.{SameKept};
 ghost use Rattle.agent_core.specs.Events.{AllStand, AnswersAfter, FindsNone, AnswersFor, AsksFewer, GivesUp, HangsUp, IsEvent, IsPut, LeavesOneLess, LivesOn, SameEach, Serves, TakesNoneOf, gives_reply, gives_to, is_stop, known, unasked};
 
 use agent_history::{Event, StepAnswer};
-use agent_requests::{Call, Connection, Shared};
+use agent_requests::{Call, Connection};
+use agent_shared::Shared;
 use agent_talks::Question;
 use kept_calls::Due;
 use std::alloc::Global;
@@ -110,7 +112,8 @@ fn hang(alloc: Global, conn: u64, connection: &mut Connection, shared: &mut Shar
 {
     if connection.is_open() {
         *connection = Connection::hung_up(alloc);
-        shared.leave(conn);
+        shared.leave(alloc, conn);
+        shared.mailboxes.sweep();
     }
 }
 
@@ -210,7 +213,7 @@ fn take_ask(shared: &mut Shared, out: &mut Bytes) -> Stepped
     ensures takes_none { unasked shared.old ≡ 0 → IsOk result }
     ensures none { IfOk result (λ a. is_reply a ≡ false) }
 {
-    match shared.talks.due() {
+    match shared.talks.asking.talks.due() {
         Due::Nothing => Ok(StepAnswer::NoAsk),
         Due::Call(given) => {
             shared.talks.take_drop();
@@ -251,7 +254,7 @@ fn put_question(shared: &Shared, conv: u64, out: &mut Bytes) -> Result<Option<Sh
     ensures behind { take (length out.old) out.new ≡ out.old }
     ensures err { OnErr result (out.new ≡ out.old) }
 {
-    let Some(conversation) = shared.talks.talks.conversation(conv) else {
+    let Some(conversation) = shared.talks.asking.talks.talks.conversation(conv) else {
         return Ok(None);
     };
     let Some((request, shape)) = conversation.question() else {

@@ -1,5 +1,5 @@
 -- From what a request does to what a frame does.
-use Rattle.std.proofs.Common.{◌≡◌, ℕ, ◌≤◌, List, ◌∷◌, true, false, length, Option, Some, None, Result, Ok, Err, refl, sym, ap, subst, ◌∙◌, ◌⊎◌, inl, inr, arith}
+use Rattle.std.proofs.Common.{◌≡◌, ℕ, ◌≤◌, List, ◌∷◌, true, false, length, Option, Some, None, Result, Ok, Err, refl, sym, ap, subst, ◌⊎◌, inl, inr, arith}
 use Rattle.std.specs.Prelude.{codes}
 use Rattle.nine_messages.specs.declared.message.TMsg.{TMsg}
 use Rattle.nine_messages.specs.declared.message.TBody.{TBody}
@@ -7,13 +7,13 @@ use Rattle.nine_messages.specs.declared.message.TBody.TheVariants as t
 use Rattle.nine_messages.specs.declared.message.RBody.{RBody}
 use Rattle.nine_messages.specs.Messages.{frame, r_frame, t_kind, t_fields, IsRequest}
 use Rattle.nine_messages.specs.Decoding.{request_of}
-use Rattle.fid_table.specs.Held.{Table, fid_at, held_in}
 use Rattle.agent_history.specs.Deeds.{Deed, OfReplies, Answered, msize_of}
 use Rattle.agent_history.specs.Requests.{Call, refusal, granted, after_frame, answered, body_to, replied, is_over, comes_first, lacks_version, repeats_tag}
 use Rattle.agent_requests.specs.declared.connection.Connection.{Connection}
-use Rattle.agent_requests.specs.declared.shared.Shared.{Shared}
+use Rattle.agent_shared.specs.declared.shared.Shared.{Shared}
+use Rattle.agent_shared.specs.Sharing.{Shares}
+use Rattle.agent_shared.proofs.ShareLemmas as share
 use Rattle.mailboxes.specs.declared.reply.Reply.{Reply}
-use Rattle.kept_calls.proofs.OtherLemmas.{replies_converses}
 use Rattle.mailboxes.specs.declared.mailboxes.Mailboxes.{Mailboxes}
 use Rattle.mailboxes.specs.Kept.{reply_bytes, error_frame}
 use Rattle.mailboxes.specs.Deliveries.{Delivers, under}
@@ -21,8 +21,8 @@ use Rattle.agent_requests.specs.declared.refused.Refusal.{Refusal}
 use Rattle.agent_requests.specs.declared.refused.Refusal.TheVariants as f
 use Rattle.agent_requests.specs.declared.refused.Refused.{Refused}
 use Rattle.agent_requests.specs.declared.refused.Refused.TheVariants as e
-use Rattle.agent_requests.specs.Connections.{Keeps, SameKept, Says, text_in, Shares, Told, Served, FrameServed, WritesAtMost, refusal_of, refusal_text, msize_in}
-use Rattle.agent_requests.proofs.ShareLemmas.{holds_all}
+use Rattle.agent_requests.specs.Connections.{Keeps, Says, Told, Served, FrameServed, WritesAtMost, refusal_of, refusal_text}
+use Rattle.agent_requests.proofs.KeepLemmas.{keeps_all}
 
 -- ---- what refuses a frame
 
@@ -96,17 +96,6 @@ pub answered_frame : (done : List Deed) (call : Call) (bytes : List ℕ) (c : Co
     → (reply : Reply) → reply_bytes reply ≡ error_frame (refusal_text why) call.tag → FrameServed done call bytes c s (Some reply)
 answered_frame done call bytes c s S why k h told reply said = refused_frame done call bytes c s why k h (refused_is (granted done call bytes) S why told) reply said
 
--- ---- what stays the same
-
-pub keeps_still : (done : List Deed) (conn : ℕ) (c d : Connection) → SameKept c d → Keeps done conn c → Keeps done conn d
-keeps_still done conn c d s k = record {
-  live = k.live;
-  msize = ap msize_in s.phase ∙ k.msize;
-  fids = λ fid. ap (λ (table : Table). fid_at table fid) s.fids ∙ k.fids fid;
-  held = ap held_in s.fids ∙ k.held;
-  texts = λ fid. ap text_in (s.texts fid) ∙ k.texts fid;
-}
-
 -- ---- a write is no longer than its frame
 
 fields_hold : (body : TBody) → WritesAtMost (length (t_fields body)) body
@@ -168,9 +157,12 @@ pub replied_shares : (done : List Deed) (call : Call) (bytes : List ℕ) (s : Sh
 replied_shares done call bytes s m reply h said delivers =
     let now : List Deed = after_frame done call bytes in
     let told = says_some call.tag (body_to done call bytes) reply said in
-    subst (λ (o : Option RBody). Shares (replied call o now) (record { ring = s.ring; holders = s.holders; mailboxes = m; talks = s.talks })) (sym told.1) (record {
-      ring = h.ring;
-      holders = (holds_all s.holders).replies call.conn (Answered call.tag told.0) now h.holders;
-      mail = delivers told.0 told.2;
-      talks = replies_converses now s.talks call.conn (Answered call.tag told.0) h.talks;
-    })
+    subst (λ (o : Option RBody). Shares (replied call o now) (share.with_mail s m)) (sym told.1) (share.replied_shares now s m call.conn (Answered call.tag told.0) (delivers told.0 told.2) h)
+
+-- what is kept of the connection stays, whether it has its reply or waits for it
+pub answered_keeps : (done : List Deed) (call : Call) (bytes : List ℕ) (c : Connection) → Keeps (after_frame done call bytes) call.conn c → Keeps (answered done call bytes) call.conn c
+answered_keeps done call bytes c k = here (body_to done call bytes)
+  where
+    here : (o : Option RBody) → Keeps (replied call o (after_frame done call bytes)) call.conn c
+    here None = k
+    here (Some body) = (keeps_all call.conn c).replies call.conn (Answered call.tag body) (after_frame done call bytes) k

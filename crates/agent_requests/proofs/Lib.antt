@@ -1,6 +1,8 @@
-pub mod OwnDeeds
+pub mod OwnRequests
+pub mod KeepLemmas
+pub mod SwitchLemmas
 pub mod TreeLemmas
-pub mod ShareLemmas
 pub mod RequestSteps
 pub mod RpcSteps
+pub mod LineSteps
 pub mod FrameSteps

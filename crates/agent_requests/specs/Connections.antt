@@ -1,20 +1,16 @@
--- What a connection of the agent keeps, and what the connections share, against what is read off the deeds; and what a
--- request that was tried leaves.
-use Rattle.std.specs.Prelude.{◌≡◌, ℕ, ◌+◌, ◌≤◌, List, [], ◌∷◌, length, Bool, true, false, Option, Some, None, Result, Ok, Err, IfOk, OnErr, codes}
+-- What a connection of the agent keeps, against what is read off the deeds; and what a request that was tried leaves.
+use Rattle.std.specs.Prelude.{◌≡◌, ℕ, ◌+◌, ◌≤◌, List, [], length, Bool, true, false, Option, Some, None, Result, Ok, Err, IfOk, OnErr, codes}
 use Rattle.std.specs.Ordering.{nat_cmp}
 use Rattle.std.specs.BTreeMap.{get}
 use Rattle.file_tree.specs.declared.tree.FidState.{FidState}
-use Rattle.file_tree.specs.declared.tree.Node.TheVariants.{Confirm, Needkey, Log}
 use Rattle.file_tree.specs.declared.fault.FidFault.{FidFault}
 use Rattle.file_tree.specs.declared.fault.FidFault.TheVariants as g
 use Rattle.file_tree.specs.Faults.{fault_text}
 use Rattle.fid_table.specs.declared.fids.Fid.{Fid}
 use Rattle.fid_table.specs.Held.{fid_at, held_in}
-use Rattle.agent_history.specs.Deeds.{Deed, was_hung, msize_of, fid_of, held_by, next_of, holder_of, text_of, keys_of}
+use Rattle.agent_history.specs.Deeds.{Deed, was_hung, msize_of, fid_of, held_by, next_of, text_of}
 use Rattle.agent_history.specs.Requests as history
 use Rattle.agent_history.specs.Requests.{refusal, after, reply_of, after_frame, body_to}
-use Rattle.agent_history.specs.Conversations.{Speaker, speakers}
-use Rattle.kept_calls.specs.Keeps.{Converses, SameConverses}
 use Rattle.nine_messages.specs.declared.message.TBody.{TBody}
 use Rattle.nine_messages.specs.declared.message.TBody.TheVariants as t
 use Rattle.nine_messages.specs.declared.message.RBody.{RBody}
@@ -22,13 +18,13 @@ use Rattle.nine_messages.specs.Messages.{r_frame}
 use Rattle.ctl_lines.specs.Faults.{line_text}
 use Rattle.mailboxes.specs.declared.reply.Reply.{Reply}
 use Rattle.mailboxes.specs.Kept.{reply_bytes}
-use Rattle.mailboxes.specs.Deliveries.{Delivers, SameMail, has_room, under}
+use Rattle.mailboxes.specs.Deliveries.{has_room, under}
+use Rattle.agent_shared.specs.declared.shared.Shared.{Shared}
+use Rattle.agent_shared.specs.Sharing.{SameShared, Shares}
 use Rattle.agent_requests.specs.declared.call.Call.{Call}
 use Rattle.agent_requests.specs.declared.connection.Phase.{Phase}
 use Rattle.agent_requests.specs.declared.connection.Phase.TheVariants as p
 use Rattle.agent_requests.specs.declared.connection.Connection.{Connection}
-use Rattle.agent_requests.specs.declared.shared.Holders.{Holders}
-use Rattle.agent_requests.specs.declared.shared.Shared.{Shared}
 use Rattle.agent_requests.specs.declared.refused.Refusal.{Refusal}
 use Rattle.agent_requests.specs.declared.refused.Refusal.TheVariants as f
 use Rattle.agent_requests.specs.declared.refused.Refused.{Refused}
@@ -85,42 +81,6 @@ pub record IsHungUp (c : Connection) : Type 0 where
   pub fids : c.fids ≡ []
   pub texts : (fid : ℕ) → get nat_cmp c.texts fid ≡ None
 
--- ---- what the connections share
-
--- who has each file open that one fid alone may have open
-pub record Holds (done : List Deed) (h : Holders) : Type 0 where
-  pub confirm : h.confirm ≡ holder_of done Confirm
-  pub needkey : h.needkey ≡ holder_of done Needkey
-  pub log : h.log ≡ holder_of done Log
-
--- the keys are those of the deeds, and so are the holders, the replies and the reads that wait, and the conversations with
--- the connections that they keep
-pub record Shares (done : List Deed) (s : Shared) : Type 0 where
-  pub ring : s.ring ≡ keys_of done
-  pub holders : Holds done s.holders
-  pub mail : Delivers done s.mailboxes
-  pub talks : Converses done s.talks
-
--- the same is shared
-pub record SameShared (old new : Shared) : Type 0 where
-  pub ring : new.ring ≡ old.ring
-  pub holders : new.holders ≡ old.holders
-  pub mail : SameMail old.mailboxes new.mailboxes
-  pub talks : SameConverses old.talks new.talks
-
--- at most one conversation has given up the connection that it kept
-abbrev pub GivesOne : Shared → Shared → Type 0
-GivesOne old new = length new.talks.calls.drops ≤ length old.talks.calls.drops + 1
-
--- the connections are live by whom some conversations are open
-abbrev pub AllLive : (ℕ → Bool) → List Speaker → Type 0
-AllLive hung [] = Unit {0}
-AllLive hung (s ∷ more) = (hung s.conn ≡ false) × AllLive hung more
-
--- no conversation that stands is open on a connection that was hung up
-abbrev pub AreLive : List Deed → Type 0
-AreLive done = AllLive (λ conn. was_hung done conn) (speakers done)
-
 -- ---- refusals
 
 -- what a fault of a fid makes of a request
@@ -137,13 +97,14 @@ refusal_text f.MsizeTooSmall = codes "msize too small"
 refusal_text f.NoAuthentication = codes "authentication not required"
 refusal_text f.BadAfid = codes "bad afid"
 refusal_text f.ExclusiveUse = codes "exclusive use file already open"
-refusal_text f.NotServed = codes "not served"
 refusal_text f.TooManyConversations = codes "too many conversations"
 refusal_text f.RpcBusy = codes "rpc busy"
 refusal_text f.NoRpcPending = codes "no rpc pending"
 refusal_text f.TooManyWaiting = codes "too many waiting"
 refusal_text f.RpcTooLong = codes "rpc too long"
 refusal_text f.UnknownRpcVerb = codes "unknown rpc verb"
+refusal_text f.BadReply = codes "bad reply"
+refusal_text f.UnknownTag = codes "unknown tag"
 refusal_text f.ReadTooSmall = codes "read too small"
 refusal_text f.PermissionDenied = codes "permission denied"
 refusal_text f.NotOpen = codes "not open"

@@ -7,14 +7,15 @@ use Rattle.rpc_file.specs.declared.request.Request.{Request}
 use Rattle.rpc_file.specs.declared.request.RpcFault.TheVariants.{TooLong, UnknownVerb}
 use Rattle.agent_history.specs.Deeds.{Deed}
 use Rattle.agent_history.specs.Replies.{waits_for}
-use Rattle.agent_history.specs.Conversations.{conv_of, delivered, stands}
+use Rattle.agent_history.specs.Conversations.{conv_of, stands}
 use Rattle.agent_history.specs.Requests.{Call, has_answer, is_resting, is_too_long, is_unknown, phase_of, reading_talk, stored, talk_read, waits_enough}
 use Rattle.mailboxes.specs.declared.reply.Reply.{Reply}
 use Rattle.agent_requests.specs.declared.refused.Refused.{Refused}
 use Rattle.agent_requests.specs.declared.refused.Refused.TheVariants as e
 use Rattle.agent_requests.specs.declared.refused.Refusal.TheVariants as f
-use Rattle.agent_requests.specs.declared.shared.Shared.{Shared}
-use Rattle.agent_requests.specs.Connections.{Says, Shares, Told}
+use Rattle.agent_shared.specs.declared.shared.Shared.{Shared}
+use Rattle.agent_shared.specs.Sharing.{Shares}
+use Rattle.agent_requests.specs.Connections.{Says, Told}
 
 -- ---- reads
 
@@ -64,10 +65,3 @@ WriteTold done call fid content s result = Told (write_refusal done call.conn fi
 abbrev pub Requests : Result Request Refused → List ℕ → Type 0
 Requests (Ok request) content = request_of content ≡ Ok (meant request)
 Requests (Err why) content = ((why ≡ e.For f.RpcTooLong) × (request_of content ≡ Err TooLong)) ⊎ ((why ≡ e.For f.UnknownRpcVerb) × (request_of content ≡ Err UnknownVerb))
-
--- ---- answers
-
--- the answer of a conversation is delivered, where one is meant
-abbrev pub delivered_by : Option ℕ → List Deed → List Deed
-delivered_by None done = done
-delivered_by (Some conv) done = delivered conv done

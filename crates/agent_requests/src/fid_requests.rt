@@ -6,15 +6,17 @@ ghost use Rattle.file_tree.specs.Tree.{qid_of};
 ghost use Rattle.file_tree.specs.Calls.{open_fault};
 ghost use Rattle.fid_table.specs.Held.{state_at, HasRoom};
 ghost use Rattle.agent_history.specs.Deeds.{Deed, OfFids, Attached, Clunked, Opened, Versioned, was_hung};
-ghost use Rattle.agent_history.specs.Requests.{agreed, is_known, opens_later, walking};
+ghost use Rattle.agent_history.specs.Requests.{agreed, is_known, walking};
+ghost use Rattle.agent_history.specs.Conversations.{given_up_by};
 ghost use Rattle.mailboxes.specs.Deliveries.{SameRoom};
-ghost use Rattle.agent_requests.specs.Connections.{Keeps, Shares, SameKept, Tried, is_hung, msize_in};
+ghost use Rattle.agent_shared.specs.Sharing.{Shares};
+ghost use Rattle.agent_requests.specs.Connections.{Keeps, SameKept, Tried, is_hung, msize_in};
 
 use crate::call::Call;
 use crate::connection::{Connection, Phase};
 use crate::msize::{MOST_MSIZE, Msize};
 use crate::refused::{Refusal, Refused, Tried};
-use crate::shared::Shared;
+use agent_shared::Shared;
 use fid_table::Fids;
 use file_tree::{Node, put_record, record_size};
 use mailboxes::Reply;
@@ -62,12 +64,6 @@ fn answered(version: &[u8]) -> &'static [u8]
     if is_known(version) { VERSION } else { UNKNOWN }
 }
 
-pub(crate) fn opens_later(node: Node) -> bool
-    ensures { result ≡ opens_later node }
-{
-    matches!(node, Node::Confirm | Node::Needkey)
-}
-
 // The qids of some files.
 fn qids_of(alloc: Global, nodes: &[Node]) -> Result<QidList, NoMemory>
     ensures { IfOk result (λ qids. qids ≡ map qid_of nodes.now) }
@@ -103,8 +99,9 @@ impl Connection {
         ensures keeps { (done : List Deed) (msize : Option ℕ) → msize_in phase ≡ msize
             → Keeps done call.conn self.old
             → Keeps (OfFids call.conn (Versioned msize) ∷ done) call.conn self.new }
-        ensures shares { (done : List Deed) (msize : Option ℕ) → Shares done shared.old
-            → Shares (OfFids call.conn (Versioned msize) ∷ done) shared.new }
+        ensures shares { (done : List Deed) (msize : Option ℕ) → was_hung done call.conn ≡ false
+            → Shares done shared.old
+            → Shares (given_up_by (OfFids call.conn (Versioned msize)) done) shared.new }
         ensures hung { is_hung self.new.phase ≡ false }
         ensures ring { shared.new.ring ≡ shared.old.ring }
         ensures room { SameRoom shared.old.mailboxes shared.new.mailboxes }
@@ -112,7 +109,7 @@ impl Connection {
         self.phase = phase;
         self.fids = Fids::new(call.alloc);
         self.texts = BTreeMap::new(call.alloc);
-        shared.version(call.conn);
+        shared.version(call.alloc, call.conn);
     }
 
     /// Attach: the fid names the root.
@@ -145,7 +142,7 @@ impl Connection {
     }
 
     /// Walk: the new fid names the file to which the names lead, where all of them are there.
-    #[tactic(auto, unfolding(agent_history::specs::Requests::refusal, agent_history::specs::Requests::after, agent_history::specs::Requests::reply_of), using(crate::proofs::ShareLemmas::shares_walking))]
+    #[tactic(auto, unfolding(agent_history::specs::Requests::refusal, agent_history::specs::Requests::after, agent_history::specs::Requests::reply_of), using(agent_shared::proofs::FidLemmas::shares_walking))]
     pub fn walk(&mut self, call: Call, fid: u32, newfid: u32, wname: &TextList) -> Tried
         requires { length wname.now ≤ 16 }
         ensures { (s : Shared)
@@ -189,9 +186,6 @@ impl Connection {
         if shared.is_crowded(node) {
             return Err(Refused::For(Refusal::TooManyConversations));
         }
-        if opens_later(node) {
-            return Err(Refused::For(Refusal::NotServed));
-        }
         let mut reply = Bytes::with_capacity(call.alloc, USUAL_REPLY)?;
         put_open(call.tag, &node.qid(), 0, &mut reply)?;
         shared.open(call.alloc, node, call.conn, fid)?;
@@ -213,18 +207,29 @@ impl Connection {
     fn give_up(&mut self, call: Call, shared: &mut Shared, fid: u32)
         requires { IsSome (state_at self.old.fids fid) }
         ensures keeps { (done : List Deed) → Keeps done call.conn self.old
-            → Keeps (OfFids call.conn (Clunked fid) ∷ done) call.conn self.new }
+            → Keeps (given_up_by (OfFids call.conn (Clunked fid)) done) call.conn self.new }
         ensures shares { (done : List Deed) → was_hung done call.conn ≡ false
-            → Shares done shared.old → Shares (OfFids call.conn (Clunked fid) ∷ done) shared.new }
+            → Shares done shared.old
+            → Shares (given_up_by (OfFids call.conn (Clunked fid)) done) shared.new }
         ensures phase { self.new.phase ≡ self.old.phase }
         ensures ring { shared.new.ring ≡ shared.old.ring }
         ensures room { SameRoom shared.old.mailboxes shared.new.mailboxes }
+    {
+        self.drop_fid(fid);
+        shared.clunk(call.alloc, call.conn, fid);
+    }
+
+    // Nothing is kept of a fid that was held.
+    fn drop_fid(&mut self, fid: u32)
+        requires { IsSome (state_at self.old.fids fid) }
+        ensures keeps { (done : List Deed) (conn : ℕ) → Keeps done conn self.old
+            → Keeps (OfFids conn (Clunked fid) ∷ done) conn self.new }
+        ensures phase { self.new.phase ≡ self.old.phase }
     {
         self.texts.remove(&fid);
         if self.fids.clunk(fid).is_err() {
             unreachable!()
         }
-        shared.clunk(call.conn, fid);
     }
 
     /// Clunk: the fid is given up.

@@ -12,18 +12,23 @@ ghost use Rattle.agent_history.specs.Deeds.{Deed, OfFids, Browsed, Listed, keys_
 ghost use Rattle.agent_history.specs.Requests.{ctl_text, effective, lets_read, lets_write, piece, written};
 ghost use Rattle.mailboxes.specs.Kept.{reply_bytes};
 ghost use Rattle.mailboxes.specs.Deliveries.{under};
+ghost use Rattle.ctl_lines.specs.Switches.{switches};
+ghost use Rattle.logged_talks.specs.Logging.{Logs};
 ghost use Rattle.agent_requests.specs.Connections.{Keeps, SameKept, Says, Told, Tried};
+ghost use Rattle.agent_requests.specs.LineRequests.{switching};
 
 use crate::call::Call;
 use crate::connection::Connection;
-use crate::fid_requests::{USUAL_REPLY, opens_later};
+use crate::fid_requests::USUAL_REPLY;
+use crate::line_requests::{kind_at, read_line, write_answer};
 use crate::msize::Msize;
 use crate::refused::{Refusal, Refused, Tried};
-use crate::rpc_requests::{read_rpc, write_rpc};
-use crate::shared::{Shared, is_rpc};
+use crate::rpc_requests::{read_rpc, write_reply, write_rpc};
+use agent_shared::{Shared, is_rpc};
 use file_tree::{Node, reads, writes};
+use logged_talks::LoggedTalks;
 use mailboxes::Reply;
-use nine_codec::{put_read, put_write};
+use nine_codec::put_read;
 use wire_base::{Bytes, NoMemory};
 
 // The bytes of a reply to a read that aren't content.
@@ -147,8 +152,8 @@ impl Connection {
         }
     }
 
-    /// Read: of a directory, of ctl, of the list of protocols, or of rpc.
-    #[tactic(auto, unfolding(agent_history::specs::Requests::refusal, agent_history::specs::Requests::after, agent_history::specs::Requests::reply_of, file_tree::specs::Calls::fid_fault), using(crate::proofs::ShareLemmas::shares_listing))]
+    /// Read: of a directory, of ctl, of the list of protocols, of rpc, or of a file of lines.
+    #[tactic(auto, unfolding(agent_history::specs::Requests::refusal, agent_history::specs::Requests::after, agent_history::specs::Requests::reply_of, file_tree::specs::Calls::fid_fault), using(agent_shared::proofs::FidLemmas::shares_listing))]
     pub fn read(
         &mut self,
         call: Call,
@@ -173,11 +178,14 @@ impl Connection {
             Node::Ctl => Ok(Some(self.read_ctl(call, shared, fid, offset, most)?)),
             Node::Proto => Ok(Some(read_reply(call, piece(PROTOCOLS, offset, most))?)),
             Node::Rpc => read_rpc(call, shared, fid, most),
-            Node::Confirm | Node::Needkey | Node::Log => Err(Refused::For(Refusal::NotServed)),
+            Node::Confirm | Node::Needkey | Node::Log => {
+                read_line(call, shared, state.node, fid, most)
+            }
         }
     }
 
-    /// Write: of ctl, whose lines are carried out up to the first that is refused, or of rpc, which gets a request.
+    /// Write: of ctl, whose lines are carried out up to the first that is refused, of rpc, which gets a request, or of a
+    /// file of questions, one of which is replied to.
     #[tactic(auto, unfolding(agent_history::specs::Requests::refusal, agent_history::specs::Requests::after, agent_history::specs::Requests::reply_of, file_tree::specs::Calls::fid_fault))]
     pub fn write(&self, call: Call, shared: &mut Shared, fid: u32, content: &[u8]) -> Tried
         requires small { length content.now ≤ 8216 }
@@ -196,8 +204,8 @@ impl Connection {
         if is_rpc(state.node) {
             return write_rpc(call, shared, fid, content);
         }
-        if opens_later(state.node) {
-            return Err(Refused::For(Refusal::NotServed));
+        if let Some(kind) = kind_at(state.node) {
+            return write_answer(call, shared, kind, content);
         }
         Ok(Some(write_lines(call, shared, content)?))
     }
@@ -214,14 +222,27 @@ fn write_lines(call: Call, shared: &mut Shared, content: &[u8]) -> Result<Reply,
         ≡ after_lines shared.old.ring (lines_of content.now)) }
     ensures holders { shared.new.holders ≡ shared.old.holders }
     ensures mailboxes { shared.new.mailboxes ≡ shared.old.mailboxes }
-    ensures talks { shared.new.talks ≡ shared.old.talks }
+    ensures talks { OnOk result ((done : List Deed) (conn : ℕ) → Logs done shared.old.talks
+        → Logs (switching (switches shared.old.ring (lines_of content.now)) conn done)
+        shared.new.talks) }
     ensures few { shared.new.ring.ever_added ≤ shared.old.ring.ever_added + 8216 }
     ensures err { OnErr result (shared.new ≡ shared.old) }
 {
-    let mut reply = Bytes::with_capacity(call.alloc, USUAL_REPLY)?;
-    put_write(call.tag, content.len() as u32, &mut reply)?;
-    match shared.ring.write(call.alloc, content)? {
-        None => Ok(Reply::Spelled(reply)),
+    let reply = write_reply(call, content)?;
+    let written = shared.ring.write(call.alloc, content)?;
+    switch(&mut shared.talks, written.switches);
+    match written.fault {
+        None => Ok(reply),
         Some(fault) => Ok(Refusal::OfLine(fault).reply(call.tag)),
+    }
+}
+
+// The further lines of the log are switched, where lines of ctl do that an odd number of times.
+fn switch(talks: &mut LoggedTalks, switches: bool)
+    ensures { (done : List Deed) (conn : ℕ) → Logs done talks.old
+        → Logs (switching switches conn done) talks.new }
+{
+    if switches {
+        talks.switch();
     }
 }

@@ -3,15 +3,13 @@
 
 mod call;
 mod connection;
-mod deliver;
 mod fid_requests;
 mod file_requests;
+mod line_requests;
 mod msize;
 mod refused;
 mod rpc_requests;
 mod serve;
-mod shared;
 
 pub use call::Call;
 pub use connection::{Connection, Phase};
-pub use shared::{Holders, Shared};

@@ -29,8 +29,6 @@ pub enum Refusal {
     ExclusiveUse,
     /// As many conversations stand as may.
     TooManyConversations,
-    /// It isn't served yet.
-    NotServed,
     /// The conversation has a request that wasn't answered, or a read waits for its answer.
     RpcBusy,
     /// The conversation has no request, so that there is nothing to read.
@@ -41,7 +39,11 @@ pub enum Refusal {
     RpcTooLong,
     /// What is written is no request of rpc.
     UnknownRpcVerb,
-    /// The answer doesn't fit the read, and is kept.
+    /// What is written to confirm or needkey is no reply.
+    BadReply,
+    /// No conversation waits for the reply to the question of a tag.
+    UnknownTag,
+    /// The line doesn't fit the read, and is kept.
     ReadTooSmall,
     /// It isn't allowed on any file.
     PermissionDenied,
@@ -73,12 +75,13 @@ impl Refusal {
             Refusal::BadAfid => b"bad afid",
             Refusal::ExclusiveUse => b"exclusive use file already open",
             Refusal::TooManyConversations => b"too many conversations",
-            Refusal::NotServed => b"not served",
             Refusal::RpcBusy => b"rpc busy",
             Refusal::NoRpcPending => b"no rpc pending",
             Refusal::TooManyWaiting => b"too many waiting",
             Refusal::RpcTooLong => b"rpc too long",
             Refusal::UnknownRpcVerb => b"unknown rpc verb",
+            Refusal::BadReply => b"bad reply",
+            Refusal::UnknownTag => b"unknown tag",
             Refusal::ReadTooSmall => b"read too small",
             Refusal::PermissionDenied => b"permission denied",
             Refusal::NotOpen => b"not open",

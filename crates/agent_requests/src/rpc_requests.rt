@@ -4,20 +4,18 @@ ghost use Rattle.rpc_file.specs.Requests.{meant};
 ghost use Rattle.agent_history.specs.Deeds.{Deed, was_hung};
 ghost use Rattle.agent_history.specs.Requests.{has_answer, phase_of, stored, waits_enough};
 ghost use Rattle.agent_history.specs.Conversations.{stands};
-ghost use Rattle.kept_calls.specs.Keeps.{Converses, SameConverses};
 ghost use Rattle.nine_messages.specs.declared.message.RBody.TheVariants as r;
 ghost use Rattle.nine_messages.specs.Messages.{r_frame};
-ghost use Rattle.mailboxes.specs.Deliveries.{SameRoom, under};
+ghost use Rattle.mailboxes.specs.Deliveries.{Delivers, SameRoom, under};
 ghost use Rattle.mailboxes.specs.Kept.{reply_bytes};
-ghost use Rattle.agent_requests.specs.Connections.{SameShared, Shares, asked};
+ghost use Rattle.agent_shared.specs.Sharing.{SameShared, Shares};
+ghost use Rattle.agent_requests.specs.Connections.{asked};
 ghost use Rattle.agent_requests.specs.RpcRequests.{Answered, IsOpen, ReadTold, WriteTold, Requests};
 
 use crate::call::Call;
-use crate::deliver::spell_told;
 use crate::fid_requests::USUAL_REPLY;
 use crate::refused::{Refusal, Refused, Tried};
-use crate::shared::Shared;
-use kept_calls::KeepingTalks;
+use agent_shared::{Shared, spell_told};
 use mailboxes::{Read, Reply};
 use nine_codec::put_write;
 use rpc_file::{Request, RpcFault, parse_request};
@@ -39,13 +37,19 @@ pub(crate) fn read_rpc(call: Call, shared: &mut Shared, fid: u32, count: u32) ->
     if shared.mailboxes.has_fid(call.conn, fid) {
         return Err(Refused::For(Refusal::RpcBusy));
     }
-    if shared.talks.talks.is_resting_at(call.conn, fid) {
+    if shared
+        .talks
+        .asking
+        .talks
+        .talks
+        .is_resting_at(call.conn, fid)
+    {
         return Err(Refused::For(Refusal::NoRpcPending));
     }
     if is_crowded(shared, call.conn, fid) {
         return Err(Refused::For(Refusal::TooManyWaiting));
     }
-    let Some(conv) = shared.talks.talks.conv_at(call.conn, fid) else {
+    let Some(conv) = shared.talks.asking.talks.talks.conv_at(call.conn, fid) else {
         return Err(Refused::For(Refusal::NoRpcPending));
     };
     let read = Read {
@@ -61,9 +65,17 @@ fn is_crowded(shared: &Shared, conn: u64, fid: u32) -> bool
     ensures { (done : List Deed) → was_hung done conn ≡ false → Shares done shared.now
         → result ≡ (not (has_answer (phase_of done conn fid)) && waits_enough done conn) }
 {
-    if shared.talks.talks.has_answer_at(conn, fid) {
+    if shared.talks.asking.talks.talks.has_answer_at(conn, fid) {
         return false;
     }
+    waits_enough(shared, conn)
+}
+
+/// As many reads of the connection wait as may.
+pub(crate) fn waits_enough(shared: &Shared, conn: u64) -> bool
+    ensures { (done : List Deed) → was_hung done conn ≡ false
+        → Delivers done shared.now.mailboxes → result ≡ waits_enough done conn }
+{
     shared.mailboxes.count_waits(conn) >= MOST_WAITS
 }
 
@@ -83,12 +95,8 @@ fn read_talk(
     ensures same { OnErr result (SameShared shared.old shared.new) }
 {
     shared.mailboxes.reserve_wait(call.alloc, call.conn)?;
-    let asking = shared.holders.asking();
-    let keys = shared.ring.keys();
-    shared
-        .talks
-        .carry_out(call.alloc, conv, call.word, keys, asking)?;
-    match shared.talks.tell(conv, u32::from(read.count)) {
+    shared.carry_out(call.alloc, conv, call.word)?;
+    match shared.tell(conv, u32::from(read.count)) {
         Some(told) => Ok(Some(spell_told(call.alloc, call.tag, read.count, told))),
         None => {
             shared.mailboxes.wait(call.conn, read);
@@ -106,18 +114,24 @@ pub(crate) fn write_rpc(call: Call, shared: &mut Shared, fid: u32, content: &[u8
     ensures mail { shared.new.mailboxes ≡ shared.old.mailboxes }
     ensures same { OnErr result (SameShared shared.old shared.new) }
 {
-    if !shared.talks.talks.is_resting_at(call.conn, fid) {
+    if !shared
+        .talks
+        .asking
+        .talks
+        .talks
+        .is_resting_at(call.conn, fid)
+    {
         return Err(Refused::For(Refusal::RpcBusy));
     }
     let request = read_request(content)?;
     let reply = write_reply(call, content)?;
-    let conv = shared.talks.talks.conv_at(call.conn, fid);
-    store_at(&mut shared.talks, call.alloc, conv, request)?;
+    let conv = shared.talks.asking.talks.talks.conv_at(call.conn, fid);
+    store_at(shared, call.alloc, conv, request)?;
     Ok(Some(reply))
 }
 
-// The reply that tells how many bytes were written.
-fn write_reply(call: Call, content: &[u8]) -> Result<Reply, NoMemory>
+/// The reply that tells how many bytes were written.
+pub(crate) fn write_reply(call: Call, content: &[u8]) -> Result<Reply, NoMemory>
     requires { length content.now ≤ 8216 }
     ensures { IfOk result (λ reply. reply_bytes reply
         ≡ r_frame (under call.tag (r.Write (length content.now)))) }
@@ -129,17 +143,19 @@ fn write_reply(call: Call, content: &[u8]) -> Result<Reply, NoMemory>
 
 // A request is written on a conversation, where one is meant.
 fn store_at(
-    talks: &mut KeepingTalks,
+    shared: &mut Shared,
     alloc: Global,
     conv: Option<u64>,
     request: Request<'_>,
 ) -> Result<(), NoMemory>
-    ensures stored { OnOk result ((done : List Deed) → IsOpen done conv → Converses done talks.old
-        → Converses (stored conv (Ok (meant request.entry)) done) talks.new) }
-    ensures same { OnErr result (SameConverses talks.old talks.new) }
+    ensures stored { OnOk result ((done : List Deed) → IsOpen done conv → Shares done shared.old
+        → Shares (stored conv (Ok (meant request.entry)) done) shared.new) }
+    ensures ring { shared.new.ring ≡ shared.old.ring }
+    ensures mail { shared.new.mailboxes ≡ shared.old.mailboxes }
+    ensures same { OnErr result (SameShared shared.old shared.new) }
 {
     match conv {
-        Some(conv) => talks.store(alloc, conv, request),
+        Some(conv) => shared.store(alloc, conv, request),
         None => Ok(()),
     }
 }

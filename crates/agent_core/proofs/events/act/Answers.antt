@@ -6,9 +6,9 @@ use Rattle.agent_history.specs.Replies.{swept}
 use Rattle.agent_history.specs.Conversations.{asker, due, resumed}
 use Rattle.agent_history.specs.Histories.{does}
 use Rattle.agent_requests.specs.declared.connection.Connection.{Connection}
-use Rattle.agent_requests.specs.Connections.{Shares}
+use Rattle.agent_shared.specs.Sharing.{Shares}
 use Rattle.agent_core.specs.Events.{Lives, known}
-use Rattle.agent_core.proofs.EventSteps.{handed_live, handed_stand, resumed_live, resumed_stand}
+use Rattle.agent_core.proofs.EventSteps.{handed_stand, resumed_stand}
 use Rattle.agent_core.proofs.events.act.Goals as goal
 
 pub returns-in-TakeAsk-clause-lives : goal.returns-in-TakeAsk-clause-lives
@@ -17,32 +17,28 @@ returns-in-TakeAsk-clause-lives c =
     on_ok_weaker c.take_ask.result (λ shares go done lives. subst (λ (e : Event). Lives (does done e) at c.take_ask.new.shared) (sym c.in-TakeAsk.is) (record {
       shares = shares done lives.shares;
       connections = handed_stand (due done) done at lives.connections;
-      live = handed_live (due done) done lives.live;
     })) c.take_ask.ensures.shares
 
 pub returns-in_ok-hear-in-Answer-clause-lives : goal.returns-in_ok-hear-in-Answer-clause-lives
 returns-in_ok-hear-in-Answer-clause-lives c =
     let at : ℕ → Option Connection = known c.args.connections.now in
     λ go done lives. subst (λ (e : Event). Lives (does done e) at c.hear.new.self) (sym c.in-Answer.is) (record {
-      shares = subst (λ (b : List ℕ). Shares (swept (resumed (asker done c.in-Answer.call) (calls.Heard b) done)) c.hear.new.self) c.as_slice-in-Answer.ensures (c.in_ok-hear-in-Answer.ensures.shares done lives.live lives.shares);
+      shares = subst (λ (b : List ℕ). Shares (swept (resumed (asker done c.in-Answer.call) (calls.Heard b) done)) c.hear.new.self) c.as_slice-in-Answer.ensures (c.in_ok-hear-in-Answer.ensures.shares done lives.shares);
       connections = resumed_stand (asker done c.in-Answer.call) (calls.Heard c.in-Answer.bytes) done at lives.connections;
-      live = resumed_live (asker done c.in-Answer.call) (calls.Heard c.in-Answer.bytes) done lives.live;
     })
 
 pub returns-in-NoAnswer-clause-lives : goal.returns-in-NoAnswer-clause-lives
 returns-in-NoAnswer-clause-lives c =
     let at : ℕ → Option Connection = known c.args.connections.now in
     λ go done lives. subst (λ (e : Event). Lives (does done e) at c.hear_nothing.new.self) (sym c.in-NoAnswer.is) (record {
-      shares = c.hear_nothing.ensures.shares done lives.live lives.shares;
+      shares = c.hear_nothing.ensures.shares done lives.shares;
       connections = resumed_stand (asker done c.in-NoAnswer.call) (calls.Unheard) done at lives.connections;
-      live = resumed_live (asker done c.in-NoAnswer.call) (calls.Unheard) done lives.live;
     })
 
 pub returns-in-NoRoom-clause-lives : goal.returns-in-NoRoom-clause-lives
 returns-in-NoRoom-clause-lives c =
     let at : ℕ → Option Connection = known c.args.connections.now in
     λ go done lives. subst (λ (e : Event). Lives (does done e) at c.lack_room.new.self) (sym c.in-NoRoom.is) (record {
-      shares = c.lack_room.ensures.shares done lives.live lives.shares;
+      shares = c.lack_room.ensures.shares done lives.shares;
       connections = resumed_stand (asker done c.in-NoRoom.call) (calls.Roomless) done at lives.connections;
-      live = resumed_live (asker done c.in-NoRoom.call) (calls.Roomless) done lives.live;
     })

@@ -5,7 +5,7 @@ use Rattle.agent_history.specs.declared.event.Event.TheVariants as events
 use Rattle.agent_history.specs.Histories.{does}
 use Rattle.agent_requests.specs.declared.connection.Connection.{Connection}
 use Rattle.agent_core.specs.Events.{Stands}
-use Rattle.agent_core.proofs.EventSteps.{all_stand, here_now, hang_others, hang_live}
+use Rattle.agent_core.proofs.EventSteps.{all_stand, here_now, hang_others}
 use Rattle.agent_core.proofs.events.hang_at.Goals as goal
 
 pub returns-in-Some-clause-lives : goal.returns-in-Some-clause-lives
@@ -17,7 +17,6 @@ returns-in-Some-clause-lives c = λ done lives.
     let after = c.hang.ensures.serves done (record { stands = here; shares = lives.shares }) in
     record {
       shares = after.shares;
-      live = hang_live done a.conn lives.live;
       connections = all_stand done (does done (events.Hang a.conn)) a.conn (λ q. get nat_cmp a.connections.now q) (λ q. get nat_cmp (c.get_mut.follows.lender c.hang.new.connection) q) c.hang.new.connection
           ((writes.3 (rw (← found) refl)).0) after.stands (λ q e s. hang_others done a.conn q _ e s) lives.connections;
     }

@@ -6,7 +6,7 @@ use Rattle.agent_history.specs.declared.event.Event.TheVariants as events
 use Rattle.agent_history.specs.Histories.{does}
 use Rattle.agent_requests.specs.declared.connection.Connection.{Connection}
 use Rattle.agent_core.specs.Events.{Stands, AllStand}
-use Rattle.agent_core.proofs.EventSteps.{all_stand, request_others, request_live}
+use Rattle.agent_core.proofs.EventSteps.{all_stand, request_others}
 use Rattle.agent_core.proofs.events.request_at.Goals as goal
 
 pub returns-in-Some-clause-lives : goal.returns-in-Some-clause-lives
@@ -20,7 +20,6 @@ returns-in-Some-clause-lives c =
     let after = h done (record { stands = here; shares = lives.shares }) in
     record {
       shares = after.shares;
-      live = request_live done a.conn a.frame.now a.word lives.live;
       connections = all_stand done (does done (events.Request a.conn a.frame.now a.word)) a.conn (λ q. get nat_cmp a.connections.now q) (λ q. get nat_cmp (c.get_mut.follows.lender c.request.new.connection) q) c.request.new.connection
           ((writes.3 (rw (← found) refl)).0) after.stands (λ q e s. request_others done a.conn a.frame.now a.word q _ e s) stands;
     })
@@ -37,7 +36,6 @@ returns-clause-lives c =
     let after = h done (record { stands = here; shares = lives.shares }) in
     record {
       shares = after.shares;
-      live = request_live done a.conn a.frame.now a.word lives.live;
       connections = all_stand done (does done (events.Request a.conn a.frame.now a.word)) a.conn (λ q. get nat_cmp c.add.new.connections q) (λ q. get nat_cmp (c.get_mut-2.follows.lender c.request-2.new.connection) q) c.request-2.new.connection
           ((writes.3 (rw (← found) refl)).0) after.stands (λ q e s. request_others done a.conn a.frame.now a.word q _ e s) stands;
     })

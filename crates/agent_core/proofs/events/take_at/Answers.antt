@@ -6,7 +6,7 @@ use Rattle.agent_history.specs.declared.event.Event.TheVariants as events
 use Rattle.agent_history.specs.Histories.{does}
 use Rattle.agent_requests.specs.declared.connection.Connection.{Connection}
 use Rattle.agent_core.specs.Events.{Stands, AllStand}
-use Rattle.agent_core.proofs.EventSteps.{all_stand, take_others, take_live}
+use Rattle.agent_core.proofs.EventSteps.{all_stand, take_others}
 use Rattle.agent_core.proofs.events.take_at.Goals as goal
 
 pub returns-in-Some-clause-lives : goal.returns-in-Some-clause-lives
@@ -20,7 +20,6 @@ returns-in-Some-clause-lives c =
     let after = h done (record { stands = here; shares = lives.shares }) in
     record {
       shares = after.shares;
-      live = take_live done a.conn lives.live;
       connections = all_stand done (does done (events.Take a.conn)) a.conn (λ q. get nat_cmp a.connections.now q) (λ q. get nat_cmp (c.get_mut.follows.lender c.take.new.connection) q) c.take.new.connection
           ((writes.3 (rw (← found) refl)).0) after.stands (λ q e s. take_others done a.conn q _ e s) stands;
     })
@@ -37,7 +36,6 @@ returns-clause-lives c =
     let after = h done (record { stands = here; shares = lives.shares }) in
     record {
       shares = after.shares;
-      live = take_live done a.conn lives.live;
       connections = all_stand done (does done (events.Take a.conn)) a.conn (λ q. get nat_cmp c.add.new.connections q) (λ q. get nat_cmp (c.get_mut-2.follows.lender c.take-2.new.connection) q) c.take-2.new.connection
           ((writes.3 (rw (← found) refl)).0) after.stands (λ q e s. take_others done a.conn q _ e s) stands;
     })

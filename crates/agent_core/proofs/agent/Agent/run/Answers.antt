@@ -1,10 +1,10 @@
-use Rattle.std.proofs.Common.{◌∙◌, sym, subst, List, arith}
+use Rattle.std.proofs.Common.{◌∙◌, refl, sym, subst, List, arith}
 use Rattle.std.specs.Ordering.{nat_cmp}
 use Rattle.std.specs.BTreeMap.{get}
 use Rattle.agent_history.specs.Deeds.{Deed}
 use Rattle.agent_history.specs.Histories.{deeds}
 use Rattle.agent_core.specs.Events.{Lives}
-use Rattle.agent_core.proofs.AgentSteps.{goes_on, runs_still}
+use Rattle.agent_core.proofs.AgentSteps.{goes_on, runs_same, runs_still}
 use Rattle.agent_core.proofs.agent.Agent.run.Goals as goal
 
 pub returns-else-events-eq-MOST_EVENTS-clause-stands : goal.returns-else-events-eq-MOST_EVENTS-clause-stands
@@ -17,3 +17,6 @@ returns-else-events-eq-MOST_EVENTS-clause-stands c = λ H runs.
       events = omega (arith, runs.events);
       lives = subst (λ (done : List Deed). Lives done (λ q. get nat_cmp c.act.new.connections q) c.act.new.shared) (sym next) (c.in-Ok.ensures.lives no_stop (deeds H) runs.lives);
     }
+
+pub returns-in-Err-clause-err_stands : goal.returns-in-Err-clause-err_stands
+returns-in-Err-clause-err_stands c = λ H runs. runs_same H c.args.running _ runs (record { events = refl; shared = c.in-Err.ensures.err_shared; connections = c.in-Err.ensures.err })

@@ -1,0 +1,9 @@
+pub mod OwnDeeds
+pub mod ShareLemmas
+pub mod FidLemmas
+pub mod LineLemmas
+pub mod ServeSteps
+pub mod DeliverSteps
+pub mod MeetSteps
+pub mod AskerLemmas
+pub mod EndSteps
