@@ -1,7 +1,10 @@
 // Sessions with two agents, event by event, beside what was written down elsewhere of each.
 mod houses;
+mod log;
 mod logins;
 mod moves;
+mod pauses;
+mod prompts;
 mod requests;
 mod rows;
 mod waits;
@@ -52,4 +55,19 @@ fn reads_that_wait(rt: HostRuntime) -> Result<(), Fail> {
 #[test]
 fn as_many_as_there_may_be(rt: HostRuntime) -> Result<(), Fail> {
     hold(&rt, rt.alloc(), houses::COUNT, houses::STEPS)
+}
+
+#[test]
+fn users_are_asked(rt: HostRuntime) -> Result<(), Fail> {
+    hold(&rt, rt.alloc(), prompts::COUNT, prompts::STEPS)
+}
+
+#[test]
+fn the_log_tells(rt: HostRuntime) -> Result<(), Fail> {
+    hold(&rt, rt.alloc(), log::COUNT, log::STEPS)
+}
+
+#[test]
+fn every_event_at_every_pause(rt: HostRuntime) -> Result<(), Fail> {
+    hold(&rt, rt.alloc(), pauses::COUNT, pauses::STEPS)
 }
