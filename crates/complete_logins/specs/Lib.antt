@@ -1,0 +1,4 @@
+pub mod Calls
+pub mod Logins
+pub mod Choices
+pub mod MailLogins
