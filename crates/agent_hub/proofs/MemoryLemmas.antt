@@ -62,7 +62,7 @@ none_due (d ∷ more) (Some q) e = elim (cases_Bool (nat_lt d.behind q.call)) [
 ask_finds_none : (H : History) (r : Running) → RunsAfter H r → takes_memory H TakeAsk ≡ false → TakesNoneIn TakeAsk (Runs r)
 ask_finds_none H r h none =
     let free : is_due (due (deeds H)) ≡ false = rw h.running at none in
-    ap (λ (qs : List Question). length (filter (λ q. not q.handed) qs)) h.lives.shares.talks.speak.questions ∙ no_question (questions (deeds H)) (none_due (drops (deeds H)) (next_question (deeds H)) free)
+    ap (λ (qs : List Question). length (filter (λ q. not q.handed) qs)) h.lives.shares.talks.tells.talks.speak.questions ∙ no_question (questions (deeds H)) (none_due (drops (deeds H)) (next_question (deeds H)) free)
 
 takes_none_in : (H : History) (event : Event) (state : State) → StandsBy H state → takes_memory H event ≡ false → TakesNoneIn event state
 takes_none_in H event Stopped h none = tt

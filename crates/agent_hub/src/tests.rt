@@ -1,5 +1,5 @@
 // The hub on objects in memory and in threads.
-ghost use Rattle.std.specs.Prelude.{IfOk};
+ghost use Rattle.std.specs.Prelude.{◌<◌, ◌≤◌, length, IfOk};
 ghost use Rattle.nine_messages.specs.Decoding.{IsFrame};
 ghost use Rattle.agent_core.specs.Events.{IsEvent};
 ghost use Rattle.agent_hub.specs.Submits.{IsSeatOf};
@@ -12,10 +12,11 @@ use sessions::{ADD_KEY, AGREED, BAD_SIZE, KEY_ADDED, KEYS_READ, LOG_IN, READ_KEY
 use std::alloc::Global;
 use std::process::Abort;
 use std::sync::Wait;
+use std::sync::atomic::{AtomicU64, Ordering};
 use std::test::Fail;
 use std::thread::{Threads, join};
 use wire_base::{Bytes, get_u32};
-use wire_streams::{Made, MemDialer, MemSink, MemSource, MemWords};
+use wire_streams::{Made, MemDialer, MemSink, MemSource, MemWords, Put, Sink, SteadySink};
 
 /// As many words as these tests draw.
 const MANY: usize = 16;
@@ -224,6 +225,103 @@ fn inputs_end_and_are_hung_up(rt: HostRuntime) -> Result<(), Fail> {
     let seat = ask_all(&rt, alloc, &hub, seat, 5, READ_KEYS)?;
     let (_seat, replies) = take_all(&rt, alloc, &hub, seat, 5, 5)?;
     assert_eq!(rt; replies.as_slice(), KEYS_READ);
+    Ok(())
+}
+
+/// A sink that shows other threads how many bytes it took.
+#[derive(Drop)]
+struct Watched<'a> {
+    inner: SteadySink,
+    seen: &'a AtomicU64,
+}
+
+impl<'a> Sink for Watched<'a> {
+    ghost use Rattle.wire_streams.specs.Steady.{held_bytes};
+    ghost use Rattle.wire_streams.specs.Causes.{CountsOutcome};
+    ghost use Rattle.wire_streams.specs.Streams.{Writes, write_failed};
+
+    ghost holds = { λ sink. held_bytes sink.inner };
+
+    ghost faults = { λ _. 0 };
+
+    fn write(&mut self, piece: &[u8]) -> Put
+        requires { 0 < length piece.now }
+        ensures bytes { Writes (held_bytes self.old.inner) (held_bytes self.new.inner) result
+            piece.now }
+        ensures counted { 0 ≤ 0 }
+        ensures exact { CountsOutcome 0 0 (write_failed result) }
+    {
+        let put = self.inner.write(piece);
+        self.seen.fetch_add(piece.len() as u64, Ordering::SeqCst);
+        self.seen.wake_all();
+        put
+    }
+}
+
+// Waits until so many bytes were seen.
+fn wait_for<R: Wait>(rt: &R, seen: &AtomicU64, count: u64) {
+    for _ in rt.forever() {
+        let now = seen.load(Ordering::SeqCst);
+        if now >= count {
+            return;
+        }
+        seen.park(rt, (now % (1 << 32)) as u32);
+    }
+    unreachable!()
+}
+
+// Writes the replies of a connection into memory.
+fn write_out<R: Wait>(
+    rt: &R,
+    alloc: Global,
+    hub: &Hub,
+    seat: HubSeat,
+    seen: &AtomicU64,
+) -> (OutEnd, SteadySink)
+    requires { IsSeatOf hub.now seat }
+{
+    let mut sink = Watched {
+        inner: SteadySink::new(alloc),
+        seen,
+    };
+    let (_, end) = serve_out(rt, alloc, hub, seat, 1, &mut sink);
+    (end, sink.inner)
+}
+
+// Asks on connection 1 until its replies were written, and once more; then the agent stops.
+fn ask_and_stop<R: Wait + Abort>(
+    rt: &R,
+    alloc: Global,
+    hub: &Hub,
+    seat: HubSeat,
+    seen: &AtomicU64,
+) -> Result<(), Fail>
+    requires { IsSeatOf hub.now seat }
+{
+    let seat = ask_all(rt, alloc, hub, seat, 1, ADD_KEY)?;
+    wait_for(rt, seen, 109);
+    let seat = ask_all(rt, alloc, hub, seat, 1, VERSION)?;
+    wait_for(rt, seen, 128);
+    submit(rt, alloc, hub, seat, &Event::Stop, StepAnswer::Done, b"")?;
+    Ok(())
+}
+
+#[test]
+fn requests_and_a_stop_wake_the_replies(rt: HostRuntime) -> Result<(), Fail> {
+    let alloc = rt.alloc();
+    let (hub, seat) = new_hub(alloc)?;
+    let (one, other) = hub.split(seat);
+    let seen = AtomicU64::new(0);
+    let ((end, sink), asked) = join(
+        &rt,
+        || write_out(&rt, alloc, &hub, one, &seen),
+        || ask_and_stop(&rt, alloc, &hub, other, &seen),
+    );
+    asked?;
+    assert_eq!(rt; end, OutEnd::Gone);
+    let replies = sink.content().ok_or("untold")?;
+    assert!(rt; replies.starts_with(KEY_ADDED));
+    assert!(rt; replies.ends_with(AGREED));
     Ok(())
 }
 
