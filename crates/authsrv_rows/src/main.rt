@@ -4,7 +4,7 @@
 #![tactic(auto)]
 
 ghost use Rattle.std.specs.Prelude.{◌≡◌, IfOk, true};
-ghost use Rattle.factotum_program.specs.Statuses.{is_printable};
+ghost use Rattle.authsrv_program.specs.Statuses.{is_printable};
 
 use anyhow::bail;
 use factotum_program::{Status, print_status, run_command};

@@ -6,7 +6,7 @@
 ghost use Rattle.std.specs.Prelude.{◌≡◌, IfErr, IfOk, true};
 ghost use Rattle.std.specs.Arc.{arc_value};
 ghost use Rattle.agent_hub.specs.Submits.{IsSeatOf};
-ghost use Rattle.factotum_program.specs.Statuses.{is_printable};
+ghost use Rattle.authsrv_program.specs.Statuses.{is_printable};
 ghost use Rattle.serve_program.specs.Words.{IsWithin};
 
 use agent_core::Agent;

@@ -4,8 +4,8 @@ use Rattle.std.specs.Prelude.{◌⊎◌}
 use Rattle.nine_frames.specs.Streams.{IsFrames}
 use Rattle.nine_frames.proofs.StreamLaws.{no_bad_size}
 use Rattle.nine_frames.proofs.InputLaws.{front_of, all_read}
-use Rattle.factotum_program.specs.declared.status.Status.{Status}
-use Rattle.factotum_program.specs.declared.status.Status.TheVariants.{Fine, Usage, ReadFault, WriteFault, WordFault, BadFrame, Torn, BadTables, AsEnded, NoMemory, Flood}
+use Rattle.authsrv_program.specs.declared.status.Status.{Status}
+use Rattle.authsrv_program.specs.declared.status.Status.TheVariants.{Fine, Usage, ReadFault, WriteFault, WordFault, BadFrame, Torn, BadTables, AsEnded, NoMemory, Flood}
 use Rattle.factotum_program.specs.Pipe.{most_frame}
 use Rattle.factotum_program.specs.Sights.{Sight}
 use Rattle.factotum_program.specs.Commands.{most_input, MeetsBadFrame, EndsInside, EndsSo, Floods}

@@ -5,8 +5,5 @@ pub mod TurnLemmas
 pub mod PartLemmas
 pub mod PipeLemmas
 pub mod CommandLemmas
-pub mod ClapLemmas
-pub mod WordLemmas
 pub mod AuthWords
-pub mod ServeLemmas
 pub mod CommandWords

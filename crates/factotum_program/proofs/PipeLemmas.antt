@@ -14,8 +14,8 @@ use Rattle.auth_server.specs.Sessions.{DrawsAll}
 use Rattle.agent_history.specs.Histories.{History}
 use Rattle.agent_core.specs.declared.agent.Agent.{Agent}
 use Rattle.agent_core.specs.Agents.{StandsFor}
-use Rattle.factotum_program.specs.declared.status.Status.{Status}
-use Rattle.factotum_program.specs.declared.status.Status.TheVariants.{Fine, Usage, ReadFault, WriteFault, WordFault, BadFrame, Torn, BadTables, AsEnded, NoMemory, Flood}
+use Rattle.authsrv_program.specs.declared.status.Status.{Status}
+use Rattle.authsrv_program.specs.declared.status.Status.TheVariants.{Fine, Usage, ReadFault, WriteFault, WordFault, BadFrame, Torn, BadTables, AsEnded, NoMemory, Flood}
 use Rattle.factotum_program.specs.declared.pipe.Session.{Session}
 use Rattle.factotum_program.specs.Pipe.{Turn, after_turn, after_turns, frames_of, most_frame, replies_text, text_of, turn_of}
 use Rattle.factotum_program.specs.Sights.{GoesPart, Sight, sight}

@@ -1,11 +1,8 @@
 pub mod Pipe
 pub mod Sights
-pub mod Statuses
 pub mod Commands
 pub mod Gathers
 pub mod Asks
 pub mod Sessions
 pub mod Words
-pub mod Serving
-pub mod Tabling
 pub mod Reading

@@ -8,8 +8,8 @@ use Rattle.nine_frames.specs.declared.framer.Next.{Next}
 use Rattle.nine_frames.specs.declared.framer.Next.TheVariants.{Whole, NotYet}
 use Rattle.agent_core.specs.declared.agent.Agent.{Agent}
 use Rattle.agent_core.specs.Agents.{StandsFor}
-use Rattle.factotum_program.specs.declared.status.Status.{Status}
-use Rattle.factotum_program.specs.declared.status.Status.TheVariants.{NoMemory, WordFault, WriteFault, BadFrame}
+use Rattle.authsrv_program.specs.declared.status.Status.{Status}
+use Rattle.authsrv_program.specs.declared.status.Status.TheVariants.{NoMemory, WordFault, WriteFault, BadFrame}
 use Rattle.factotum_program.specs.declared.pipe.Session.{Session}
 use Rattle.factotum_program.specs.Pipe.{Turn, after_turns, all_met, frames_of, most_frame, replies_text}
 use Rattle.factotum_program.specs.Sights.{Goes, GoesPart, Sight}

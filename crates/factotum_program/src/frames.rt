@@ -20,8 +20,8 @@ ghost use Rattle.factotum_program.specs.declared.frames.TheConstants.{MOST_GATHE
 ghost use Rattle.factotum_program.specs.Sessions.{next_of, HasNoNext, Handed, AllHanded, StopsAt, IsCut};
 
 use crate::asks::ask_all;
-use crate::status::Status;
 use agent_core::{Agent, Event};
+use authsrv_program::Status;
 use nine_frames::{Framer, Next};
 use std::alloc::Global;
 use wire_base::{Bytes, NoMemory};

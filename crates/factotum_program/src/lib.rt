@@ -3,17 +3,13 @@
 #![tactic(auto)]
 
 mod asks;
-mod authsrv;
-#[cfg(test)]
-mod authsrv_tests;
 mod command;
 mod frames;
 mod pipe;
-mod status;
 #[cfg(test)]
 mod tests;
 mod words;
 
+pub use authsrv_program::{AuthsrvWords, Status, print_status};
 pub use command::run_command;
-pub use status::{Status, print_status};
-pub use words::{AuthsrvWords, Task, read_words};
+pub use words::{Task, read_words};

@@ -8,8 +8,8 @@ ghost use Rattle.factotum_program.specs.Sights.{Sight, sight};
 ghost use Rattle.factotum_program.specs.Sessions.{AllHanded, Piped, StopsAt, taken_by};
 
 use crate::frames::{CONNECTION, answer_frames};
-use crate::status::Status;
 use agent_core::{Agent, Event};
+use authsrv_program::Status;
 use nine_frames::Framer;
 use std::alloc::Global;
 use wire_base::{Bytes, NoMemory};

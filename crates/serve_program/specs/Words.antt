@@ -1,7 +1,7 @@
 -- The words of the program's command line, as lists of bytes: the command's name, and its options with their values.
 use Rattle.std.specs.Prelude.{ℕ, ◌<◌, length, List, [], ◌∷◌, Bool, ◌&&◌, codes, if◌then◌else◌, Option, Some, None}
 use Rattle.std.specs.Str.{bytes_eq}
-use Rattle.factotum_program.specs.Words.{is_value}
+use Rattle.authsrv_program.specs.Words.{is_value}
 use Rattle.serve_program.specs.declared.words.ServeWords.{ServeWords}
 
 -- this option stands here, with a value

@@ -1,6 +1,6 @@
 // The words of the program's command line.
 ghost use Rattle.std.specs.Prelude.{◌≡◌, IfSome};
-ghost use Rattle.factotum_program.specs.Words.{is_value};
+ghost use Rattle.authsrv_program.specs.Words.{is_value};
 ghost use Rattle.serve_program.specs.Words.{AreWithin, gives, serve_words, two_options};
 
 use wire_base::Text;

@@ -1,7 +1,7 @@
 use Rattle.std.proofs.Common.{◌≡◌, ◌⊎◌, inl, inr, true, false, refl}
-use Rattle.factotum_program.specs.Serving.{outside}
+use Rattle.authsrv_program.specs.Serving.{outside}
 use Rattle.factotum_program.proofs.CommandLemmas.{two_left}
-use Rattle.factotum_program.proofs.ServeLemmas.{served_to_end}
+use Rattle.authsrv_program.proofs.ServeLemmas.{served_to_end}
 use Rattle.factotum_program.proofs.CommandWords.{any_printable}
 use Rattle.factotum_program.proofs.command.run_command.Goals as goal
 

@@ -1,12 +1,14 @@
 // The authentication server's command on objects in memory, by hand from authsrv(6) and this project's statuses; the grant
 // is that of an independent script (bench/vectors/authsrv.py).
-use crate::tests::words_of;
-use crate::{Status, run_command};
+use crate::{Status, read_authsrv_words, serve};
 use auth_server::AuthEnd;
 use std::alloc::Global;
 use std::process::Abort;
 use std::test::Fail;
-use wire_streams::{MemDialer, MemSink, MemSource, MemWords};
+use wire_base::{Text, TextList};
+use wire_streams::{MemSink, MemSource, MemWords};
+
+mod statuses;
 
 // The host h asks for a ticket to bootes for eve, and gets it.
 const REQUEST: &[u8; 141] = b"\x01\
@@ -76,6 +78,15 @@ fn drawn(alloc: Global) -> Result<Vec<[u8; 8]>, Fail> {
     Ok(words)
 }
 
+// The words behind the program's name, with a blank between.
+fn words_of(alloc: Global, line: &str) -> Result<TextList, Fail> {
+    let mut words = TextList::new(alloc);
+    for word in line.split_whitespace() {
+        words.push(Text::from_slice(alloc, word.as_bytes())?.ok_or("no text")?)?;
+    }
+    Ok(words)
+}
+
 // An `authsrv` with these tables ends with this status and writes this, where these calls fail.
 fn expect_authsrv(
     rt: &impl Abort,
@@ -88,20 +99,21 @@ fn expect_authsrv(
     written: &[u8],
 ) -> Result<(), Fail> {
     let words = words_of(alloc, "authsrv --keys K --dom x --speaks S")?;
+    let Ok(given) = read_authsrv_words(alloc, words.as_slice()) else {
+        return Err("words".into());
+    };
     let mut keys = MemSource::new(files.keys.to_vec(alloc)?, [failing.keys].to_vec(alloc)?);
     let mut speaks = MemSource::new(files.speaks.to_vec(alloc)?, [failing.speaks].to_vec(alloc)?);
     let mut source = MemSource::new(input.to_vec(alloc)?, [failing.read].to_vec(alloc)?);
     let mut sink = MemSink::new(Vec::new(alloc), [failing.write].to_vec(alloc)?);
     let mut rand = MemWords::new(drawn(alloc)?, [failing.word].to_vec(alloc)?);
-    let mut dial = MemDialer::new(alloc, Vec::new(alloc), Vec::new(alloc));
-    let ended = run_command(
+    let ended = serve(
         alloc,
-        words.as_slice(),
+        given.dom,
         &mut source,
         &mut keys,
         &mut speaks,
         &mut sink,
-        &mut dial,
         &mut rand,
     );
     assert_eq!(rt; ended, status, "{name}");
@@ -364,6 +376,32 @@ fn tables_have_a_limit(rt: HostRuntime) -> Result<(), Fail> {
     ] {
         let files = Files { keys, speaks };
         expect_authsrv(&rt, alloc, name, files, b"", NONE, status, b"")?;
+    }
+    Ok(())
+}
+
+#[test]
+fn words_are_read(rt: HostRuntime) -> Result<(), Fail> {
+    let alloc = rt.alloc();
+    for line in [
+        "authsrv --dom x --keys K --speaks S",
+        "authsrv --speaks S --keys K --dom x",
+    ] {
+        match read_authsrv_words(alloc, words_of(alloc, line)?.as_slice()) {
+            Ok(given) => {
+                assert_eq!(rt; given.dom.as_slice(), b"x".as_slice(), "{line}");
+                assert_eq!(rt; given.keys.as_slice(), b"K".as_slice(), "{line}");
+                assert_eq!(rt; given.speaks.as_slice(), b"S".as_slice(), "{line}");
+            }
+            Err(_) => return Err("no words".into()),
+        }
+    }
+    for line in [
+        "authsrv --dom x --keys K",
+        "authsrv --dom x --keys K --speaks -S",
+    ] {
+        let ended = read_authsrv_words(alloc, words_of(alloc, line)?.as_slice()).err();
+        assert_eq!(rt; ended, Some(Status::Usage), "{line}");
     }
     Ok(())
 }

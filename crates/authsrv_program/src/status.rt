@@ -1,7 +1,7 @@
 // The statuses of a command, their numbers and their texts.
 ghost use Rattle.std.specs.Prelude.{◌≡◌, ◌++◌, IfOk, OnOk, OnErr, string_bytes, true};
-ghost use Rattle.factotum_program.specs.Statuses.{status_number, bad_frame_text, torn_text, flood_text, bad_table_text, unknown_text, ended_text, is_printable, status_text};
-ghost use Rattle.factotum_program.specs.declared.status.Status.TheVariants.{AsEnded, NoMemory};
+ghost use Rattle.authsrv_program.specs.Statuses.{status_number, bad_frame_text, torn_text, flood_text, bad_table_text, unknown_text, ended_text, is_printable, status_text};
+ghost use Rattle.authsrv_program.specs.declared.status.Status.TheVariants.{AsEnded, NoMemory};
 
 use auth_server::AuthEnd;
 use std::alloc::Global;

@@ -1,23 +1,21 @@
 -- What an `authsrv` came to, and what is left where nothing stands in its way.
-use Rattle.std.proofs.Common.{◌≡◌, ◌⊎◌, ◌∙◌, ◌<◌, ◌≤◌, ℕ, List, [], ◌∷◌, ◌++◌, Bool, true, false, length, length-append, Option, Some, None, refl, ap, sym, subst, inl, inr, arith}
+use Rattle.std.proofs.Common.{◌≡◌, ◌⊎◌, ◌∙◌, ◌≤◌, ℕ, List, ◌++◌, true, false, append-nil, length, length-append, Option, Some, None, refl, ap, sym, subst, inl, inr, arith}
 use Rattle.std.specs.Io.KnownBytes.{Consumes, IsAtEnd}
-use Rattle.nine_frames.proofs.InputLaws.{front_of, all_read}
-use Rattle.auth_tables.specs.Keys.{bad_key_line, key_of}
+use Rattle.auth_tables.specs.Keys.{bad_key_line}
 use Rattle.auth_tables.specs.Speaks.{bad_speak_line, may_speak}
 use Rattle.auth_server.specs.Answers.{Knowledge}
-use Rattle.auth_server.specs.Standing.{knowledge}
+use Rattle.auth_server.specs.Standing.{Server, knowledge}
 use Rattle.auth_server.specs.Serving.{EndsSo, IsServable}
 use Rattle.auth_server.proofs.CompleteLaws.{served_whole}
-use Rattle.factotum_program.specs.Commands.{EndsSo as Piped}
-use Rattle.factotum_program.specs.Sights.{Sight}
-use Rattle.factotum_program.specs.Statuses.{is_printable}
+use Rattle.authsrv_program.specs.Statuses.{is_printable}
 use Rattle.auth_server.specs.declared.serve.AuthEnd.{AuthEnd}
 use Rattle.auth_server.specs.declared.serve.AuthEnd.TheVariants as ends
-use Rattle.factotum_program.specs.declared.status.Status.{Status}
-use Rattle.factotum_program.specs.declared.status.Status.TheVariants.{Fine, Usage, ReadFault, WriteFault, WordFault, BadFrame, Torn, BadTables, AsEnded, NoMemory, Flood}
-use Rattle.factotum_program.specs.declared.authsrv.Tables.{Tables}
-use Rattle.factotum_program.specs.Serving.{FloodsTable, IsServableAll, MeetsBadKeys, MeetsBadSpeaks, Outside, ReadsBoth, ReadsTable, Serves, ServesSo, StopsAtKeys, StopsAtSpeaks, StopsAtTables, known_by, most_table}
-use Rattle.factotum_program.specs.Tabling.{HasParsed, HasRead, status_of_end}
+use Rattle.authsrv_program.specs.declared.status.Status.{Status}
+use Rattle.authsrv_program.specs.declared.status.Status.TheVariants.{Fine, Usage, ReadFault, WriteFault, WordFault, BadFrame, Torn, BadTables, AsEnded, NoMemory, Flood}
+use Rattle.authsrv_program.specs.declared.tables.Tables.{Tables}
+use Rattle.authsrv_program.specs.Serving.{FloodsTable, IsServableAll, MeetsBadKeys, MeetsBadSpeaks, Outside, ReadsBoth, ReadsTable, Serves, ServesSo, StopsAtTables, known_by, most_table}
+use Rattle.authsrv_program.specs.Cores.{HasCore, StopsEarly}
+use Rattle.authsrv_program.specs.Tabling.{HasParsed, HasRead, status_of_end}
 
 -- 1 for the two ends that are left, 0 for all others
 abbrev end_number : AuthEnd → ℕ
@@ -34,15 +32,28 @@ same_knowledge dom keys speaks tables p = λ i. record {
   speaks = λ host user. may_speak (p.by_host host i) host user;
 }
 
-pub serves : (dom : List ℕ) (tables : Tables) (end : AuthEnd) (before now : Outside) → HasRead before.keys now.keys before.speaks now.speaks tables
-    → EndsSo (knowledge (record { dom = dom; keys = tables.keys; speaks = tables.speaks })) end before.client now.client → Serves dom end before now
-serves dom tables end before now r e = record {
+pub has_core : (dom : List ℕ) (tables : Tables) (core : Server) (keys_before keys_now speaks_before speaks_now : Option (List ℕ))
+    → HasRead keys_before keys_now speaks_before speaks_now tables → core ≡ record { dom = dom; keys = tables.keys; speaks = tables.speaks }
+    → HasCore dom keys_before keys_now speaks_before speaks_now core
+has_core dom tables core kb kn sb sn r e = record {
+  keys = r.keys;
+  speaks = r.speaks;
+  read_keys = r.read_keys;
+  read_speaks = r.read_speaks;
+  good_keys = r.parsed.good_keys;
+  good_speaks = r.parsed.good_speaks;
+  knows = ap knowledge e ∙ same_knowledge dom r.keys r.speaks tables r.parsed;
+}
+
+pub serves : (dom : List ℕ) (core : Server) (end : AuthEnd) (before now : Outside) → HasCore dom before.keys now.keys before.speaks now.speaks core
+    → EndsSo (knowledge core) end before.client now.client → Serves dom end before now
+serves dom core end before now r e = record {
   keys = r.keys;
   speaks = r.speaks;
   tables = (r.read_keys, r.read_speaks);
-  good_keys = r.parsed.good_keys;
-  good_speaks = r.parsed.good_speaks;
-  ends = subst (λ (known : Knowledge). EndsSo known end before.client now.client) (same_knowledge dom r.keys r.speaks tables r.parsed) e;
+  good_keys = r.good_keys;
+  good_speaks = r.good_speaks;
+  ends = subst (λ (known : Knowledge). EndsSo known end before.client now.client) r.knows e;
 }
 
 pub serves_so : (dom : List ℕ) (end : AuthEnd) (before now : Outside) → Serves dom end before now → ServesSo dom (status_of_end end) before now
@@ -56,7 +67,51 @@ serves_so dom ends.WordFault before now s = s
 serves_so dom ends.Flood before now s = inr (refl, s)
 serves_so dom ends.NoMemory before now s = inr s
 
+-- ---- an end before the client is looked at
+
+pub early_serves : (dom : List ℕ) (status : Status) (before now : Outside) → StopsEarly status before now → ServesSo dom status before now
+early_serves dom Fine before now s = absurd s
+early_serves dom Usage before now s = absurd s
+early_serves dom ReadFault before now s = inl s
+early_serves dom WriteFault before now s = absurd s
+early_serves dom WordFault before now s = absurd s
+early_serves dom (BadFrame at size) before now s = absurd s
+early_serves dom (Torn at) before now s = absurd s
+early_serves dom (BadTables false line) before now s = s
+early_serves dom (BadTables true line) before now s = s
+early_serves dom (AsEnded end) before now s = absurd s
+early_serves dom NoMemory before now s = inl s
+early_serves dom (Flood limit) before now s = inl s
+
+-- is neither of these
+pub early_is_other : (status : Status) (before now : Outside) → StopsEarly status before now → (status ≡ WriteFault → ⊥) × (status ≡ WordFault → ⊥)
+early_is_other status before now s = (λ e. subst (λ (it : Status). StopsEarly it before now) e s, λ e. subst (λ (it : Status). StopsEarly it before now) e s)
+
+-- and has a line
+pub early_printable : (status : Status) (before now : Outside) → StopsEarly status before now → is_printable status ≡ true
+early_printable Fine before now s = refl
+early_printable Usage before now s = refl
+early_printable ReadFault before now s = refl
+early_printable WriteFault before now s = refl
+early_printable WordFault before now s = refl
+early_printable (BadFrame at size) before now s = refl
+early_printable (Torn at) before now s = refl
+early_printable (BadTables speaks line) before now s = refl
+early_printable (AsEnded end) before now s = absurd s
+early_printable NoMemory before now s = refl
+early_printable (Flood limit) before now s = refl
+
 -- ---- what is told leaves two statuses
+
+-- what was read stands in front of what is told
+front_of : (content read : List ℕ) (left : Option (List ℕ)) → Consumes (Some content) left read → (rest : List ℕ) × (content ≡ read ++ rest)
+front_of content read None taken = absurd taken
+front_of content read (Some rest) taken = (rest, taken)
+
+-- and at the end it is that
+all_read : (content read : List ℕ) (left : Option (List ℕ)) → Consumes (Some content) left read → IsAtEnd left → content ≡ read
+all_read content read None taken end = absurd taken
+all_read content read (Some rest) taken end = taken ∙ ap (λ (r : List ℕ). read ++ r) end ∙ append-nil read
 
 -- a table that is told was read as it is
 told_file : (content file : List ℕ) (before now : Option (List ℕ)) → before ≡ Some content → ReadsTable before now file → content ≡ file
@@ -145,16 +200,3 @@ served_printable dom (AsEnded ends.Flood) before now v = absurd v
 served_printable dom (AsEnded ends.NoMemory) before now v = absurd v
 served_printable dom NoMemory before now v = refl
 served_printable dom (Flood limit) before now v = refl
-
-pub piped_printable : (status : Status) (left_old left_new : Option (List ℕ)) (old new : Sight) → Piped status left_old left_new old new → is_printable status ≡ true
-piped_printable Fine lo ln ho hn v = refl
-piped_printable Usage lo ln ho hn v = refl
-piped_printable ReadFault lo ln ho hn v = refl
-piped_printable WriteFault lo ln ho hn v = refl
-piped_printable WordFault lo ln ho hn v = refl
-piped_printable (BadFrame at size) lo ln ho hn v = refl
-piped_printable (Torn at) lo ln ho hn v = refl
-piped_printable (BadTables speaks line) lo ln ho hn v = refl
-piped_printable (AsEnded end) lo ln ho hn v = absurd v
-piped_printable NoMemory lo ln ho hn v = refl
-piped_printable (Flood limit) lo ln ho hn v = refl

@@ -1,5 +1,5 @@
 -- What clap makes of the words of `authsrv`: each value goes to its option, in each order of the options.
-use Rattle.std.proofs.Common.{◌≡◌, ◌∙◌, ◌==◌, ◌&&◌, ◌||◌, ℕ, List, [], ◌∷◌, Bool, true, false, refl, ap, sym, subst, codes, Option, Some, None}
+use Rattle.std.proofs.Common.{◌≡◌, ◌==◌, ◌&&◌, ◌||◌, ℕ, List, [], ◌∷◌, Bool, true, false, refl, ap, sym, subst, codes, Some, None}
 use Rattle.std.specs.Prelude.{if◌then◌else◌}
 use Rattle.std.specs.Str.{bytes_eq}
 use Rattle.std.specs.Option.{option_map_or}
@@ -12,7 +12,7 @@ use Rattle.clap.specs.Walk.{Held, Names, Walk, Step, after_step, idle, long_or_o
 use Rattle.clap.specs.Simple.{Shape, built}
 use Rattle.clap.specs.Takes.{bundle_passes, flag_word_passes, step_passes, turn_passes, walk_passes}
 use Rattle.clap.proofs.OnLiterals.{clap_on_literals}
-use Rattle.factotum_program.specs.Reading.{authsrv_app}
+use Rattle.authsrv_program.specs.Reading.{authsrv_app}
 
 abbrev top : Shape
 top = (built authsrv_app).top

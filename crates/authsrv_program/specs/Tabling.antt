@@ -1,16 +1,16 @@
 -- Of the code alone: what the parts of `authsrv` tell each other.
 use Rattle.std.specs.Prelude.{◌≡◌, ℕ, List, Bool, true, false, Option, None, Some, ⊤}
-use Rattle.auth_tables.specs.Keys.{KeyLine, bad_key_line, key_of, table_keys}
-use Rattle.auth_tables.specs.Speaks.{SpeakLine, bad_speak_line, names_in, names_of, table_speaks}
+use Rattle.auth_tables.specs.Keys.{bad_key_line, key_of, table_keys}
+use Rattle.auth_tables.specs.Speaks.{bad_speak_line, names_in, names_of, table_speaks}
 use Rattle.auth_tables.specs.declared.lines.TableFault.{TableFault}
 use Rattle.auth_tables.specs.declared.lines.TableFault.TheVariants as faults
-use Rattle.auth_server.specs.Serving.{Moment, most_input}
+use Rattle.auth_server.specs.Serving.{most_input}
 use Rattle.auth_server.specs.declared.serve.AuthEnd.{AuthEnd}
 use Rattle.auth_server.specs.declared.serve.AuthEnd.TheVariants as ends
-use Rattle.factotum_program.specs.declared.status.Status.{Status}
-use Rattle.factotum_program.specs.declared.status.Status.TheVariants.{Fine, ReadFault, WriteFault, WordFault, Torn, BadTables, AsEnded, NoMemory, Flood}
-use Rattle.factotum_program.specs.declared.authsrv.Tables.{Tables}
-use Rattle.factotum_program.specs.Serving.{FloodsTable, ReadsPart, ReadsTable, most_table}
+use Rattle.authsrv_program.specs.declared.status.Status.{Status}
+use Rattle.authsrv_program.specs.declared.status.Status.TheVariants.{Fine, ReadFault, WriteFault, WordFault, Torn, BadTables, AsEnded, NoMemory, Flood}
+use Rattle.authsrv_program.specs.declared.tables.Tables.{Tables}
+use Rattle.authsrv_program.specs.Serving.{FloodsTable, ReadsPart, ReadsTable, most_table}
 
 -- what a reading of a table that failed came to
 abbrev pub StopsSo : Status → Option (List ℕ) → Option (List ℕ) → Type 0
@@ -57,7 +57,3 @@ status_of_end ends.WriteFault = WriteFault
 status_of_end ends.WordFault = WordFault
 status_of_end ends.Flood = Flood most_input
 status_of_end ends.NoMemory = NoMemory
-
--- the statuses of an end before the client is looked at
-abbrev pub IsEarly : Status → Type 0
-IsEarly status = (status ≡ WriteFault → ⊥) × (status ≡ WordFault → ⊥)

@@ -1,8 +1,8 @@
-use Rattle.std.proofs.Common.{◌≡◌, ◌∙◌, ap}
+use Rattle.std.proofs.Common.{◌∙◌, ap}
 use Rattle.clap.specs.Words.{App, app_of, takes}
-use Rattle.factotum_program.specs.Reading.{bytes_of}
-use Rattle.factotum_program.proofs.WordLemmas.{has_dom, has_keys, has_speaks, taken_by_clap, values_found}
-use Rattle.factotum_program.proofs.words.parse_authsrv.Goals as goal
+use Rattle.authsrv_program.specs.Reading.{bytes_of}
+use Rattle.authsrv_program.proofs.WordLemmas.{has_dom, has_keys, has_speaks, taken_by_clap, values_found}
+use Rattle.authsrv_program.proofs.words.parse_authsrv.Goals as goal
 
 pub copy_value-requires : goal.copy_value-requires
 copy_value-requires c = has_dom (bytes_of c.args.texts.now) (app_of c.in_ok-command.command) c.in-Ok.matches c.requires.form c.requires.text c.in_ok-command.ensures c.in-Ok.ensures.matches

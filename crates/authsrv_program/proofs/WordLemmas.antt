@@ -1,5 +1,5 @@
 -- Words of the form of `authsrv` are taken by clap, which finds the value behind each option.
-use Rattle.std.proofs.Common.{◌≡◌, ◌⊎◌, ◌∙◌, ◌==◌, ◌&&◌, ◌||◌, ℕ, List, [], ◌∷◌, Bool, true, false, not, refl, ap, sym, subst, codes, length, map, find, inl, inr, arith, Option, Some, None, option_map}
+use Rattle.std.proofs.Common.{◌≡◌, ◌⊎◌, ◌∙◌, ◌==◌, ◌&&◌, ◌||◌, List, [], ◌∷◌, Bool, true, false, not, refl, ap, sym, codes, length, map, find, inl, inr, arith, Option, Some, option_map}
 use Rattle.std.specs.Prelude.{option_and_then, slice_get, unwrap_or}
 use Rattle.std.specs.Borrow.{Bor}
 use Rattle.std.specs.List.{list_all, list_any}
@@ -12,9 +12,9 @@ use Rattle.clap.specs.Walk.{row_of, texts}
 use Rattle.clap.specs.Words.{App, HasMatchesOf, Text, first_of, first_value, found_of, is_simple, matches_of, rows_of, takes}
 use Rattle.clap.specs.declared.parser.matches.ArgMatches.{ArgMatches}
 use Rattle.clap.specs.declared.parser.matches.Found.{Found}
-use Rattle.factotum_program.specs.Words.{authsrv_options, authsrv_value, has_authsrv_form, is_among, is_value, value_of}
-use Rattle.factotum_program.specs.Reading.{HasText, authsrv_app}
-use Rattle.factotum_program.proofs.ClapLemmas.{IsPlainWord, plain, dom_keys_speaks_takes, dom_keys_speaks_dom, dom_keys_speaks_keys, dom_keys_speaks_speaks, dom_speaks_keys_takes, dom_speaks_keys_dom, dom_speaks_keys_keys, dom_speaks_keys_speaks, keys_dom_speaks_takes, keys_dom_speaks_dom, keys_dom_speaks_keys, keys_dom_speaks_speaks, keys_speaks_dom_takes, keys_speaks_dom_dom, keys_speaks_dom_keys, keys_speaks_dom_speaks, speaks_dom_keys_takes, speaks_dom_keys_dom, speaks_dom_keys_keys, speaks_dom_keys_speaks, speaks_keys_dom_takes, speaks_keys_dom_dom, speaks_keys_dom_keys, speaks_keys_dom_speaks}
+use Rattle.authsrv_program.specs.Words.{authsrv_options, authsrv_value, has_authsrv_form, is_among, is_value, value_of}
+use Rattle.authsrv_program.specs.Reading.{HasText, authsrv_app}
+use Rattle.authsrv_program.proofs.ClapLemmas.{IsPlainWord, plain, dom_keys_speaks_takes, dom_keys_speaks_dom, dom_keys_speaks_keys, dom_keys_speaks_speaks, dom_speaks_keys_takes, dom_speaks_keys_dom, dom_speaks_keys_keys, dom_speaks_keys_speaks, keys_dom_speaks_takes, keys_dom_speaks_dom, keys_dom_speaks_keys, keys_dom_speaks_speaks, keys_speaks_dom_takes, keys_speaks_dom_dom, keys_speaks_dom_keys, keys_speaks_dom_speaks, speaks_dom_keys_takes, speaks_dom_keys_dom, speaks_dom_keys_keys, speaks_dom_keys_speaks, speaks_keys_dom_takes, speaks_keys_dom_dom, speaks_keys_dom_keys, speaks_keys_dom_speaks}
 
 -- ---- the form
 

@@ -1,24 +1,22 @@
-// The authentication server's command: its two tables are read whole, the keys first, then both are parsed, and then one
-// client is served.
-ghost use Rattle.std.specs.Prelude.{◌≡◌, ◌⊎◌, ◌≤◌, ◌<◌, ◌+◌, ◌^◌, List, ℕ, IfOk, IfErr, OnOk, true, None, Some, Err, length};
+// What the server knows: its two tables are read whole, the keys first, and then both are parsed, in this order.
+ghost use Rattle.std.specs.Prelude.{◌≡◌, ◌⊎◌, ◌≤◌, ◌<◌, ◌+◌, ◌^◌, IfOk, IfErr, true, Err, length};
 ghost use Rattle.attr_tuples.specs.Forms.{is_dom};
 ghost use Rattle.auth_server.specs.Serving.{Moment};
 ghost use Rattle.wire_streams.specs.Causes.{Rose};
-ghost use Rattle.factotum_program.specs.Serving.{ReadsTable, ServesSo, outside};
-ghost use Rattle.factotum_program.specs.Tabling.{HasParsed, HasRead, IsBadTable, IsEarly, IsTableEnd, StopsSo, status_of_end};
+ghost use Rattle.authsrv_program.specs.Cores.{HasCore, StopsEarly};
+ghost use Rattle.authsrv_program.specs.Serving.{ReadsTable};
+ghost use Rattle.authsrv_program.specs.Statuses.{is_printable};
+ghost use Rattle.authsrv_program.specs.Tabling.{HasParsed, HasRead, IsBadTable, IsTableEnd, StopsSo};
 
 use crate::status::Status;
-use auth_server::{AuthCore, AuthEnd, serve_auth};
+use auth_server::AuthCore;
 use auth_tables::{KeyTable, SpeaksTable, TableFault, parse_keys, parse_speaks};
 use std::alloc::Global;
 use wire_base::Text;
-use wire_streams::{Sink, Source, WholeFault, Words, read_whole};
+use wire_streams::{Source, WholeFault, read_whole};
 
 /// How many bytes of a table are taken.
 const MOST_TABLE: usize = 1 << 22;
-
-/// How many bytes of a client are taken.
-const MOST_CLIENT: u64 = 1 << 40;
 
 /// What the server's administrator says of users and hosts.
 #[derive(Drop)]
@@ -72,34 +70,17 @@ fn parse_tables(alloc: Global, keys: &[u8], speaks: &[u8]) -> Result<Tables, Sta
     Ok(Tables { keys, speaks })
 }
 
-// The status of an end of serving.
-fn status_of_end(end: AuthEnd) -> Status
-    ensures { result ≡ status_of_end end }
-{
-    match end {
-        AuthEnd::End => Status::Fine,
-        AuthEnd::UnknownType { .. } | AuthEnd::TooManyWrong => Status::AsEnded(end),
-        AuthEnd::Torn { at } => Status::Torn { at },
-        AuthEnd::ReadFault => Status::ReadFault,
-        AuthEnd::WriteFault => Status::WriteFault,
-        AuthEnd::WordFault => Status::WordFault,
-        AuthEnd::Flood => Status::Flood { limit: MOST_CLIENT },
-        AuthEnd::NoMemory => Status::NoMemory,
-    }
-}
-
 // Reads both tables, the keys first, and then parses them.
 fn read_tables<F: Source>(alloc: Global, keys: &mut F, speaks: &mut F) -> Result<Tables, Status>
     ensures ok { IfOk result (λ tables. HasRead (F.left keys.old) (F.left keys.new)
         (F.left speaks.old) (F.left speaks.new) tables) }
-    ensures err { IfErr result (λ status. (dom : List ℕ) (client : Moment)
-        → ServesSo dom status
+    ensures err { IfErr result (λ status. (client : Moment)
+        → StopsEarly status
         (record { keys = F.left keys.old; speaks = F.left speaks.old; client = client })
         (record { keys = F.left keys.new; speaks = F.left speaks.new; client = client })) }
     ensures fault { result ≡ Err Status.ReadFault
         → Rose (F.faults keys.old) (F.faults keys.new)
         ⊎ Rose (F.faults speaks.old) (F.faults speaks.new) }
-    ensures others { IfErr result IsEarly }
     ensures counted_keys { F.faults keys.old ≤ F.faults keys.new }
     ensures counted_speaks { F.faults speaks.old ≤ F.faults speaks.new }
 {
@@ -108,39 +89,30 @@ fn read_tables<F: Source>(alloc: Global, keys: &mut F, speaks: &mut F) -> Result
     parse_tables(alloc, key_text.as_slice(), speak_text.as_slice())
 }
 
-/// Serves one client by the tables of two files.
-pub(crate) fn serve<R: Source, F: Source, W: Sink, G: Words>(
+/// What the server of a domain knows by the tables of two files. Both are read whole, the keys first, and then both are
+/// parsed, in this order.
+pub fn read_core<F: Source>(
     alloc: Global,
     dom: Text,
-    input: &mut R,
     keys: &mut F,
     speaks: &mut F,
-    output: &mut W,
-    rand: &mut G,
-) -> Status
+) -> Result<AuthCore, Status>
     requires { is_dom dom ≡ true }
-    ensures ends { ServesSo dom result
-        (outside (F.left keys.old) (F.left speaks.old)
-        (R.left input.old) (G.to_come rand.old) (W.holds output.old))
-        (outside (F.left keys.new) (F.left speaks.new)
-        (R.left input.new) (G.to_come rand.new) (W.holds output.new)) }
-    ensures read_fault { result ≡ Status.ReadFault → Rose (R.faults input.old) (R.faults input.new)
-        ⊎ (Rose (F.faults keys.old) (F.faults keys.new)
-        ⊎ Rose (F.faults speaks.old) (F.faults speaks.new)) }
-    ensures write_fault { result ≡ Status.WriteFault
-        → Rose (W.faults output.old) (W.faults output.new) }
-    ensures word_fault { result ≡ Status.WordFault → Rose (G.faults rand.old) (G.faults rand.new) }
-    ensures counted_reads { R.faults input.old ≤ R.faults input.new }
+    ensures ok { IfOk result (λ core. HasCore dom (F.left keys.old) (F.left keys.new)
+        (F.left speaks.old) (F.left speaks.new) core) }
+    ensures err { IfErr result (λ status. (client : Moment)
+        → StopsEarly status
+        (record { keys = F.left keys.old; speaks = F.left speaks.old; client = client })
+        (record { keys = F.left keys.new; speaks = F.left speaks.new; client = client })) }
+    ensures printable { IfErr result (λ status. is_printable status ≡ true) }
+    ensures fault { result ≡ Err Status.ReadFault
+        → Rose (F.faults keys.old) (F.faults keys.new)
+        ⊎ Rose (F.faults speaks.old) (F.faults speaks.new) }
     ensures counted_keys { F.faults keys.old ≤ F.faults keys.new }
     ensures counted_speaks { F.faults speaks.old ≤ F.faults speaks.new }
-    ensures counted_writes { W.faults output.old ≤ W.faults output.new }
-    ensures counted_words { G.faults rand.old ≤ G.faults rand.new }
 {
     match read_tables(alloc, keys, speaks) {
-        Ok(tables) => {
-            let core = AuthCore::new(dom, tables.keys, tables.speaks);
-            status_of_end(serve_auth(alloc, &core, input, output, rand))
-        }
-        Err(status) => status,
+        Ok(tables) => Ok(AuthCore::new(dom, tables.keys, tables.speaks)),
+        Err(status) => Err(status),
     }
 }

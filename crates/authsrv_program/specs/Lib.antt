@@ -1,0 +1,6 @@
+pub mod Statuses
+pub mod Words
+pub mod Serving
+pub mod Cores
+pub mod Tabling
+pub mod Reading
