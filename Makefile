@@ -1,15 +1,16 @@
 # make alone lists what can be made.
 .POSIX:
-.PHONY: help build demo test bench install uninstall clean
+.PHONY: help build demo test bench soak install uninstall clean
 
 PREFIX = /usr/local
 DESTDIR =
 
 help:
-	@echo 'make build   proves the programs and leaves them as bin/factotum and bin/nine_show'
+	@echo 'make build   proves the programs and leaves them as bin/factotum, bin/authd and bin/nine_show'
 	@echo 'make demo    runs a conversation through it, and a login between two agents, and shows each request and reply'
 	@echo 'make test    runs the gate: every proof, wrong body, test and program'
 	@echo 'make bench   measures it and its codec beside plain C programs, the server and the ciphers beside OpenSSL'
+	@echo 'make soak    ten minutes of mixed load on two agents: no wrong reply, no growth, no thread left'
 	@echo 'make install puts programs, manual pages and systemd units under DESTDIR and PREFIX (make uninstall removes them)'
 	@echo 'make clean   removes what the others made'
 
@@ -18,9 +19,11 @@ build:
 	@mkdir -p bin
 	@cd crates/factotum && rt run -- pipe </dev/null >/dev/null
 	@cp crates/factotum/out/factotum bin/factotum
+	@cd crates/authd && rt run -- --dom x </dev/null >/dev/null 2>&1 || test -x out/authd
+	@cp crates/authd/out/authd bin/authd
 	@cd crates/nine_show && rt run </dev/null >/dev/null
 	@cp crates/nine_show/out/nine_show bin/nine_show
-	@echo 'bin/factotum and bin/nine_show are built'
+	@echo 'bin/factotum, bin/authd and bin/nine_show are built'
 
 demo: build
 	@scripts/demo
@@ -33,9 +36,13 @@ test:
 bench: build
 	@bench/pipe
 	@bench/rpc
+	@bench/serve
 	@bench/authsrv
 	@bench/codec
 	@bench/ciphers
+
+soak: build
+	@bench/soak
 
 install:
 	@scripts/install '$(DESTDIR)' '$(PREFIX)'

@@ -195,17 +195,16 @@ session("open: what it is opened for", V, A, (open_(7, 0x84), error("unknown fid
         (open_(1, 0x10), error("permission denied")), (open_(1, 0x12), ropen("ctl")), (open_(1, 4), error("already open")),
         (open_(1, 0), error("already open")), at(2, "factotum", "proto"), (open_(2, 1), error("permission denied")),
         (open_(0, 2), error("permission denied")), (open_(2, 0), ropen("proto")))
-session("open: not served yet", V, A, at(1, "factotum", "rpc"), (open_(1, 0x42), error("permission denied")),
+session("open: files that a user answers", V, A, at(1, "factotum", "rpc"), (open_(1, 0x42), error("permission denied")),
         (open_(1, 4), error("bad open mode")), (open_(1, 2), ropen("rpc")), (open_(1, 2), error("already open")),
-        at(2, "factotum", "confirm"), (open_(2, 2), error("not served")), at(3, "factotum", "needkey"),
-        (open_(3, 0), error("not served")), (read(1, 0, 9), error("no rpc pending")), (read(3, 0, 9), error("not open")))
+        at(2, "factotum", "confirm"), (open_(2, 2), ropen("confirm")), at(3, "factotum", "needkey"),
+        (open_(3, 0), ropen("needkey")), (read(1, 0, 9), error("no rpc pending")), (read(0, 0, 9), error("not open")))
 session("open: one fid alone", V, A, *opened(1, 0, *LOG), at(2, *LOG), (open_(2, 1), error("permission denied")),
         (open_(2, 0), error("exclusive use file already open")), *on(1, [V, A, at(1, *LOG)]),
         (1, open_(1, 0), error("exclusive use file already open")), (clunk(1), rclunk()), (1, open_(1, 0), ropen("log")),
         (open_(2, 0), error("exclusive use file already open")), (1, version(), rversion()), (open_(2, 0), ropen("log")),
         (remove(2), error("permission denied")), *on(1, [A, *opened(1, 0, *LOG)]))
-session("log isn't read yet", V, A, *opened(1, 0, *LOG), (read(1, 0, 9), error("not served")),
-        (write(1, "x"), error("not open for writing")))
+session("log isn't written", V, A, *opened(1, 0, *LOG), (write(1, "x"), error("not open for writing")))
 session("remove", V, A, (remove(7), error("unknown fid")), (remove(0), error("permission denied")),
         (stat(0), error("unknown fid")), A)
 session("clunk", V, A, (clunk(7), error("unknown fid")), (clunk(0), rclunk()), (clunk(0), error("unknown fid")))
@@ -306,8 +305,6 @@ refused("open: log for writing, and open elsewhere", V, A, *opened(1, 0, *LOG), 
 refused("open: log, and open elsewhere", V, A, *opened(1, 0, *LOG), at(2, *LOG), open_(2, 0), "exclusive use file already open")
 for name in ["rpc", "confirm", "needkey"]:
     refused("open: %s, to be removed" % name, V, A, at(1, "factotum", name), open_(1, 0x42), "permission denied")
-for name in ["confirm", "needkey"]:
-    refused("open: " + name, V, A, at(1, "factotum", name), open_(1, 2), "not served")
 
 refused("create", V, A, create(0), "permission denied")
 refused("remove", V, A, remove(0), "permission denied")
@@ -318,10 +315,11 @@ refused("read: not open, at a bad offset", V, A, read(0, 3, 9), "not open")
 refused("read: log, not open", V, A, at(1, *LOG), read(1, 0, 9), "not open")
 refused("read: not for reading", V, A, *opened(1, 1, *CTL), read(1, 0, 9), "not open for reading")
 refused("read: a directory at a bad offset", V, A, OPEN, read(0, 3, 9), "bad directory offset")
-refused("read: log", V, A, *opened(1, 0, *LOG), read(1, 0, 9), "not served")
 
 refused("write: not open", V, A, at(1, *CTL), write(1, "debug"), "not open")
 refused("write: not open, and no line", V, A, at(1, *CTL), write(1, "x"), "not open")
+refused("write: no reply", V, A, *opened(1, 2, "factotum", "confirm"), write(1, "x"), "bad reply")
+refused("write: a reply to no question", V, A, *opened(1, 2, "factotum", "needkey"), write(1, "tag=1"), "unknown tag")
 refused("write: not for writing", V, A, *opened(1, 0, *CTL), write(1, "debug"), "not open for writing")
 refused("write: not for writing, and no line", V, A, *opened(1, 0, *CTL), write(1, "x"), "not open for writing")
 
@@ -367,7 +365,7 @@ session("refused: a full ring", V, A, *opened(1, 2, *CTL), *[(write(1, lines), r
 
 
 TABLES = [
-    ("fids", "version, fids and opens", "a version is answered", "open: not served yet"),
+    ("fids", "version, fids and opens", "a version is answered", "open: files that a user answers"),
     ("files", "opens of one fid alone, directories and the rest of the tree", "open: one fid alone", "a count is cut"),
     ("ctl", "the keys of ctl", "a key is written", "lines before a refused one stand"),
     ("refusals", "every refusal", "refused: a frame over the size", "refused: a full ring"),

@@ -8,8 +8,8 @@ refuses, as the tables of the tests of whole_logins. Steps are written as logins
 Written by hand from the manual's words (Plan 9: factotum(4), authsrv(6)), RFC 1939, RFC 2195 and the texts of rpc; OpenSSL's
 DES seals, and its MD5 and HMAC make the digits. Nothing of the project's own code is used.
 """
-from agent import clunk, error, rclunk
-from logins import (ANN, ANN_KEY, CHC, CHS, EVE, INFO, KN, NEEDS, NONE, OTHER, PROVED, Session, authinfo, main, one, proof,
+from agent import clunk, error, flush, opened, rclunk, read, rflush, rread
+from logins import (ANN, ANN_KEY, CHC, CHS, EVE, INFO, KN, NEEDS, NONE, OTHER, PROVED, WIDE, Session, authinfo, main, one, proof,
                     ticket, treq)
 from mail_requests import apop, cram
 from passwords import pass_to_key
@@ -22,6 +22,7 @@ LIST, CHOICE, CONSENT = b"p9sk1@x\0", b"p9sk1 x\0", b"OK\0"
 ANY_CLIENT, ANY_SERVER = "start proto=p9any role=client", "start proto=p9any role=server"
 ANY_NEEDS = "needkey proto=p9sk1 user? dom? !password?"
 DENIED = "error confirmation denied"
+LOG = 4
 REFUSAL = b"\x05" + b"no".ljust(64, b"\0")
 
 
@@ -321,11 +322,13 @@ UNHEARD, ROOMLESS = Heard(b"", "f"), Heard(b"", "m")
 
 
 class Role:
-    """The moves of one side of a login, and what attr shows of it: behind its start, and behind the move that chooses a key.
+    """The moves of one side of a login, what attr shows of it, behind its start and behind the move that chooses a key, and
+    behind how many moves it comes to its end, whom it accepts then, as the log tells it.
     The cases of a role with the same keys are conversations of one session, a line of its table each."""
 
-    def __init__(self, word, keys, moves, chooses, key):
+    def __init__(self, word, keys, moves, chooses, key, ends=0, user=""):
         self.word, self.keys, self.moves, self.chooses, self.sessions = word, keys, moves, chooses, {}
+        self.ends, self.done = ends, " done" + moves[0][0][len("start"):] + user
         self.attrs = ["ok" + moves[0][0][len("start"):], "ok" + moves[0][0][len("start"):] + key]
 
     def case(self, keys):
@@ -334,6 +337,9 @@ class Role:
         if s is None:
             s = self.sessions[tuple(keys)] = one(self.moves[0][0], *keys)
             s.fid, s.raised = 0, 0
+            s.begin(1)
+            for request, reply in opened(LOG, 0, "factotum", "log"):
+                s.say(request, reply, 1)
         s.fid += 1
         return s
 
@@ -358,6 +364,14 @@ class Role:
         s.rpc(s.fid, "attr", self.attrs[made >= self.chooses] if made else "protocol not started")
         s.rpc(s.fid, "authinfo", info)
 
+    def logs(self, s, made, *more):
+        """What the log has of this conversation, and nothing else."""
+        lines = [self.done] if self.ends and made >= self.ends else []
+        for text in lines + list(more):
+            s.say(read(LOG, 0, WIDE), rread("%d%s\n" % (s.fid - 1, text)), 1)
+        s.say(read(LOG, 0, WIDE, 200), b"", 1)
+        s.say(flush(200), rflush(), 1)
+
     def stays(self, *cases, keys=None, info=NONE):
         """Behind so many moves a request is answered so, and nothing changes."""
         for made, request, answer in cases:
@@ -368,6 +382,7 @@ class Role:
                     self.make(s, *move)
                 self.make(s, request, answer)
                 self.shows(s, made, info)
+                self.logs(s, made)
                 s.unasked()
 
     def breaks(self, *cases):
@@ -381,6 +396,7 @@ class Role:
                 self.make(s, request, answer)
                 s.broken(s.fid, answer)
                 self.shows(s, made)
+                self.logs(s, made, " error " + answer.split(" proto=")[0].replace("error ", ""))
                 s.rpc(s.fid, "read", "phase broken")
                 if self.keeps(made):
                     s.dropped(s.fid - 1)
@@ -423,7 +439,7 @@ def any_client(start=ANY_CLIENT, key=" dom=x user=ann !password?", user=b"ann"):
     return Role(CHC, [ANN_KEY], [
         (start, "ok"), (gives(LIST), "ok"), ("read", ("ok", CHOICE)), ("read", ("ok", CHC)),
         (gives(ASKED), Asks(treq(CHS, b"ann", user))), (Heard(grant(user)), "ok"), ("read", ("ok", shown(user))),
-        (gives(PROVED), "ok")], 5, key)
+        (gives(PROVED), "ok")], 5, key, 8, " user=ann")
 
 
 def consented():
@@ -473,7 +489,7 @@ def grants(role):
 def any_server(start=ANY_SERVER, keys=(SRV_KEY,)):
     return Role(CHS, keys, [
         (start, "ok"), ("read", ("ok", LIST)), (gives(CHOICE), "ok"), (gives(CHC), "ok"), ("read", ("ok", ASKED)),
-        (gives(shown()), "ok"), ("read", ("ok", PROVED))], 3, " dom=x user=srv !password?")
+        (gives(shown()), "ok"), ("read", ("ok", PROVED))], 3, " dom=x user=srv !password?", 6, " user=ann")
 
 
 def any_servers():
@@ -508,7 +524,7 @@ def any_servers():
 def mail_client(proto, start=""):
     return Role(CHC, ["proto=%s user=ann !password=annpass" % proto], [
         (mail_start(proto, "client") + start, "ok"), (gives(CHALLENGE), "ok"), ("read", ("ok", DIGITS[proto]))], 2,
-        " user=ann !password?")
+        " user=ann !password?", 3)
 
 
 def mail_clients(proto, other):
@@ -528,7 +544,7 @@ def mail_server(proto):
     return Role(CHS, [SRV_KEY], [
         (mail_start(proto, "server"), Asks(mail_question(proto))), (Heard(OFFER), "ok"), ("read", ("ok", CHALLENGE)),
         (gives(b"ann"), "ok"), (gives(DIGITS[proto]), Asks(mail_question(proto, b"ann"))), (Heard(vouch()), "ok")], 1,
-        " dom=x user=srv !password?")
+        " dom=x user=srv !password?", 6, " user=ann")
 
 
 def mail_servers(proto):
