@@ -140,6 +140,9 @@ impl Agent {
     ///
     /// A frame is whole and has at least 7 bytes; an answer of the authentication server has at most 160. It takes
     /// all memory first: where that runs out, the agent and `out` are as before, and the event isn't in the history.
+    ///
+    /// What a conversation searches among when it goes on behind a reply or an answer, and that a key which it has chosen
+    /// stays, `agent_laws::a_search_is_over_the_keys_of_its_moment` says of every history for which the agent stands.
     pub fn step(&mut self, event: &Event, out: &mut Bytes) -> Stepped
         requires { IsEvent event.now }
 
