@@ -7,7 +7,7 @@ DESTDIR =
 
 help:
 	@echo 'make build   proves the programs and leaves them as bin/factotum, bin/authd and bin/nine_show'
-	@echo 'make demo    runs a conversation through it, and a login between two agents, and shows each request and reply'
+	@echo 'make demo    runs a conversation and logins between two agents, without proofs, and shows each request and reply'
 	@echo 'make test    runs the gate: every proof, wrong body, test and program'
 	@echo 'make bench   measures it and its codec beside plain C programs, the server and the ciphers beside OpenSSL'
 	@echo 'make soak    ten minutes of mixed load on two agents: no wrong reply, no growth, no thread left'
@@ -15,23 +15,26 @@ help:
 	@echo 'make clean   removes what the others made'
 
 build:
-	@scripts/need rt
+	@scripts/need rt bash awk
 	@mkdir -p bin
-	@cd crates/factotum && rt run -- pipe </dev/null >/dev/null
+	@cd crates/factotum && ../../scripts/progress bin/factotum.log rt run -- pipe </dev/null
 	@cp crates/factotum/out/factotum bin/factotum
-	@cd crates/authd && rt run -- --dom x </dev/null >/dev/null 2>&1 || test -x out/authd
+	@cd crates/authd && ../../scripts/progress bin/authd.log sh -c 'rt run -- --dom x </dev/null || test -x out/authd'
 	@cp crates/authd/out/authd bin/authd
-	@cd crates/nine_show && rt run </dev/null >/dev/null
+	@cd crates/nine_show && ../../scripts/progress bin/nine_show.log rt run </dev/null
 	@cp crates/nine_show/out/nine_show bin/nine_show
-	@echo 'bin/factotum, bin/authd and bin/nine_show are built'
+	@echo 'bin/factotum, bin/authd and bin/nine_show are built, each proved'
 
-demo: build
-	@scripts/demo
-	@if command -v python3 >/dev/null 2>&1; then scripts/login; fi
+demo:
+	@scripts/need rt
+	@echo 'The programs are built without their proofs for this demonstration, about a minute each; make build proves them.'
+	@scripts/demo --unproved
+	@if command -v python3 >/dev/null 2>&1; then scripts/login --unproved; fi
 
 test:
-	@scripts/need rt git
-	@bash .ci/run
+	@scripts/need rt git bash awk
+	@mkdir -p bin
+	@scripts/progress bin/gate.log bash .ci/run
 
 bench: build
 	@bench/pipe
