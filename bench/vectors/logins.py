@@ -8,7 +8,7 @@ request and the texts of rpc; OpenSSL's DES seals. Frames come from agent.py. No
 A session has two agents, 0 and 1, which know nothing when it begins. Each step is a letter, an agent, a number (a
 connection's, a call's or none), what is given and what has to come, each of the two behind its length of two bytes:
 
-  b  a session begins               r  a request, its reply, and no other reply; or no reply at all
+  b  a session of this name begins  r  a request, its reply, and no other reply; or no reply at all
   w  the same, the word first       p  a request alone
   t  a take: the reply, or none     g  a take, which learns that the connection is gone
   q  a question is taken: its conversation and its bytes, the number being its call's; or there is none
@@ -36,7 +36,7 @@ class Session:
     """The steps of one session. Requests have the tag 1 but for reads that wait, which have 100 and their fid."""
 
     def __init__(self, name):
-        self.lines, self.grouped = [[("b", 0, 0, b"", b"")]], False
+        self.lines, self.grouped = [[("b", 0, 0, name.encode(), b"")]], False
         SESSIONS.append((name, self.lines))
 
     @contextmanager

@@ -12,16 +12,32 @@ mod waits;
 use agent_player::{Pair, Steps};
 use std::alloc::Global;
 use std::process::Abort;
+use std::str::from_utf8;
 use std::test::Fail;
+use wire_base::Bytes;
 
-// Step by step; each session has two agents of its own.
+// Step by step; each session has two agents of its own, and a name.
 fn hold(rt: &impl Abort, alloc: Global, count: usize, steps: &[u8]) -> Result<(), Fail> {
     let mut pair = Pair::new(alloc)?;
     let mut steps = Steps::new(steps);
+    let mut session = Bytes::new(alloc);
+    let mut begun = 0;
     for number in 0..count {
         let step = steps.take(alloc)?;
-        let came = pair.play(alloc, &step)?;
-        assert_eq!(rt; came.as_slice(), step.expected.as_slice(), "step {number}");
+        if step.kind == b'b' {
+            session = Bytes::from_slice(alloc, step.given.as_slice())?;
+            begun = number;
+        }
+        let name = from_utf8(session.as_slice()).unwrap_or("a session");
+        let place = number.saturating_sub(begun);
+        let played = pair.play(alloc, &step);
+        assert!(rt; played.is_ok(), "{name}, step {place}");
+        let came = played?;
+        assert_eq!(rt;
+            came.as_slice(),
+            step.expected.as_slice(),
+            "{name}, step {place}"
+        );
     }
     assert!(rt; steps.is_over());
     Ok(())
