@@ -12,13 +12,15 @@ ghost use Rattle.serve_program.specs.Words.{IsWithin};
 use agent_core::Agent;
 use agent_hub::{Hub, HubSeat};
 use agent_serving::{ServeEnd, serve};
+use attr_tuples::Tuple;
 use factotum_program::{Status, Task, print_status, read_words, run_command};
+use prompt_agent::{Chain, Deny, Limited, Prompter};
 use serve_program::{
     Again, HubSpawner, Task as JobTask, Tools, end_number, print_end, read_serve_words,
 };
 use socket_dialer::TcpDialer;
 use socket_listener::SocketListener;
-use std::alloc::Global;
+use std::alloc::{AllocError, Global};
 use std::env;
 use std::fs::{File, Files};
 use std::io::{self, ErrorKind, Read};
@@ -145,16 +147,21 @@ fn run(rt: &HostRuntime, words: &[Text]) -> Status
     )
 }
 
-// What the tools of each job of an agent at a socket are made from: the address of the authentication server.
+// What the tools of each job of an agent at a socket are made from: the address of the authentication server, and how many
+// questions are answered by yes for the user.
 #[derive(Drop)]
 struct HostTools {
     auth: Text,
+    consents: u32,
 }
 
 impl Again for HostTools {
     fn again(&self) -> Option<Self> {
         match self.auth.copy() {
-            Ok(auth) => Some(HostTools { auth }),
+            Ok(auth) => Some(HostTools {
+                auth,
+                consents: self.consents,
+            }),
             Err(_) => None,
         }
     }
@@ -166,7 +173,7 @@ impl<R: Net + Files + Clock + AllocGlobal + Copy + Drop> Tools<R> for HostTools 
     type Rand = ReadWords<ReadSource<Opened<R::File>>>;
 
     fn tools(self, rt: &R) -> (Self::Dial, Self::Rand) {
-        let HostTools { auth } = self;
+        let HostTools { auth, .. } = self;
         let random = match File::open(rt, RANDOM) {
             Ok(file) => Opened::File(file),
             Err(_) => Opened::Shut,
@@ -176,6 +183,27 @@ impl<R: Net + Files + Clock + AllocGlobal + Copy + Drop> Tools<R> for HostTools 
             ReadWords::new(ReadSource::new(random)),
         )
     }
+
+    fn chain(&self, rt: &R, prompts: bool) -> Chain {
+        let consents = if prompts { Some(self.consents) } else { None };
+        match build_chain(rt.alloc(), consents) {
+            Ok(chain) => chain,
+            Err(_) => Chain::new(Vec::new(rt.alloc())),
+        }
+    }
+}
+
+// A prompter that says yes to so many questions, if to any, and one that denies all others; none where nobody is to answer.
+fn build_chain(alloc: Global, consents: Option<u32>) -> Result<Chain, AllocError> {
+    let mut list: Vec<Box<dyn Prompter + Send>> = Vec::new(alloc);
+    if let Some(left) = consents {
+        if left != 0 {
+            let template = Tuple::new(alloc);
+            list.push(Box::new(alloc, Limited { template, left })?)?;
+        }
+        list.push(Box::new(alloc, Deny)?)?;
+    }
+    Ok(Chain::new(list))
 }
 
 // Listens at an address. Where nobody can, that is told on standard error.
@@ -250,7 +278,10 @@ fn main(rt: HostRuntime) -> ExitCode {
             (Some(auth), Ok((hub, seat)), Ok(threads)) => match Arc::try_clone(&hub) {
                 Ok(shared) => match listen(&rt, &words[given.listen]) {
                     Ok(mut listener) => {
-                        let tools = HostTools { auth };
+                        let tools = HostTools {
+                            auth,
+                            consents: given.consents,
+                        };
                         let mut spawner = HubSpawner::new(shared, tools, threads);
                         let alloc = rt.alloc();
                         serve(&rt, alloc, &hub, seat, &mut listener, &mut spawner).1

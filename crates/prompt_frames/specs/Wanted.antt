@@ -1,6 +1,6 @@
 -- Which requests a client makes that answers questions for a user, by the replies that it took: a reply belongs to the
 -- request of its tag that was made last. All lists have the newest first. The definitions are the project's own.
-use Rattle.std.specs.Prelude.{ℕ, ◌&&◌, ◌||◌, List, [], ◌∷◌, ◌++◌, Bool, true, false, Option, Some, None, if◌then◌else◌}
+use Rattle.std.specs.Prelude.{ℕ, ◌&&◌, ◌||◌, List, [], ◌∷◌, ◌++◌, Bool, true, false, Option, Some, None, is_some, is_none, if◌then◌else◌}
 use Rattle.nine_messages.specs.declared.message.TMsg.{TMsg}
 use Rattle.side_files.specs.declared.line.PromptKind.{PromptKind}
 use Rattle.side_files.specs.declared.line.PromptKind.TheVariants.{Confirm, Needkey}
@@ -30,11 +30,7 @@ unreplied (reply ∷ older) = without_reply reply (unreplied older)
 -- it is the reply to an open, and it is the reply to a read: reads are out once the first requests have their replies
 abbrev pub is_of_open : List First → List ℕ → Bool
 is_of_open [] reply = false
-is_of_open (first ∷ others) reply = is_open first && is_reply_to first reply
-
-abbrev pub is_some : Option PromptKind → Bool
-is_some None = false
-is_some (Some file) = true
+is_of_open (first ∷ others) reply = is_reply_to first reply && is_open first
 
 abbrev pub is_of_read : List First → List ℕ → Bool
 is_of_read [] reply = is_some (file_read reply)
@@ -53,12 +49,8 @@ meets_long_line [] = false
 meets_long_line (reply ∷ older) = meets_long_line older || (is_of_read (unreplied older) reply && refuses_by too_small_text reply)
 
 -- one of the first requests is refused, or a read brings no question: nothing is asked for behind that
-abbrev pub has_none : Option Question → Bool
-has_none None = true
-has_none (Some q) = false
-
 abbrev pub ends_by : List First → List ℕ → Bool
-ends_by [] reply = is_some (file_read reply) && has_none (question_read reply)
+ends_by [] reply = is_some (file_read reply) && is_none (question_read reply)
 ends_by (first ∷ others) reply = is_reply_to first reply && is_refusal reply
 
 abbrev pub is_over : List (List ℕ) → Bool

@@ -1,6 +1,7 @@
 // Each job as a task of a thread.
 use agent_hub::Hub;
 use agent_serving::{Job, run_job};
+use prompt_agent::Chain;
 use std::alloc::Global;
 use std::marker::Model;
 use std::sync::{Arc, Wait};
@@ -12,7 +13,7 @@ pub trait Again: Sized {
     fn again(&self) -> Option<Self>;
 }
 
-/// What a job is done with: the dialer, and where words are drawn from, by the runtime of its thread.
+/// What a job is done with: the dialer, where words are drawn from, and the prompters, by the runtime of its thread.
 pub trait Tools<R> {
     /// Asks the authentication server.
     type Dial: Dialer + Drop;
@@ -20,8 +21,12 @@ pub trait Tools<R> {
     /// Gives random words.
     type Rand: Words + Drop;
 
-    /// Makes them.
+    /// Makes the dialer and the words.
     fn tools(self, rt: &R) -> (Self::Dial, Self::Rand);
+
+    /// Makes the prompters for the job that answers for the user, and none for any other, or where there is no memory for
+    /// them.
+    fn chain(&self, rt: &R, prompts: bool) -> Chain;
 }
 
 /// A job of a hub, with what its tools are made from.
@@ -55,7 +60,9 @@ where
 {
     fn run(self, rt: &R) {
         let Task { hub, job, tools } = self;
+        let mut chain = tools.chain(rt, matches!(job, Job::Prompts { .. }));
         let (mut dial, mut rand) = tools.tools(rt);
-        let _ended = run_job(rt, rt.alloc(), &hub, job, &mut dial, &mut rand);
+        let alloc = rt.alloc();
+        let _ended = run_job(rt, alloc, &hub, job, &mut dial, &mut rand, &mut chain);
     }
 }
