@@ -89,12 +89,12 @@ module _ (conn : ℕ) (chain : List Manner) where
     both h answered old new none s = λ i. (sym s.answer i, sym (s.out ∙ ap (λ (l : List ℕ). l ++ (answer h (Take conn)).1) none) i)
 
     heard_none : (answered : StepAnswer) (old new : List ℕ) (out : List First) (n : ℕ) → among (numbers before) n ≡ true → is_reply answered ≡ false → IsSubmitted (Take conn) (Ok answered) old new before after → Speaks conn chain now first before [] out → Speaks conn chain now first after [] out
-    heard_none answered old new out n is_mine no s d = let h = before_it (Take conn) (Ok answered) old new before after s in record {
+    heard_none answered old new out n is_mine none s d = let h = before_it (Take conn) (Ok answered) old new before after s in record {
       talk = entry h (Take conn) ∷ d.talk;
       added = adds_one (Take conn) answered old new first before after d.talk n is_mine d.added s;
       made = d.made;
       replies = d.replies;
-      talks = TakesNone d.talk d.made d.replies h d.talks (ap is_reply (sym s.answered.answer) ∙ no);
+      talks = TakesNone d.talk d.made d.replies h d.talks (ap is_reply (sym s.answered.answer) ∙ none);
       wants = d.wants;
       out_is = d.out_is;
       asked = d.asked;
@@ -172,28 +172,28 @@ module _ (conn : ℕ) (chain : List Manner) where
       }
 
       agreed : is_reply_to request reply ≡ true → is_refusal reply ≡ false → Speaks conn chain now first seat (begun_by others) others
-      agreed its no = record {
+      agreed its fine = record {
         talk = d.talk;
         added = d.added;
         made = d.made;
         replies = reply ∷ d.replies;
         talks = d.talks;
-        wants = rw (d.goes, d.out_is, its, no) (ap (λ (l : List TMsg). begun_by others ++ l) d.wants);
+        wants = rw (d.goes, d.out_is, its, fine) (ap (λ (l : List TMsg). begun_by others ++ l) d.wants);
         out_is = rw (d.out_is, its) refl;
-        asked = rw (d.goes, d.out_is, its, no) d.asked;
-        goes = rw (d.goes, d.out_is, its, no) refl;
-        free = rw (d.free, d.out_is, its, no) (and_false (is_open request));
+        asked = rw (d.goes, d.out_is, its, fine) d.asked;
+        goes = rw (d.goes, d.out_is, its, fine) refl;
+        free = rw (d.free, d.out_is, its, fine) (and_false (is_open request));
         fits = rw (d.fits, d.out_is) refl;
       }
 
       refused : is_reply_to request reply ≡ true → is_refusal reply ≡ true → (is_open request && refuses_by in_use_text reply) ≡ true → Stops conn chain now first seat InUse
-      refused its yes used = record {
+      refused its bad used = record {
         talk = d.talk;
         added = d.added;
         made = d.made;
         replies = reply ∷ d.replies;
         talks = d.talks;
-        all = (rw (d.goes, d.out_is, its, yes) (sym d.wants), rw (d.goes, d.out_is, its, yes) (sym d.asked));
+        all = (rw (d.goes, d.out_is, its, bad) (sym d.wants), rw (d.goes, d.out_is, its, bad) (sym d.asked));
         in_use = rw (d.free, d.out_is, its, used) refl;
         too_long = rw (d.fits, d.out_is) refl;
         last = λ is. absurd (use_not_gone is);
@@ -375,3 +375,8 @@ module _ (conn : ℕ) (chain : List Manner) where
         leaves = refl;
       },
     )
+
+-- a frame that was made of other bytes is spelled as these are
+pub spelled_as : (made : Result (List ℕ) NoMemory) (bytes frame : List ℕ) → IfOk made (λ x. x ≡ bytes) → bytes ≡ frame → IfOk made (λ x. x ≡ frame)
+spelled_as (Ok x) bytes frame is same = is ∙ same
+spelled_as (Err short) bytes frame is same = tt
