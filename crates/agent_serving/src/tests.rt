@@ -21,6 +21,9 @@ type ServedJob = Job<MemSource, MemSink>;
 
 static VERSION: &[u8] = b"\x13\x00\x00\x00d\xff\xff\x18\x20\x00\x00\x06\x009P2000";
 
+// A challenge of RFC 1939, section 7, which a client of APOP answers by a key.
+static CHALLENGE: &[u8] = b"write <1896.697170952@dbc.mtview.ca.us>";
+
 // A hub without keys and connections.
 fn new_hub(alloc: Global) -> Result<(Hub, HubSeat), Fail>
     ensures { IfOk result (λ made. IsSeatOf made.0 made.1) }
@@ -43,13 +46,7 @@ fn nobody(alloc: Global) -> Chain {
 }
 
 // A frame of this type and tag with these fields.
-fn frame_of(
-    rt: &impl Abort,
-    alloc: Global,
-    kind: u8,
-    tag: u8,
-    fields: &[u8],
-) -> Result<Bytes, Fail>
+fn frame_of(rt: &impl Abort, alloc: Global, kind: u8, tag: u8, fields: &[u8]) -> Result<Bytes, Fail>
     ensures { IfOk result (λ frame. IsFrame frame) }
 {
     let size = 7_u32.saturating_add(fields.len() as u32);
@@ -115,21 +112,39 @@ fn write<R: Wait + Abort>(
     Ok(seat)
 }
 
-// What a start of a client on a new fid of rpc is answered.
+// What a request of a conversation is answered.
+fn ask<R: Wait + Abort>(
+    rt: &R,
+    alloc: Global,
+    hub: &Hub,
+    seat: HubSeat,
+    fid: u8,
+    text: &[u8],
+) -> Result<(HubSeat, Bytes), Fail>
+    requires { IsSeatOf hub.now seat }
+    ensures { IfOk result (λ r. IsSeatOf hub.now r.0) }
+{
+    let seat = write(rt, alloc, hub, seat, fid, text)?;
+    let fields = [fid, 0, 0, 0, 0, 0, 0, 0, 0, 0, 0, 0, 0, 16, 0, 0];
+    let frame = frame_of(rt, alloc, 116, 1, &fields)?;
+    exchange(rt, alloc, hub, seat, frame)
+}
+
+// Starts a client on a fid of its own.
 fn start<R: Wait + Abort>(
     rt: &R,
     alloc: Global,
     hub: &Hub,
     seat: HubSeat,
     fid: u8,
-) -> Result<(HubSeat, Bytes), Fail>
+) -> Result<HubSeat, Fail>
     requires { IsSeatOf hub.now seat }
-    ensures { IfOk result (λ r. IsSeatOf hub.now r.0) }
+    ensures { IfOk result (λ seat. IsSeatOf hub.now seat) }
 {
-    let seat = write(rt, alloc, hub, seat, fid, b"start proto=apop role=client user=ann")?;
-    let fields = [fid, 0, 0, 0, 0, 0, 0, 0, 0, 0, 0, 0, 0, 16, 0, 0];
-    let frame = frame_of(rt, alloc, 116, 1, &fields)?;
-    exchange(rt, alloc, hub, seat, frame)
+    let seat = open(rt, alloc, hub, seat, fid, b"rpc")?;
+    let (seat, reply) = ask(rt, alloc, hub, seat, fid, b"start proto=apop role=client")?;
+    assert!(rt; reply.as_slice().ends_with(b"ok"));
+    Ok(seat)
 }
 
 // Opens a file of connection 0.
@@ -172,30 +187,25 @@ fn add_key<R: Wait + Abort>(
     let (seat, _) = exchange(rt, alloc, hub, seat, frame_of(rt, alloc, 104, 1, attach)?)?;
     let seat = open(rt, alloc, hub, seat, 1, b"ctl")?;
     let key = b"key proto=apop user=ann !password=b confirm";
-    let seat = write(rt, alloc, hub, seat, 1, key)?;
-    let seat = open(rt, alloc, hub, seat, 2, b"rpc")?;
-    open(rt, alloc, hub, seat, 3, b"rpc")
+    write(rt, alloc, hub, seat, 1, key)
 }
 
 // Uses the key twice; then the agent stops. Until confirm is open no use is consented to, so the first is tried again.
-fn use_key<R: Wait + Abort>(
-    rt: &R,
-    alloc: Global,
-    hub: &Hub,
-    seat: HubSeat,
-) -> Result<Bytes, Fail>
+fn use_key<R: Wait + Abort>(rt: &R, alloc: Global, hub: &Hub, seat: HubSeat) -> Result<Bytes, Fail>
     requires { IsSeatOf hub.now seat }
 {
-    let mut seat = add_key(rt, alloc, hub, seat)?;
+    let seat = add_key(rt, alloc, hub, seat)?;
+    let seat = start(rt, alloc, hub, seat, 2)?;
+    let mut seat = start(rt, alloc, hub, seat, 3)?;
     for _ in rt.forever() {
-        let (next, reply) = start(rt, alloc, hub, seat, 2)?;
+        let (next, reply) = ask(rt, alloc, hub, seat, 2, CHALLENGE)?;
         seat = next;
         if reply.as_slice().ends_with(b"ok") {
             break;
         }
         assert!(rt; reply.as_slice().ends_with(b"error confirmation denied"));
     }
-    let (seat, reply) = start(rt, alloc, hub, seat, 3)?;
+    let (seat, reply) = ask(rt, alloc, hub, seat, 3, CHALLENGE)?;
     let mut nothing = Bytes::new(alloc);
     let (_, stopped) = hub.submit(rt, seat, &Event::Stop, &mut nothing);
     assert_eq!(rt; stopped?, StepAnswer::Done);
@@ -224,10 +234,13 @@ fn one_question_is_consented_to_and_the_next_is_not(rt: HostRuntime) -> Result<(
         || answer(&rt, alloc, &hub, one),
         || use_key(&rt, alloc, &hub, other),
     );
-    let (end, left) = answered?;
+    let Ok((end, left)) = answered else {
+        panic!(rt; "memory is short")
+    };
+    let reply = used?;
     assert_eq!(rt; end, JobEnd::Prompts(PromptsEnd::Gone));
     assert_eq!(rt; left, 1);
-    assert!(rt; used?.as_slice().ends_with(b"error confirmation denied"));
+    assert!(rt; reply.as_slice().ends_with(b"error confirmation denied"));
     Ok(())
 }
 
