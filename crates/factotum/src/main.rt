@@ -184,25 +184,25 @@ impl<R: Net + Files + Clock + AllocGlobal + Copy + Drop> Tools<R> for HostTools 
         )
     }
 
-    fn chain(&self, rt: &R, prompts: bool) -> Chain {
-        let consents = if prompts { Some(self.consents) } else { None };
-        match build_chain(rt.alloc(), consents) {
+    fn chain(&self, rt: &R, nobody: Chain, prompts: bool) -> Chain {
+        if !prompts {
+            return nobody;
+        }
+        match consenting(rt.alloc(), self.consents) {
             Ok(chain) => chain,
-            Err(_) => Chain::new(Vec::new(rt.alloc())),
+            Err(_) => nobody,
         }
     }
 }
 
-// A prompter that says yes to so many questions, if to any, and one that denies all others; none where nobody is to answer.
-fn build_chain(alloc: Global, consents: Option<u32>) -> Result<Chain, AllocError> {
+// A prompter that says yes to so many questions, if to any, and one that says no to all others.
+fn consenting(alloc: Global, left: u32) -> Result<Chain, AllocError> {
     let mut list: Vec<Box<dyn Prompter + Send>> = Vec::new(alloc);
-    if let Some(left) = consents {
-        if left != 0 {
-            let template = Tuple::new(alloc);
-            list.push(Box::new(alloc, Limited { template, left })?)?;
-        }
-        list.push(Box::new(alloc, Deny)?)?;
+    if left != 0 {
+        let template = Tuple::new(alloc);
+        list.push(Box::new(alloc, Limited { template, left })?)?;
     }
+    list.push(Box::new(alloc, Deny)?)?;
     Ok(Chain::new(list))
 }
 

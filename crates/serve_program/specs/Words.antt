@@ -50,18 +50,34 @@ three_options one a two b three c =
     else if gives (codes "--listen") three c then two_behind 6 2 4 one a two b
     else None
 
+-- `--listen` alone
+abbrev pub one_option : List ℕ → List ℕ → Option ServeWords
+one_option one a = if gives (codes "--listen") one a then served 2 None (Some 0) else None
+
+-- the options behind the command's name
+abbrev pub options_in : List (List ℕ) → Option ServeWords
+options_in (one ∷ a ∷ []) = one_option one a
+options_in (one ∷ a ∷ two ∷ b ∷ []) = two_options one a two b
+options_in (one ∷ a ∷ two ∷ b ∷ three ∷ c ∷ []) = three_options one a two b three c
+options_in words = None
+
 -- the places of the values, where the words are those of the command
 abbrev pub serve_words : List (List ℕ) → Option ServeWords
-serve_words (name ∷ one ∷ a ∷ []) = if bytes_eq name (codes "serve") && gives (codes "--listen") one a then served 2 None (Some 0) else None
-serve_words (name ∷ one ∷ a ∷ two ∷ b ∷ []) = if bytes_eq name (codes "serve") then two_options one a two b else None
-serve_words (name ∷ one ∷ a ∷ two ∷ b ∷ three ∷ c ∷ []) = if bytes_eq name (codes "serve") then three_options one a two b three c else None
-serve_words words = None
+serve_words [] = None
+serve_words (name ∷ words) = if bytes_eq name (codes "serve") then options_in words else None
+
+-- a place, if there is one, is below a number
+abbrev pub IsBelow : Option ℕ → ℕ → Type 0
+IsBelow None n = Unit {0}
+IsBelow (Some place) n = place < n
+
+abbrev pub AreBelow : ServeWords → ℕ → Type 0
+AreBelow given n = (given.listen < n) × IsBelow given.auth n
 
 -- a place, if there is one, is that of a word
 abbrev pub IsWithin : Option ℕ → List (List ℕ) → Type 0
-IsWithin None words = Unit {0}
-IsWithin (Some place) words = place < length words
+IsWithin place words = IsBelow place (length words)
 
 -- the places are those of words
 abbrev pub AreWithin : ServeWords → List (List ℕ) → Type 0
-AreWithin given words = (given.listen < length words) × IsWithin given.auth words
+AreWithin given words = AreBelow given (length words)

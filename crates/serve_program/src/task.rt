@@ -24,9 +24,9 @@ pub trait Tools<R> {
     /// Makes the dialer and the words.
     fn tools(self, rt: &R) -> (Self::Dial, Self::Rand);
 
-    /// Makes the prompters for the job that answers for the user, and none for any other, or where there is no memory for
-    /// them.
-    fn chain(&self, rt: &R, prompts: bool) -> Chain;
+    /// Makes the prompters for the job that answers for the user; for any other, or where there is no memory for them, it
+    /// gives back the chain of nobody.
+    fn chain(&self, rt: &R, nobody: Chain, prompts: bool) -> Chain;
 }
 
 /// A job of a hub, with what its tools are made from.
@@ -60,7 +60,8 @@ where
 {
     fn run(self, rt: &R) {
         let Task { hub, job, tools } = self;
-        let mut chain = tools.chain(rt, matches!(job, Job::Prompts { .. }));
+        let nobody = Chain::new(Vec::new(rt.alloc()));
+        let mut chain = tools.chain(rt, nobody, matches!(job, Job::Prompts { .. }));
         let (mut dial, mut rand) = tools.tools(rt);
         let alloc = rt.alloc();
         let _ended = run_job(rt, alloc, &hub, job, &mut dial, &mut rand, &mut chain);

@@ -1,7 +1,7 @@
 // The words of the program's command line.
-ghost use Rattle.std.specs.Prelude.{◌≡◌, IfSome};
+ghost use Rattle.std.specs.Prelude.{◌≡◌, ◌<◌, ◌+◌, length, IfSome};
 ghost use Rattle.authsrv_program.specs.Words.{is_value};
-ghost use Rattle.serve_program.specs.Words.{AreWithin, consents_of, gives, plain_number, served, serve_words, three_options, two_behind, two_options};
+ghost use Rattle.serve_program.specs.Words.{AreBelow, AreWithin, consents_of, gives, one_option, options_in, plain_number, served, serve_words, three_options, two_behind, two_options};
 
 use side_files::parse_decimal;
 use wire_base::Text;
@@ -24,34 +24,46 @@ pub fn read_serve_words(words: &[Text]) -> Option<ServeWords>
     ensures within { IfSome result (λ given. AreWithin given words.now) }
 {
     match words {
-        [name, one, a] => {
-            if name.as_slice() == b"serve".as_slice() && gives(b"--listen", one, a) {
-                served(2, None, Some(0))
-            } else {
-                None
-            }
-        }
-        [name, one, a, two, b] => {
+        [name, options @ ..] => {
             if name.as_slice() == b"serve".as_slice() {
-                two_options(one, a, two, b)
+                read_options(options)
             } else {
                 None
             }
         }
-        [name, one, a, two, b, three, c] => {
-            if name.as_slice() == b"serve".as_slice() {
-                three_options(one, a, two, b, three, c)
-            } else {
-                None
-            }
-        }
+        [] => None,
+    }
+}
+
+// What the words behind the command's name say.
+fn read_options(words: &[Text]) -> Option<ServeWords>
+    ensures places { result ≡ options_in words.now }
+    ensures within { IfSome result (λ given. AreBelow given (length words.now + 1)) }
+{
+    match words {
+        [one, a] => one_option(one, a),
+        [one, a, two, b] => two_options(one, a, two, b),
+        [one, a, two, b, three, c] => three_options(one, a, two, b, three, c),
         _ => None,
+    }
+}
+
+// `--listen` alone.
+fn one_option(one: &Text, a: &Text) -> Option<ServeWords>
+    ensures places { result ≡ one_option one.now a.now }
+    ensures within { IfSome result (λ given. AreBelow given 3) }
+{
+    if gives(b"--listen", one, a) {
+        served(2, None, Some(0))
+    } else {
+        None
     }
 }
 
 // These places, where the number is one.
 fn served(listen: usize, auth: Option<usize>, consents: Option<u32>) -> Option<ServeWords>
-    ensures { result ≡ served listen auth consents }
+    ensures places { result ≡ served listen auth consents }
+    ensures same { IfSome result (λ given. (given.listen ≡ listen) × (given.auth ≡ auth)) }
 {
     match consents {
         Some(consents) => Some(ServeWords {
@@ -91,7 +103,8 @@ fn plain_number(digits: &[u8]) -> Option<u32>
 
 // `--listen` and another option, in either order.
 fn two_options(one: &Text, a: &Text, two: &Text, b: &Text) -> Option<ServeWords>
-    ensures { result ≡ two_options one.now a.now two.now b.now }
+    ensures places { result ≡ two_options one.now a.now two.now b.now }
+    ensures within { IfSome result (λ given. AreBelow given 5) }
 {
     if gives(b"--listen", one, a) && gives(b"--auth", two, b) {
         served(2, Some(4), Some(0))
@@ -115,7 +128,8 @@ fn three_options(
     three: &Text,
     c: &Text,
 ) -> Option<ServeWords>
-    ensures { result ≡ three_options one.now a.now two.now b.now three.now c.now }
+    ensures places { result ≡ three_options one.now a.now two.now b.now three.now c.now }
+    ensures within { IfSome result (λ given. AreBelow given 7) }
 {
     if gives(b"--listen", one, a) {
         two_behind(2, 4, 6, two, b, three, c)
@@ -138,7 +152,11 @@ fn two_behind(
     two: &Text,
     b: &Text,
 ) -> Option<ServeWords>
-    ensures { result ≡ two_behind listen first second one.now a.now two.now b.now }
+    requires listen { listen < 7 }
+    requires first { first < 7 }
+    requires second { second < 7 }
+    ensures places { result ≡ two_behind listen first second one.now a.now two.now b.now }
+    ensures within { IfSome result (λ given. AreBelow given 7) }
 {
     if gives(b"--auth", one, a) && gives(b"--consent", two, b) {
         served(listen, Some(first), consents_of(b))
