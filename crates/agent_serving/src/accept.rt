@@ -113,9 +113,11 @@ fn begin<I: Drop, O: Drop, P: Spawner<Job<I, O>>>(
     spawner: &mut P,
 ) -> (HubSeat, Result<(), NoStart>)
     requires seat { IsSeatOf hub.now seat }
-    requires takes { (job : Job I O) → IsSeatOf hub.now (seat_of job) → P.takes spawner.old job }
+    requires takes { (job : Job I O) → IsSeatOf hub.now (seat_of job)
+        → P.takes spawner.old job }
     ensures seat { IsSeatOf hub.now result.0 }
-    ensures takes { (job : Job I O) → IsSeatOf hub.now (seat_of job) → P.takes spawner.new job }
+    ensures takes { (job : Job I O) → IsSeatOf hub.now (seat_of job)
+        → P.takes spawner.new job }
     ensures begun { OnOk result.1 ((came : Option (List (I × O)))
         → Going seat result.0 came came (P.taken spawner.old) (P.taken spawner.new) 0) }
     ensures ended { OnErr result.1 ((came : Option (List (I × O)))

@@ -49,8 +49,10 @@ pub fn run_job<R: Wait, I: Source + Drop, O: Sink + Drop, D: Dialer, G: Words>(
     ensures done { EndsSo I.left I.faults O.holds O.faults job result.0
         (D.told dialer.old) (D.told dialer.new) (D.faults dialer.old) (D.faults dialer.new)
         (G.to_come words.old) (G.to_come words.new)
-        (map (λ b. (⟦<(dyn Prompter + Send) as Prompter>⟧ b.vtable).manner b.value) chain.old.list.items)
-        (map (λ b. (⟦<(dyn Prompter + Send) as Prompter>⟧ b.vtable).manner b.value) chain.new.list.items) result.1 }
+        (map (λ b. (⟦<(dyn Prompter + Send) as Prompter>⟧ b.vtable).manner b.value)
+        chain.old.list.items)
+        (map (λ b. (⟦<(dyn Prompter + Send) as Prompter>⟧ b.vtable).manner b.value)
+        chain.new.list.items) result.1 }
     ensures word_fault { WordsRose result.1 (G.faults words.old) (G.faults words.new) }
     ensures counted_dials { D.faults dialer.old ≤ D.faults dialer.new }
     ensures counted_words { G.faults words.old ≤ G.faults words.new }

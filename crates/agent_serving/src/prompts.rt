@@ -278,8 +278,12 @@ fn answer_line<R: Wait>(
     requires { IsSeatOf hub.now seat }
     ensures seat { IsSeatOf hub.now result.0 }
     ensures told { (whole : List Manner) (first : HubSeat)
-        → Hears conn whole (map (λ b. (⟦<(dyn Prompter + Send) as Prompter>⟧ b.vtable).manner b.value) chain.old.list.items) first seat [] reply.now
-        → SpeaksOn conn whole (map (λ b. (⟦<(dyn Prompter + Send) as Prompter>⟧ b.vtable).manner b.value) chain.new.list.items) first result.0 result.1 [] [] }
+        → Hears conn whole
+        (map (λ b. (⟦<(dyn Prompter + Send) as Prompter>⟧ b.vtable).manner b.value)
+        chain.old.list.items) first seat [] reply.now
+        → SpeaksOn conn whole
+        (map (λ b. (⟦<(dyn Prompter + Send) as Prompter>⟧ b.vtable).manner b.value)
+        chain.new.list.items) first result.0 result.1 [] [] }
 {
     let Some(file) = file_read(reply) else {
         return (seat, Ok(()));
@@ -309,8 +313,12 @@ fn answer_all<R: Wait>(
     requires { IsSeatOf hub.now seat }
     ensures seat { IsSeatOf hub.now result.0 }
     ensures told { (whole : List Manner) (first : HubSeat)
-        → Speaks conn whole (map (λ b. (⟦<(dyn Prompter + Send) as Prompter>⟧ b.vtable).manner b.value) chain.old.list.items) first seat [] []
-        → Stops conn whole (map (λ b. (⟦<(dyn Prompter + Send) as Prompter>⟧ b.vtable).manner b.value) chain.new.list.items) first result.0 result.1 }
+        → Speaks conn whole
+        (map (λ b. (⟦<(dyn Prompter + Send) as Prompter>⟧ b.vtable).manner b.value)
+        chain.old.list.items) first seat [] []
+        → Stops conn whole
+        (map (λ b. (⟦<(dyn Prompter + Send) as Prompter>⟧ b.vtable).manner b.value)
+        chain.new.list.items) first result.0 result.1 }
 {
     let mut reply = Bytes::new(alloc);
     for _ in rt.forever() {
@@ -339,7 +347,11 @@ fn converse<R: Wait>(
 ) -> (HubSeat, PromptsEnd)
     requires { IsSeatOf hub.now seat }
     ensures seat { IsSeatOf hub.now result.0 }
-    ensures told { Stops conn (map (λ b. (⟦<(dyn Prompter + Send) as Prompter>⟧ b.vtable).manner b.value) chain.old.list.items) (map (λ b. (⟦<(dyn Prompter + Send) as Prompter>⟧ b.vtable).manner b.value) chain.new.list.items)
+    ensures told { Stops conn
+        (map (λ b. (⟦<(dyn Prompter + Send) as Prompter>⟧ b.vtable).manner b.value)
+        chain.old.list.items)
+        (map (λ b. (⟦<(dyn Prompter + Send) as Prompter>⟧ b.vtable).manner b.value)
+        chain.new.list.items)
         seat result.0 result.1 }
 {
     let (seat, opened) = open_files(rt, alloc, hub, seat, conn);
@@ -373,8 +385,11 @@ pub fn serve_prompts<R: Wait>(
 ) -> (HubSeat, PromptsEnd)
     requires { IsSeatOf hub.now seat }
     ensures seat { IsSeatOf hub.now result.0 }
-    ensures prompts { PromptsSo conn (map (λ b. (⟦<(dyn Prompter + Send) as Prompter>⟧ b.vtable).manner b.value) chain.old.list.items)
-        (map (λ b. (⟦<(dyn Prompter + Send) as Prompter>⟧ b.vtable).manner b.value) chain.new.list.items) seat result.0 result.1 }
+    ensures prompts { PromptsSo conn
+        (map (λ b. (⟦<(dyn Prompter + Send) as Prompter>⟧ b.vtable).manner b.value)
+        chain.old.list.items)
+        (map (λ b. (⟦<(dyn Prompter + Send) as Prompter>⟧ b.vtable).manner b.value)
+        chain.new.list.items) seat result.0 result.1 }
 {
     if chain.len() < 2 {
         return (seat, PromptsEnd::Idle);

@@ -12,15 +12,13 @@ ghost use Rattle.serve_program.specs.Words.{IsWithin};
 use agent_core::Agent;
 use agent_hub::{Hub, HubSeat};
 use agent_serving::{ServeEnd, serve};
-use attr_tuples::Tuple;
 use factotum_program::{Status, Task, print_status, read_words, run_command};
-use prompt_agent::{Chain, Deny, Limited, Prompter};
 use serve_program::{
     Again, HubSpawner, Task as JobTask, Tools, end_number, print_end, read_serve_words,
 };
 use socket_dialer::TcpDialer;
 use socket_listener::SocketListener;
-use std::alloc::{AllocError, Global};
+use std::alloc::Global;
 use std::env;
 use std::fs::{File, Files};
 use std::io::{self, ErrorKind, Read};
@@ -184,26 +182,9 @@ impl<R: Net + Files + Clock + AllocGlobal + Copy + Drop> Tools<R> for HostTools 
         )
     }
 
-    fn chain(&self, rt: &R, nobody: Chain, prompts: bool) -> Chain {
-        if !prompts {
-            return nobody;
-        }
-        match consenting(rt.alloc(), self.consents) {
-            Ok(chain) => chain,
-            Err(_) => nobody,
-        }
+    fn consents(&self) -> u32 {
+        self.consents
     }
-}
-
-// A prompter that says yes to so many questions, if to any, and one that says no to all others.
-fn consenting(alloc: Global, left: u32) -> Result<Chain, AllocError> {
-    let mut list: Vec<Box<dyn Prompter + Send>> = Vec::new(alloc);
-    if left != 0 {
-        let template = Tuple::new(alloc);
-        list.push(Box::new(alloc, Limited { template, left })?)?;
-    }
-    list.push(Box::new(alloc, Deny)?)?;
-    Ok(Chain::new(list))
 }
 
 // Listens at an address. Where nobody can, that is told on standard error.
