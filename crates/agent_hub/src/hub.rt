@@ -115,6 +115,17 @@ impl Hub {
         (seat, answer)
     }
 
+    /// How often there may have been new replies, on whatever connection, of which the low 32 bits count.
+    pub fn count_replies(&self) -> u32 {
+        self.bells.replies.count()
+    }
+
+    /// Sleeps until there may be new replies, unless there may have been some since there were so many. Who reads the count
+    /// before a take that finds none doesn't sleep past a reply. It claims nothing: the agent has to be looked at again.
+    pub fn sleep_for_replies<R: Wait>(&self, rt: &R, count: u32) {
+        self.bells.replies.sleep(rt, count);
+    }
+
     /// Two seats with the front of the one that came: it keeps its numbers, and the other has a new number, without
     /// entries. It takes no memory and doesn't wait.
     pub fn split(&self, seat: HubSeat) -> (HubSeat, HubSeat)

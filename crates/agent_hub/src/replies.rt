@@ -144,12 +144,12 @@ pub fn serve_out<R: Wait, W: Sink>(
 {
     let mut gathered = Bytes::new(alloc);
     for _ in rt.forever() {
-        let heard = hub.bells.replies.count();
+        let heard = hub.count_replies();
         let (next, round) = deliver(rt, hub, seat, conn, &mut gathered, sink);
         seat = next;
         match round {
             Ok(true) => {}
-            Ok(false) => hub.bells.replies.sleep(rt, heard),
+            Ok(false) => hub.sleep_for_replies(rt, heard),
             Err(end) => return (seat, end),
         }
     }

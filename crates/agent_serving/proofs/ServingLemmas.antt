@@ -14,10 +14,10 @@ use Rattle.agent_hub.specs.Submits.{HubSeat, IsSubmitted}
 use Rattle.agent_hub.specs.Entries.{Adds, Entered, entered_by, entry, events_in}
 use Rattle.agent_hub.proofs.EntryLemmas.{adds_none, adds_one, adds_still, before_it}
 use Rattle.agent_serving.specs.declared.job.Job.{Job}
-use Rattle.agent_serving.specs.declared.job.Job.TheVariants.{In, Out, Asks}
+use Rattle.agent_serving.specs.declared.job.Job.TheVariants.{In, Out, Asks, Prompts}
 use Rattle.agent_serving.specs.declared.accept.ServeEnd.{ServeEnd}
 use Rattle.agent_serving.specs.declared.accept.ServeEnd.TheVariants as e
-use Rattle.agent_serving.specs.Serving.{AreJobs, AreServed, EndedBy, Ended, Going, IsServed, ServesSo, takes}
+use Rattle.agent_serving.specs.Serving.{AreJobs, AreServed, EndedBy, Ended, Going, IsServed, ServesSo, prompts_conn, takes}
 
 -- the seat that keeps its numbers where another was split off has entered what it had
 pub adds_kept : (mine : List Entered) (first seat one other : HubSeat) → Parted seat one other → Adds mine first seat → Adds mine first one
@@ -41,7 +41,8 @@ served_more n (x ∷ more) (j ∷ k ∷ jobs) c one other a s = (a.0, served_mor
 jobs_more : {I O : Type 0} → (connections : List (I × O)) (jobs : List (Job I O)) (c : I × O) (one other : Job I O) → AreJobs connections jobs → IsServed (length connections) c one other
     → AreJobs (connections ++ c ∷ []) (jobs ++ one ∷ other ∷ [])
 jobs_more connections [] c one other a s = absurd a
-jobs_more connections (job ∷ jobs) c one other a s = (a.0, served_more 0 connections jobs c one other a.1 (subst (λ (m : ℕ). IsServed m c one other) (omega arith) s))
+jobs_more connections (job ∷ []) c one other a s = absurd a
+jobs_more connections (asks ∷ prompts ∷ jobs) c one other a s = (a.0, (a.1.0, served_more 0 connections jobs c one other a.1.1 (subst (λ (m : ℕ). IsServed m c one other) (omega arith) s)))
 
 length_more : {A : Type 0} → (xs : List A) (x : A) → length (xs ++ x ∷ []) ≡ length xs + 1
 length_more [] x = refl
@@ -55,21 +56,22 @@ take_more n k older o is =
 -- ---- how it goes on, and ends
 
 module _ {I O : Type 0} (first : HubSeat) (came : Option (List (I × O))) (taken : Option (List (Job I O))) where
-  -- the job that asks was taken, and nothing was accepted
-  pub begun : (one other : HubSeat) (now : Option (List (Job I O))) → Parted first one other → Gains taken now (Asks other ∷ []) → Going first one came came taken now 0
-  begun one other now p g = record {
+  -- the jobs of the agent's questions were taken, and nothing was accepted
+  pub begun : (one asks two prompts : HubSeat) (then_taken now : Option (List (Job I O))) → Parted first one asks → Gains taken then_taken (Asks asks ∷ []) → Parted one two prompts → Gains then_taken now (Prompts prompts prompts_conn ∷ [])
+      → Going first two came came taken now 0
+  begun one asks two prompts then_taken now p g q h = record {
     accepted = [];
     arrived = Came-nil came;
     number = refl;
-    jobs = Asks other ∷ [];
-    are = (record { seat = other; asks = refl }, tt);
-    took = g;
+    jobs = Asks asks ∷ Prompts prompts prompts_conn ∷ [];
+    are = (record { seat = asks; asks = refl }, (record { seat = prompts; prompts = refl }, tt));
+    took = Gains-trans taken then_taken now (Asks asks ∷ []) (Prompts prompts prompts_conn ∷ []) g h;
     mine = [];
-    added = adds_kept [] first first one other p (adds_none first);
+    added = adds_kept [] first one two prompts q (adds_kept [] first first one asks p (adds_none first));
     entered = refl;
   }
 
-  -- it wasn't taken
+  -- neither was taken, or only the first was
   pub not_begun : (one other : HubSeat) (now : Option (List (Job I O))) → Parted first one other → Gains taken now [] → Ended e.NoThread first one came came taken now
   not_begun one other now p g = record {
     accepted = [];
@@ -77,12 +79,29 @@ module _ {I O : Type 0} (first : HubSeat) (came : Option (List (I × O))) (taken
     arrived = Came-nil came;
     few = omega arith;
     jobs = [];
-    missing = Asks other ∷ [];
-    are = (record { seat = other; asks = refl }, tt);
+    missing = Asks other ∷ Prompts other prompts_conn ∷ [];
+    are = (record { seat = other; asks = refl }, (record { seat = other; prompts = refl }, tt));
     lacks = omega arith;
     took = g;
     mine = [];
     added = adds_kept [] first first one other p (adds_none first);
+    entered = refl;
+  }
+
+  pub half_begun : (one asks two prompts : HubSeat) (then_taken now : Option (List (Job I O))) → Parted first one asks → Gains taken then_taken (Asks asks ∷ []) → Parted one two prompts → Gains then_taken now []
+      → Ended e.NoThread first two came came taken now
+  half_begun one asks two prompts then_taken now p g q h = record {
+    accepted = [];
+    refused = [];
+    arrived = Came-nil came;
+    few = omega arith;
+    jobs = Asks asks ∷ [];
+    missing = Prompts prompts prompts_conn ∷ [];
+    are = (record { seat = asks; asks = refl }, (record { seat = prompts; prompts = refl }, tt));
+    lacks = omega arith;
+    took = Gains-trans taken then_taken now (Asks asks ∷ []) [] g h;
+    mine = [];
+    added = adds_kept [] first one two prompts q (adds_kept [] first first one asks p (adds_none first));
     entered = refl;
   }
 

@@ -1,2 +1,3 @@
+pub mod Prompting
 pub mod Jobs
 pub mod Serving

@@ -8,7 +8,7 @@ use Rattle.listeners.specs.Spawning.{Gains}
 use Rattle.agent_hub.specs.Submits.{HubSeat}
 use Rattle.agent_hub.specs.Entries.{Adds, Entered, events_in}
 use Rattle.agent_serving.specs.declared.job.Job.{Job}
-use Rattle.agent_serving.specs.declared.job.Job.TheVariants.{In, Out, Asks}
+use Rattle.agent_serving.specs.declared.job.Job.TheVariants.{In, Out, Asks, Prompts}
 use Rattle.agent_serving.specs.declared.accept.ServeEnd.{ServeEnd}
 use Rattle.agent_serving.specs.declared.accept.ServeEnd.TheVariants.{NoThread, ListenFault, NoMemory}
 
@@ -30,10 +30,21 @@ pub record IsAsking {I O : Type 0} (job : Job I O) : Type 0 where
   pub seat : HubSeat
   pub asks : job ≡ Asks seat
 
--- all jobs of these connections: the one that asks, and then two for each, in order, numbered from 0
+-- the number of the connection on which what the agent asks its user is answered: 2^64 - 1
+abbrev pub prompts_conn : ℕ
+prompts_conn = 18446744073709551615
+
+-- a job answers what the agent asks its user
+pub record IsPrompting {I O : Type 0} (job : Job I O) : Type 0 where
+  pub seat : HubSeat
+  pub prompts : job ≡ Prompts seat prompts_conn
+
+-- all jobs of these connections: the one that asks, the one that answers for the user, and then two for each, in order,
+-- numbered from 0
 abbrev pub AreJobs : {I O : Type 0} → List (I × O) → List (Job I O) → Type 0
 AreJobs connections [] = ⊥
-AreJobs connections (job ∷ jobs) = IsAsking job × AreServed 0 connections jobs
+AreJobs connections (job ∷ []) = ⊥
+AreJobs connections (one ∷ other ∷ jobs) = IsAsking one × (IsPrompting other × AreServed 0 connections jobs)
 
 -- the events by which the first so many connections are opened, the newest first
 abbrev pub takes : ℕ → List Event

@@ -1,5 +1,5 @@
 // Connections accepted, each of which is two jobs.
-ghost use Rattle.std.specs.Prelude.{◌≡◌, ◌≤◌, ◌+◌, Err, IfErr, List, OnOk, Option};
+ghost use Rattle.std.specs.Prelude.{◌≡◌, ◌≤◌, ◌+◌, Err, IfErr, List, OnErr, OnOk, Option};
 ghost use Rattle.wire_streams.specs.Causes.{Rose};
 ghost use Rattle.agent_hub.specs.Submits.{HubSeat, IsSeatOf};
 ghost use Rattle.agent_serving.specs.Jobs.{seat_of};
@@ -7,7 +7,7 @@ ghost use Rattle.agent_serving.specs.Serving.{Ended, Going, ServesSo};
 
 use crate::job::Job;
 use agent_hub::{Event, Hub, HubSeat};
-use listeners::{Listener, Spawner};
+use listeners::{Listener, NoStart, Spawner};
 use std::alloc::Global;
 use std::sync::Wait;
 use wire_base::Bytes;
@@ -23,8 +23,9 @@ pub enum ServeEnd {
     NoMemory,
 }
 
-/// Has the authentication server asked by one job, and accepts connections, numbered from 0, each of which is two jobs:
-/// one that hands on what comes, and one that writes the replies. Each connection is opened by a take before its jobs start,
+/// Has the authentication server asked by one job and the user's questions answered by another, on the connection 2^64 - 1,
+/// and accepts connections, numbered from 0, each of which is two jobs: one that hands on what comes, and one that writes the
+/// replies. Each connection is opened by a take before its jobs start,
 /// so that a client which sends nothing is hung up as any other. At the end the agent stops. It may wait.
 pub fn serve<R: Wait, L: Listener, P: Spawner<Job<L::In, L::Out>>>(
     rt: &R,
@@ -61,7 +62,7 @@ where
     (seat, end)
 }
 
-// Starts the job of questions, and accepts connections until that fails.
+// Starts the jobs of the agent's questions, and accepts connections until that fails.
 fn accept_all<R: Wait, L: Listener, P: Spawner<Job<L::In, L::Out>>>(
     rt: &R,
     alloc: Global,
@@ -86,8 +87,8 @@ where
     ensures counted_accepts { L.faults listener.old ≤ L.faults listener.new }
     ensures counted_jobs { P.faults spawner.old ≤ P.faults spawner.new }
 {
-    let (mut seat, asks) = hub.split(seat);
-    let Ok(()) = spawner.spawn(Job::Asks { seat: asks }) else {
+    let (mut seat, begun) = begin(hub, seat, spawner);
+    let Ok(()) = begun else {
         return (seat, ServeEnd::NoThread);
     };
     let mut conn = 0;
@@ -103,6 +104,41 @@ where
         }
     }
     unreachable!()
+}
+
+// Starts the job that asks the authentication server, and the one that answers for the user.
+fn begin<I: Drop, O: Drop, P: Spawner<Job<I, O>>>(
+    hub: &Hub,
+    seat: HubSeat,
+    spawner: &mut P,
+) -> (HubSeat, Result<(), NoStart>)
+    requires seat { IsSeatOf hub.now seat }
+    requires takes { (job : Job I O) → IsSeatOf hub.now (seat_of job)
+        → P.takes spawner.old job }
+    ensures seat { IsSeatOf hub.now result.0 }
+    ensures takes { (job : Job I O) → IsSeatOf hub.now (seat_of job)
+        → P.takes spawner.new job }
+    ensures begun { OnOk result.1 ((came : Option (List (I × O)))
+        → Going seat result.0 came came (P.taken spawner.old) (P.taken spawner.new) 0) }
+    ensures ended { OnErr result.1 ((came : Option (List (I × O)))
+        → Ended ServeEnd.NoThread seat result.0 came came
+        (P.taken spawner.old) (P.taken spawner.new)) }
+    ensures no_thread { OnErr result.1 (Rose (P.faults spawner.old) (P.faults spawner.new)) }
+    ensures counted { P.faults spawner.old ≤ P.faults spawner.new }
+{
+    let (seat, asks) = hub.split(seat);
+    if let Err(fault) = spawner.spawn(Job::Asks { seat: asks }) {
+        return (seat, Err(fault));
+    }
+    let (seat, prompts) = hub.split(seat);
+    let job = Job::Prompts {
+        seat: prompts,
+        conn: u64::MAX,
+    };
+    if let Err(fault) = spawner.spawn(job) {
+        return (seat, Err(fault));
+    }
+    (seat, Ok(()))
 }
 
 // Accepts the connection of this number, opens it, and starts its two jobs.

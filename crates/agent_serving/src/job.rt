@@ -1,9 +1,11 @@
 // The jobs of an agent that serves many connections.
-ghost use Rattle.std.specs.Prelude.{◌≤◌};
+ghost use Rattle.std.specs.Prelude.{◌≤◌, map};
 ghost use Rattle.agent_hub.specs.Submits.{IsSeatOf};
 ghost use Rattle.agent_serving.specs.Jobs.{EndsSo, WordsRose, seat_of};
 
+use crate::prompts::{PromptsEnd, serve_prompts};
 use agent_hub::{AsksEnd, Hub, HubSeat, InEnd, OutEnd, serve_asks, serve_in, serve_out};
+use prompt_agent::{Chain, Prompter};
 use std::alloc::Global;
 use std::sync::Wait;
 use wire_streams::{Dialer, Sink, Source, Words};
@@ -17,6 +19,8 @@ pub enum Job<I, O> {
     Out { seat: HubSeat, conn: u64, sink: O },
     /// The authentication server is asked what the agent asks of it.
     Asks { seat: HubSeat },
+    /// What the agent asks its user is answered by prompters, on the connection of this number.
+    Prompts { seat: HubSeat, conn: u64 },
 }
 
 /// How a job ended.
@@ -25,6 +29,7 @@ pub enum JobEnd {
     In(InEnd),
     Out(OutEnd),
     Asks(AsksEnd),
+    Prompts(PromptsEnd),
 }
 
 /// Does a job to its end, and hands its seat back. It may wait.
@@ -35,6 +40,7 @@ pub fn run_job<R: Wait, I: Source + Drop, O: Sink + Drop, D: Dialer, G: Words>(
     job: Job<I, O>,
     dialer: &mut D,
     words: &mut G,
+    chain: &mut Chain,
 ) -> (HubSeat, JobEnd)
     requires { IsSeatOf hub.now (seat_of job) }
     ensures seat { IsSeatOf hub.now result.0 }
@@ -42,7 +48,11 @@ pub fn run_job<R: Wait, I: Source + Drop, O: Sink + Drop, D: Dialer, G: Words>(
     // It does what the loop that it names does, and ends as that does.
     ensures done { EndsSo I.left I.faults O.holds O.faults job result.0
         (D.told dialer.old) (D.told dialer.new) (D.faults dialer.old) (D.faults dialer.new)
-        (G.to_come words.old) (G.to_come words.new) result.1 }
+        (G.to_come words.old) (G.to_come words.new)
+        (map (λ b. (⟦<(dyn Prompter + Send) as Prompter>⟧ b.vtable).manner b.value)
+        chain.old.list.items)
+        (map (λ b. (⟦<(dyn Prompter + Send) as Prompter>⟧ b.vtable).manner b.value)
+        chain.new.list.items) result.1 }
     ensures word_fault { WordsRose result.1 (G.faults words.old) (G.faults words.new) }
     ensures counted_dials { D.faults dialer.old ≤ D.faults dialer.new }
     ensures counted_words { G.faults words.old ≤ G.faults words.new }
@@ -67,6 +77,10 @@ pub fn run_job<R: Wait, I: Source + Drop, O: Sink + Drop, D: Dialer, G: Words>(
         Job::Asks { seat } => {
             let (seat, end) = serve_asks(rt, alloc, hub, seat, dialer);
             (seat, JobEnd::Asks(end))
+        }
+        Job::Prompts { seat, conn } => {
+            let (seat, end) = serve_prompts(rt, alloc, hub, seat, conn, chain);
+            (seat, JobEnd::Prompts(end))
         }
     }
 }

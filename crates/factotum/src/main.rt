@@ -145,16 +145,21 @@ fn run(rt: &HostRuntime, words: &[Text]) -> Status
     )
 }
 
-// What the tools of each job of an agent at a socket are made from: the address of the authentication server.
+// What the tools of each job of an agent at a socket are made from: the address of the authentication server, and how many
+// questions are answered by yes for the user.
 #[derive(Drop)]
 struct HostTools {
     auth: Text,
+    consents: u32,
 }
 
 impl Again for HostTools {
     fn again(&self) -> Option<Self> {
         match self.auth.copy() {
-            Ok(auth) => Some(HostTools { auth }),
+            Ok(auth) => Some(HostTools {
+                auth,
+                consents: self.consents,
+            }),
             Err(_) => None,
         }
     }
@@ -166,7 +171,7 @@ impl<R: Net + Files + Clock + AllocGlobal + Copy + Drop> Tools<R> for HostTools 
     type Rand = ReadWords<ReadSource<Opened<R::File>>>;
 
     fn tools(self, rt: &R) -> (Self::Dial, Self::Rand) {
-        let HostTools { auth } = self;
+        let HostTools { auth, .. } = self;
         let random = match File::open(rt, RANDOM) {
             Ok(file) => Opened::File(file),
             Err(_) => Opened::Shut,
@@ -175,6 +180,10 @@ impl<R: Net + Files + Clock + AllocGlobal + Copy + Drop> Tools<R> for HostTools 
             TcpDialer::new(*rt, rt.alloc(), auth, Duration::from_secs(PATIENCE)),
             ReadWords::new(ReadSource::new(random)),
         )
+    }
+
+    fn consents(&self) -> u32 {
+        self.consents
     }
 }
 
@@ -250,7 +259,10 @@ fn main(rt: HostRuntime) -> ExitCode {
             (Some(auth), Ok((hub, seat)), Ok(threads)) => match Arc::try_clone(&hub) {
                 Ok(shared) => match listen(&rt, &words[given.listen]) {
                     Ok(mut listener) => {
-                        let tools = HostTools { auth };
+                        let tools = HostTools {
+                            auth,
+                            consents: given.consents,
+                        };
                         let mut spawner = HubSpawner::new(shared, tools, threads);
                         let alloc = rt.alloc();
                         serve(&rt, alloc, &hub, seat, &mut listener, &mut spawner).1

@@ -5,6 +5,8 @@
 mod ending;
 mod spawner;
 mod task;
+#[cfg(test)]
+mod tests;
 mod words;
 
 pub use ending::{end_number, print_end};

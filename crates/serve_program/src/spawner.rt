@@ -15,8 +15,8 @@ use std::sync::Arc;
 pub struct HubSpawner<T, P> {
     hub: Arc<Hub, Global>,
     tools: T,
-    inner: P,
-    faults: u64,
+    pub(crate) inner: P,
+    pub(crate) faults: u64,
 }
 
 impl<T, P> HubSpawner<T, P> {

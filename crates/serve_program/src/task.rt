@@ -1,6 +1,8 @@
 // Each job as a task of a thread.
 use agent_hub::Hub;
 use agent_serving::{Job, run_job};
+use attr_tuples::Tuple;
+use prompt_agent::{Chain, Deny, Limited, Prompter};
 use std::alloc::Global;
 use std::marker::Model;
 use std::sync::{Arc, Wait};
@@ -12,7 +14,8 @@ pub trait Again: Sized {
     fn again(&self) -> Option<Self>;
 }
 
-/// What a job is done with: the dialer, and where words are drawn from, by the runtime of its thread.
+/// What a job is done with: the dialer, and where words are drawn from, by the runtime of its thread; and the number that its
+/// prompters are made from.
 pub trait Tools<R> {
     /// Asks the authentication server.
     type Dial: Dialer + Drop;
@@ -20,8 +23,11 @@ pub trait Tools<R> {
     /// Gives random words.
     type Rand: Words + Drop;
 
-    /// Makes them.
+    /// Makes the dialer and the words.
     fn tools(self, rt: &R) -> (Self::Dial, Self::Rand);
+
+    /// To how many questions the job that answers for the user says yes.
+    fn consents(&self) -> u32;
 }
 
 /// A job of a hub, with what its tools are made from.
@@ -53,9 +59,26 @@ where
     O: Sink + Drop,
     T: Tools<R> + Drop,
 {
+    // The prompters of the job that answers for the user are one that says yes so often, if ever, and one that says no; where
+    // memory is short they are fewer than two, so that it is idle. All other jobs have none.
     fn run(self, rt: &R) {
         let Task { hub, job, tools } = self;
+        let alloc = rt.alloc();
+        let mut list: Vec<Box<dyn Prompter + Send>> = Vec::new(alloc);
+        if matches!(job, Job::Prompts { .. }) {
+            let left = tools.consents();
+            if left != 0 {
+                let template = Tuple::new(alloc);
+                if let Ok(limited) = Box::new(alloc, Limited { template, left }) {
+                    let _ = list.push(limited);
+                }
+            }
+            if let Ok(deny) = Box::new(alloc, Deny) {
+                let _ = list.push(deny);
+            }
+        }
+        let mut chain = Chain::new(list);
         let (mut dial, mut rand) = tools.tools(rt);
-        let _ended = run_job(rt, rt.alloc(), &hub, job, &mut dial, &mut rand);
+        let _ended = run_job(rt, alloc, &hub, job, &mut dial, &mut rand, &mut chain);
     }
 }

@@ -1,61 +1,167 @@
 // The words of the program's command line.
-ghost use Rattle.std.specs.Prelude.{◌≡◌, IfSome};
+ghost use Rattle.std.specs.Prelude.{◌≡◌, ◌<◌, ◌+◌, length, IfSome};
 ghost use Rattle.authsrv_program.specs.Words.{is_value};
-ghost use Rattle.serve_program.specs.Words.{AreWithin, gives, serve_words, two_options};
+ghost use Rattle.serve_program.specs.Words.{AreBelow, AreWithin, consents_of, gives, one_option, options_in, plain_number, served, serve_words, three_options, two_behind, two_options};
 
+use side_files::parse_decimal;
 use wire_base::Text;
 
-/// The places of the values among the words behind the program's name.
+/// The places of the addresses among the words behind the program's name, and a number.
 #[derive(Clone, Copy, Debug, PartialEq, Eq)]
 pub struct ServeWords {
     /// The address at which it listens.
     pub listen: usize,
     /// The address of the authentication server, if one is given.
     pub auth: Option<usize>,
+    /// How many questions are answered by yes for the user.
+    pub consents: u32,
 }
 
-/// What the words behind the program's name ask for: `serve`, and the options `--listen` with an address and, if it stands
-/// there, `--auth` with one, in any order. None where they aren't so.
+/// What the words behind the program's name ask for: `serve`, and the options `--listen` with an address and, if they stand
+/// there, `--auth` with one and `--consent` with a number, in any order. None where they aren't so.
 pub fn read_serve_words(words: &[Text]) -> Option<ServeWords>
     ensures places { result ≡ serve_words words.now }
     ensures within { IfSome result (λ given. AreWithin given words.now) }
 {
     match words {
-        [name, option, value] => {
-            if name.as_slice() == b"serve".as_slice() && gives(b"--listen", option, value) {
-                Some(ServeWords {
-                    listen: 2,
-                    auth: None,
-                })
-            } else {
-                None
-            }
-        }
-        [name, one, a, other, b] => {
+        [name, options @ ..] => {
             if name.as_slice() == b"serve".as_slice() {
-                two_options(one, a, other, b)
+                read_options(options)
             } else {
                 None
             }
         }
+        [] => None,
+    }
+}
+
+// What the words behind the command's name say.
+fn read_options(words: &[Text]) -> Option<ServeWords>
+    ensures places { result ≡ options_in words.now }
+    ensures within { IfSome result (λ given. AreBelow given (length words.now + 1)) }
+{
+    match words {
+        [one, a] => one_option(one, a),
+        [one, a, two, b] => two_options(one, a, two, b),
+        [one, a, two, b, three, c] => three_options(one, a, two, b, three, c),
         _ => None,
     }
 }
 
-// Both options, in either order.
-fn two_options(one: &Text, a: &Text, other: &Text, b: &Text) -> Option<ServeWords>
-    ensures { result ≡ two_options one.now a.now other.now b.now }
+// `--listen` alone.
+fn one_option(one: &Text, a: &Text) -> Option<ServeWords>
+    ensures places { result ≡ one_option one.now a.now }
+    ensures within { IfSome result (λ given. AreBelow given 3) }
 {
-    if gives(b"--listen", one, a) && gives(b"--auth", other, b) {
-        Some(ServeWords {
-            listen: 2,
-            auth: Some(4),
-        })
-    } else if gives(b"--auth", one, a) && gives(b"--listen", other, b) {
-        Some(ServeWords {
-            listen: 4,
-            auth: Some(2),
-        })
+    if gives(b"--listen", one, a) {
+        served(2, None, Some(0))
+    } else {
+        None
+    }
+}
+
+// These places, where the number is one.
+fn served(listen: usize, auth: Option<usize>, consents: Option<u32>) -> Option<ServeWords>
+    ensures places { result ≡ served listen auth consents }
+    ensures same { IfSome result (λ given. (given.listen ≡ listen) × (given.auth ≡ auth)) }
+{
+    match consents {
+        Some(consents) => Some(ServeWords {
+            listen,
+            auth,
+            consents,
+        }),
+        None => None,
+    }
+}
+
+// The number that a word is: decimal, without zeros in front, and below 2^32.
+fn consents_of(word: &Text) -> Option<u32>
+    ensures { result ≡ consents_of word.now }
+{
+    let digits = word.as_slice();
+    if digits.len() > 1 && digits[0] == b'0' {
+        return None;
+    }
+    plain_number(digits)
+}
+
+fn plain_number(digits: &[u8]) -> Option<u32>
+    ensures { result ≡ plain_number digits.now }
+{
+    match parse_decimal(digits) {
+        Some(number) => {
+            if number < 1 << 32 {
+                Some(number as u32)
+            } else {
+                None
+            }
+        }
+        None => None,
+    }
+}
+
+// `--listen` and another option, in either order.
+fn two_options(one: &Text, a: &Text, two: &Text, b: &Text) -> Option<ServeWords>
+    ensures places { result ≡ two_options one.now a.now two.now b.now }
+    ensures within { IfSome result (λ given. AreBelow given 5) }
+{
+    if gives(b"--listen", one, a) && gives(b"--auth", two, b) {
+        served(2, Some(4), Some(0))
+    } else if gives(b"--auth", one, a) && gives(b"--listen", two, b) {
+        served(4, Some(2), Some(0))
+    } else if gives(b"--listen", one, a) && gives(b"--consent", two, b) {
+        served(2, None, consents_of(b))
+    } else if gives(b"--consent", one, a) && gives(b"--listen", two, b) {
+        served(4, None, consents_of(a))
+    } else {
+        None
+    }
+}
+
+// All three options, in any order.
+fn three_options(
+    one: &Text,
+    a: &Text,
+    two: &Text,
+    b: &Text,
+    three: &Text,
+    c: &Text,
+) -> Option<ServeWords>
+    ensures places { result ≡ three_options one.now a.now two.now b.now three.now c.now }
+    ensures within { IfSome result (λ given. AreBelow given 7) }
+{
+    if gives(b"--listen", one, a) {
+        two_behind(2, 4, 6, two, b, three, c)
+    } else if gives(b"--listen", two, b) {
+        two_behind(4, 2, 6, one, a, three, c)
+    } else if gives(b"--listen", three, c) {
+        two_behind(6, 2, 4, one, a, two, b)
+    } else {
+        None
+    }
+}
+
+// The other two options, in either order, whose values stand at these places.
+fn two_behind(
+    listen: usize,
+    first: usize,
+    second: usize,
+    one: &Text,
+    a: &Text,
+    two: &Text,
+    b: &Text,
+) -> Option<ServeWords>
+    requires listen { listen < 7 }
+    requires first { first < 7 }
+    requires second { second < 7 }
+    ensures places { result ≡ two_behind listen first second one.now a.now two.now b.now }
+    ensures within { IfSome result (λ given. AreBelow given 7) }
+{
+    if gives(b"--auth", one, a) && gives(b"--consent", two, b) {
+        served(listen, Some(first), consents_of(b))
+    } else if gives(b"--consent", one, a) && gives(b"--auth", two, b) {
+        served(listen, Some(second), consents_of(a))
     } else {
         None
     }

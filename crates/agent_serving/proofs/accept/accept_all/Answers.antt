@@ -1,18 +1,18 @@
 use Rattle.std.proofs.Common.{arith, ap, Err, ◌∙◌}
 use Rattle.listeners.proofs.AddLemmas.{rose_since}
-use Rattle.agent_serving.proofs.ServingLemmas.{begun, no_number, not_begun}
+use Rattle.agent_serving.proofs.ServingLemmas.{no_number}
 use Rattle.agent_serving.proofs.accept.accept_all.Goals as goal
 
 pub returns-in_default-clause-ended : goal.returns-in_default-clause-ended
-returns-in_default-clause-ended g c = not_begun c.args.seat _ _ c.split-seat.result.0 c.split-seat.result.1 _ c.split-seat.ensures.parted c.in_default.ensures.taken
+returns-in_default-clause-ended g c = (rw c.in_default.is at c.begin-seat.ensures.ended) _
 
 pub loop-init : goal.loop-init
 loop-init g c = record {
-  seat = c.split-seat.ensures.one;
-  takes = λ job is. c.spawn.ensures.still job (c.requires.takes job is);
-  going = begun c.args.seat _ _ c.split-seat.result.0 c.split-seat.result.1 _ c.split-seat.ensures.parted c.in-Ok.ensures.taken;
+  seat = c.begin-seat.ensures.seat;
+  takes = c.begin-seat.ensures.takes;
+  going = (rw c.in-Ok.is at c.begin-seat.ensures.begun) _;
   accepts = omega arith;
-  jobs = c.spawn.ensures.counted;
+  jobs = c.begin-seat.ensures.counted;
 }
 
 pub returns-then-conn-clause-seat : goal.returns-then-conn-clause-seat

@@ -16,3 +16,6 @@ returns-in-Out-clause-done g c = rw c.in-Out.is (record {
 
 pub returns-in-Asks-clause-done : goal.returns-in-Asks-clause-done
 returns-in-Asks-clause-done g c = rw c.in-Asks.is c.serve_asks-seat.ensures.asked
+
+pub returns-in-Prompts-clause-done : goal.returns-in-Prompts-clause-done
+returns-in-Prompts-clause-done g c = rw c.in-Prompts.is c.serve_prompts-seat.ensures.prompts

@@ -1,0 +1,404 @@
+// A program that answers for its user: a client of the agent's own files.
+ghost use Rattle.std.specs.Prelude.{◌≡◌, ◌<◌, ◌∷◌, ◌++◌, [], map, List, ℕ, IfOk};
+ghost use Rattle.nine_messages.specs.declared.message.TMsg.{TMsg};
+ghost use Rattle.nine_messages.specs.Messages.{t_frame};
+ghost use Rattle.nine_messages.specs.Decoding.{IsFrame};
+ghost use Rattle.prompt_agent.specs.Manners.{Manner};
+ghost use Rattle.prompt_frames.specs.declared.first.First.{First};
+ghost use Rattle.prompt_frames.specs.Requests.{read_of, request_of};
+ghost use Rattle.prompt_frames.specs.Wanted.{begun_by};
+ghost use Rattle.agent_hub.specs.Submits.{HubSeat, IsSeatOf};
+ghost use Rattle.agent_serving.specs.Prompting.{Asked, Hears, HearsOne, Judges, PromptsSo, Speaks, SpeaksOn, Stops, TakesOne, judged, taken_of};
+
+use agent_hub::{Event, Hub, HubSeat, StepAnswer, Submitted};
+use prompt_agent::{Chain, Prompter};
+use prompt_frames::{
+    First, IN_USE, TOO_SMALL, file_read, has_tag, is_refusal, is_refused_by, question_read,
+    read_request, write_request,
+};
+use side_files::{PromptKind, Question};
+use std::alloc::Global;
+use std::sync::Wait;
+use wire_base::{Bytes, NoMemory};
+
+/// Why nobody answers for a user any more.
+#[derive(Clone, Copy, Debug, PartialEq, Eq)]
+pub enum PromptsEnd {
+    /// There are fewer than two prompters, so that another client may open confirm and needkey.
+    Idle,
+    /// Another client has one of both files open.
+    InUse,
+    /// A question's line is longer than any read may ask for.
+    TooLong,
+    /// The connection was hung up, or the agent stopped.
+    Gone,
+    /// Memory was short; or a reply came that comes to nobody who has the connection for himself.
+    NoMemory,
+}
+
+// Makes a request, for whose frame there may be no memory.
+fn make<R: Wait>(
+    rt: &R,
+    alloc: Global,
+    hub: &Hub,
+    seat: HubSeat,
+    conn: u64,
+    frame: Result<Bytes, NoMemory>,
+) -> (HubSeat, Result<(), PromptsEnd>)
+    requires seat { IsSeatOf hub.now seat }
+    requires whole { IfOk frame (λ frame. IsFrame frame) }
+    ensures seat { IsSeatOf hub.now result.0 }
+    ensures told { (chain now : List Manner) (first : HubSeat) (still : List TMsg) (m : TMsg)
+        (out : List First) → IfOk frame (λ frame. frame ≡ t_frame m)
+        → Speaks conn chain now first seat (still ++ m ∷ []) out
+        → SpeaksOn conn chain now first result.0 result.1 still out }
+{
+    let Ok(frame) = frame else {
+        return (seat, Err(PromptsEnd::NoMemory));
+    };
+    let word = [0; 8];
+    let mut nothing = Bytes::new(alloc);
+    let (seat, made) = hub.submit(
+        rt,
+        seat,
+        &Event::Request { conn, frame, word },
+        &mut nothing,
+    );
+    match made {
+        Ok(_) => (seat, Ok(())),
+        Err(NoMemory) => (seat, Err(PromptsEnd::NoMemory)),
+    }
+}
+
+// What the answer to a take comes to: whether there is a reply, or an end.
+fn taken_of(answer: Submitted) -> Result<bool, PromptsEnd>
+    ensures { result ≡ taken_of answer }
+{
+    match answer {
+        Ok(StepAnswer::Reply) => Ok(true),
+        Ok(StepAnswer::Gone) => Err(PromptsEnd::Gone),
+        Ok(StepAnswer::Done) => Ok(false),
+        Ok(StepAnswer::NoReply) => Ok(false),
+        Ok(StepAnswer::Ask { .. }) => Ok(false),
+        Ok(StepAnswer::DropCall { .. }) => Ok(false),
+        Ok(StepAnswer::NoAsk) => Ok(false),
+        Ok(StepAnswer::Stopped) => Ok(false),
+        Err(NoMemory) => Err(PromptsEnd::NoMemory),
+    }
+}
+
+// Takes a reply, if there is one.
+fn take_one<R: Wait>(
+    rt: &R,
+    hub: &Hub,
+    seat: HubSeat,
+    conn: u64,
+    reply: &mut Bytes,
+) -> (HubSeat, Result<bool, PromptsEnd>)
+    requires { IsSeatOf hub.now seat }
+    ensures seat { IsSeatOf hub.now result.0 }
+    ensures told { (chain now : List Manner) (first : HubSeat) (out : List First)
+        → Speaks conn chain now first seat [] out
+        → TakesOne conn chain now first result.0 result.1 out reply.new }
+{
+    reply.clear();
+    let (seat, answer) = hub.submit(rt, seat, &Event::Take { conn }, reply);
+    (seat, taken_of(answer))
+}
+
+// Waits for a reply.
+fn hear<R: Wait>(
+    rt: &R,
+    hub: &Hub,
+    mut seat: HubSeat,
+    conn: u64,
+    reply: &mut Bytes,
+) -> (HubSeat, Result<(), PromptsEnd>)
+    requires { IsSeatOf hub.now seat }
+    ensures seat { IsSeatOf hub.now result.0 }
+    ensures told { (chain now : List Manner) (first : HubSeat) (out : List First)
+        → Speaks conn chain now first seat [] out
+        → HearsOne conn chain now first result.0 result.1 out reply.new }
+{
+    for _ in rt.forever() {
+        let rung = hub.count_replies();
+        let (next, taken) = take_one(rt, hub, seat, conn, reply);
+        seat = next;
+        match taken {
+            Ok(true) => return (seat, Ok(())),
+            Ok(false) => hub.sleep_for_replies(rt, rung),
+            Err(end) => return (seat, Err(end)),
+        }
+    }
+    unreachable!()
+}
+
+// Whether a reply is that to a request; one that refuses it is an end.
+fn judge(first: First, reply: &[u8]) -> Result<bool, PromptsEnd>
+    ensures { result ≡ judged first reply.now }
+{
+    if !has_tag(first.tag(), reply) {
+        return Ok(false);
+    }
+    if !is_refusal(reply) {
+        return Ok(true);
+    }
+    if first.is_open() && is_refused_by(IN_USE, reply) {
+        return Err(PromptsEnd::InUse);
+    }
+    Err(PromptsEnd::NoMemory)
+}
+
+// Waits for a reply, and tells whether it is that to a request.
+fn hear_of<R: Wait>(
+    rt: &R,
+    alloc: Global,
+    hub: &Hub,
+    seat: HubSeat,
+    conn: u64,
+    request: First,
+) -> (HubSeat, Result<bool, PromptsEnd>)
+    requires { IsSeatOf hub.now seat }
+    ensures seat { IsSeatOf hub.now result.0 }
+    ensures told { (chain now : List Manner) (first : HubSeat) (others : List First)
+        → Speaks conn chain now first seat [] (request ∷ others)
+        → Judges conn chain now first result.0 result.1 request others }
+{
+    let mut reply = Bytes::new(alloc);
+    let (seat, heard) = hear(rt, hub, seat, conn, &mut reply);
+    match heard {
+        Ok(()) => (seat, judge(request, reply.as_slice())),
+        Err(end) => (seat, Err(end)),
+    }
+}
+
+// Makes one of the first requests, and waits for its reply.
+fn ask<R: Wait>(
+    rt: &R,
+    alloc: Global,
+    hub: &Hub,
+    seat: HubSeat,
+    conn: u64,
+    request: First,
+) -> (HubSeat, Result<(), PromptsEnd>)
+    requires { IsSeatOf hub.now seat }
+    ensures seat { IsSeatOf hub.now result.0 }
+    ensures told { (chain now : List Manner) (first : HubSeat) (others : List First)
+        → Speaks conn chain now first seat (request_of request ∷ []) (request ∷ others)
+        → SpeaksOn conn chain now first result.0 result.1 (begun_by others) others }
+{
+    let frame = Bytes::from_slice(alloc, request.frame());
+    let (mut seat, made) = make(rt, alloc, hub, seat, conn, frame);
+    if let Err(end) = made {
+        return (seat, Err(end));
+    }
+    for _ in rt.forever() {
+        let (next, heard) = hear_of(rt, alloc, hub, seat, conn, request);
+        seat = next;
+        match heard {
+            Ok(true) => return (seat, Ok(())),
+            Ok(false) => {}
+            Err(end) => return (seat, Err(end)),
+        }
+    }
+    unreachable!()
+}
+
+// Opens both files.
+fn open_files<R: Wait>(
+    rt: &R,
+    alloc: Global,
+    hub: &Hub,
+    mut seat: HubSeat,
+    conn: u64,
+) -> (HubSeat, Result<(), PromptsEnd>)
+    requires { IsSeatOf hub.now seat }
+    ensures seat { IsSeatOf hub.now result.0 }
+    ensures told { (chain : List Manner)
+        → SpeaksOn conn chain chain seat result.0 result.1 (begun_by []) [] }
+{
+    let mut request = First::Version;
+    for _ in rt.forever() {
+        let (next, asked) = ask(rt, alloc, hub, seat, conn, request);
+        seat = next;
+        if let Err(end) = asked {
+            return (seat, Err(end));
+        }
+        match request.next() {
+            Some(behind) => request = behind,
+            None => return (seat, Ok(())),
+        }
+    }
+    unreachable!()
+}
+
+// Makes the next read of a file.
+fn read<R: Wait>(
+    rt: &R,
+    alloc: Global,
+    hub: &Hub,
+    seat: HubSeat,
+    conn: u64,
+    file: PromptKind,
+) -> (HubSeat, Result<(), PromptsEnd>)
+    requires { IsSeatOf hub.now seat }
+    ensures seat { IsSeatOf hub.now result.0 }
+    ensures told { (chain now : List Manner) (first : HubSeat) (still : List TMsg)
+        (out : List First) → Speaks conn chain now first seat (still ++ read_of file ∷ []) out
+        → SpeaksOn conn chain now first result.0 result.1 still out }
+{
+    let frame = Bytes::from_slice(alloc, read_request(file));
+    make(rt, alloc, hub, seat, conn, frame)
+}
+
+// The question that the reply to a read holds.
+fn question_of(alloc: Global, reply: &[u8]) -> Result<Question, PromptsEnd>
+    ensures { Asked result reply.now }
+{
+    if is_refused_by(TOO_SMALL, reply) {
+        return Err(PromptsEnd::TooLong);
+    }
+    match question_read(alloc, reply) {
+        Ok(Some(question)) => Ok(question),
+        Ok(None) => Err(PromptsEnd::NoMemory),
+        Err(NoMemory) => Err(PromptsEnd::NoMemory),
+    }
+}
+
+// Answers the question that a reply holds by the chain's word, if it is the reply to a read.
+fn answer_line<R: Wait>(
+    rt: &R,
+    alloc: Global,
+    hub: &Hub,
+    seat: HubSeat,
+    conn: u64,
+    chain: &mut Chain,
+    reply: &[u8],
+) -> (HubSeat, Result<(), PromptsEnd>)
+    requires { IsSeatOf hub.now seat }
+    ensures seat { IsSeatOf hub.now result.0 }
+    ensures told { (whole : List Manner) (first : HubSeat)
+        → Hears conn whole
+        (map (λ b. (⟦<(dyn Prompter + Send) as Prompter>⟧ b.vtable).manner b.value)
+        chain.old.list.items) first seat [] reply.now
+        → SpeaksOn conn whole
+        (map (λ b. (⟦<(dyn Prompter + Send) as Prompter>⟧ b.vtable).manner b.value)
+        chain.new.list.items) first result.0 result.1 [] [] }
+{
+    let Some(file) = file_read(reply) else {
+        return (seat, Ok(()));
+    };
+    let question = match question_of(alloc, reply) {
+        Ok(question) => question,
+        Err(end) => return (seat, Err(end)),
+    };
+    let say = chain.answer(&question);
+    let frame = write_request(alloc, file, &question, say);
+    let (seat, written) = make(rt, alloc, hub, seat, conn, frame);
+    if let Err(end) = written {
+        return (seat, Err(end));
+    }
+    read(rt, alloc, hub, seat, conn, file)
+}
+
+// Answers each line that is read, until it ends.
+fn answer_all<R: Wait>(
+    rt: &R,
+    alloc: Global,
+    hub: &Hub,
+    mut seat: HubSeat,
+    conn: u64,
+    chain: &mut Chain,
+) -> (HubSeat, PromptsEnd)
+    requires { IsSeatOf hub.now seat }
+    ensures seat { IsSeatOf hub.now result.0 }
+    ensures told { (whole : List Manner) (first : HubSeat)
+        → Speaks conn whole
+        (map (λ b. (⟦<(dyn Prompter + Send) as Prompter>⟧ b.vtable).manner b.value)
+        chain.old.list.items) first seat [] []
+        → Stops conn whole
+        (map (λ b. (⟦<(dyn Prompter + Send) as Prompter>⟧ b.vtable).manner b.value)
+        chain.new.list.items) first result.0 result.1 }
+{
+    let mut reply = Bytes::new(alloc);
+    for _ in rt.forever() {
+        let (next, heard) = hear(rt, hub, seat, conn, &mut reply);
+        seat = next;
+        if let Err(end) = heard {
+            return (seat, end);
+        }
+        let (next, answered) = answer_line(rt, alloc, hub, seat, conn, chain, reply.as_slice());
+        seat = next;
+        if let Err(end) = answered {
+            return (seat, end);
+        }
+    }
+    unreachable!()
+}
+
+// Opens both files, reads them, and answers what is read.
+fn converse<R: Wait>(
+    rt: &R,
+    alloc: Global,
+    hub: &Hub,
+    seat: HubSeat,
+    conn: u64,
+    chain: &mut Chain,
+) -> (HubSeat, PromptsEnd)
+    requires { IsSeatOf hub.now seat }
+    ensures seat { IsSeatOf hub.now result.0 }
+    ensures told { Stops conn
+        (map (λ b. (⟦<(dyn Prompter + Send) as Prompter>⟧ b.vtable).manner b.value)
+        chain.old.list.items)
+        (map (λ b. (⟦<(dyn Prompter + Send) as Prompter>⟧ b.vtable).manner b.value)
+        chain.new.list.items)
+        seat result.0 result.1 }
+{
+    let (seat, opened) = open_files(rt, alloc, hub, seat, conn);
+    if let Err(end) = opened {
+        return (seat, end);
+    }
+    let (seat, made) = read(rt, alloc, hub, seat, conn, PromptKind::Confirm);
+    if let Err(end) = made {
+        return (seat, end);
+    }
+    let (seat, made) = read(rt, alloc, hub, seat, conn, PromptKind::Needkey);
+    if let Err(end) = made {
+        return (seat, end);
+    }
+    answer_all(rt, alloc, hub, seat, conn, chain)
+}
+
+/// Answers an agent's questions for a user, by a chain of prompters, through requests of a connection of its own: it opens
+/// confirm and needkey, reads both, and writes the chain's word to each line, until that ends. Where the chain has fewer than
+/// two prompters it does nothing. At each end but that, and but where the connection is gone, it hangs the connection up. It
+/// may wait.
+///
+/// A reply belongs to the request of its tag that was made last; that is so wherever nobody else speaks on the connection.
+pub fn serve_prompts<R: Wait>(
+    rt: &R,
+    alloc: Global,
+    hub: &Hub,
+    seat: HubSeat,
+    conn: u64,
+    chain: &mut Chain,
+) -> (HubSeat, PromptsEnd)
+    requires { IsSeatOf hub.now seat }
+    ensures seat { IsSeatOf hub.now result.0 }
+    ensures prompts { PromptsSo conn
+        (map (λ b. (⟦<(dyn Prompter + Send) as Prompter>⟧ b.vtable).manner b.value)
+        chain.old.list.items)
+        (map (λ b. (⟦<(dyn Prompter + Send) as Prompter>⟧ b.vtable).manner b.value)
+        chain.new.list.items) seat result.0 result.1 }
+{
+    if chain.len() < 2 {
+        return (seat, PromptsEnd::Idle);
+    }
+    let (seat, end) = converse(rt, alloc, hub, seat, conn, chain);
+    if end == PromptsEnd::Gone {
+        return (seat, end);
+    }
+    let mut nothing = Bytes::new(alloc);
+    let (seat, _) = hub.submit(rt, seat, &Event::Hang { conn }, &mut nothing);
+    (seat, end)
+}
