@@ -1,1 +1,8 @@
 mod NumberLemmas
+mod CutLemmas
+mod DigitLemmas
+mod RandomLemmas
+mod ReadLemmas
+mod SpellLemmas
+mod PieceLemmas
+mod LineLemmas

@@ -1,7 +1,7 @@
 -- How a line is read, from the left. What a text is read as and how a line is written are given apart; that they agree is
 -- a law.
 use Rattle.std.specs.Prelude.{ℕ, ◌+◌, ◌-◌, ◌*◌, ◌^◌, List, [], ◌∷◌, Bool, true, false, not, ◌&&◌, ◌||◌, ◌==◌, nat_le, nat_lt, length, Option, Some, None, option_map, codes, if◌then◌else◌}
-use Rattle.std.specs.List.{list_all, slice_split}
+use Rattle.std.specs.List.{find, list_all, slice_split}
 use Rattle.std.specs.Result.{result_unwrap_or}
 use Rattle.std.specs.Str.{bytes_eq}
 use Rattle.hex.specs.Hex.{decode_of}
@@ -112,23 +112,28 @@ pieces_of text = each_piece (slice_split (λ b. b == 43) text)
 
 -- ---- lines
 
--- a verb of a line, by its name
+-- the first word of a line
+abbrev pub verb_name : Verb → List ℕ
+verb_name v.Dom = codes "dom"
+verb_name v.AsKey = codes "askey"
+verb_name v.AsSpeak = codes "asspeak"
+verb_name v.Node = codes "node"
+verb_name v.Ctl = codes "ctl"
+verb_name v.Open = codes "open"
+verb_name v.Start = codes "start"
+verb_name v.Read = codes "read"
+verb_name v.Write = codes "write"
+verb_name v.Answer = codes "answer"
+verb_name v.NoAnswer = codes "noanswer"
+verb_name v.AsGive = codes "asgive"
+verb_name v.Close = codes "close"
+
+abbrev pub verbs : List Verb
+verbs = v.Dom ∷ v.AsKey ∷ v.AsSpeak ∷ v.Node ∷ v.Ctl ∷ v.Open ∷ v.Start ∷ v.Read ∷ v.Write ∷ v.Answer ∷ v.NoAnswer ∷ v.AsGive ∷ v.Close ∷ []
+
+-- the verb whose name a text is
 abbrev pub verb_of : List ℕ → Option Verb
-verb_of text =
-    if bytes_eq text (codes "dom") then Some v.Dom
-    else if bytes_eq text (codes "askey") then Some v.AsKey
-    else if bytes_eq text (codes "asspeak") then Some v.AsSpeak
-    else if bytes_eq text (codes "node") then Some v.Node
-    else if bytes_eq text (codes "ctl") then Some v.Ctl
-    else if bytes_eq text (codes "open") then Some v.Open
-    else if bytes_eq text (codes "start") then Some v.Start
-    else if bytes_eq text (codes "read") then Some v.Read
-    else if bytes_eq text (codes "write") then Some v.Write
-    else if bytes_eq text (codes "answer") then Some v.Answer
-    else if bytes_eq text (codes "noanswer") then Some v.NoAnswer
-    else if bytes_eq text (codes "asgive") then Some v.AsGive
-    else if bytes_eq text (codes "close") then Some v.Close
-    else None
+verb_of text = find (λ verb. bytes_eq text (verb_name verb)) verbs
 
 -- the line of a name and of pieces
 abbrev pub with_pieces : (List ℕ → List Piece → ScriptLine) → List ℕ → Option ScriptLine

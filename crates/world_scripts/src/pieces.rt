@@ -1,5 +1,5 @@
 // Bytes as a script writes them: pieces joined by `+`.
-ghost use Rattle.std.specs.Prelude.{◌≡◌, ◌==◌, ◌∷◌, ◌≤◌, length, is_some, option_map};
+ghost use Rattle.std.specs.Prelude.{◌≡◌, ◌==◌, ◌∷◌, ◌≤◌, length, position, is_some, option_map};
 ghost use Rattle.std.specs.List.{list_all, slice_split};
 ghost use Rattle.attr_words.specs.Cutting.{turns_left};
 ghost use Rattle.world_scripts.specs.Pieces.{is_digit};
@@ -82,12 +82,18 @@ fn check_pieces(text: &[u8]) -> bool
     true
 }
 
+fn find_plus(text: &[u8]) -> Option<usize>
+    ensures { result ≡ position (λ b. b == 43) text.now }
+{
+    text.iter().position(|b| *b == b'+')
+}
+
 // The first piece's text, and what stands behind the `+` behind it if there is one.
 fn cut_piece(text: &[u8]) -> (&[u8], Option<&[u8]>)
     ensures parts { slice_split (λ b. b == 43) text.now ≡ result.0.now ∷ texts_left result.1 }
     ensures shorter { turns_left result.1 ≤ length text.now }
 {
-    match text.iter().position(|b| *b == b'+') {
+    match find_plus(text) {
         Some(at) => {
             let (front, rest) = text.split_at(at);
             (front, Some(rest.split_at(1).1))
