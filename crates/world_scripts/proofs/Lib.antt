@@ -1,8 +1,0 @@
-mod NumberLemmas
-mod CutLemmas
-mod DigitLemmas
-mod RandomLemmas
-mod ReadLemmas
-mod SpellLemmas
-mod PieceLemmas
-mod LineLemmas

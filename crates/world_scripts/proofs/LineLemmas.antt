@@ -6,7 +6,7 @@ use Rattle.std.proofs.lemmas.Bool.{cases_Bool, and_parts, and_from}
 use Rattle.std.proofs.lemmas.Slice.Eq.{bytes_eq-Decides}
 use Rattle.hex.specs.Hex.{encode_lower}
 use Rattle.world_scripts.specs.Pieces.{Piece, are_pieces, pieces_text}
-use Rattle.world_scripts.specs.Lines.{ScriptLine, Dom, AsKey, AsSpeak, Node, Ctl, Open, Start, Read, Write, Answer, NoAnswer, AsGive, Close, is_domain, is_formed, is_name, is_name_byte, is_random, line_text, word}
+use Rattle.world_scripts.specs.Lines.{ScriptLine, IsWritten, Dom, AsKey, AsSpeak, Node, Ctl, Open, Start, Read, Write, Answer, NoAnswer, AsGive, Close, is_domain, is_formed, is_name, is_name_byte, is_random, line_text, word}
 use Rattle.world_scripts.specs.Reading.{asgive_of, ctl_of, cut_at, dom_of, is_lower_digit, line_behind, line_of, name_before, name_of, open_of, pieces_of, random_before, random_of, start_of, verb_name, verb_of, verbs, with_pieces, ◌>>=◌}
 use Rattle.world_scripts.specs.declared.line.Verb.{Verb}
 use Rattle.world_scripts.specs.declared.line.Verb.TheVariants as v
@@ -137,12 +137,12 @@ asgive_parts rest line h =
     let two = random_before_parts first.0.1 second.0 second.1 in
     let three = random_parts second.0.1 third.0 third.1 in
     let whole : rest ≡ session.0.0 ++ word (pieces_text pieces.0 ++ word (encode_lower first.0.0 ++ word (encode_lower second.0.0 ++ word (encode_lower third.0)))) =
-        name.0 ∙ ap (λ (t : List ℕ). session.0.0 ++ word t) (parts
-        ∙ ap (λ (t : List ℕ). t ++ word cut.0.1) bytes.0 ∙ ap (λ (t : List ℕ). pieces_text pieces.0 ++ word t) (one.0
-        ∙ ap (λ (t : List ℕ). encode_lower first.0.0 ++ word t) (two.0
-        ∙ ap (λ (t : List ℕ). encode_lower second.0.0 ++ word t) three.0))) in
+    name.0 ∙ ap (λ (t : List ℕ). session.0.0 ++ word t) (parts
+    ∙ ap (λ (t : List ℕ). t ++ word cut.0.1) bytes.0 ∙ ap (λ (t : List ℕ). pieces_text pieces.0 ++ word t) (one.0
+    ∙ ap (λ (t : List ℕ). encode_lower first.0.0 ++ word t) (two.0
+    ∙ ap (λ (t : List ℕ). encode_lower second.0.0 ++ word t) three.0))) in
     let formed : is_formed (AsGive session.0.0 pieces.0 first.0.0 second.0.0 third.0) ≡ true =
-        and_from (is_name session.0.0) _ name.1 (and_from (are_pieces pieces.0) _ bytes.1 (and_from (is_random first.0.0) _ one.1 (and_from (is_random second.0.0) (is_random third.0) two.1 three.1))) in
+    and_from (is_name session.0.0) _ name.1 (and_from (are_pieces pieces.0) _ bytes.1 (and_from (is_random first.0.0) _ one.1 (and_from (is_random second.0.0) (is_random third.0) two.1 three.1))) in
     subst (Reads v.AsGive rest) (some_parts _ _ third.2) (ap (λ (t : List ℕ). verb_name v.AsGive ++ word t) whole, formed)
 
 behind_parts : (verb : Verb) (rest : List ℕ) (line : ScriptLine) → line_behind verb rest ≡ Some line → Reads verb rest line
@@ -162,13 +162,13 @@ behind_parts v.NoAnswer rest line h = noanswer_parts rest line h
 behind_parts v.AsGive rest line h = asgive_parts rest line h
 behind_parts v.Close rest line h = close_parts rest line h
 
-pub line_parts : (text : List ℕ) (line : ScriptLine) → line_of text ≡ Some line → (text ≡ line_text line) × (is_formed line ≡ true)
+pub line_parts : (text : List ℕ) (line : ScriptLine) → line_of text ≡ Some line → IsWritten text line
 unfolding line_of
 line_parts text line h =
     let cut = bind_parts (cut_at 32 text) _ line h in
     let verb = bind_parts (verb_of cut.0.0) _ line cut.2 in
     let parts = behind_parts verb.0 cut.0.1 line verb.2 in
-    (cut_parts 32 text cut.0 cut.1 ∙ ap (λ (t : List ℕ). t ++ word cut.0.1) (verb_parts cut.0.0 verb.0 verb.1) ∙ parts.0, parts.1)
+    record { same = cut_parts 32 text cut.0 cut.1 ∙ ap (λ (t : List ℕ). t ++ word cut.0.1) (verb_parts cut.0.0 verb.0 verb.1) ∙ parts.0; formed = parts.1 }
 
 -- ---- a line that is written
 
@@ -211,12 +211,14 @@ line_again (AsGive session pieces first second third) h =
     let two = and_parts (is_random second) (is_random third) one.1 in
     let last = encode_lower second ++ word (encode_lower third) in
     behind_again v.AsGive (session ++ word (pieces_text pieces ++ word (encode_lower first ++ word (encode_lower second ++ word (encode_lower third))))) (AsGive session pieces first second third) refl refl
-    (rw (name_before_again session (pieces_text pieces ++ word (encode_lower first ++ word (encode_lower second ++ word (encode_lower third)))) name.0,
-        cut_again 32 (pieces_text pieces) (encode_lower first ++ word (encode_lower second ++ word (encode_lower third))) (pieces_unbroken pieces bytes.0),
-        pieces_again pieces bytes.0,
-        random_before_again first (encode_lower second ++ word (encode_lower third)) one.0,
-        random_before_again second (encode_lower third) two.0,
-        random_again third two.1) refl)
+    (rw (
+      name_before_again session (pieces_text pieces ++ word (encode_lower first ++ word (encode_lower second ++ word (encode_lower third)))) name.0,
+      cut_again 32 (pieces_text pieces) (encode_lower first ++ word (encode_lower second ++ word (encode_lower third))) (pieces_unbroken pieces bytes.0),
+      pieces_again pieces bytes.0,
+      random_before_again first (encode_lower second ++ word (encode_lower third)) one.0,
+      random_before_again second (encode_lower third) two.0,
+      random_again third two.1,
+    ) refl)
 line_again (Node name) h = behind_again v.Node name (Node name) refl refl (rw (name_again name h) refl)
 line_again (Read name) h = behind_again v.Read name (Read name) refl refl (rw (name_again name h) refl)
 line_again (NoAnswer name) h = behind_again v.NoAnswer name (NoAnswer name) refl refl (rw (name_again name h) refl)
@@ -228,5 +230,5 @@ line_again (Answer conv pieces) h =
     let both = and_parts (is_name conv) (are_pieces pieces) h in
     behind_again v.Answer (conv ++ word (pieces_text pieces)) (Answer conv pieces) refl refl (rw (name_before_again conv (pieces_text pieces) both.0, pieces_again pieces both.1) refl)
 
-pub line_written : (text : List ℕ) (line : ScriptLine) → (text ≡ line_text line) × (is_formed line ≡ true) → line_of text ≡ Some line
-line_written text line h = ap line_of h.0 ∙ line_again line h.1
+pub line_written : (text : List ℕ) (line : ScriptLine) → IsWritten text line → line_of text ≡ Some line
+line_written text line h = ap line_of h.same ∙ line_again line h.formed

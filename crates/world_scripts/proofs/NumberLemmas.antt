@@ -61,11 +61,14 @@ unpadded (b ∷ ds) some one = elim (cases_Bool (eqb b 48)) [
 
 unpadded_parts : (ds : List ℕ) → is_padded ds ≡ false → (0 < length ds) × (get_or ds 0 0 ≡ 48 → length ds ≡ 1)
 unpadded_parts [] h = absurd (let s : true ≡ false = h in cc)
-unpadded_parts (b ∷ ds) h = (omega arith, λ e.
-    let zero_first : eqb b 48 ≡ true = eq-eqb b 48 e in
-    let alone : ltb 0 (length ds) ≡ false = rw zero_first at h in
-    let le = ltb-false 0 (length ds) alone in
-    omega (arith, le))
+unpadded_parts (b ∷ ds) h = (
+  omega arith,
+  λ e.
+      let zero_first : eqb b 48 ≡ true = eq-eqb b 48 e in
+      let alone : ltb 0 (length ds) ≡ false = rw zero_first at h in
+      let le = ltb-false 0 (length ds) alone in
+      omega (arith, le),
+)
 
 one_if_zero : (n : ℕ) → n < 2 ^ 64 → get_or (decimal n) 0 0 ≡ 48 → length (decimal n) ≡ 1
 one_if_zero n h e = elim (cases_lt 0 n) [

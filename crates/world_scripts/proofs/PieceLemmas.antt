@@ -38,9 +38,9 @@ part_parts front rest piece h =
     let start = number_parts behind.0.0 second.0 second.1 in
     let len = number_parts behind.0.1 third.0 third.1 in
     let text : 109 ∷ (front ++ 58 ∷ rest) ≡ piece_text (Part first.0 second.0 third.0) =
-        part_written front rest behind.0.0 behind.0.1 first.0 second.0 third.0 message.0 whole start.0 len.0 in
+    part_written front rest behind.0.0 behind.0.1 first.0 second.0 third.0 message.0 whole start.0 len.0 in
     let formed : is_piece (Part first.0 second.0 third.0) ≡ true =
-        and_from (is_number first.0) _ (small_test first.0 message.1) (and_from (is_number second.0) (is_number third.0) (small_test second.0 start.1) (small_test third.0 len.1)) in
+    and_from (is_number first.0) _ (small_test first.0 message.1) (and_from (is_number second.0) (is_number third.0) (small_test second.0 start.1) (small_test third.0 len.1)) in
     subst (Reads (109 ∷ (front ++ 58 ∷ rest))) same (text, formed)
 
 message_in_parts : (text : List ℕ) (cut : Option (List ℕ × List ℕ)) (piece : Piece) → cut_at 58 text ≡ cut → message_in text cut ≡ Some piece → Reads (109 ∷ text) piece
@@ -60,12 +60,12 @@ piece_parts (b ∷ text) piece h = elim (cases_Bool (eqb b 120)) [
       let found = if_parts (are_pairs text) (Spelled text) piece read in
       subst (Reads (b ∷ text)) found.1 (ap (λ (x : ℕ). x ∷ text) (eqb-true b 120 t), found.0))
   | inr f ↦ elim (cases_Bool (eqb b 109)) [
-      | inl t ↦ (
-          let read : message_of text ≡ Some piece = rw (f, t) at h in
-          let m : b ≡ 109 = eqb-true b 109 t in
-          rw m (message_in_parts text (cut_at 58 text) piece refl read))
-      | inr g ↦ absurd (let s : None ≡ Some piece = rw (f, g) at h in cc)
-    ]
+    | inl t ↦ (
+        let read : message_of text ≡ Some piece = rw (f, t) at h in
+        let m : b ≡ 109 = eqb-true b 109 t in
+        rw m (message_in_parts text (cut_at 58 text) piece refl read))
+    | inr g ↦ absurd (let s : None ≡ Some piece = rw (f, g) at h in cc)
+  ]
 ]
 
 record EachReads (texts : List (List ℕ)) (pieces : List Piece) : Type 0 where

@@ -1,6 +1,6 @@
 -- The lines of a script: what each says, and how it is written. Words have one blank between. A name is 1 to 16 of `a` to
 -- `z` and `0` to `9`; a word of random bytes is 16 hexadecimal digits in lower case.
-use Rattle.std.specs.Prelude.{ℕ, List, ◌∷◌, ◌++◌, Bool, true, ◌&&◌, ◌||◌, ◌==◌, nat_le, nat_lt, length, codes}
+use Rattle.std.specs.Prelude.{◌≡◌, ℕ, List, ◌∷◌, ◌++◌, Bool, true, ◌&&◌, ◌||◌, ◌==◌, nat_le, nat_lt, length, codes}
 use Rattle.std.specs.List.{list_all}
 use Rattle.hex.specs.Hex.{encode_lower}
 use Rattle.wire_base.specs.Texts.{is_text}
@@ -82,3 +82,8 @@ is_formed (Answer conv pieces) = is_name conv && are_pieces pieces
 is_formed (NoAnswer conv) = is_name conv
 is_formed (AsGive session pieces first second third) = is_name session && (are_pieces pieces && (is_random first && (is_random second && is_random third)))
 is_formed (Close conv) = is_name conv
+
+-- a text is that of a line that can be written
+pub record IsWritten (text : List ℕ) (line : ScriptLine) : Type 0 where
+  pub same : text ≡ line_text line
+  pub formed : is_formed line ≡ true

@@ -1,6 +1,6 @@
 // One line of a script.
-ghost use Rattle.std.specs.Prelude.{◌≡◌, option_map};
-ghost use Rattle.world_scripts.specs.Lines.{Node, Read, Write, Answer, NoAnswer, Close};
+ghost use Rattle.std.specs.Prelude.{◌≡◌, option_map, IfOk};
+ghost use Rattle.world_scripts.specs.Lines.{IsWritten, Node, Read, Write, Answer, NoAnswer, Close};
 ghost use Rattle.world_scripts.specs.Reading.{asgive_of, ctl_of, dom_of, line_behind, line_of, name_of, open_of, start_of, verb_of, with_pieces};
 ghost use Rattle.world_scripts.specs.Said.{read_as, said_line};
 
@@ -96,9 +96,10 @@ enum Verb {
     Close,
 }
 
-/// The line that a text is.
+/// The line that a text is. Each byte is looked at a few times at most.
 pub fn parse_line(text: &[u8]) -> Result<Line<'_>, BadForm>
-    ensures { read_as result ≡ line_of text.now }
+    ensures read { read_as result ≡ line_of text.now }
+    ensures written { IfOk result (λ line. IsWritten text.now (said_line line)) }
 {
     match read_line(text) {
         Some(line) => Ok(line),
