@@ -1,5 +1,5 @@
 // Bytes as a script writes them: pieces joined by `+`.
-ghost use Rattle.std.specs.Prelude.{◌≡◌, ◌==◌, ◌∷◌, ◌≤◌, length, position, is_some, option_map};
+ghost use Rattle.std.specs.Prelude.{◌≡◌, ◌==◌, ◌∷◌, ◌≤◌, Some, true, length, position, is_some, option_map};
 ghost use Rattle.std.specs.List.{list_all, slice_split};
 ghost use Rattle.attr_words.specs.Cutting.{turns_left};
 ghost use Rattle.world_scripts.specs.Pieces.{is_digit};
@@ -58,13 +58,8 @@ impl<'a> Pieces<'a> {
     {
         let text = self.left?;
         let (front, rest) = cut_piece(text);
-        match read_piece(front) {
-            Some(piece) => {
-                self.left = rest;
-                Some(piece)
-            }
-            None => unreachable!(),
-        }
+        self.left = rest;
+        Some(known_piece(front))
     }
 }
 
@@ -109,6 +104,21 @@ fn read_piece(text: &[u8]) -> Option<Piece<'_>>
         [b'x', digits @ ..] => read_pairs(digits),
         [b'm', numbers @ ..] => read_message(numbers),
         _ => None,
+    }
+}
+
+// The piece that a text is known to be: its digits aren't looked at again.
+fn known_piece(text: &[u8]) -> Piece<'_>
+    requires { is_some (piece_of text.now) ≡ true }
+    ensures { piece_of text.now ≡ Some (said_piece result) }
+{
+    match text {
+        [b'x', digits @ ..] => Piece::Spelled { digits },
+        [b'm', numbers @ ..] => match read_message(numbers) {
+            Some(piece) => piece,
+            None => unreachable!(),
+        },
+        _ => unreachable!(),
     }
 }
 
