@@ -1,5 +1,5 @@
 -- What the code hands out of a text: parts of it, pieces and lines that lend theirs from it.
-use Rattle.std.specs.Prelude.{◌≡◌, ℕ, List, [], ◌∷◌, Option, Some, None}
+use Rattle.std.specs.Prelude.{ℕ, List}
 use Rattle.std.specs.Borrow.{Bor}
 use Rattle.world_scripts.specs.Pieces.{Piece}
 use Rattle.world_scripts.specs.Pieces as p
@@ -21,12 +21,5 @@ said_piece (Spelled digits) = p.Spelled digits.now
 said_piece (Whole message) = p.Whole message
 said_piece (Part message start len) = p.Part message start len
 
--- a first one was taken of those that were there, where there was one
-abbrev pub TakesPiece : List Piece → Option LentPiece → List Piece → Type 0
-TakesPiece before None behind = (before ≡ []) × (behind ≡ [])
-TakesPiece before (Some piece) behind = before ≡ said_piece piece ∷ behind
-
--- the same of lines with their numbers
-abbrev pub TakesLine : List Numbered → Option NumberedLine → List Numbered → Type 0
-TakesLine before None behind = (before ≡ []) × (behind ≡ [])
-TakesLine before (Some line) behind = before ≡ record { number = line.number; text = line.text.now } ∷ behind
+abbrev pub said_number : NumberedLine → Numbered
+said_number line = record { number = line.number; text = line.text.now }

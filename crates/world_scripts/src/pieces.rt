@@ -4,7 +4,7 @@ ghost use Rattle.std.specs.List.{list_all, slice_split};
 ghost use Rattle.attr_words.specs.Cutting.{turns_left};
 ghost use Rattle.world_scripts.specs.Pieces.{is_digit};
 ghost use Rattle.world_scripts.specs.Reading.{message_of, pairs_of, part_of, piece_of, pieces_of};
-ghost use Rattle.world_scripts.specs.Given.{TakesPiece, said_piece};
+ghost use Rattle.world_scripts.specs.Given.{said_piece};
 ghost use Rattle.world_scripts.specs.Parts.{texts_left};
 
 use crate::number::read_number;
@@ -22,7 +22,7 @@ pub enum Piece<'a> {
     Part { message: u32, start: u32, len: u32 },
 }
 
-/// The pieces that are left of a text that is known to be pieces.
+/// Goes over the pieces of a text that is known to be some.
 #[derive(Debug, Drop)]
 pub struct Pieces<'a> {
     left: Option<&'a [u8]>,
@@ -51,11 +51,19 @@ impl<'a> Pieces<'a> {
             None
         }
     }
+}
 
-    /// Takes the next piece.
-    pub fn take(&mut self) -> Option<Piece<'a>>
-        ensures { TakesPiece self.old result self.new }
-    {
+impl<'a> Iterator for Pieces<'a> {
+    type Item = Piece<'a>;
+
+    ghost use Rattle.std.specs.Iterator.{YieldsFirstBy, item_count};
+    ghost use Rattle.world_scripts.specs.Given.{said_piece};
+
+    ghost next_gives = { YieldsFirstBy said_piece (λ pieces. pieces) };
+
+    ghost remaining = { item_count (λ pieces. pieces) };
+
+    fn next(&mut self) -> Option<Piece<'a>> {
         let text = self.left?;
         let (front, rest) = cut_piece(text);
         self.left = rest;

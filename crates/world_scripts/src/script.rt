@@ -1,7 +1,6 @@
 // A script, cut into its numbered lines.
-ghost use Rattle.std.specs.Prelude.{◌≡◌, ◌∷◌};
+ghost use Rattle.std.specs.Prelude.{◌≡◌};
 ghost use Rattle.world_scripts.specs.Scripts.{is_skipped, script_lines};
-ghost use Rattle.world_scripts.specs.Given.{TakesLine};
 
 use attr_words::cut_line;
 use std::marker::Model;
@@ -13,7 +12,7 @@ pub struct NumberedLine<'a> {
     pub text: &'a [u8],
 }
 
-/// The lines of a script that are left; those that are empty or begin with `#` aren't among them.
+/// Goes over the lines of a script; those that are empty or begin with `#` aren't among them.
 #[derive(Debug, Drop)]
 pub struct ScriptLines<'a> {
     next: u64,
@@ -42,11 +41,19 @@ impl<'a> ScriptLines<'a> {
             left: Some(script),
         }
     }
+}
 
-    /// Takes the next line.
-    pub fn take(&mut self) -> Option<NumberedLine<'a>>
-        ensures { TakesLine self.old result self.new }
-    {
+impl<'a> Iterator for ScriptLines<'a> {
+    type Item = NumberedLine<'a>;
+
+    ghost use Rattle.std.specs.Iterator.{YieldsFirstBy, item_count};
+    ghost use Rattle.world_scripts.specs.Given.{said_number};
+
+    ghost next_gives = { YieldsFirstBy said_number (λ lines. lines) };
+
+    ghost remaining = { item_count (λ lines. lines) };
+
+    fn next(&mut self) -> Option<NumberedLine<'a>> {
         while let Some(text) = self.left {
             let (text, rest) = cut_line(text);
             let number = self.next;

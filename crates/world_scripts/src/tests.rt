@@ -228,7 +228,7 @@ static EACH: [(&str, u32, u32, u32); 4] = [
 
 fn check_pieces(rt: &impl Abort, mut pieces: Pieces<'_>, cases: &[(&str, u32, u32, u32)]) {
     for (digits, message, start, len) in cases {
-        let found = match pieces.take() {
+        let found = match pieces.next() {
             Some(Piece::Spelled { digits }) => (digits, 0, 0, 0),
             Some(Piece::Whole { message }) => (b"m".as_slice(), message, 0, 0),
             Some(
@@ -246,8 +246,8 @@ fn check_pieces(rt: &impl Abort, mut pieces: Pieces<'_>, cases: &[(&str, u32, u3
             "{digits}"
         );
     }
-    assert!(rt; pieces.take().is_none());
-    assert!(rt; pieces.take().is_none());
+    assert!(rt; pieces.next().is_none());
+    assert!(rt; pieces.next().is_none());
 }
 
 #[test]
@@ -304,9 +304,8 @@ static FRONTS: [(usize, u64, usize); 20] = [
 ];
 
 fn read_front(text: &[u8]) -> (usize, u64, usize) {
-    let mut lines = ScriptLines::new(text);
     let mut found = (0usize, 0, 0);
-    while let Some(line) = lines.take() {
+    for line in ScriptLines::new(text) {
         found = (found.0.saturating_add(1), line.number, line.text.len());
     }
     found
