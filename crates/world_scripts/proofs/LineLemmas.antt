@@ -1,13 +1,13 @@
 -- Lines are read back as they are written, and nothing else is read as them.
-use Rattle.std.proofs.Common.{◌≡◌, ℕ, List, [], ◌∷◌, ◌++◌, Bool, true, false, ◌&&◌, leb, length, Option, Some, None, option_map, refl, sym, ap, subst, ◌∙◌, append_assoc, inl, inr}
+use Rattle.std.proofs.Common.{◌≡◌, ℕ, List, [], ◌∷◌, ◌++◌, Bool, true, ◌&&◌, leb, length, Some, option_map, refl, sym, ap, subst, ◌∙◌, inl, inr}
 use Rattle.std.specs.List.{find, list_all}
 use Rattle.std.specs.Str.{bytes_eq}
 use Rattle.std.proofs.lemmas.Bool.{cases_Bool, and_parts, and_from}
 use Rattle.std.proofs.lemmas.Slice.Eq.{bytes_eq-Decides}
 use Rattle.hex.specs.Hex.{encode_lower}
-use Rattle.world_scripts.specs.Pieces.{Piece, are_pieces, pieces_text}
+use Rattle.world_scripts.specs.Pieces.{are_pieces, pieces_text}
 use Rattle.world_scripts.specs.Lines.{ScriptLine, IsWritten, Dom, AsKey, AsSpeak, Node, Ctl, Open, Start, Read, Write, Answer, NoAnswer, AsGive, Close, is_domain, is_formed, is_name, is_name_byte, is_random, line_text, word}
-use Rattle.world_scripts.specs.Reading.{asgive_of, ctl_of, cut_at, dom_of, is_lower_digit, line_behind, line_of, name_before, name_of, open_of, pieces_of, random_before, random_of, start_of, verb_name, verb_of, verbs, with_pieces, ◌>>=◌}
+use Rattle.world_scripts.specs.Reading.{asgive_of, ctl_of, cut_at, line_behind, line_of, name_before, name_of, open_of, pieces_of, random_before, random_of, start_of, verb_name, verb_of, verbs, with_pieces}
 use Rattle.world_scripts.specs.declared.line.Verb.{Verb}
 use Rattle.world_scripts.specs.declared.line.Verb.TheVariants as v
 use Rattle.world_scripts.proofs.CutLemmas.{lacks, lacks_by, cut_again, cut_parts}

@@ -1,12 +1,12 @@
 -- Pieces are read back as they are written, and nothing else is read as them.
-use Rattle.std.proofs.Common.{◌≡◌, ℕ, suc, ◌+◌, ◌%◌, ◌^◌, ◌<◌, ◌≤◌, List, [], ◌∷◌, ◌++◌, Bool, true, false, not, ◌&&◌, eqb, ltb, cond, length, map, Option, Some, None, option_map, refl, sym, ap, subst, ◌∙◌, arith, inl, inr}
+use Rattle.std.proofs.Common.{◌≡◌, ℕ, suc, ◌%◌, ◌^◌, ◌<◌, List, [], ◌∷◌, ◌++◌, true, false, not, ◌&&◌, eqb, ltb, length, map, Option, Some, None, refl, sym, ap, subst, ◌∙◌, arith, inl, inr}
 use Rattle.std.specs.List.{list_all, slice_split, join_with_byte, onto_first}
 use Rattle.std.specs.Fmt.{decimal}
 use Rattle.std.proofs.lemmas.Bool.{cases_Bool, and_parts, and_from, eqb-true, eq-eqb, ltb-true, lt-ltb, not-true}
 use Rattle.std.proofs.lemmas.List.Splits.{slice_split-cons_yes, slice_split-cons_no, length-slice_split, join_with_byte-slice_split}
 use Rattle.std.proofs.lemmas.List.Folds.{list_all-append}
 use Rattle.world_scripts.specs.Pieces.{Piece, Spelled, Whole, Part, are_pairs, are_pieces, field, is_digit, is_number, is_piece, piece_text, pieces_text}
-use Rattle.world_scripts.specs.Reading.{cut_at, each_piece, is_decimal_digit, message_in, message_of, number_of, pairs_of, part_of, piece_of, pieces_of, ◌>>=◌}
+use Rattle.world_scripts.specs.Reading.{cut_at, each_piece, is_decimal_digit, message_in, message_of, number_of, pairs_of, part_of, piece_of, pieces_of}
 use Rattle.world_scripts.proofs.CutLemmas.{lacks, lacks_by, cut_again, cut_none, cut_parts}
 use Rattle.world_scripts.proofs.NumberLemmas.{decimal_digits, number_again, number_parts}
 use Rattle.world_scripts.proofs.ReadLemmas.{bind_parts, if_parts, map_parts, some_parts}

@@ -1,4 +1,4 @@
-use Rattle.std.proofs.Common.{refl, sym, ap, ◌∙◌}
+use Rattle.std.proofs.Common.{refl, sym}
 use Rattle.world_scripts.proofs.CutLemmas.{cut_found, cut_missing}
 use Rattle.world_scripts.proofs.words.cut_at.Goals as goal
 
