@@ -1,0 +1,8 @@
+pub mod ReadLemmas
+pub mod CutLemmas
+pub mod NumberLemmas
+pub mod DigitLemmas
+pub mod RandomLemmas
+pub mod SpellLemmas
+pub mod PieceLemmas
+pub mod LineLemmas
