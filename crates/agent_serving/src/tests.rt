@@ -91,6 +91,14 @@ fn exchange<R: Wait + Abort>(
     Ok((seat, reply))
 }
 
+// The type of a reply.
+fn kind_of(reply: &[u8]) -> u8 {
+    match reply.get(4) {
+        Some(kind) => *kind,
+        None => 0,
+    }
+}
+
 // A write of a fid.
 fn write<R: Wait + Abort>(
     rt: &R,
@@ -108,7 +116,7 @@ fn write<R: Wait + Abort>(
     fields.append(text)?;
     let frame = frame_of(rt, alloc, 118, 1, fields.as_slice())?;
     let (seat, reply) = exchange(rt, alloc, hub, seat, frame)?;
-    assert_eq!(rt; reply.as_slice().get(4), Some(&119));
+    assert_eq!(rt; kind_of(reply.as_slice()), 119);
     Ok(seat)
 }
 
@@ -164,10 +172,10 @@ fn open<R: Wait + Abort>(
     fields.append(name)?;
     let walk = frame_of(rt, alloc, 110, 1, fields.as_slice())?;
     let (seat, reply) = exchange(rt, alloc, hub, seat, walk)?;
-    assert_eq!(rt; reply.as_slice().get(4), Some(&111));
+    assert_eq!(rt; kind_of(reply.as_slice()), 111);
     let frame = frame_of(rt, alloc, 112, 1, &[fid, 0, 0, 0, 2])?;
     let (seat, reply) = exchange(rt, alloc, hub, seat, frame)?;
-    assert_eq!(rt; reply.as_slice().get(4), Some(&113));
+    assert_eq!(rt; kind_of(reply.as_slice()), 113);
     Ok(seat)
 }
 
