@@ -130,7 +130,10 @@ fn listen(rt: &HostRuntime, address: &Text) -> Option<SocketListener<HostRuntime
     }
 }
 
-// Writes the line of an ending to standard error.
+/// The options, which stand behind the line of a faulty command line.
+const OPTIONS: &[u8] = b"    authd --listen ADDR --dom D --keys PATH --speaks PATH\n";
+
+// Writes the line of an ending to standard error, and behind that of a faulty command line the options.
 fn tell(rt: &HostRuntime, ending: Ending)
     requires { is_told ending ≡ true }
 {
@@ -138,6 +141,9 @@ fn tell(rt: &HostRuntime, ending: Ending)
     if ending.print(rt.alloc(), &mut line).is_ok() {
         let mut errors = WriteSink::new(rt.stderr());
         let _ = write_all(line.as_slice(), &mut errors);
+        if matches!(ending, Ending::Status(Status::Usage)) {
+            let _ = write_all(OPTIONS, &mut errors);
+        }
     }
 }
 

@@ -39,6 +39,12 @@ const AUTH_SERVER: &[u8] = b"127.0.0.1:5670";
 /// How many seconds an exchange with it may take.
 const PATIENCE: u64 = 30;
 
+/// The commands and their options, which stand behind the line of a faulty command line.
+const COMMANDS: &[u8] = b"    factotum pipe [--auth ADDR]
+    factotum serve --listen ADDR [--auth ADDR] [--consent N]
+    factotum authsrv --dom D --keys PATH --speaks PATH
+";
+
 /// A file; each read of one that couldn't be opened fails.
 #[derive(Drop)]
 enum Opened<F> {
@@ -237,7 +243,7 @@ fn tell_end(rt: &HostRuntime, end: ServeEnd) {
     }
 }
 
-// Writes a status's line to standard error.
+// Writes a status's line to standard error, and behind that of a faulty command line the commands.
 fn tell(rt: &HostRuntime, status: &Status)
     requires { is_printable status.now ≡ true }
 {
@@ -245,6 +251,9 @@ fn tell(rt: &HostRuntime, status: &Status)
     if print_status(rt.alloc(), status, &mut line).is_ok() {
         let mut errors = WriteSink::new(rt.stderr());
         let _ = write_all(line.as_slice(), &mut errors);
+        if matches!(status, Status::Usage) {
+            let _ = write_all(COMMANDS, &mut errors);
+        }
     }
 }
 
