@@ -49,6 +49,9 @@ fn nobody(alloc: Global) -> Chain {
 fn frame_of(rt: &impl Abort, alloc: Global, kind: u8, tag: u8, fields: &[u8]) -> Result<Bytes, Fail>
     ensures { IfOk result (λ frame. IsFrame frame) }
 {
+    if fields.len() > 4096 {
+        return Err("too long".into());
+    }
     let size = 7_u32.saturating_add(fields.len() as u32);
     let mut frame = Bytes::new(alloc);
     frame.append(&size.to_le_bytes())?;
@@ -112,6 +115,9 @@ fn write<R: Wait + Abort>(
     ensures { IfOk result (λ seat. IsSeatOf hub.now seat) }
 {
     let mut fields = Bytes::from_slice(alloc, &[fid, 0, 0, 0, 0, 0, 0, 0, 0, 0, 0, 0])?;
+    if text.len() > 4096 {
+        return Err("too long".into());
+    }
     fields.append(&(text.len() as u32).to_le_bytes())?;
     fields.append(text)?;
     let frame = frame_of(rt, alloc, 118, 1, fields.as_slice())?;
