@@ -19,7 +19,9 @@ use Rattle.roles.specs.Talks.{Call, give, get, found, heard, unheard, roomless, 
 use Rattle.conv_p9any.specs.Talks.{needs_any}
 use Rattle.conv_challenge.specs.declared.stage.Proto.{Proto}
 use Rattle.conv_challenge.specs.declared.stage.Proto.TheVariants.{Apop, Cram}
-use Rattle.conv_challenge.specs.Starts.{proto_of}
+use Rattle.conv_challenge.specs.declared.stage.Side.{Side}
+use Rattle.conv_challenge.specs.declared.stage.Side.TheVariants as side
+use Rattle.conv_challenge.specs.Starts.{proto_of, side_of}
 use Rattle.conv_set.specs.Protocols.{Protocol as Spoken, P9sk1, P9any, Mail, answers_by, ends_by, is_over, needs_by, protocol_of, puts_by}
 use Rattle.talks.specs.Lines.{cause_text}
 use Rattle.wire_histories.specs.Histories.{Act, started, gave, took, asked, answered, unanswered, accepted, failed}
@@ -35,14 +37,23 @@ protocol_as P9sk1 proto = protocol.P9sk1
 protocol_as P9any proto = protocol.P9any
 protocol_as Mail proto = mail_protocol proto
 
-abbrev pub role_as : Part → Role
-role_as Client = role.Client
-role_as Server = role.Server
-role_as (Speakfor user) = role.Speakfor
+abbrev pub part_as : Part → Role
+part_as Client = role.Client
+part_as Server = role.Server
+part_as (Speakfor user) = role.Speakfor
+
+abbrev pub side_as : Side → Role
+side_as side.Client = role.Client
+side_as side.Server = role.Server
+
+abbrev pub role_as : Spoken → Part → Side → Role
+role_as P9sk1 part side = part_as part
+role_as P9any part side = part_as part
+role_as Mail part side = side_as side
 
 -- a start, with the protocol and the role that its template names
 abbrev pub started_by : Start → Act
-started_by start = started (protocol_as (protocol_of start.template) (proto_of start.template)) (role_as (role_of start.template)) start.word
+started_by start = started (protocol_as (protocol_of start.template) (proto_of start.template)) (role_as (protocol_of start.template) (role_of start.template) (side_of start.template)) start.word
 
 -- ---- how a conversation speaks
 
