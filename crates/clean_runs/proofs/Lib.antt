@@ -1,2 +1,4 @@
 pub mod LeftLemmas
 pub mod MailClients
+pub mod Steps
+pub mod Numbers
