@@ -2,3 +2,4 @@ pub mod LeftLemmas
 pub mod MailClients
 pub mod Steps
 pub mod Numbers
+pub mod Begun

@@ -19,7 +19,7 @@ use Rattle.clean_runs.proofs.Steps.{begins, deals, does, nothing, Deals, Does, H
 
 -- ---- numbers
 
-same_name : (a b : List ℕ) → bytes_eq a b ≡ true → a ≡ b
+pub same_name : (a b : List ℕ) → bytes_eq a b ≡ true → a ≡ b
 same_name a b e = (bytes_eq-Decides a b).0 e
 
 -- the number of a conversation that has started is below the number of starts
