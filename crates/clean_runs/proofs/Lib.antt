@@ -3,3 +3,5 @@ pub mod MailClients
 pub mod Steps
 pub mod Numbers
 pub mod Begun
+pub mod Follows
+pub mod MailClientLaw

@@ -1,0 +1,119 @@
+-- A mail client's acts are the moves of a symbolic mail client: it takes a challenge and gives its digest.
+use Rattle.std.proofs.Common.{◌≡◌, ℕ, List, [], ◌∷◌, ◌++◌, map, Option, Some, None, unwrap_or, Bool, true, false, Ok, refl, sym, ap, subst, ◌∙◌}
+use Rattle.term_trees.specs.declared.kind.MacKind.{MacKind}
+use Rattle.term_trees.specs.declared.kind.MacKind.TheVariants as mac
+use Rattle.term_trees.specs.Trees.{Tree, digest, password}
+use Rattle.term_trees.specs.Spellings.{Atoms, and_then, atom_bytes, bytes_of, digest_bytes, spelling}
+use Rattle.roles.specs.declared.key.SkKey.{SkKey}
+use Rattle.roles.specs.Starts.{Start, role_of}
+use Rattle.roles.specs.Talks.{Call, found}
+use Rattle.conv_challenge.specs.declared.stage.Proto.{Proto}
+use Rattle.conv_challenge.specs.declared.stage.Proto.TheVariants.{Apop, Cram}
+use Rattle.conv_challenge.specs.declared.stage.Side.TheVariants.{Client}
+use Rattle.conv_challenge.specs.Clients.{digits_by}
+use Rattle.conv_challenge.specs.Starts.{proto_of, side_of}
+use Rattle.conv_set.specs.Protocols.{Mail, protocol_of}
+use Rattle.wire_model.specs.declared.step.Role.{Role as Role'}
+use Rattle.wire_model.specs.declared.step.Role.TheVariants as part
+use Rattle.symbolic_runs.specs.Moves.{Role, mail_client, Move, takes, gives, Own, Row, mail_client_challenge, mail_client_answer}
+use Rattle.wire_histories.specs.Histories.{Act, started, gave, took}
+use Rattle.wire_histories.specs.Conversations.{acts_from, mail_protocol, met_by, protocol_as, role_as, side_as, speaks, started_by, talk_acts}
+use Rattle.wire_histories.specs.Legal.{IsTalk, Spoken}
+use Rattle.clean_runs.specs.Labels.{Labelled}
+use Rattle.clean_runs.specs.Runs.{acts_in, is_choosing, moves_by, moves_for, role_by}
+use Rattle.clean_runs.specs.Clean.{ReadsMet}
+use Rattle.clean_runs.proofs.Begun.{BeginsWith}
+use Rattle.clean_runs.proofs.Follows.{CleanActs, Follows, IsFollowed, IsLawful, IsOrderlyTalk, IsRead, gives_it, own_by, takes_it, takes_none}
+use Rattle.clean_runs.proofs.MailClients.{Behind, Stands, at_once, begun, digits, done, keyless, ready, stands, told}
+use Rattle.clean_runs.proofs.Steps.{is_start}
+
+-- a mail client's start
+pub record IsMailClient (start : Start) : Type 0 where
+  pub mail : protocol_of start.template ≡ Mail
+  pub client : side_of start.template ≡ Client
+
+abbrev pub first : Start → Act
+first start = started (mail_protocol (proto_of start.template)) part.Client start.word
+
+first_is : (start : Start) → IsMailClient start → started_by start ≡ first start
+first_is start is = ap (λ p. started (protocol_as p (proto_of start.template)) (role_as p (role_of start.template) (side_of start.template)) start.word) is.mail ∙ ap (λ s. started (mail_protocol (proto_of start.template)) (side_as s) start.word) is.client
+
+kind_of : Proto → MacKind
+kind_of Apop = mac.Apop
+kind_of Cram = mac.Cram
+
+role_is : (proto : Proto) → role_by (mail_protocol proto) part.Client ≡ mail_client (kind_of proto)
+unfolding kind_of
+role_is Apop = refl
+role_is Cram = refl
+
+-- ---- what may come next
+
+data Next (start : Start) (met : List Call) : Act → List Act → Type 0 where
+  it_starts : Next start met (first start) []
+  it_takes : (challenge : List ℕ) → Next start met (took challenge) (first start ∷ [])
+  it_gives : (challenge : List ℕ) (key : SkKey) (secret : Option (List ℕ)) → met ≡ found key secret ∷ [] → Next start met (gave (digits start secret challenge)) (took challenge ∷ first start ∷ [])
+  it_is_told : {acts : List Act} (given challenge b : List ℕ) → Behind given challenge (first start) acts → Next start met (took b) acts
+
+abbrev AllNext : Start → List Call → List Act → Type 0
+AllNext start met [] = Unit {0}
+AllNext start met (act ∷ acts) = Next start met act acts × AllNext start met acts
+
+front : (start : Start) (met : List Call) (later acts : List Act) → AllNext start met (later ++ acts) → AllNext start met acts
+front start met [] acts all = all
+front start met (act ∷ later) acts all = front start met later acts all.1
+
+behind_next : (start : Start) (met : List Call) (challenge : List ℕ) (key : SkKey) (secret : Option (List ℕ)) (acts : List Act) → met ≡ found key secret ∷ [] → Behind (digits start secret challenge) challenge (first start) acts → AllNext start met acts
+behind_next start met challenge key secret acts has at_once = (it_gives challenge key secret has, (it_takes challenge, (it_starts, tt)))
+behind_next start met challenge key secret acts has (told b rest) = (it_is_told (digits start secret challenge) challenge b rest, behind_next start met challenge key secret _ has rest)
+
+abbrev Acts : Start → List Call → List Act
+Acts start talk = acts_from (speaks Mail start) (first start) talk
+
+abbrev Met : Start → List Call → List Call
+Met start talk = met_by (speaks Mail start) talk
+
+all_next : (start : Start) (talk : List Call) → Stands start (first start) talk → AllNext start (Met start talk) (Acts start talk)
+all_next start talk (begun here stood none) = subst (AllNext start (Met start talk)) (sym stood) (it_starts, tt)
+all_next start talk (keyless challenge here stood waited none) = subst (AllNext start (Met start talk)) (sym stood) (it_starts, tt)
+all_next start talk (ready challenge key secret here stood has) = subst (AllNext start (Met start talk)) (sym stood) (it_takes challenge, (it_starts, tt))
+all_next start talk (done challenge key secret here stood has) = behind_next start (Met start talk) challenge key secret (Acts start talk) has stood
+
+nexts : (spoken : Spoken) → IsMailClient spoken.start → (acts : List Act) → IsTalk spoken acts → AllNext spoken.start spoken.met acts
+nexts spoken is acts t =
+    let start = spoken.start in
+    let mets : Met start t.talk ≡ spoken.met = sym (ap (λ p. met_by (speaks p start) t.talk) is.mail) ∙ t.met in
+    let left : Acts start t.talk ≡ t.later ++ acts = sym (ap (λ p. acts_from (speaks p start) (started_by start) t.talk) is.mail ∙ ap (λ f. acts_from (speaks Mail start) f t.talk) (first_is start is)) ∙ t.left in
+    front start spoken.met t.later acts (subst (AllNext start spoken.met) left (subst (λ m. AllNext start m (Acts start t.talk)) mets (all_next start t.talk (stands start (first start) is.client t.talk))))
+
+-- ---- they begin with the start
+
+behind_begins : (start : Start) (given challenge : List ℕ) (b : List ℕ) (acts : List Act) → Behind given challenge (first start) acts → BeginsWith (first start) (took b ∷ acts)
+behind_begins start given challenge b acts at_once = (refl, (refl, (refl, refl)))
+behind_begins start given challenge b acts (told c rest) = (refl, behind_begins start given challenge c _ rest)
+
+begins_with : (start : Start) (met : List Call) (act : Act) (acts : List Act) → Next start met act acts → BeginsWith (first start) (act ∷ acts)
+begins_with start met act acts it_starts = refl
+begins_with start met act acts (it_takes challenge) = (refl, refl)
+begins_with start met act acts (it_gives challenge key secret has) = (refl, (refl, refl))
+begins_with start met act acts (it_is_told given challenge b rest) = behind_begins start given challenge b acts rest
+
+orderly : (spoken : Spoken) → IsMailClient spoken.start → IsOrderlyTalk spoken
+orderly spoken is act acts t = subst (λ f. BeginsWith f (act ∷ acts)) (sym (first_is spoken.start is)) (begins_with spoken.start spoken.met act acts (nexts spoken is (act ∷ acts) t).0)
+
+-- ---- what they are
+
+-- p9any isn't spoken
+not_choosing : (proto : Proto) (by : Role') (word challenge given : List ℕ) → (is_choosing (started (mail_protocol proto) by word ∷ []) ≡ false) × (is_choosing (took challenge ∷ started (mail_protocol proto) by word ∷ []) ≡ false) × (is_choosing (gave given ∷ took challenge ∷ started (mail_protocol proto) by word ∷ []) ≡ false)
+not_choosing Apop by word challenge given = (refl, refl, refl)
+not_choosing Cram by word challenge given = (refl, refl, refl)
+
+-- the labels of acts that are known
+one_act : (before : List Labelled) (act : Act) → acts_in before ≡ act ∷ [] → (a : Labelled) × (before ≡ a ∷ []) × (a.act ≡ act)
+one_act [] act is = absurd (cc)
+one_act (a ∷ []) act is = (a, refl, (let same : a.act ≡ act = cc in same))
+one_act (a ∷ b ∷ more) act is = absurd (let none : acts_in (b ∷ more) ≡ [] = cc in cc)
+
+more_acts : (before : List Labelled) (act : Act) (acts : List Act) → acts_in before ≡ act ∷ acts → (a : Labelled) × (more : List Labelled) × (before ≡ a ∷ more) × (a.act ≡ act) × (acts_in more ≡ acts)
+more_acts [] act acts is = absurd (cc)
+more_acts (a ∷ more) act acts is = (a, more, refl, (let same : a.act ≡ act = cc in same), (let rest : acts_in more ≡ acts = cc in rest))
