@@ -23,9 +23,9 @@ use Rattle.clean_runs.specs.Labels.{Labelled}
 use Rattle.clean_runs.specs.Runs.{acts_in, is_choosing, moves_by, moves_for, role_by}
 use Rattle.clean_runs.specs.Clean.{ReadsMet}
 use Rattle.clean_runs.proofs.Begun.{BeginsWith}
-use Rattle.clean_runs.proofs.Follows.{CleanActs, Follows, IsFollowed, IsLawful, IsOrderlyTalk, IsRead, gives_it, own_by, takes_it, takes_none}
+use Rattle.clean_runs.proofs.Follows.{CleanActs, Follows, IsFollowed, IsLawful, IsOrderlyTalk, IsRead, as_follows, gives_it, own_by, role_in, takes_it, takes_none}
 use Rattle.clean_runs.proofs.MailClients.{Behind, Stands, at_once, begun, digits, done, keyless, ready, stands, told}
-use Rattle.clean_runs.proofs.Steps.{is_start}
+use Rattle.clean_runs.proofs.Steps.{is_start, taken_by}
 
 -- a mail client's start
 pub record IsMailClient (start : Start) : Type 0 where
@@ -117,3 +117,118 @@ one_act (a ∷ b ∷ more) act is = absurd (let none : acts_in (b ∷ more) ≡ 
 more_acts : (before : List Labelled) (act : Act) (acts : List Act) → acts_in before ≡ act ∷ acts → (a : Labelled) × (more : List Labelled) × (before ≡ a ∷ more) × (a.act ≡ act) × (acts_in more ≡ acts)
 more_acts [] act acts is = absurd (cc)
 more_acts (a ∷ more) act acts is = (a, more, refl, (let same : a.act ≡ act = cc in same), (let rest : acts_in more ≡ acts = cc in rest))
+
+-- where it takes its challenge, and where it gives its digits
+at_start : (start : Start) (own : Own) (kind : MacKind) (before : List Labelled) → acts_in before ≡ first start ∷ [] → (moves_by own (mail_client kind) before ≡ []) × (is_choosing (acts_in before) ≡ false)
+at_start start own kind before is =
+    let a = one_act before (first start) is in
+    (ap (moves_by own (mail_client kind)) a.1 ∙ ap (λ act. moves_for own (mail_client kind) false [] act a.0.label ++ []) a.2, ap is_choosing is ∙ (not_choosing (proto_of start.template) part.Client start.word [] []).0)
+
+-- behind the challenge
+pub record Challenged (start : Start) (own : Own) (kind : MacKind) (challenge : List ℕ) (before : List Labelled) : Type 0 where
+  pub a : Labelled
+  pub more : List Labelled
+  pub front : before ≡ a ∷ more
+  pub takes_it : a.act ≡ took challenge
+  pub moves : moves_by own (mail_client kind) before ≡ takes a.label ∷ []
+  pub choosing : is_choosing (acts_in before) ≡ false
+
+at_challenge : (start : Start) (own : Own) (kind : MacKind) (challenge : List ℕ) (before : List Labelled) → acts_in before ≡ took challenge ∷ first start ∷ [] → Challenged start own kind challenge before
+at_challenge start own kind challenge before is =
+    let p = more_acts before (took challenge) (first start ∷ []) is in
+    let q = at_start start own kind p.1 p.4 in
+    record {
+      a = p.0;
+      more = p.1;
+      front = p.2;
+      takes_it = p.3;
+      moves = ap (moves_by own (mail_client kind)) p.2
+          ∙ ap (λ m. moves_for own (mail_client kind) (is_choosing (acts_in p.1)) m p.0.act p.0.label ++ m) q.0
+          ∙ ap (λ c. moves_for own (mail_client kind) c [] p.0.act p.0.label ++ []) q.1
+          ∙ ap (λ act. moves_for own (mail_client kind) false [] act p.0.label ++ []) p.3;
+      choosing = ap is_choosing is ∙ (not_choosing (proto_of start.template) part.Client start.word challenge []).1;
+    }
+
+-- behind the digits
+pub record Answered (own : Own) (kind : MacKind) (before : List Labelled) : Type 0 where
+  pub answer : Tree
+  pub asked : Tree
+  pub moves : moves_by own (mail_client kind) before ≡ gives answer ∷ takes asked ∷ []
+  pub choosing : is_choosing (acts_in before) ≡ false
+
+told_choosing : (start : Start) (given challenge b : List ℕ) (acts : List Act) → Behind given challenge (first start) acts → is_choosing (took b ∷ acts) ≡ false
+told_choosing start given challenge b acts at_once = refl
+told_choosing start given challenge b acts (told c rest) = refl
+
+answered_in : (start : Start) (own : Own) (kind : MacKind) (given challenge : List ℕ) (acts : List Act) → Behind given challenge (first start) acts → (before : List Labelled) → acts_in before ≡ acts → Answered own kind before
+answered_in start own kind given challenge acts at_once before is =
+    let p = more_acts before (gave given) (took challenge ∷ first start ∷ []) is in
+    let q = at_challenge start own kind challenge p.1 p.4 in
+    record {
+      answer = digest kind own.password q.a.label;
+      asked = q.a.label;
+      moves = ap (moves_by own (mail_client kind)) p.2
+          ∙ ap (λ m. moves_for own (mail_client kind) (is_choosing (acts_in p.1)) m p.0.act p.0.label ++ m) q.moves
+          ∙ ap (λ c. moves_for own (mail_client kind) c (takes q.a.label ∷ []) p.0.act p.0.label ++ takes q.a.label ∷ []) q.choosing
+          ∙ ap (λ act. moves_for own (mail_client kind) false (takes q.a.label ∷ []) act p.0.label ++ takes q.a.label ∷ []) p.3;
+      choosing = ap is_choosing is ∙ (not_choosing (proto_of start.template) part.Client start.word challenge given).2;
+    }
+answered_in start own kind given challenge acts (told {acts = acts'} b rest) before is =
+    let p = more_acts before (took b) acts' is in
+    let q = answered_in start own kind given challenge acts' rest p.1 p.4 in
+    record {
+      answer = q.answer;
+      asked = q.asked;
+      moves = ap (moves_by own (mail_client kind)) p.2
+          ∙ ap (λ m. moves_for own (mail_client kind) (is_choosing (acts_in p.1)) m p.0.act p.0.label ++ m) q.moves
+          ∙ ap (λ c. moves_for own (mail_client kind) c (gives q.answer ∷ takes q.asked ∷ []) p.0.act p.0.label ++ gives q.answer ∷ takes q.asked ∷ []) q.choosing
+          ∙ ap (λ act. moves_for own (mail_client kind) false (gives q.answer ∷ takes q.asked ∷ []) act p.0.label ++ gives q.answer ∷ takes q.asked ∷ []) p.3;
+      choosing = ap is_choosing is ∙ told_choosing start given challenge b acts' rest;
+    }
+
+-- the digest spells the digits
+digest_is : (proto : Proto) (secret challenge : List ℕ) → digest_bytes (kind_of proto) secret challenge ≡ digits_by proto challenge secret
+unfolding kind_of
+digest_is Apop secret challenge = refl
+digest_is Cram secret challenge = refl
+
+digest_spells : (atoms : Atoms) (start : Start) (holder challenge : List ℕ) (secret : Option (List ℕ)) (t : Tree) → bytes_of atoms (password holder) ≡ Some (unwrap_or secret []) → spelling atoms t ≡ Ok challenge → spelling atoms (digest (kind_of (proto_of start.template)) (password holder) t) ≡ Ok (digits start secret challenge)
+digest_spells atoms start holder challenge secret t reads spells =
+    ap (λ o. and_then (atom_bytes o) (λ p. and_then (spelling atoms t) (λ text. Ok (digest_bytes (kind_of (proto_of start.template)) p text)))) reads
+    ∙ ap (λ r. and_then r (λ text. Ok (digest_bytes (kind_of (proto_of start.template)) (unwrap_or secret []) text))) spells
+    ∙ ap Ok (digest_is (proto_of start.template) (unwrap_or secret []) challenge)
+
+-- each act, where it is known what it is
+followed_in : (start : Start) (met : List Call) (act : Act) (acts : List Act) → Next start met act acts → (atoms : Atoms) (number : ℕ) (holder : List ℕ) → ReadsMet atoms (mail_client (kind_of (proto_of start.template))) holder met → (before : List Labelled) (a : Labelled) → a.act ≡ act → acts_in before ≡ acts → CleanActs atoms (own_by number holder) (mail_client (kind_of (proto_of start.template))) before → is_start act ≡ false →
+    Follows atoms (own_by number holder) (mail_client (kind_of (proto_of start.template))) (moves_by (own_by number holder) (mail_client (kind_of (proto_of start.template))) before) (is_choosing (acts_in before)) a.act a.label (moves_for (own_by number holder) (mail_client (kind_of (proto_of start.template))) (is_choosing (acts_in before)) (moves_by (own_by number holder) (mail_client (kind_of (proto_of start.template))) before) a.act a.label)
+followed_in start met act acts it_starts atoms number holder reads before a act_is acts_are clean none = absurd (cc)
+followed_in start met act acts (it_takes challenge) atoms number holder reads before a act_is acts_are clean none =
+    let q = at_start start (own_by number holder) (kind_of (proto_of start.template)) before acts_are in
+    as_follows atoms (own_by number holder) (mail_client (kind_of (proto_of start.template))) before a [] false (took challenge) (takes a.label ∷ []) q.0 q.1 act_is refl (takes_it challenge mail_client_challenge)
+followed_in start met act acts (it_gives challenge key secret has) atoms number holder reads before a act_is acts_are clean none =
+    let kind = kind_of (proto_of start.template) in
+    let q = at_challenge start (own_by number holder) kind challenge before acts_are in
+    let t = digest kind (password holder) q.a.label in
+    let clean' : CleanActs atoms (own_by number holder) (mail_client kind) (q.a ∷ q.more) = subst (CleanActs atoms (own_by number holder) (mail_client kind)) q.front clean in
+    let spells = clean'.0.spells challenge (ap taken_by q.takes_it) in
+    let reads' : ReadsMet atoms (mail_client kind) holder (found key secret ∷ []) = subst (ReadsMet atoms (mail_client kind) holder) has reads in
+    as_follows atoms (own_by number holder) (mail_client kind) before a (takes q.a.label ∷ []) false (gave (digits start secret challenge)) (gives t ∷ []) q.moves q.choosing act_is refl (gives_it (digits start secret challenge) t mail_client_answer (digest_spells atoms start holder challenge secret q.a.label reads' spells))
+followed_in start met act acts (it_is_told given challenge b rest) atoms number holder reads before a act_is acts_are clean none =
+    let kind = kind_of (proto_of start.template) in
+    let q = answered_in start (own_by number holder) kind given challenge acts rest before acts_are in
+    as_follows atoms (own_by number holder) (mail_client kind) before a (gives q.answer ∷ takes q.asked ∷ []) false (took b) [] q.moves q.choosing act_is refl (takes_none b)
+
+of_this_role : (start : Start) (role : Role) → IsMailClient start → role_in (started_by start) role → role ≡ mail_client (kind_of (proto_of start.template))
+of_this_role start role is in_it =
+    let role_so : role ≡ role_by (mail_protocol (proto_of start.template)) part.Client = subst (λ act. role_in act role) (first_is start is) in_it in
+    role_so ∙ role_is (proto_of start.template)
+
+followed : (spoken : Spoken) → IsMailClient spoken.start → IsFollowed spoken
+followed spoken is atoms number holder role read before a t clean none =
+    let role_so = of_this_role spoken.start role is read.of_start in
+    subst (λ role. Follows atoms (own_by number holder) role (moves_by (own_by number holder) role before) (is_choosing (acts_in before)) a.act a.label (moves_for (own_by number holder) role (is_choosing (acts_in before)) (moves_by (own_by number holder) role before) a.act a.label)) (sym role_so)
+        (followed_in spoken.start spoken.met a.act (acts_in before) (nexts spoken is (a.act ∷ acts_in before) t).0 atoms number holder (subst (λ role. ReadsMet atoms role holder spoken.met) role_so read.key) before a refl refl (subst (λ role. CleanActs atoms (own_by number holder) role before) role_so clean.1) none)
+
+-- a mail client is lawful
+pub mail_client_is_lawful : (spoken : Spoken) → IsMailClient spoken.start → IsLawful spoken
+mail_client_is_lawful spoken is = record { orderly = orderly spoken is; followed = followed spoken is }
