@@ -5,3 +5,4 @@ pub mod Numbers
 pub mod Begun
 pub mod Follows
 pub mod MailClientLaw
+pub mod Bridge

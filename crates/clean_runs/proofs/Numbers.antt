@@ -163,16 +163,16 @@ fresh s l [] number order most = refl
 fresh s l (step ∷ past) number order most = fresh_in s l step past number (kind step) order.0 most (λ bound. fresh s l past number order.1 bound)
 
 -- a name that has not started did nothing
-abbrev label_of : Labelling → History → Act → Labelled
+abbrev pub label_of : Labelling → History → Act → Labelled
 label_of l past act = record { act = act; label = l.label (length past) }
 
-labelled_by : (l : Labelling) (name : List ℕ) (step : Step) (past : History) (acts : List Act) → act_in name step ≡ acts → labelled l name (step ∷ past) ≡ map (label_of l past) acts ++ labelled l name past
+pub labelled_by : (l : Labelling) (name : List ℕ) (step : Step) (past : History) (acts : List Act) → act_in name step ≡ acts → labelled l name (step ∷ past) ≡ map (label_of l past) acts ++ labelled l name past
 labelled_by l name step past acts is = ap (λ xs. map (label_of l past) xs ++ labelled l name past) is
 
-named : (name conv : List ℕ) (act : Act) → bytes_eq conv name ≡ true → if_named conv name act ≡ act ∷ []
+pub named : (name conv : List ℕ) (act : Act) → bytes_eq conv name ≡ true → if_named conv name act ≡ act ∷ []
 named name conv act same = ap (λ (b : Bool). if b then act ∷ [] else []) same
 
-not_named : (name conv : List ℕ) (act : Act) → bytes_eq conv name ≡ false → if_named conv name act ≡ []
+pub not_named : (name conv : List ℕ) (act : Act) → bytes_eq conv name ≡ false → if_named conv name act ≡ []
 not_named name conv act differs = ap (λ (b : Bool). if b then act ∷ [] else []) differs
 
 unstarted_in : (l : Labelling) (step : Step) (past : History) (name : List ℕ) → Kind step → InOrder past step → started_as name (step ∷ past) ≡ None → (started_as name past ≡ None → labelled l name past ≡ []) → labelled l name (step ∷ past) ≡ []

@@ -71,6 +71,7 @@ pub record Does (conv : List ℕ) (act : Act) (step : Step) : Type 0 where
   pub no_start : is_start act ≡ false
   pub events : (s : Symbolic) (l : Labelling) (past : History) → events_of s l past step ≡ conv_events s l past conv act
   pub ordered : (past : History) → InOrder past step → HasStarted conv past
+  pub in_order : (past : History) → HasStarted conv past → InOrder past step
   pub taken : taken step ≡ taken_by act
   pub given : given step ≡ given_by act
   pub forms : (s : Symbolic) (l : Labelling) (past : History) → goes_on act ≡ true → FormsStep s l past step → GoesOn s l conv past
@@ -80,11 +81,13 @@ pub record Deals (session : List ℕ) (deal : Deal) (step : Step) : Type 0 where
   pub acts : (name : List ℕ) → act_in name step ≡ []
   pub deals : (name : List ℕ) → deal_in name step ≡ if_named session name deal
   pub events : (s : Symbolic) (l : Labelling) (past : History) → events_of s l past step ≡ session_events l past session deal
+  pub in_order : (past : History) → InOrder past step
 
 pub record SaysNothing (step : Step) : Type 0 where
   pub none : StartsNone step
   pub acts : (name : List ℕ) → act_in name step ≡ []
   pub events : (s : Symbolic) (l : Labelling) (past : History) → events_of s l past step ≡ []
+  pub in_order : (past : History) → InOrder past step
   pub given : given step ≡ None
 
 pub data Kind : Step → Type 0 where
@@ -95,15 +98,15 @@ pub data Kind : Step → Type 0 where
 
 pub kind : (step : Step) → Kind step
 kind (Start conv protocol role word) = begins conv protocol role word
-kind (Out number conv b) = does conv (gave b) (record { none = record { starts = λ past. refl; started = λ name past. refl; roles = λ past n. refl; holders = λ l past n. refl }; acts = λ name. refl; no_start = refl; events = λ s l past. refl; ordered = λ past o. o; taken = refl; given = refl; forms = λ s l past on f. f })
-kind (In conv b) = does conv (took b) (record { none = record { starts = λ past. refl; started = λ name past. refl; roles = λ past n. refl; holders = λ l past n. refl }; acts = λ name. refl; no_start = refl; events = λ s l past. refl; ordered = λ past o. o; taken = refl; given = refl; forms = λ s l past on f. f })
-kind (Ask number conv b) = does conv (asked b) (record { none = record { starts = λ past. refl; started = λ name past. refl; roles = λ past n. refl; holders = λ l past n. refl }; acts = λ name. refl; no_start = refl; events = λ s l past. refl; ordered = λ past o. o; taken = refl; given = refl; forms = λ s l past on f. f })
-kind (Heard conv b) = does conv (answered b) (record { none = record { starts = λ past. refl; started = λ name past. refl; roles = λ past n. refl; holders = λ l past n. refl }; acts = λ name. refl; no_start = refl; events = λ s l past. refl; ordered = λ past o. o; taken = refl; given = refl; forms = λ s l past on f. f })
-kind (Unheard conv) = does conv unanswered (record { none = record { starts = λ past. refl; started = λ name past. refl; roles = λ past n. refl; holders = λ l past n. refl }; acts = λ name. refl; no_start = refl; events = λ s l past. refl; ordered = λ past o. o; taken = refl; given = refl; forms = λ s l past on f. absurd (cc) })
-kind (Accept conv cuid suid) = does conv (accepted cuid suid) (record { none = record { starts = λ past. refl; started = λ name past. refl; roles = λ past n. refl; holders = λ l past n. refl }; acts = λ name. refl; no_start = refl; events = λ s l past. refl; ordered = λ past o. o; taken = refl; given = refl; forms = λ s l past on f. f })
-kind (Fail conv cause) = does conv (failed cause) (record { none = record { starts = λ past. refl; started = λ name past. refl; roles = λ past n. refl; holders = λ l past n. refl }; acts = λ name. refl; no_start = refl; events = λ s l past. refl; ordered = λ past o. o; taken = refl; given = refl; forms = λ s l past on f. absurd (cc) })
-kind (Reply conv answer) = nothing (record { none = record { starts = λ past. refl; started = λ name past. refl; roles = λ past n. refl; holders = λ l past n. refl }; acts = λ name. refl; events = λ s l past. refl; given = refl })
-kind (Refused node answer) = nothing (record { none = record { starts = λ past. refl; started = λ name past. refl; roles = λ past n. refl; holders = λ l past n. refl }; acts = λ name. refl; events = λ s l past. refl; given = refl })
-kind (AsGot session b words) = deals session (requested b words) (record { none = record { starts = λ past. refl; started = λ name past. refl; roles = λ past n. refl; holders = λ l past n. refl }; acts = λ name. refl; deals = λ name. refl; events = λ s l past. refl })
-kind (AsGave number session b) = deals session (replied b) (record { none = record { starts = λ past. refl; started = λ name past. refl; roles = λ past n. refl; holders = λ l past n. refl }; acts = λ name. refl; deals = λ name. refl; events = λ s l past. refl })
-kind (AsEnd session) = deals session ended (record { none = record { starts = λ past. refl; started = λ name past. refl; roles = λ past n. refl; holders = λ l past n. refl }; acts = λ name. refl; deals = λ name. refl; events = λ s l past. refl })
+kind (Out number conv b) = does conv (gave b) (record { none = record { starts = λ past. refl; started = λ name past. refl; roles = λ past n. refl; holders = λ l past n. refl }; acts = λ name. refl; no_start = refl; events = λ s l past. refl; ordered = λ past o. o; in_order = λ past o. o; taken = refl; given = refl; forms = λ s l past on f. f })
+kind (In conv b) = does conv (took b) (record { none = record { starts = λ past. refl; started = λ name past. refl; roles = λ past n. refl; holders = λ l past n. refl }; acts = λ name. refl; no_start = refl; events = λ s l past. refl; ordered = λ past o. o; in_order = λ past o. o; taken = refl; given = refl; forms = λ s l past on f. f })
+kind (Ask number conv b) = does conv (asked b) (record { none = record { starts = λ past. refl; started = λ name past. refl; roles = λ past n. refl; holders = λ l past n. refl }; acts = λ name. refl; no_start = refl; events = λ s l past. refl; ordered = λ past o. o; in_order = λ past o. o; taken = refl; given = refl; forms = λ s l past on f. f })
+kind (Heard conv b) = does conv (answered b) (record { none = record { starts = λ past. refl; started = λ name past. refl; roles = λ past n. refl; holders = λ l past n. refl }; acts = λ name. refl; no_start = refl; events = λ s l past. refl; ordered = λ past o. o; in_order = λ past o. o; taken = refl; given = refl; forms = λ s l past on f. f })
+kind (Unheard conv) = does conv unanswered (record { none = record { starts = λ past. refl; started = λ name past. refl; roles = λ past n. refl; holders = λ l past n. refl }; acts = λ name. refl; no_start = refl; events = λ s l past. refl; ordered = λ past o. o; in_order = λ past o. o; taken = refl; given = refl; forms = λ s l past on f. absurd (cc) })
+kind (Accept conv cuid suid) = does conv (accepted cuid suid) (record { none = record { starts = λ past. refl; started = λ name past. refl; roles = λ past n. refl; holders = λ l past n. refl }; acts = λ name. refl; no_start = refl; events = λ s l past. refl; ordered = λ past o. o; in_order = λ past o. o; taken = refl; given = refl; forms = λ s l past on f. f })
+kind (Fail conv cause) = does conv (failed cause) (record { none = record { starts = λ past. refl; started = λ name past. refl; roles = λ past n. refl; holders = λ l past n. refl }; acts = λ name. refl; no_start = refl; events = λ s l past. refl; ordered = λ past o. o; in_order = λ past o. o; taken = refl; given = refl; forms = λ s l past on f. absurd (cc) })
+kind (Reply conv answer) = nothing (record { none = record { starts = λ past. refl; started = λ name past. refl; roles = λ past n. refl; holders = λ l past n. refl }; acts = λ name. refl; events = λ s l past. refl; in_order = λ past. tt; given = refl })
+kind (Refused node answer) = nothing (record { none = record { starts = λ past. refl; started = λ name past. refl; roles = λ past n. refl; holders = λ l past n. refl }; acts = λ name. refl; events = λ s l past. refl; in_order = λ past. tt; given = refl })
+kind (AsGot session b words) = deals session (requested b words) (record { none = record { starts = λ past. refl; started = λ name past. refl; roles = λ past n. refl; holders = λ l past n. refl }; acts = λ name. refl; deals = λ name. refl; events = λ s l past. refl; in_order = λ past. tt })
+kind (AsGave number session b) = deals session (replied b) (record { none = record { starts = λ past. refl; started = λ name past. refl; roles = λ past n. refl; holders = λ l past n. refl }; acts = λ name. refl; deals = λ name. refl; events = λ s l past. refl; in_order = λ past. tt })
+kind (AsEnd session) = deals session ended (record { none = record { starts = λ past. refl; started = λ name past. refl; roles = λ past n. refl; holders = λ l past n. refl }; acts = λ name. refl; deals = λ name. refl; events = λ s l past. refl; in_order = λ past. tt })
