@@ -16,7 +16,7 @@ use Rattle.conv_set.specs.Protocols.{protocol_of}
 use Rattle.roles.specs.Starts.{role_of}
 use Rattle.symbolic_runs.specs.Moves.{Role, Move, Own}
 use Rattle.symbolic_runs.specs.Runs.{Setting as Symbolic, Event, Run, IsRun, begins as begins_run, then_starts, known, moves_of, own_of, started as started_run, given as labels_given}
-use Rattle.wire_histories.specs.Histories.{History, Act, act_in, acts_of, if_named, started}
+use Rattle.wire_histories.specs.Histories.{History, Act, Deal, act_in, acts_of, if_named, started}
 use Rattle.wire_histories.specs.Conversations.{protocol_as, role_as, started_by}
 use Rattle.wire_histories.specs.Legal.{IsConversation, IsLegal, IsTalk, Setting, Spoken}
 use Rattle.clean_runs.specs.Labels.{Labelled, Labelling, given, labelled, started_as, starts_in, taken}
@@ -25,7 +25,7 @@ use Rattle.clean_runs.specs.Forms.{IsFormed}
 use Rattle.clean_runs.specs.Clean.{AtEachPlace, GoesOn, IsClean, IsLabelled, IsLabelledIf, LabelsStep, ReadsHolder, ReadsMet, ReadsSpoken, ReadsStep, ReadsWord}
 use Rattle.clean_runs.specs.Statements.{IsBridged, IsSpelledIf, SpellsStep}
 use Rattle.clean_runs.proofs.Begun.{Began, BeginsWith, began, begun_behind, holder_placed, idle, role_placed, start_alone}
-use Rattle.clean_runs.proofs.Follows.{CleanAct, CleanActs, Follows, IsLawful, IsRead, events_with, own_by, role_in, run_on, spelled_on}
+use Rattle.clean_runs.proofs.Follows.{CleanAct, CleanActs, Follows, IsLawful, IsRead, accepts_it, asks_it, chooses, events_with, fails_so, gives_it, hears_it, hears_none, own_by, role_in, run_on, spelled_on, takes_it, takes_none}
 use Rattle.clean_runs.proofs.Numbers.{IsOrderly, as_many, below, events_at, label_of, labelled_by, named, not_named, number_is, own_moves, same_name, unstarted}
 use Rattle.clean_runs.proofs.Steps.{begins, deals, does, nothing, Deals, Does, HasStarted, InOrder, Kind, SaysNothing, given_by, goes_on, is_start, kind, taken_by}
 
@@ -62,7 +62,7 @@ acts_labelled : (l : Labelling) (name : List ℕ) (past : History) → acts_in (
 acts_labelled l name [] = refl
 acts_labelled l name (step ∷ past) = acts_map l past (act_in name step) (labelled l name past) ∙ ap (λ xs. act_in name step ++ xs) (acts_labelled l name past)
 
-same_self : (name : List ℕ) → bytes_eq name name ≡ true
+pub same_self : (name : List ℕ) → bytes_eq name name ≡ true
 same_self name = (bytes_eq-Decides name name).1 refl
 
 -- ---- what is known of a history
@@ -190,4 +190,108 @@ is_read c spoken conv later past p r first is place b =
       of_start = subst (λ act. role_in act (role_for c (starts_in b.earlier))) (sym first) role_is;
       word = subst (λ role. ReadsWord c.atoms role (starts_in b.earlier) spoken.start.word) (sym role_is) word;
       key = subst (λ h. ReadsMet c.atoms (role_for c (starts_in b.earlier)) h spoken.met) (sym holder_is) (subst (λ role. ReadsMet c.atoms role (c.l.holder conv) spoken.met) (sym role_is) met);
+    }
+
+-- ---- an act of a conversation
+
+-- the moves of an act
+abbrev moves_now : Case → History → List ℕ → Act → ℕ → List Move
+moves_now c past conv act number = moves_for (own_for c number) (role_for c number) (is_choosing (acts_in (labelled c.l conv past))) (moves_by (own_for c number) (role_for c number) (labelled c.l conv past)) act (c.l.label (length past))
+
+abbrev FollowsNow : Case → History → List ℕ → Act → ℕ → Type 0
+FollowsNow c past conv act number = Follows c.atoms (own_for c number) (role_for c number) (moves_by (own_for c number) (role_for c number) (labelled c.l conv past)) (is_choosing (acts_in (labelled c.l conv past))) act (c.l.label (length past)) (moves_now c past conv act number)
+
+pub record ActsAt (c : Case) (past : History) (conv : List ℕ) (act : Act) : Type 0 where
+  pub number : ℕ
+  pub started : started_as conv past ≡ Some number
+  pub follows : FollowsNow c past conv act number
+
+acts_at : (c : Case) (later past : History) (step : Step) (conv : List ℕ) (act : Act) → Does conv act step → c.history ≡ later ++ step ∷ past → ActsAt c past conv act
+acts_at c later past step conv act d place =
+    let sp = speaking c later past step conv act place (d.acts conv ∙ named conv conv act (same_self conv)) in
+    let law = c.lawful conv sp.spoken sp.is in
+    let start = sp.spoken.start in
+    let p = protocol_as (protocol_of start.template) (proto_of start.template) in
+    let r = role_as (protocol_of start.template) (role_of start.template) (side_of start.template) in
+    let begun = begun_behind (started_by start) act (acts_of conv past) refl d.no_start (law.orderly act (acts_of conv past) sp.talk) in
+    let b = began conv p r start.word past begun in
+    let number = starts_in b.earlier in
+    let rest = one_more c later past step place in
+    let read = is_read c sp.spoken conv (later ++ step ∷ []) past p r refl sp.is rest b in
+    let talk = subst (λ acts. IsTalk sp.spoken (act ∷ acts)) (sym (acts_labelled c.l conv past)) sp.talk in
+    let clean : CleanActs c.atoms (own_for c number) (role_for c number) (label_of c.l past act ∷ labelled c.l conv past) = (clean_at c later past step conv act number d place b.number, all_clean c past (later ++ step ∷ []) conv number rest b.number) in
+    record {
+      number = number;
+      started = b.number;
+      follows = law.followed c.atoms number ((setting c).holder number) (role_for c number) read (labelled c.l conv past) (label_of c.l past act) talk clean d.no_start;
+    }
+
+events_are : (c : Case) (past : History) (step : Step) (conv : List ℕ) (act : Act) (number : ℕ) → Does conv act step → started_as conv past ≡ Some number → events_of (setting c) c.l past step ≡ events_with number (is_choosing (acts_in (labelled c.l conv past))) act (moves_now c past conv act number)
+events_are c past step conv act number d is = d.events (setting c) c.l past ∙ ap (events_at (setting c) c.l past conv act) (number_is past conv number is)
+
+-- an act is one event at most
+few_events : (atoms : Atoms) (own : Own) (role : Role) (before : List Move) (choosing : Bool) (act : Act) (label : Tree) (ms : List Move) (number : ℕ) → Follows atoms own role before choosing act label ms → length (events_with number choosing act ms) ≤ 1
+few_events atoms own role before choosing act label ms number (chooses b none) = omega arith
+few_events atoms own role before choosing act label ms number (gives_it b t row spells) = omega arith
+few_events atoms own role before choosing act label ms number (takes_it b row) = omega arith
+few_events atoms own role before choosing act label ms number (takes_none b) = omega arith
+few_events atoms own role before choosing act label ms number (asks_it b t row spells) = omega arith
+few_events atoms own role before choosing act label ms number (hears_it b row) = omega arith
+few_events atoms own role before choosing act label ms number hears_none = omega arith
+few_events atoms own role before choosing act label ms number (accepts_it cuid suid field row) = omega arith
+few_events atoms own role before choosing act label ms number (fails_so cause) = omega arith
+
+act_goes : (c : Case) (later past : History) (step : Step) (conv : List ℕ) (act : Act) → Does conv act step → c.history ≡ later ++ step ∷ past → GoesWell c past step
+act_goes c later past step conv act d place =
+    let at = acts_at c later past step conv act d place in
+    let number = at.number in
+    let rest = one_more c later past step place in
+    let in_order = orderly c past (later ++ step ∷ []) rest in
+    let before = moves_by (own_for c number) (role_for c number) (labelled c.l conv past) in
+    let choosing = is_choosing (acts_in (labelled c.l conv past)) in
+    let label = c.l.label (length past) in
+    let ms = moves_now c past conv act number in
+    let events = events_are c past step conv act number d at.started in
+    let derives : (b : List ℕ) → taken_by act ≡ Some b → Derives (known (setting c) (run c past)) label = λ b taken_is. (labelled_if c.atoms (setting c) c.l past (taken step) b (d.taken ∙ taken_is) (c.clean.labels later past step place)).derives in
+    let far : number < started_run (run c past) = subst (λ n. number < n) (sym (as_many (setting c) c.l past)) (below past conv number at.started) in
+    record {
+      runs = λ is. subst (λ es. IsRun (setting c) (es ++ run c past)) (sym events) (run_on (setting c) c.atoms number (run c past) before choosing act label ms at.follows is far (own_moves (setting c) c.l past conv number in_order at.started) derives);
+      spelled = subst (λ es. IsSpelledIf c.atoms (labels_given (setting c) es) (given step)) (sym events) (subst (IsSpelledIf c.atoms (labels_given (setting c) (events_with number choosing act ms))) (sym d.given) (spelled_on (setting c) c.atoms (own_for c number) (role_for c number) number before choosing act label ms at.follows));
+      short = subst (λ es. length es ≤ 1) (sym events) (few_events c.atoms (own_for c number) (role_for c number) before choosing act label ms number at.follows);
+    }
+
+-- ---- the whole history
+
+-- each deal of a session goes well
+abbrev pub SessionsGo : Case → Type 0
+SessionsGo c = (later past : History) (step : Step) (session : List ℕ) (deal : Deal) → Deals session deal step → c.history ≡ later ++ step ∷ past → GoesWell c past step
+
+goes_by : (c : Case) → SessionsGo c → (later past : History) (step : Step) → Kind step → c.history ≡ later ++ step ∷ past → GoesWell c past step
+goes_by c sessions later past step (begins conv protocol role word) place = record { runs = λ is. then_starts is; spelled = tt; short = omega arith }
+goes_by c sessions later past step (does conv act d) place = act_goes c later past step conv act d place
+goes_by c sessions later past step (deals session deal d) place = sessions later past step session deal d place
+goes_by c sessions later past step (nothing d) place = record {
+  runs = λ is. subst (λ es. IsRun (setting c) (es ++ run c past)) (sym (d.events (setting c) c.l past)) is;
+  spelled = subst (λ o. IsSpelledIf c.atoms (labels_given (setting c) (events_of (setting c) c.l past step)) o) (sym d.given) tt;
+  short = subst (λ es. length es ≤ 1) (sym (d.events (setting c) c.l past)) (omega arith);
+}
+
+runs_on : (c : Case) → SessionsGo c → (past later : History) → c.history ≡ later ++ past → IsRun (setting c) (run c past) × (length (run c past) ≤ length past)
+runs_on c sessions [] later place = (begins_run, omega arith)
+runs_on c sessions (step ∷ past) later place =
+    let so = runs_on c sessions past (later ++ step ∷ []) (one_more c later past step place) in
+    let goes = goes_by c sessions later past step (kind step) place in
+    let short = goes.short in
+    let rest = so.1 in
+    let parts = length-append (events_of (setting c) c.l past step) (run c past) in
+    (goes.runs so.0, omega (arith, short, rest, parts))
+
+pub bridged : (c : Case) → SessionsGo c → IsBridged c.history c.z c.atoms c.l
+bridged c sessions =
+    let all = runs_on c sessions c.history [] refl in
+    let few = c.clean.short in
+    let size = all.1 in
+    record {
+      run = record { short = omega (arith, few, size); by_the_tables = all.0 };
+      spelled = λ later past step place. (goes_by c sessions later past step (kind step) place).spelled;
     }

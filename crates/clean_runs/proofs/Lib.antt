@@ -6,3 +6,4 @@ pub mod Begun
 pub mod Follows
 pub mod MailClientLaw
 pub mod Bridge
+pub mod Shown

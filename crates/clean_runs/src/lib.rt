@@ -3,4 +3,4 @@
 
 mod laws;
 
-pub use laws::nothing_yet;
+pub use laws::{clean_histories_are_symbolic_runs, clean_histories_keep_their_secrets};
