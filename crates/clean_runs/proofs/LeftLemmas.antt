@@ -3,7 +3,9 @@ use Rattle.std.proofs.Common.{◌≡◌, ℕ, List, [], ◌∷◌, ◌++◌, Boo
 use Rattle.roles.specs.declared.need.Need.{Need}
 use Rattle.roles.specs.declared.need.Outcome.{Outcome}
 use Rattle.roles.specs.Answers.{is_sought}
+use Rattle.roles.specs.declared.stage.Stage.{Stage as SkStage}
 use Rattle.roles.specs.Courses.{answer_of, bytes_of, then_course, unless_broken}
+use Rattle.roles.specs.Courses as sk
 use Rattle.roles.specs.Starts.{Start}
 use Rattle.roles.specs.Talks.{Call, Progress, Verdict, give, get, found, heard, unheard, roomless, undone, offered, picked}
 use Rattle.conv_p9any.specs.Talks.{needs_any}
@@ -50,3 +52,25 @@ mail_left start first before call stage v here moves =
 
 pub mail_goes : (start : Start) (before : List Call) (call : Call) (stage : MailStage) (v : Verdict MailStage) → mail.course start before ≡ at stage → mail.move start stage call ≡ v → mail.course start (call ∷ before) ≡ then_course (at stage) v
 mail_goes start before call stage v here moves = ap (λ p. then_course p (mail.verdict start p call)) here ∙ ap (then_course (at stage)) moves
+
+-- ---- p9sk1
+
+sk_leaves : (start : Start) (first : Act) (before : List Call) (call : Call) → acts_by (speaks P9sk1 start) first before call ≡ left_at (sk.need_at start) sk.outcome_at (sk.course start before) (sk.verdict start (sk.course start before) call) (waiting (speaks P9sk1 start) first before) call
+sk_leaves start first before (give b) = refl
+sk_leaves start first before get = refl
+sk_leaves start first before (found key password) = refl
+sk_leaves start first before (heard b) = refl
+sk_leaves start first before unheard = refl
+sk_leaves start first before roomless = refl
+sk_leaves start first before undone = refl
+sk_leaves start first before (offered list) = refl
+sk_leaves start first before (picked place) = refl
+
+pub sk_left : (start : Start) (first : Act) (before : List Call) (call : Call) (p : Progress SkStage) (v : Verdict SkStage) → sk.course start before ≡ p → sk.verdict start p call ≡ v → acts_by (speaks P9sk1 start) first before call ≡ left_at (sk.need_at start) sk.outcome_at p v (waiting (speaks P9sk1 start) first before) call
+sk_left start first before call p v here moves =
+    sk_leaves start first before call
+    ∙ ap (λ p. left_at (sk.need_at start) sk.outcome_at p (sk.verdict start p call) (waiting (speaks P9sk1 start) first before) call) here
+    ∙ ap (λ v. left_at (sk.need_at start) sk.outcome_at p v (waiting (speaks P9sk1 start) first before) call) moves
+
+pub sk_goes : (start : Start) (before : List Call) (call : Call) (p : Progress SkStage) (v : Verdict SkStage) → sk.course start before ≡ p → sk.verdict start p call ≡ v → sk.course start (call ∷ before) ≡ then_course p v
+sk_goes start before call p v here moves = ap (λ p. then_course p (sk.verdict start p call)) here ∙ ap (then_course p) moves

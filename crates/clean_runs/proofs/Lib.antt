@@ -7,3 +7,5 @@ pub mod Follows
 pub mod MailClientLaw
 pub mod Bridge
 pub mod Shown
+pub mod Spelled
+pub mod SkServers

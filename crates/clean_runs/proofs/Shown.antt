@@ -13,6 +13,8 @@ use Rattle.clean_runs.proofs.Bridge.{Case, SessionsGo, bridged, same_self}
 use Rattle.clean_runs.proofs.Follows.{IsLawful}
 use Rattle.clean_runs.proofs.MailClientLaw.{mail_client_is_lawful}
 use Rattle.clean_runs.proofs.Steps.{Deals}
+use Rattle.clean_runs.proofs.Spelled as sp
+use Rattle.clean_runs.proofs.SkServers as sksrv
 
 shown : (spoken : Spoken) → IsShownRole spoken.start → IsLawful spoken
 shown spoken (of_a_mail_client mail client) = mail_client_is_lawful spoken (record { mail = mail; client = client })
