@@ -9,3 +9,4 @@ pub mod Bridge
 pub mod Shown
 pub mod Spelled
 pub mod SkServers
+pub mod Bytes

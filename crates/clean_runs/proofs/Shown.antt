@@ -15,6 +15,7 @@ use Rattle.clean_runs.proofs.MailClientLaw.{mail_client_is_lawful}
 use Rattle.clean_runs.proofs.Steps.{Deals}
 use Rattle.clean_runs.proofs.Spelled as sp
 use Rattle.clean_runs.proofs.SkServers as sksrv
+use Rattle.clean_runs.proofs.Bytes as byt
 
 shown : (spoken : Spoken) → IsShownRole spoken.start → IsLawful spoken
 shown spoken (of_a_mail_client mail client) = mail_client_is_lawful spoken (record { mail = mail; client = client })
