@@ -105,3 +105,38 @@ as_follows atoms own role before a m choosing act ms moves_are choosing_is act_i
     (subst (λ c. Follows atoms own role m c a.act a.label (moves_for own role c m a.act a.label)) (sym choosing_is)
     (subst (λ act. Follows atoms own role m choosing act a.label (moves_for own role choosing m act a.label)) (sym act_is)
     (subst (Follows atoms own role m choosing act a.label) (sym ms_are) follows)))
+
+-- the moves with one act more
+pub moves_next : (own : Own) (role : Role) (before more : List Labelled) (a : Labelled) (m : List Move) (choosing : Bool) (act : Act) (ms : List Move) → before ≡ a ∷ more → moves_by own role more ≡ m → is_choosing (acts_in more) ≡ choosing → a.act ≡ act → moves_for own role choosing m act a.label ≡ ms → moves_by own role before ≡ ms ++ m
+moves_next own role before more a m choosing act ms front moves_are choosing_is act_is ms_are =
+    ap (moves_by own role) front
+    ∙ ap (λ m. moves_for own role (is_choosing (acts_in more)) m a.act a.label ++ m) moves_are
+    ∙ ap (λ c. moves_for own role c m a.act a.label ++ m) choosing_is
+    ∙ ap (λ act. moves_for own role choosing m act a.label ++ m) act_is
+    ∙ ap (λ ms. ms ++ m) ms_are
+
+-- the labels of acts that are known
+pub one_act : (before : List Labelled) (act : Act) → acts_in before ≡ act ∷ [] → (a : Labelled) × (before ≡ a ∷ []) × (a.act ≡ act)
+one_act [] act is = absurd (cc)
+one_act (a ∷ []) act is = (a, refl, (let same : a.act ≡ act = cc in same))
+one_act (a ∷ b ∷ more) act is = absurd (let none : acts_in (b ∷ more) ≡ [] = cc in cc)
+
+pub more_acts : (before : List Labelled) (act : Act) (acts : List Act) → acts_in before ≡ act ∷ acts → (a : Labelled) × (more : List Labelled) × (before ≡ a ∷ more) × (a.act ≡ act) × (acts_in more ≡ acts)
+more_acts [] act acts is = absurd (cc)
+more_acts (a ∷ more) act acts is = (a, more, refl, (let same : a.act ≡ act = cc in same), (let rest : acts_in more ≡ acts = cc in rest))
+
+-- an act that is known, with its labels clean, and those before it
+pub record Known (atoms : Atoms) (own : Own) (role : Role) (before : List Labelled) (act : Act) (acts : List Act) : Type 0 where
+  pub a : Labelled
+  pub more : List Labelled
+  pub front : before ≡ a ∷ more
+  pub act_is : a.act ≡ act
+  pub rest : acts_in more ≡ acts
+  pub clean : CleanAct atoms own role more a
+  pub clean_rest : CleanActs atoms own role more
+
+pub known_act : (atoms : Atoms) (own : Own) (role : Role) (before : List Labelled) (act : Act) (acts : List Act) → acts_in before ≡ act ∷ acts → CleanActs atoms own role before → Known atoms own role before act acts
+known_act atoms own role before act acts is clean =
+    let p = more_acts before act acts is in
+    let c : CleanActs atoms own role (p.0 ∷ p.1) = subst (CleanActs atoms own role) p.2 clean in
+    record { a = p.0; more = p.1; front = p.2; act_is = p.3; rest = p.4; clean = c.0; clean_rest = c.1 }

@@ -10,3 +10,4 @@ pub mod Shown
 pub mod Spelled
 pub mod SkServers
 pub mod Bytes
+pub mod SkServerLaw

@@ -23,7 +23,7 @@ use Rattle.clean_runs.specs.Labels.{Labelled}
 use Rattle.clean_runs.specs.Runs.{acts_in, is_choosing, moves_by, moves_for, role_by}
 use Rattle.clean_runs.specs.Clean.{ReadsMet}
 use Rattle.clean_runs.proofs.Begun.{BeginsWith}
-use Rattle.clean_runs.proofs.Follows.{CleanActs, Follows, IsFollowed, IsLawful, IsOrderlyTalk, IsRead, as_follows, gives_it, own_by, role_in, takes_it, takes_none}
+use Rattle.clean_runs.proofs.Follows.{CleanActs, Follows, IsFollowed, IsLawful, IsOrderlyTalk, IsRead, as_follows, gives_it, more_acts, one_act, own_by, role_in, takes_it, takes_none}
 use Rattle.clean_runs.proofs.MailClients.{Behind, Stands, at_once, begun, digits, done, keyless, ready, stands, told}
 use Rattle.clean_runs.proofs.Steps.{is_start, taken_by}
 
@@ -107,16 +107,6 @@ orderly spoken is act acts t = subst (λ f. BeginsWith f (act ∷ acts)) (sym (f
 not_choosing : (proto : Proto) (by : Role') (word challenge given : List ℕ) → (is_choosing (started (mail_protocol proto) by word ∷ []) ≡ false) × (is_choosing (took challenge ∷ started (mail_protocol proto) by word ∷ []) ≡ false) × (is_choosing (gave given ∷ took challenge ∷ started (mail_protocol proto) by word ∷ []) ≡ false)
 not_choosing Apop by word challenge given = (refl, refl, refl)
 not_choosing Cram by word challenge given = (refl, refl, refl)
-
--- the labels of acts that are known
-one_act : (before : List Labelled) (act : Act) → acts_in before ≡ act ∷ [] → (a : Labelled) × (before ≡ a ∷ []) × (a.act ≡ act)
-one_act [] act is = absurd (cc)
-one_act (a ∷ []) act is = (a, refl, (let same : a.act ≡ act = cc in same))
-one_act (a ∷ b ∷ more) act is = absurd (let none : acts_in (b ∷ more) ≡ [] = cc in cc)
-
-more_acts : (before : List Labelled) (act : Act) (acts : List Act) → acts_in before ≡ act ∷ acts → (a : Labelled) × (more : List Labelled) × (before ≡ a ∷ more) × (a.act ≡ act) × (acts_in more ≡ acts)
-more_acts [] act acts is = absurd (cc)
-more_acts (a ∷ more) act acts is = (a, more, refl, (let same : a.act ≡ act = cc in same), (let rest : acts_in more ≡ acts = cc in rest))
 
 -- where it takes its challenge, and where it gives its digits
 at_start : (start : Start) (own : Own) (kind : MacKind) (before : List Labelled) → acts_in before ≡ first start ∷ [] → (moves_by own (mail_client kind) before ≡ []) × (is_choosing (acts_in before) ≡ false)

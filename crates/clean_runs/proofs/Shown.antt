@@ -8,17 +8,16 @@ use Rattle.wire_histories.specs.Legal.{IsLegal, Setting, Spoken}
 use Rattle.clean_runs.specs.Labels.{Labelling}
 use Rattle.clean_runs.specs.Runs.{run_of, setting_of}
 use Rattle.clean_runs.specs.Clean.{IsClean}
-use Rattle.clean_runs.specs.Statements.{HasNoSessions, IsBridged, IsBridgedSoFar, IsSecretSoFar, IsShownRole, OfEveryCleanHistory, OfShownRoles, of_a_mail_client}
+use Rattle.clean_runs.specs.Statements.{HasNoSessions, IsBridged, IsBridgedSoFar, IsSecretSoFar, IsShownRole, OfEveryCleanHistory, OfShownRoles, of_a_mail_client, of_a_server}
 use Rattle.clean_runs.proofs.Bridge.{Case, SessionsGo, bridged, same_self}
 use Rattle.clean_runs.proofs.Follows.{IsLawful}
 use Rattle.clean_runs.proofs.MailClientLaw.{mail_client_is_lawful}
 use Rattle.clean_runs.proofs.Steps.{Deals}
-use Rattle.clean_runs.proofs.Spelled as sp
-use Rattle.clean_runs.proofs.SkServers as sksrv
-use Rattle.clean_runs.proofs.Bytes as byt
+use Rattle.clean_runs.proofs.SkServerLaw.{server_is_lawful}
 
 shown : (spoken : Spoken) → IsShownRole spoken.start → IsLawful spoken
 shown spoken (of_a_mail_client mail client) = mail_client_is_lawful spoken (record { mail = mail; client = client })
+shown spoken (of_a_server p9sk1 role) = server_is_lawful spoken (record { p9sk1 = p9sk1; server = role })
 
 deals_append : (name : List ℕ) (later past : History) → deals_of name (later ++ past) ≡ deals_of name later ++ deals_of name past
 deals_append name [] past = refl

@@ -57,11 +57,11 @@ accepted_acts start first key theirs shown ticket = accepted ticket.cuid ticket.
 pub data Stands (start : Start) (first : Act) (talk : List Call) : Type 0 where
   seeking : sk.course start talk ≡ at ServerKey → acts start first talk ≡ [] → waiting (speaks P9sk1 start) first talk ≡ first → met start talk ≡ [] → Stands start first talk
   keyed : (key : SkKey) (secret : Option (List ℕ)) → sk.course start talk ≡ at (ServerFirst key) → acts start first talk ≡ first ∷ [] → met start talk ≡ found key secret ∷ [] → Stands start first talk
-  greeted : (key : SkKey) (secret : Option (List ℕ)) (theirs : List ℕ) → sk.course start talk ≡ at (ServerSecond key theirs) → acts start first talk ≡ took theirs ∷ first ∷ [] → met start talk ≡ found key secret ∷ [] → Stands start first talk
-  asking : (key : SkKey) (secret : Option (List ℕ)) (theirs : List ℕ) → sk.course start talk ≡ at (ServerThird key theirs) → acts start first talk ≡ asked_acts start first key theirs → met start talk ≡ found key secret ∷ [] → Stands start first talk
+  greeted : (key : SkKey) (secret : Option (List ℕ)) (theirs : List ℕ) → length theirs ≡ 8 → sk.course start talk ≡ at (ServerSecond key theirs) → acts start first talk ≡ took theirs ∷ first ∷ [] → met start talk ≡ found key secret ∷ [] → Stands start first talk
+  asking : (key : SkKey) (secret : Option (List ℕ)) (theirs : List ℕ) → length theirs ≡ 8 → sk.course start talk ≡ at (ServerThird key theirs) → acts start first talk ≡ asked_acts start first key theirs → met start talk ≡ found key secret ∷ [] → Stands start first talk
   broken : (key : SkKey) (secret : Option (List ℕ)) (theirs b : List ℕ) (cause : Cause) → sk.course start talk ≡ fallen (ServerThird key theirs) cause → acts start first talk ≡ failed (cause_text cause) ∷ took b ∷ asked_acts start first key theirs → met start talk ≡ found key secret ∷ [] → Stands start first talk
-  accepting : (key : SkKey) (secret : Option (List ℕ)) (theirs shown : List ℕ) (ticket : Ticket) → ticket_under key (ticket_part shown) ≡ Ok ticket → length shown ≡ 85 → sk.course start talk ≡ at (ServerFourth key theirs shown) → acts start first talk ≡ accepted_acts start first key theirs shown ticket → met start talk ≡ found key secret ∷ [] → Stands start first talk
-  done : (key : SkKey) (secret : Option (List ℕ)) (theirs shown : List ℕ) (ticket : Ticket) → ticket_under key (ticket_part shown) ≡ Ok ticket → length shown ≡ 85 → sk.course start talk ≡ at (ServerDone key theirs shown) → Told (gave (proof theirs ticket) ∷ accepted_acts start first key theirs shown ticket) (acts start first talk) → met start talk ≡ found key secret ∷ [] → Stands start first talk
+  accepting : (key : SkKey) (secret : Option (List ℕ)) (theirs shown : List ℕ) (ticket : Ticket) → length theirs ≡ 8 → ticket_under key (ticket_part shown) ≡ Ok ticket → length shown ≡ 85 → sk.course start talk ≡ at (ServerFourth key theirs shown) → acts start first talk ≡ accepted_acts start first key theirs shown ticket → met start talk ≡ found key secret ∷ [] → Stands start first talk
+  done : (key : SkKey) (secret : Option (List ℕ)) (theirs shown : List ℕ) (ticket : Ticket) → length theirs ≡ 8 → ticket_under key (ticket_part shown) ≡ Ok ticket → length shown ≡ 85 → sk.course start talk ≡ at (ServerDone key theirs shown) → Told (gave (proof theirs ticket) ∷ accepted_acts start first key theirs shown ticket) (acts start first talk) → met start talk ≡ found key secret ∷ [] → Stands start first talk
 
 -- what stands behind one call more
 acts_more : (start : Start) (first : Act) (before : List Call) (call : Call) (p : Progress Stage) (v : Verdict Stage) (left more : List Act) → sk.course start before ≡ p → sk.verdict start p call ≡ v → left_at (sk.need_at start) sk.outcome_at p v (waiting (speaks P9sk1 start) first before) call ≡ left → acts start first before ≡ more → acts start first (call ∷ before) ≡ left ++ more
@@ -135,7 +135,7 @@ keyed_stays start first before call key secret given moves leaves here stood has
 keyed_given : (start : Start) (first : Act) (before : List Call) (b : List ℕ) (key : SkKey) (secret : Option (List ℕ)) → sk.course start before ≡ at (ServerFirst key) → acts start first before ≡ first ∷ [] → met start before ≡ found key secret ∷ [] → Sized 8 b (goes (ServerSecond key b) g.Ok []) → Stands start first (give b ∷ before)
 keyed_given start first before b key secret here stood has (few is) = keyed_stays start first before (give b) key secret (g.TooSmall 8) is refl here stood has
 keyed_given start first before b key secret here stood has (many is) = keyed_stays start first before (give b) key secret g.TooLong is refl here stood has
-keyed_given start first before b key secret here stood has (well size is) = greeted key secret b
+keyed_given start first before b key secret here stood has (well size is) = greeted key secret b size
     (sk_goes start before (give b) (at (ServerFirst key)) (goes (ServerSecond key b) g.Ok []) here is)
     (acts_more start first before (give b) (at (ServerFirst key)) (goes (ServerSecond key b) g.Ok []) (took b ∷ []) (first ∷ []) here is refl stood)
     (met_more start before (give b) (at (ServerFirst key)) false (found key secret ∷ []) here refl has)
@@ -153,30 +153,30 @@ keyed_then start first before key secret here stood has (picked place) = keyed_s
 
 -- ---- the client's challenge came
 
-greeted_stays : (start : Start) (first : Act) (before : List Call) (call : Call) (key : SkKey) (secret : Option (List ℕ)) (theirs : List ℕ) (given : Gave) → sk.verdict start (at (ServerSecond key theirs)) call ≡ stays given → left_at (sk.need_at start) sk.outcome_at (at (ServerSecond key theirs)) (stays given) (waiting (speaks P9sk1 start) first before) call ≡ [] → sk.course start before ≡ at (ServerSecond key theirs) → acts start first before ≡ took theirs ∷ first ∷ [] → met start before ≡ found key secret ∷ [] → Stands start first (call ∷ before)
-greeted_stays start first before call key secret theirs given moves leaves here stood has = greeted key secret theirs 
+greeted_stays : (start : Start) (first : Act) (before : List Call) (call : Call) (key : SkKey) (secret : Option (List ℕ)) (theirs : List ℕ) (given : Gave) → sk.verdict start (at (ServerSecond key theirs)) call ≡ stays given → left_at (sk.need_at start) sk.outcome_at (at (ServerSecond key theirs)) (stays given) (waiting (speaks P9sk1 start) first before) call ≡ [] → length theirs ≡ 8 → sk.course start before ≡ at (ServerSecond key theirs) → acts start first before ≡ took theirs ∷ first ∷ [] → met start before ≡ found key secret ∷ [] → Stands start first (call ∷ before)
+greeted_stays start first before call key secret theirs given moves leaves eight here stood has = greeted key secret theirs eight 
     (sk_goes start before call (at (ServerSecond key theirs)) (stays given) here moves)
     (acts_more start first before call (at (ServerSecond key theirs)) (stays given) [] (took theirs ∷ first ∷ []) here moves leaves stood)
     (met_more start before call (at (ServerSecond key theirs)) false (found key secret ∷ []) here refl has)
 
-greeted_then : (start : Start) (first : Act) (before : List Call) (key : SkKey) (secret : Option (List ℕ)) (theirs : List ℕ) → sk.course start before ≡ at (ServerSecond key theirs) → acts start first before ≡ took theirs ∷ first ∷ [] → met start before ≡ found key secret ∷ [] → (call : Call) → Stands start first (call ∷ before)
-greeted_then start first before key secret theirs here stood has (give b) = greeted_stays start first before (give b) key secret theirs (g.Phase AwaitsRead) refl refl here stood has
-greeted_then start first before key secret theirs here stood has get = asking key secret theirs
+greeted_then : (start : Start) (first : Act) (before : List Call) (key : SkKey) (secret : Option (List ℕ)) (theirs : List ℕ) → length theirs ≡ 8 → sk.course start before ≡ at (ServerSecond key theirs) → acts start first before ≡ took theirs ∷ first ∷ [] → met start before ≡ found key secret ∷ [] → (call : Call) → Stands start first (call ∷ before)
+greeted_then start first before key secret theirs eight here stood has (give b) = greeted_stays start first before (give b) key secret theirs (g.Phase AwaitsRead) refl refl eight here stood has
+greeted_then start first before key secret theirs eight here stood has get = asking key secret theirs eight
     (sk_goes start before get (at (ServerSecond key theirs)) (goes (ServerThird key theirs) g.Ok (server_request start key)) here refl)
     (acts_more start first before get (at (ServerSecond key theirs)) (goes (ServerThird key theirs) g.Ok (server_request start key)) (gave (server_request start key) ∷ []) (took theirs ∷ first ∷ []) here refl refl stood)
     (met_more start before get (at (ServerSecond key theirs)) false (found key secret ∷ []) here refl has)
-greeted_then start first before key secret theirs here stood has (found other more) = greeted_stays start first before (found other more) key secret theirs (g.Phase AwaitsRead) refl refl here stood has
-greeted_then start first before key secret theirs here stood has (heard b) = greeted_stays start first before (heard b) key secret theirs (g.Phase AwaitsRead) refl refl here stood has
-greeted_then start first before key secret theirs here stood has unheard = greeted_stays start first before unheard key secret theirs (g.Phase AwaitsRead) refl refl here stood has
-greeted_then start first before key secret theirs here stood has roomless = greeted_stays start first before roomless key secret theirs (g.Phase AwaitsRead) refl refl here stood has
-greeted_then start first before key secret theirs here stood has undone = greeted_stays start first before undone key secret theirs (g.Phase AwaitsRead) refl refl here stood has
-greeted_then start first before key secret theirs here stood has (offered list) = greeted_stays start first before (offered list) key secret theirs (g.Phase AwaitsRead) refl refl here stood has
-greeted_then start first before key secret theirs here stood has (picked place) = greeted_stays start first before (picked place) key secret theirs (g.Phase AwaitsRead) refl refl here stood has
+greeted_then start first before key secret theirs eight here stood has (found other more) = greeted_stays start first before (found other more) key secret theirs (g.Phase AwaitsRead) refl refl eight here stood has
+greeted_then start first before key secret theirs eight here stood has (heard b) = greeted_stays start first before (heard b) key secret theirs (g.Phase AwaitsRead) refl refl eight here stood has
+greeted_then start first before key secret theirs eight here stood has unheard = greeted_stays start first before unheard key secret theirs (g.Phase AwaitsRead) refl refl eight here stood has
+greeted_then start first before key secret theirs eight here stood has roomless = greeted_stays start first before roomless key secret theirs (g.Phase AwaitsRead) refl refl eight here stood has
+greeted_then start first before key secret theirs eight here stood has undone = greeted_stays start first before undone key secret theirs (g.Phase AwaitsRead) refl refl eight here stood has
+greeted_then start first before key secret theirs eight here stood has (offered list) = greeted_stays start first before (offered list) key secret theirs (g.Phase AwaitsRead) refl refl eight here stood has
+greeted_then start first before key secret theirs eight here stood has (picked place) = greeted_stays start first before (picked place) key secret theirs (g.Phase AwaitsRead) refl refl eight here stood has
 
 -- ---- it asked
 
-asking_stays : (start : Start) (first : Act) (before : List Call) (call : Call) (key : SkKey) (secret : Option (List ℕ)) (theirs : List ℕ) (given : Gave) → sk.verdict start (at (ServerThird key theirs)) call ≡ stays given → left_at (sk.need_at start) sk.outcome_at (at (ServerThird key theirs)) (stays given) (waiting (speaks P9sk1 start) first before) call ≡ [] → sk.course start before ≡ at (ServerThird key theirs) → acts start first before ≡ asked_acts start first key theirs → met start before ≡ found key secret ∷ [] → Stands start first (call ∷ before)
-asking_stays start first before call key secret theirs given moves leaves here stood has = asking key secret theirs 
+asking_stays : (start : Start) (first : Act) (before : List Call) (call : Call) (key : SkKey) (secret : Option (List ℕ)) (theirs : List ℕ) (given : Gave) → sk.verdict start (at (ServerThird key theirs)) call ≡ stays given → left_at (sk.need_at start) sk.outcome_at (at (ServerThird key theirs)) (stays given) (waiting (speaks P9sk1 start) first before) call ≡ [] → length theirs ≡ 8 → sk.course start before ≡ at (ServerThird key theirs) → acts start first before ≡ asked_acts start first key theirs → met start before ≡ found key secret ∷ [] → Stands start first (call ∷ before)
+asking_stays start first before call key secret theirs given moves leaves eight here stood has = asking key secret theirs eight 
     (sk_goes start before call (at (ServerThird key theirs)) (stays given) here moves)
     (acts_more start first before call (at (ServerThird key theirs)) (stays given) [] (asked_acts start first key theirs) here moves leaves stood)
     (met_more start before call (at (ServerThird key theirs)) false (found key secret ∷ []) here refl has)
@@ -197,31 +197,31 @@ came_by start key theirs b (Err fault) is = bad WrongKind (ap (λ r. with_ticket
 broken_left : (b : List ℕ) (cause : Cause) → failed (cause_text cause) ∷ (if is_taken (refusal cause) && true then took b ∷ [] else []) ≡ failed (cause_text cause) ∷ took b ∷ []
 broken_left b cause = ap (λ (t : Bool). failed (cause_text cause) ∷ (if t && true then took b ∷ [] else [])) (refused_is_taken cause)
 
-asking_came : (start : Start) (first : Act) (before : List Call) (b : List ℕ) (key : SkKey) (secret : Option (List ℕ)) (theirs : List ℕ) → sk.course start before ≡ at (ServerThird key theirs) → acts start first before ≡ asked_acts start first key theirs → met start before ≡ found key secret ∷ [] → length b ≡ 85 → sized 85 b (shown_came start key theirs b) ≡ shown_came start key theirs b → Came start key theirs b → Stands start first (give b ∷ before)
-asking_came start first before b key secret theirs here stood has size whole (bad cause is) = broken key secret theirs b cause
+asking_came : (start : Start) (first : Act) (before : List Call) (b : List ℕ) (key : SkKey) (secret : Option (List ℕ)) (theirs : List ℕ) → length theirs ≡ 8 → sk.course start before ≡ at (ServerThird key theirs) → acts start first before ≡ asked_acts start first key theirs → met start before ≡ found key secret ∷ [] → length b ≡ 85 → sized 85 b (shown_came start key theirs b) ≡ shown_came start key theirs b → Came start key theirs b → Stands start first (give b ∷ before)
+asking_came start first before b key secret theirs eight here stood has size whole (bad cause is) = broken key secret theirs b cause
     (sk_goes start before (give b) (at (ServerThird key theirs)) (breaks cause) here (whole ∙ is))
     (acts_more start first before (give b) (at (ServerThird key theirs)) (breaks cause) (failed (cause_text cause) ∷ took b ∷ []) (asked_acts start first key theirs) here (whole ∙ is) (broken_left b cause) stood)
     (met_more start before (give b) (at (ServerThird key theirs)) false (found key secret ∷ []) here refl has)
-asking_came start first before b key secret theirs here stood has size whole (good ticket opens is) = accepting key secret theirs b ticket opens size
+asking_came start first before b key secret theirs eight here stood has size whole (good ticket opens is) = accepting key secret theirs b ticket eight opens size
     (sk_goes start before (give b) (at (ServerThird key theirs)) (goes (ServerFourth key theirs b) g.Ok []) here (whole ∙ is))
     (acts_more start first before (give b) (at (ServerThird key theirs)) (goes (ServerFourth key theirs b) g.Ok []) (accepted ticket.cuid ticket.suid ∷ took b ∷ []) (asked_acts start first key theirs) here (whole ∙ is) (ap (λ r. end_by (sk.outcome_at (at (ServerThird key theirs))) (outcome_by WrongKind r) ++ took b ∷ []) opens) stood)
     (met_more start before (give b) (at (ServerThird key theirs)) false (found key secret ∷ []) here refl has)
 
-asking_given : (start : Start) (first : Act) (before : List Call) (b : List ℕ) (key : SkKey) (secret : Option (List ℕ)) (theirs : List ℕ) → sk.course start before ≡ at (ServerThird key theirs) → acts start first before ≡ asked_acts start first key theirs → met start before ≡ found key secret ∷ [] → Sized 85 b (shown_came start key theirs b) → Stands start first (give b ∷ before)
-asking_given start first before b key secret theirs here stood has (few is) = asking_stays start first before (give b) key secret theirs (g.TooSmall 85) is refl here stood has
-asking_given start first before b key secret theirs here stood has (many is) = asking_stays start first before (give b) key secret theirs g.TooLong is refl here stood has
-asking_given start first before b key secret theirs here stood has (well size is) = asking_came start first before b key secret theirs here stood has size is (came_by start key theirs b (ticket_under key (ticket_part b)) refl)
+asking_given : (start : Start) (first : Act) (before : List Call) (b : List ℕ) (key : SkKey) (secret : Option (List ℕ)) (theirs : List ℕ) → length theirs ≡ 8 → sk.course start before ≡ at (ServerThird key theirs) → acts start first before ≡ asked_acts start first key theirs → met start before ≡ found key secret ∷ [] → Sized 85 b (shown_came start key theirs b) → Stands start first (give b ∷ before)
+asking_given start first before b key secret theirs eight here stood has (few is) = asking_stays start first before (give b) key secret theirs (g.TooSmall 85) is refl eight here stood has
+asking_given start first before b key secret theirs eight here stood has (many is) = asking_stays start first before (give b) key secret theirs g.TooLong is refl eight here stood has
+asking_given start first before b key secret theirs eight here stood has (well size is) = asking_came start first before b key secret theirs eight here stood has size is (came_by start key theirs b (ticket_under key (ticket_part b)) refl)
 
-asking_then : (start : Start) (first : Act) (before : List Call) (key : SkKey) (secret : Option (List ℕ)) (theirs : List ℕ) → sk.course start before ≡ at (ServerThird key theirs) → acts start first before ≡ asked_acts start first key theirs → met start before ≡ found key secret ∷ [] → (call : Call) → Stands start first (call ∷ before)
-asking_then start first before key secret theirs here stood has (give b) = asking_given start first before b key secret theirs here stood has (sized_by 85 b (shown_came start key theirs b) (nat_lt (length b) 85) (nat_lt 85 (length b)) refl refl)
-asking_then start first before key secret theirs here stood has get = asking_stays start first before get key secret theirs (g.Phase AwaitsWrite) refl refl here stood has
-asking_then start first before key secret theirs here stood has (found other more) = asking_stays start first before (found other more) key secret theirs (g.Phase AwaitsWrite) refl refl here stood has
-asking_then start first before key secret theirs here stood has (heard b) = asking_stays start first before (heard b) key secret theirs (g.Phase AwaitsWrite) refl refl here stood has
-asking_then start first before key secret theirs here stood has unheard = asking_stays start first before unheard key secret theirs (g.Phase AwaitsWrite) refl refl here stood has
-asking_then start first before key secret theirs here stood has roomless = asking_stays start first before roomless key secret theirs (g.Phase AwaitsWrite) refl refl here stood has
-asking_then start first before key secret theirs here stood has undone = asking_stays start first before undone key secret theirs (g.Phase AwaitsWrite) refl refl here stood has
-asking_then start first before key secret theirs here stood has (offered list) = asking_stays start first before (offered list) key secret theirs (g.Phase AwaitsWrite) refl refl here stood has
-asking_then start first before key secret theirs here stood has (picked place) = asking_stays start first before (picked place) key secret theirs (g.Phase AwaitsWrite) refl refl here stood has
+asking_then : (start : Start) (first : Act) (before : List Call) (key : SkKey) (secret : Option (List ℕ)) (theirs : List ℕ) → length theirs ≡ 8 → sk.course start before ≡ at (ServerThird key theirs) → acts start first before ≡ asked_acts start first key theirs → met start before ≡ found key secret ∷ [] → (call : Call) → Stands start first (call ∷ before)
+asking_then start first before key secret theirs eight here stood has (give b) = asking_given start first before b key secret theirs eight here stood has (sized_by 85 b (shown_came start key theirs b) (nat_lt (length b) 85) (nat_lt 85 (length b)) refl refl)
+asking_then start first before key secret theirs eight here stood has get = asking_stays start first before get key secret theirs (g.Phase AwaitsWrite) refl refl eight here stood has
+asking_then start first before key secret theirs eight here stood has (found other more) = asking_stays start first before (found other more) key secret theirs (g.Phase AwaitsWrite) refl refl eight here stood has
+asking_then start first before key secret theirs eight here stood has (heard b) = asking_stays start first before (heard b) key secret theirs (g.Phase AwaitsWrite) refl refl eight here stood has
+asking_then start first before key secret theirs eight here stood has unheard = asking_stays start first before unheard key secret theirs (g.Phase AwaitsWrite) refl refl eight here stood has
+asking_then start first before key secret theirs eight here stood has roomless = asking_stays start first before roomless key secret theirs (g.Phase AwaitsWrite) refl refl eight here stood has
+asking_then start first before key secret theirs eight here stood has undone = asking_stays start first before undone key secret theirs (g.Phase AwaitsWrite) refl refl eight here stood has
+asking_then start first before key secret theirs eight here stood has (offered list) = asking_stays start first before (offered list) key secret theirs (g.Phase AwaitsWrite) refl refl eight here stood has
+asking_then start first before key secret theirs eight here stood has (picked place) = asking_stays start first before (picked place) key secret theirs (g.Phase AwaitsWrite) refl refl eight here stood has
 
 -- ---- it broke
 
@@ -244,58 +244,58 @@ broken_then start first before key secret theirs b cause here stood has (picked 
 
 -- ---- it accepted
 
-accepting_stays : (start : Start) (first : Act) (before : List Call) (call : Call) (key : SkKey) (secret : Option (List ℕ)) (theirs : List ℕ) (shown : List ℕ) (ticket : Ticket) (given : Gave) → sk.verdict start (at (ServerFourth key theirs shown)) call ≡ stays given → left_at (sk.need_at start) sk.outcome_at (at (ServerFourth key theirs shown)) (stays given) (waiting (speaks P9sk1 start) first before) call ≡ [] → ticket_under key (ticket_part shown) ≡ Ok ticket → length shown ≡ 85 → sk.course start before ≡ at (ServerFourth key theirs shown) → acts start first before ≡ accepted_acts start first key theirs shown ticket → met start before ≡ found key secret ∷ [] → Stands start first (call ∷ before)
-accepting_stays start first before call key secret theirs shown ticket given moves leaves opens size here stood has = accepting key secret theirs shown ticket opens size 
+accepting_stays : (start : Start) (first : Act) (before : List Call) (call : Call) (key : SkKey) (secret : Option (List ℕ)) (theirs : List ℕ) (shown : List ℕ) (ticket : Ticket) (given : Gave) → sk.verdict start (at (ServerFourth key theirs shown)) call ≡ stays given → left_at (sk.need_at start) sk.outcome_at (at (ServerFourth key theirs shown)) (stays given) (waiting (speaks P9sk1 start) first before) call ≡ [] → length theirs ≡ 8 → ticket_under key (ticket_part shown) ≡ Ok ticket → length shown ≡ 85 → sk.course start before ≡ at (ServerFourth key theirs shown) → acts start first before ≡ accepted_acts start first key theirs shown ticket → met start before ≡ found key secret ∷ [] → Stands start first (call ∷ before)
+accepting_stays start first before call key secret theirs shown ticket given moves leaves eight opens size here stood has = accepting key secret theirs shown ticket eight opens size 
     (sk_goes start before call (at (ServerFourth key theirs shown)) (stays given) here moves)
     (acts_more start first before call (at (ServerFourth key theirs shown)) (stays given) [] (accepted_acts start first key theirs shown ticket) here moves leaves stood)
     (met_more start before call (at (ServerFourth key theirs shown)) false (found key secret ∷ []) here refl has)
 
-accepting_then : (start : Start) (first : Act) (before : List Call) (key : SkKey) (secret : Option (List ℕ)) (theirs : List ℕ) (shown : List ℕ) (ticket : Ticket) → ticket_under key (ticket_part shown) ≡ Ok ticket → length shown ≡ 85 → sk.course start before ≡ at (ServerFourth key theirs shown) → acts start first before ≡ accepted_acts start first key theirs shown ticket → met start before ≡ found key secret ∷ [] → (call : Call) → Stands start first (call ∷ before)
-accepting_then start first before key secret theirs shown ticket opens size here stood has (give b) = accepting_stays start first before (give b) key secret theirs shown ticket (g.Phase AwaitsRead) refl (ap (λ r. end_by (outcome_by WrongKind r) (outcome_by WrongKind r) ++ []) opens) opens size here stood has
-accepting_then start first before key secret theirs shown ticket opens size here stood has get =
+accepting_then : (start : Start) (first : Act) (before : List Call) (key : SkKey) (secret : Option (List ℕ)) (theirs : List ℕ) (shown : List ℕ) (ticket : Ticket) → length theirs ≡ 8 → ticket_under key (ticket_part shown) ≡ Ok ticket → length shown ≡ 85 → sk.course start before ≡ at (ServerFourth key theirs shown) → acts start first before ≡ accepted_acts start first key theirs shown ticket → met start before ≡ found key secret ∷ [] → (call : Call) → Stands start first (call ∷ before)
+accepting_then start first before key secret theirs shown ticket eight opens size here stood has (give b) = accepting_stays start first before (give b) key secret theirs shown ticket (g.Phase AwaitsRead) refl (ap (λ r. end_by (outcome_by WrongKind r) (outcome_by WrongKind r) ++ []) opens) eight opens size here stood has
+accepting_then start first before key secret theirs shown ticket eight opens size here stood has get =
     let v = goes (ServerDone key theirs shown) g.Ok (proof theirs ticket) in
     let moves : sk.verdict start (at (ServerFourth key theirs shown)) get ≡ v = ap (λ r. with_ticket WrongKind r (λ ticket. goes (ServerDone key theirs shown) g.Ok (proof_for AUTH_AS theirs ticket))) opens in
-    done key secret theirs shown ticket opens size
+    done key secret theirs shown ticket eight opens size
     (sk_goes start before get (at (ServerFourth key theirs shown)) v here moves)
     (subst (Told (gave (proof theirs ticket) ∷ accepted_acts start first key theirs shown ticket)) (sym (acts_more start first before get (at (ServerFourth key theirs shown)) v (gave (proof theirs ticket) ∷ []) (accepted_acts start first key theirs shown ticket) here moves (ap (λ r. end_by (outcome_by WrongKind r) (outcome_by WrongKind r) ++ gave (proof theirs ticket) ∷ []) opens) stood)) at_once)
     (met_more start before get (at (ServerFourth key theirs shown)) false (found key secret ∷ []) here refl has)
-accepting_then start first before key secret theirs shown ticket opens size here stood has (found other more) = accepting_stays start first before (found other more) key secret theirs shown ticket (g.Phase AwaitsRead) refl (ap (λ r. end_by (outcome_by WrongKind r) (outcome_by WrongKind r) ++ []) opens) opens size here stood has
-accepting_then start first before key secret theirs shown ticket opens size here stood has (heard b) = accepting_stays start first before (heard b) key secret theirs shown ticket (g.Phase AwaitsRead) refl (ap (λ r. end_by (outcome_by WrongKind r) (outcome_by WrongKind r) ++ []) opens) opens size here stood has
-accepting_then start first before key secret theirs shown ticket opens size here stood has unheard = accepting_stays start first before unheard key secret theirs shown ticket (g.Phase AwaitsRead) refl (ap (λ r. end_by (outcome_by WrongKind r) (outcome_by WrongKind r) ++ []) opens) opens size here stood has
-accepting_then start first before key secret theirs shown ticket opens size here stood has roomless = accepting_stays start first before roomless key secret theirs shown ticket (g.Phase AwaitsRead) refl (ap (λ r. end_by (outcome_by WrongKind r) (outcome_by WrongKind r) ++ []) opens) opens size here stood has
-accepting_then start first before key secret theirs shown ticket opens size here stood has undone = accepting_stays start first before undone key secret theirs shown ticket (g.Phase AwaitsRead) refl (ap (λ r. end_by (outcome_by WrongKind r) (outcome_by WrongKind r) ++ []) opens) opens size here stood has
-accepting_then start first before key secret theirs shown ticket opens size here stood has (offered list) = accepting_stays start first before (offered list) key secret theirs shown ticket (g.Phase AwaitsRead) refl (ap (λ r. end_by (outcome_by WrongKind r) (outcome_by WrongKind r) ++ []) opens) opens size here stood has
-accepting_then start first before key secret theirs shown ticket opens size here stood has (picked place) = accepting_stays start first before (picked place) key secret theirs shown ticket (g.Phase AwaitsRead) refl (ap (λ r. end_by (outcome_by WrongKind r) (outcome_by WrongKind r) ++ []) opens) opens size here stood has
+accepting_then start first before key secret theirs shown ticket eight opens size here stood has (found other more) = accepting_stays start first before (found other more) key secret theirs shown ticket (g.Phase AwaitsRead) refl (ap (λ r. end_by (outcome_by WrongKind r) (outcome_by WrongKind r) ++ []) opens) eight opens size here stood has
+accepting_then start first before key secret theirs shown ticket eight opens size here stood has (heard b) = accepting_stays start first before (heard b) key secret theirs shown ticket (g.Phase AwaitsRead) refl (ap (λ r. end_by (outcome_by WrongKind r) (outcome_by WrongKind r) ++ []) opens) eight opens size here stood has
+accepting_then start first before key secret theirs shown ticket eight opens size here stood has unheard = accepting_stays start first before unheard key secret theirs shown ticket (g.Phase AwaitsRead) refl (ap (λ r. end_by (outcome_by WrongKind r) (outcome_by WrongKind r) ++ []) opens) eight opens size here stood has
+accepting_then start first before key secret theirs shown ticket eight opens size here stood has roomless = accepting_stays start first before roomless key secret theirs shown ticket (g.Phase AwaitsRead) refl (ap (λ r. end_by (outcome_by WrongKind r) (outcome_by WrongKind r) ++ []) opens) eight opens size here stood has
+accepting_then start first before key secret theirs shown ticket eight opens size here stood has undone = accepting_stays start first before undone key secret theirs shown ticket (g.Phase AwaitsRead) refl (ap (λ r. end_by (outcome_by WrongKind r) (outcome_by WrongKind r) ++ []) opens) eight opens size here stood has
+accepting_then start first before key secret theirs shown ticket eight opens size here stood has (offered list) = accepting_stays start first before (offered list) key secret theirs shown ticket (g.Phase AwaitsRead) refl (ap (λ r. end_by (outcome_by WrongKind r) (outcome_by WrongKind r) ++ []) opens) eight opens size here stood has
+accepting_then start first before key secret theirs shown ticket eight opens size here stood has (picked place) = accepting_stays start first before (picked place) key secret theirs shown ticket (g.Phase AwaitsRead) refl (ap (λ r. end_by (outcome_by WrongKind r) (outcome_by WrongKind r) ++ []) opens) eight opens size here stood has
 
 -- ---- it gave its proof
 
-done_with : (start : Start) (first : Act) (before : List Call) (call : Call) (key : SkKey) (secret : Option (List ℕ)) (theirs : List ℕ) (shown : List ℕ) (ticket : Ticket) (left : List Act) → sk.verdict start (at (ServerDone key theirs shown)) call ≡ stays (g.Done true) → left_at (sk.need_at start) sk.outcome_at (at (ServerDone key theirs shown)) (stays (g.Done true)) (waiting (speaks P9sk1 start) first before) call ≡ left → ticket_under key (ticket_part shown) ≡ Ok ticket → length shown ≡ 85 → sk.course start before ≡ at (ServerDone key theirs shown) → Told (gave (proof theirs ticket) ∷ accepted_acts start first key theirs shown ticket) (left ++ acts start first before) → met start before ≡ found key secret ∷ [] → Stands start first (call ∷ before)
-done_with start first before call key secret theirs shown ticket left moves leaves opens size here stood has = done key secret theirs shown ticket opens size
+done_with : (start : Start) (first : Act) (before : List Call) (call : Call) (key : SkKey) (secret : Option (List ℕ)) (theirs : List ℕ) (shown : List ℕ) (ticket : Ticket) (left : List Act) → sk.verdict start (at (ServerDone key theirs shown)) call ≡ stays (g.Done true) → left_at (sk.need_at start) sk.outcome_at (at (ServerDone key theirs shown)) (stays (g.Done true)) (waiting (speaks P9sk1 start) first before) call ≡ left → length theirs ≡ 8 → ticket_under key (ticket_part shown) ≡ Ok ticket → length shown ≡ 85 → sk.course start before ≡ at (ServerDone key theirs shown) → Told (gave (proof theirs ticket) ∷ accepted_acts start first key theirs shown ticket) (left ++ acts start first before) → met start before ≡ found key secret ∷ [] → Stands start first (call ∷ before)
+done_with start first before call key secret theirs shown ticket left moves leaves eight opens size here stood has = done key secret theirs shown ticket eight opens size
     (sk_goes start before call (at (ServerDone key theirs shown)) (stays (g.Done true)) here moves)
     (subst (Told (gave (proof theirs ticket) ∷ accepted_acts start first key theirs shown ticket)) (sym (acts_more start first before call (at (ServerDone key theirs shown)) (stays (g.Done true)) left (acts start first before) here moves leaves refl)) stood)
     (met_more start before call (at (ServerDone key theirs shown)) false (found key secret ∷ []) here refl has)
 
-done_then : (start : Start) (first : Act) (before : List Call) (key : SkKey) (secret : Option (List ℕ)) (theirs : List ℕ) (shown : List ℕ) (ticket : Ticket) → ticket_under key (ticket_part shown) ≡ Ok ticket → length shown ≡ 85 → sk.course start before ≡ at (ServerDone key theirs shown) → Told (gave (proof theirs ticket) ∷ accepted_acts start first key theirs shown ticket) (acts start first before) → met start before ≡ found key secret ∷ [] → (call : Call) → Stands start first (call ∷ before)
-done_then start first before key secret theirs shown ticket opens size here stood has (give b) = done_with start first before (give b) key secret theirs shown ticket (took b ∷ []) refl (ap (λ r. end_by (outcome_by WrongKind r) (outcome_by WrongKind r) ++ took b ∷ []) opens) opens size here (told b stood) has
-done_then start first before key secret theirs shown ticket opens size here stood has get = done_with start first before get key secret theirs shown ticket ([]) refl (ap (λ r. end_by (outcome_by WrongKind r) (outcome_by WrongKind r) ++ []) opens) opens size here stood has
-done_then start first before key secret theirs shown ticket opens size here stood has (found other more) = done_with start first before (found other more) key secret theirs shown ticket ([]) refl (ap (λ r. end_by (outcome_by WrongKind r) (outcome_by WrongKind r) ++ []) opens) opens size here stood has
-done_then start first before key secret theirs shown ticket opens size here stood has (heard b) = done_with start first before (heard b) key secret theirs shown ticket ([]) refl (ap (λ r. end_by (outcome_by WrongKind r) (outcome_by WrongKind r) ++ []) opens) opens size here stood has
-done_then start first before key secret theirs shown ticket opens size here stood has unheard = done_with start first before unheard key secret theirs shown ticket ([]) refl (ap (λ r. end_by (outcome_by WrongKind r) (outcome_by WrongKind r) ++ []) opens) opens size here stood has
-done_then start first before key secret theirs shown ticket opens size here stood has roomless = done_with start first before roomless key secret theirs shown ticket ([]) refl (ap (λ r. end_by (outcome_by WrongKind r) (outcome_by WrongKind r) ++ []) opens) opens size here stood has
-done_then start first before key secret theirs shown ticket opens size here stood has undone = done_with start first before undone key secret theirs shown ticket ([]) refl (ap (λ r. end_by (outcome_by WrongKind r) (outcome_by WrongKind r) ++ []) opens) opens size here stood has
-done_then start first before key secret theirs shown ticket opens size here stood has (offered list) = done_with start first before (offered list) key secret theirs shown ticket ([]) refl (ap (λ r. end_by (outcome_by WrongKind r) (outcome_by WrongKind r) ++ []) opens) opens size here stood has
-done_then start first before key secret theirs shown ticket opens size here stood has (picked place) = done_with start first before (picked place) key secret theirs shown ticket ([]) refl (ap (λ r. end_by (outcome_by WrongKind r) (outcome_by WrongKind r) ++ []) opens) opens size here stood has
+done_then : (start : Start) (first : Act) (before : List Call) (key : SkKey) (secret : Option (List ℕ)) (theirs : List ℕ) (shown : List ℕ) (ticket : Ticket) → length theirs ≡ 8 → ticket_under key (ticket_part shown) ≡ Ok ticket → length shown ≡ 85 → sk.course start before ≡ at (ServerDone key theirs shown) → Told (gave (proof theirs ticket) ∷ accepted_acts start first key theirs shown ticket) (acts start first before) → met start before ≡ found key secret ∷ [] → (call : Call) → Stands start first (call ∷ before)
+done_then start first before key secret theirs shown ticket eight opens size here stood has (give b) = done_with start first before (give b) key secret theirs shown ticket (took b ∷ []) refl (ap (λ r. end_by (outcome_by WrongKind r) (outcome_by WrongKind r) ++ took b ∷ []) opens) eight opens size here (told b stood) has
+done_then start first before key secret theirs shown ticket eight opens size here stood has get = done_with start first before get key secret theirs shown ticket ([]) refl (ap (λ r. end_by (outcome_by WrongKind r) (outcome_by WrongKind r) ++ []) opens) eight opens size here stood has
+done_then start first before key secret theirs shown ticket eight opens size here stood has (found other more) = done_with start first before (found other more) key secret theirs shown ticket ([]) refl (ap (λ r. end_by (outcome_by WrongKind r) (outcome_by WrongKind r) ++ []) opens) eight opens size here stood has
+done_then start first before key secret theirs shown ticket eight opens size here stood has (heard b) = done_with start first before (heard b) key secret theirs shown ticket ([]) refl (ap (λ r. end_by (outcome_by WrongKind r) (outcome_by WrongKind r) ++ []) opens) eight opens size here stood has
+done_then start first before key secret theirs shown ticket eight opens size here stood has unheard = done_with start first before unheard key secret theirs shown ticket ([]) refl (ap (λ r. end_by (outcome_by WrongKind r) (outcome_by WrongKind r) ++ []) opens) eight opens size here stood has
+done_then start first before key secret theirs shown ticket eight opens size here stood has roomless = done_with start first before roomless key secret theirs shown ticket ([]) refl (ap (λ r. end_by (outcome_by WrongKind r) (outcome_by WrongKind r) ++ []) opens) eight opens size here stood has
+done_then start first before key secret theirs shown ticket eight opens size here stood has undone = done_with start first before undone key secret theirs shown ticket ([]) refl (ap (λ r. end_by (outcome_by WrongKind r) (outcome_by WrongKind r) ++ []) opens) eight opens size here stood has
+done_then start first before key secret theirs shown ticket eight opens size here stood has (offered list) = done_with start first before (offered list) key secret theirs shown ticket ([]) refl (ap (λ r. end_by (outcome_by WrongKind r) (outcome_by WrongKind r) ++ []) opens) eight opens size here stood has
+done_then start first before key secret theirs shown ticket eight opens size here stood has (picked place) = done_with start first before (picked place) key secret theirs shown ticket ([]) refl (ap (λ r. end_by (outcome_by WrongKind r) (outcome_by WrongKind r) ++ []) opens) eight opens size here stood has
 
 -- ---- every talk
 
 then_stands : (start : Start) (first : Act) (before : List Call) (call : Call) → Stands start first before → Stands start first (call ∷ before)
 then_stands start first before call (seeking here stood waited none) = seeking_then start first before here stood waited none call
 then_stands start first before call (keyed key secret here stood has) = keyed_then start first before key secret here stood has call
-then_stands start first before call (greeted key secret theirs here stood has) = greeted_then start first before key secret theirs here stood has call
-then_stands start first before call (asking key secret theirs here stood has) = asking_then start first before key secret theirs here stood has call
+then_stands start first before call (greeted key secret theirs eight here stood has) = greeted_then start first before key secret theirs eight here stood has call
+then_stands start first before call (asking key secret theirs eight here stood has) = asking_then start first before key secret theirs eight here stood has call
 then_stands start first before call (broken key secret theirs b cause here stood has) = broken_then start first before key secret theirs b cause here stood has call
-then_stands start first before call (accepting key secret theirs shown ticket opens size here stood has) = accepting_then start first before key secret theirs shown ticket opens size here stood has call
-then_stands start first before call (done key secret theirs shown ticket opens size here stood has) = done_then start first before key secret theirs shown ticket opens size here stood has call
+then_stands start first before call (accepting key secret theirs shown ticket eight opens size here stood has) = accepting_then start first before key secret theirs shown ticket eight opens size here stood has call
+then_stands start first before call (done key secret theirs shown ticket eight opens size here stood has) = done_then start first before key secret theirs shown ticket eight opens size here stood has call
 
 pub stands : (start : Start) (first : Act) → role_of start.template ≡ Server → (talk : List Call) → Stands start first talk
 stands start first role [] = seeking (ap (λ role. at (sk.first_stage role)) role) (ap (λ role. if is_sought_at start (at (sk.first_stage role)) then [] else first ∷ []) role) refl refl
