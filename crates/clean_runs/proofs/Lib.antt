@@ -11,3 +11,4 @@ pub mod Spelled
 pub mod SkServers
 pub mod Bytes
 pub mod SkServerLaw
+pub mod SkClients

@@ -13,6 +13,7 @@ use Rattle.clean_runs.proofs.Bridge.{Case, SessionsGo, bridged, same_self}
 use Rattle.clean_runs.proofs.Follows.{IsLawful}
 use Rattle.clean_runs.proofs.MailClientLaw.{mail_client_is_lawful}
 use Rattle.clean_runs.proofs.Steps.{Deals}
+use Rattle.clean_runs.proofs.SkClients as skc
 use Rattle.clean_runs.proofs.SkServerLaw.{server_is_lawful}
 
 shown : (spoken : Spoken) → IsShownRole spoken.start → IsLawful spoken

@@ -28,13 +28,13 @@ use Rattle.wire_histories.specs.Histories.{Act, gave, took, accepted, failed}
 use Rattle.wire_histories.specs.Conversations.{acts_from, end_by, is_taken, meets, met_by, speaks, waiting}
 use Rattle.clean_runs.proofs.LeftLemmas.{at, left_at, sk_goes, sk_left}
 
-abbrev acts : Start → Act → List Call → List Act
+abbrev pub acts : Start → Act → List Call → List Act
 acts start first talk = acts_from (speaks P9sk1 start) first talk
 
-abbrev met : Start → List Call → List Call
+abbrev pub met : Start → List Call → List Call
 met start talk = met_by (speaks P9sk1 start) talk
 
-abbrev fallen : Stage → Cause → Progress Stage
+abbrev pub fallen : Stage → Cause → Progress Stage
 fallen stage cause = record { stage = stage; broken = Some cause }
 
 -- behind its last move it takes what it is told to be done with
@@ -64,25 +64,25 @@ pub data Stands (start : Start) (first : Act) (talk : List Call) : Type 0 where
   done : (key : SkKey) (secret : Option (List ℕ)) (theirs shown : List ℕ) (ticket : Ticket) → length theirs ≡ 8 → ticket_under key (ticket_part shown) ≡ Ok ticket → length shown ≡ 85 → sk.course start talk ≡ at (ServerDone key theirs shown) → Told (gave (proof theirs ticket) ∷ accepted_acts start first key theirs shown ticket) (acts start first talk) → met start talk ≡ found key secret ∷ [] → Stands start first talk
 
 -- what stands behind one call more
-acts_more : (start : Start) (first : Act) (before : List Call) (call : Call) (p : Progress Stage) (v : Verdict Stage) (left more : List Act) → sk.course start before ≡ p → sk.verdict start p call ≡ v → left_at (sk.need_at start) sk.outcome_at p v (waiting (speaks P9sk1 start) first before) call ≡ left → acts start first before ≡ more → acts start first (call ∷ before) ≡ left ++ more
+pub acts_more : (start : Start) (first : Act) (before : List Call) (call : Call) (p : Progress Stage) (v : Verdict Stage) (left more : List Act) → sk.course start before ≡ p → sk.verdict start p call ≡ v → left_at (sk.need_at start) sk.outcome_at p v (waiting (speaks P9sk1 start) first before) call ≡ left → acts start first before ≡ more → acts start first (call ∷ before) ≡ left ++ more
 acts_more start first before call p v left more here moves leaves stood = ap (λ xs. xs ++ acts start first before) (sk_left start first before call p v here moves ∙ leaves) ∙ ap (λ xs. left ++ xs) stood
 
-met_more : (start : Start) (before : List Call) (call : Call) (p : Progress Stage) (meets_it : Bool) (more : List Call) → sk.course start before ≡ p → meets (sk.need_at start p) call ≡ meets_it → met start before ≡ more → met start (call ∷ before) ≡ (if meets_it then call ∷ more else more)
+pub met_more : (start : Start) (before : List Call) (call : Call) (p : Progress Stage) (meets_it : Bool) (more : List Call) → sk.course start before ≡ p → meets (sk.need_at start p) call ≡ meets_it → met start before ≡ more → met start (call ∷ before) ≡ (if meets_it then call ∷ more else more)
 met_more start before call p meets_it more here is stood =
     ap (λ p. if meets (sk.need_at start p) call then call ∷ met start before else met start before) here
     ∙ ap (λ (b : Bool). if b then call ∷ met start before else met start before) is
     ∙ ap (λ xs. if meets_it then call ∷ xs else xs) stood
 
-abbrev is_sought_at : Start → Progress Stage → Bool
+abbrev pub is_sought_at : Start → Progress Stage → Bool
 is_sought_at start p = is_sought (sk.need_at start p)
 
 -- a message of its size, or not
-data Sized (size : ℕ) (b : List ℕ) (whole : Verdict Stage) : Type 0 where
+pub data Sized (size : ℕ) (b : List ℕ) (whole : Verdict Stage) : Type 0 where
   few : sized size b whole ≡ stays (g.TooSmall size) → Sized size b whole
   many : sized size b whole ≡ stays g.TooLong → Sized size b whole
   well : length b ≡ size → sized size b whole ≡ whole → Sized size b whole
 
-sized_by : (size : ℕ) (b : List ℕ) (whole : Verdict Stage) (short long : Bool) → nat_lt (length b) size ≡ short → nat_lt size (length b) ≡ long → Sized size b whole
+pub sized_by : (size : ℕ) (b : List ℕ) (whole : Verdict Stage) (short long : Bool) → nat_lt (length b) size ≡ short → nat_lt size (length b) ≡ long → Sized size b whole
 sized_by size b whole true long is_short is_long = few (ap (λ (short : Bool). if short then stays (g.TooSmall size) else if nat_lt size (length b) then stays g.TooLong else whole) is_short)
 sized_by size b whole false true is_short is_long = many (ap (λ (short : Bool). if short then stays (g.TooSmall size) else if nat_lt size (length b) then stays g.TooLong else whole) is_short ∙ ap (λ (long : Bool). if long then stays g.TooLong else whole) is_long)
 sized_by size b whole false false is_short is_long =
@@ -90,7 +90,7 @@ sized_by size b whole false false is_short is_long =
     let most = ltb-false size (length b) is_long in
     well (omega (arith, least, most)) (ap (λ (short : Bool). if short then stays (g.TooSmall size) else if nat_lt size (length b) then stays g.TooLong else whole) is_short ∙ ap (λ (long : Bool). if long then stays g.TooLong else whole) is_long)
 
-refused_is_taken : (cause : Cause) → is_taken (refusal cause) ≡ true
+pub refused_is_taken : (cause : Cause) → is_taken (refusal cause) ≡ true
 refused_is_taken WrongKind = refl
 refused_is_taken WrongChallenge = refl
 refused_is_taken WrongUser = refl
