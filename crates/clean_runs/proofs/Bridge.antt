@@ -135,11 +135,11 @@ clean_at : (c : Case) (later past : History) (step : Step) (conv : List ℕ) (ac
 clean_at c later past step conv act number d place is = record {
   spells = λ b taken_is. (labelled_if c.atoms (setting c) c.l past (taken step) b (d.taken ∙ taken_is) (c.clean.labels later past step place)).spells;
   of_bytes = λ b taken_is. (labelled_if c.atoms (setting c) c.l past (taken step) b (d.taken ∙ taken_is) (c.clean.labels later past step place)).of_bytes;
-  formed = λ on. formed_at (d.forms (setting c) c.l past on (c.clean.forms later past step place));
+  formed = λ on. formed_at (d.forms c.atoms (setting c) c.l past on (c.clean.forms later past step place));
 }
   where
-    formed_at : GoesOn (setting c) c.l conv past → IsFormed (own_for c number) (role_for c number) (moves_by (own_for c number) (role_for c number) (labelled c.l conv past))
-    formed_at formed = subst (λ n. IsFormed (own_for c n) (role_for c n) (moves_by (own_for c n) (role_for c n) (labelled c.l conv past))) (number_is past conv number is) formed
+    formed_at : GoesOn c.atoms (setting c) c.l conv past → IsFormed c.atoms (own_for c number) (role_for c number) (moves_by (own_for c number) (role_for c number) (labelled c.l conv past))
+    formed_at formed = subst (λ n. IsFormed c.atoms (own_for c n) (role_for c n) (moves_by (own_for c n) (role_for c n) (labelled c.l conv past))) (number_is past conv number is) formed
 
 nothing_taken : (c : Case) (number : ℕ) (past : History) (protocol : Protocol) (role : Part) (word : List ℕ) (before : List Labelled) → CleanAct c.atoms (own_for c number) (role_for c number) before (label_of c.l past (started protocol role word))
 nothing_taken c number past protocol role word before = record { spells = λ b is. absurd (cc); of_bytes = λ b is. absurd (cc); formed = λ on. absurd (cc) }

@@ -66,7 +66,7 @@ own_by number holder = record { word = nonce number; key = long_key holder; pass
 pub record CleanAct (atoms : Atoms) (own : Own) (role : Role) (before : List Labelled) (a : Labelled) : Type 0 where
   pub spells : (b : List ℕ) → taken_by a.act ≡ Some b → spelling atoms a.label ≡ Ok b
   pub of_bytes : (b : List ℕ) → taken_by a.act ≡ Some b → HoldsBytes a.label
-  pub formed : goes_on a.act ≡ true → IsFormed own role (moves_by own role before)
+  pub formed : goes_on a.act ≡ true → IsFormed atoms own role (moves_by own role before)
 
 abbrev pub CleanActs : Atoms → Own → Role → List Labelled → Type 0
 CleanActs atoms own role [] = Unit {0}

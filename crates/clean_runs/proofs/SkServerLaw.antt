@@ -214,7 +214,7 @@ at_accepted atoms start own key theirs b k before is clean =
       spells = q.spells;
       shown = q.shown;
       holds = q.holds;
-      form = subst (IsFormed own server) q.moves (p.clean.formed (ap goes_on p.act_is));
+      form = subst (IsFormed atoms own server) q.moves (p.clean.formed (ap goes_on p.act_is));
     }
 
 -- the proof that is computed
@@ -363,7 +363,7 @@ followed_in start met act acts (it_accepts key theirs b cuid suid) atoms number 
     let own = own_by number holder in
     let r = server_request start key in
     let q = at_shown atoms start own key theirs b before acts_are clean.1 in
-    let form : IsShown own q.m = subst (IsFormed own server) q.moves (clean.0.formed (ap goes_on act_is)) in
+    let form : IsShown own q.m = subst (IsFormed atoms own server) q.moves (clean.0.formed (ap goes_on act_is)) in
     as_follows atoms own server before a (takes q.m ∷ gives (asked_label own r) ∷ takes q.t ∷ []) false (accepted cuid suid) (accepts (bytes (piece_of (shown_in q.m) 3)) ∷ []) q.moves q.choosing act_is refl (accepts_it cuid suid (bytes (piece_of (shown_in q.m) 3)) (accepts_row own r q.t q.m form))
 followed_in start met act acts (it_proves key secret theirs b t eight has opens) atoms number holder read before a act_is acts_are clean no_start =
     let own = own_by number holder in

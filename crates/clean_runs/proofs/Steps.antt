@@ -4,6 +4,7 @@ use Rattle.wire_model.specs.declared.step.Protocol.{Protocol}
 use Rattle.wire_model.specs.declared.step.Role.{Role as Part}
 use Rattle.wire_model.specs.declared.step.Step.{Step}
 use Rattle.wire_model.specs.declared.step.Step.TheVariants.{Start, Out, In, Ask, Heard, Unheard, Accept, Fail, Reply, Refused, AsGot, AsGave, AsEnd}
+use Rattle.term_trees.specs.Spellings.{Atoms}
 use Rattle.symbolic_runs.specs.Runs.{Setting as Symbolic}
 use Rattle.wire_histories.specs.Histories.{History, Act, started, gave, took, asked, answered, unanswered, accepted, failed, Deal, requested, replied, ended, act_in, deal_in, if_named}
 use Rattle.clean_runs.specs.Labels.{Labelling, starts_in, requests_in, started_as, opened_as, taken, given}
@@ -74,7 +75,7 @@ pub record Does (conv : List ℕ) (act : Act) (step : Step) : Type 0 where
   pub in_order : (past : History) → HasStarted conv past → InOrder past step
   pub taken : taken step ≡ taken_by act
   pub given : given step ≡ given_by act
-  pub forms : (s : Symbolic) (l : Labelling) (past : History) → goes_on act ≡ true → FormsStep s l past step → GoesOn s l conv past
+  pub forms : (atoms : Atoms) (s : Symbolic) (l : Labelling) (past : History) → goes_on act ≡ true → FormsStep atoms s l past step → GoesOn atoms s l conv past
 
 pub record Deals (session : List ℕ) (deal : Deal) (step : Step) : Type 0 where
   pub none : StartsNone step
@@ -98,13 +99,13 @@ pub data Kind : Step → Type 0 where
 
 pub kind : (step : Step) → Kind step
 kind (Start conv protocol role word) = begins conv protocol role word
-kind (Out number conv b) = does conv (gave b) (record { none = record { starts = λ past. refl; started = λ name past. refl; roles = λ past n. refl; holders = λ l past n. refl }; acts = λ name. refl; no_start = refl; events = λ s l past. refl; ordered = λ past o. o; in_order = λ past o. o; taken = refl; given = refl; forms = λ s l past on f. f })
-kind (In conv b) = does conv (took b) (record { none = record { starts = λ past. refl; started = λ name past. refl; roles = λ past n. refl; holders = λ l past n. refl }; acts = λ name. refl; no_start = refl; events = λ s l past. refl; ordered = λ past o. o; in_order = λ past o. o; taken = refl; given = refl; forms = λ s l past on f. f })
-kind (Ask number conv b) = does conv (asked b) (record { none = record { starts = λ past. refl; started = λ name past. refl; roles = λ past n. refl; holders = λ l past n. refl }; acts = λ name. refl; no_start = refl; events = λ s l past. refl; ordered = λ past o. o; in_order = λ past o. o; taken = refl; given = refl; forms = λ s l past on f. f })
-kind (Heard conv b) = does conv (answered b) (record { none = record { starts = λ past. refl; started = λ name past. refl; roles = λ past n. refl; holders = λ l past n. refl }; acts = λ name. refl; no_start = refl; events = λ s l past. refl; ordered = λ past o. o; in_order = λ past o. o; taken = refl; given = refl; forms = λ s l past on f. f })
-kind (Unheard conv) = does conv unanswered (record { none = record { starts = λ past. refl; started = λ name past. refl; roles = λ past n. refl; holders = λ l past n. refl }; acts = λ name. refl; no_start = refl; events = λ s l past. refl; ordered = λ past o. o; in_order = λ past o. o; taken = refl; given = refl; forms = λ s l past on f. absurd (cc) })
-kind (Accept conv cuid suid) = does conv (accepted cuid suid) (record { none = record { starts = λ past. refl; started = λ name past. refl; roles = λ past n. refl; holders = λ l past n. refl }; acts = λ name. refl; no_start = refl; events = λ s l past. refl; ordered = λ past o. o; in_order = λ past o. o; taken = refl; given = refl; forms = λ s l past on f. f })
-kind (Fail conv cause) = does conv (failed cause) (record { none = record { starts = λ past. refl; started = λ name past. refl; roles = λ past n. refl; holders = λ l past n. refl }; acts = λ name. refl; no_start = refl; events = λ s l past. refl; ordered = λ past o. o; in_order = λ past o. o; taken = refl; given = refl; forms = λ s l past on f. absurd (cc) })
+kind (Out number conv b) = does conv (gave b) (record { none = record { starts = λ past. refl; started = λ name past. refl; roles = λ past n. refl; holders = λ l past n. refl }; acts = λ name. refl; no_start = refl; events = λ s l past. refl; ordered = λ past o. o; in_order = λ past o. o; taken = refl; given = refl; forms = λ atoms s l past on f. f })
+kind (In conv b) = does conv (took b) (record { none = record { starts = λ past. refl; started = λ name past. refl; roles = λ past n. refl; holders = λ l past n. refl }; acts = λ name. refl; no_start = refl; events = λ s l past. refl; ordered = λ past o. o; in_order = λ past o. o; taken = refl; given = refl; forms = λ atoms s l past on f. f })
+kind (Ask number conv b) = does conv (asked b) (record { none = record { starts = λ past. refl; started = λ name past. refl; roles = λ past n. refl; holders = λ l past n. refl }; acts = λ name. refl; no_start = refl; events = λ s l past. refl; ordered = λ past o. o; in_order = λ past o. o; taken = refl; given = refl; forms = λ atoms s l past on f. f })
+kind (Heard conv b) = does conv (answered b) (record { none = record { starts = λ past. refl; started = λ name past. refl; roles = λ past n. refl; holders = λ l past n. refl }; acts = λ name. refl; no_start = refl; events = λ s l past. refl; ordered = λ past o. o; in_order = λ past o. o; taken = refl; given = refl; forms = λ atoms s l past on f. f })
+kind (Unheard conv) = does conv unanswered (record { none = record { starts = λ past. refl; started = λ name past. refl; roles = λ past n. refl; holders = λ l past n. refl }; acts = λ name. refl; no_start = refl; events = λ s l past. refl; ordered = λ past o. o; in_order = λ past o. o; taken = refl; given = refl; forms = λ atoms s l past on f. absurd (cc) })
+kind (Accept conv cuid suid) = does conv (accepted cuid suid) (record { none = record { starts = λ past. refl; started = λ name past. refl; roles = λ past n. refl; holders = λ l past n. refl }; acts = λ name. refl; no_start = refl; events = λ s l past. refl; ordered = λ past o. o; in_order = λ past o. o; taken = refl; given = refl; forms = λ atoms s l past on f. f })
+kind (Fail conv cause) = does conv (failed cause) (record { none = record { starts = λ past. refl; started = λ name past. refl; roles = λ past n. refl; holders = λ l past n. refl }; acts = λ name. refl; no_start = refl; events = λ s l past. refl; ordered = λ past o. o; in_order = λ past o. o; taken = refl; given = refl; forms = λ atoms s l past on f. absurd (cc) })
 kind (Reply conv answer) = nothing (record { none = record { starts = λ past. refl; started = λ name past. refl; roles = λ past n. refl; holders = λ l past n. refl }; acts = λ name. refl; events = λ s l past. refl; in_order = λ past. tt; given = refl })
 kind (Refused node answer) = nothing (record { none = record { starts = λ past. refl; started = λ name past. refl; roles = λ past n. refl; holders = λ l past n. refl }; acts = λ name. refl; events = λ s l past. refl; in_order = λ past. tt; given = refl })
 kind (AsGot session b words) = deals session (requested b words) (record { none = record { starts = λ past. refl; started = λ name past. refl; roles = λ past n. refl; holders = λ l past n. refl }; acts = λ name. refl; deals = λ name. refl; events = λ s l past. refl; in_order = λ past. tt })

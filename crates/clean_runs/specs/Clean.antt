@@ -137,8 +137,8 @@ LabelsStep atoms s l past step = IsLabelledIf atoms s l past (taken step)
 -- ---- (iii) what passed its tests
 
 -- a conversation goes on: what came last to it has its form
-abbrev pub GoesOn : Symbolic → Labelling → List ℕ → History → Type 0
-GoesOn s l conv past = IsFormed (own_of s (number_of conv past)) (s.role (number_of conv past)) (moves_by (own_of s (number_of conv past)) (s.role (number_of conv past)) (labelled l conv past))
+abbrev pub GoesOn : Atoms → Symbolic → Labelling → List ℕ → History → Type 0
+GoesOn atoms s l conv past = IsFormed atoms (own_of s (number_of conv past)) (s.role (number_of conv past)) (moves_by (own_of s (number_of conv past)) (s.role (number_of conv past)) (labelled l conv past))
 
 -- an answer is given: the request has its form
 abbrev pub EachIsAnswered : Symbolic → List Deed → List Deed → Type 0
@@ -148,14 +148,14 @@ EachIsAnswered s before (deed ∷ deeds) = IsAnswered s before deed × EachIsAns
 abbrev pub Answers : Symbolic → Labelling → List ℕ → History → List ℕ → Type 0
 Answers s l session past b = EachIsAnswered s (deeds_by (dealt l session past)) (deeds_for_deal (deeds_by (dealt l session past)) (dealt l session past) (replied b) (requests_in past) (l.label (length past)))
 
-abbrev pub FormsStep : Symbolic → Labelling → History → Step → Type 0
-FormsStep s l past (Out number conv b) = GoesOn s l conv past
-FormsStep s l past (In conv b) = GoesOn s l conv past
-FormsStep s l past (Ask number conv b) = GoesOn s l conv past
-FormsStep s l past (Heard conv b) = GoesOn s l conv past
-FormsStep s l past (Accept conv cuid suid) = GoesOn s l conv past
-FormsStep s l past (AsGave number session b) = Answers s l session past b
-FormsStep s l past step = Unit {0}
+abbrev pub FormsStep : Atoms → Symbolic → Labelling → History → Step → Type 0
+FormsStep atoms s l past (Out number conv b) = GoesOn atoms s l conv past
+FormsStep atoms s l past (In conv b) = GoesOn atoms s l conv past
+FormsStep atoms s l past (Ask number conv b) = GoesOn atoms s l conv past
+FormsStep atoms s l past (Heard conv b) = GoesOn atoms s l conv past
+FormsStep atoms s l past (Accept conv cuid suid) = GoesOn atoms s l conv past
+FormsStep atoms s l past (AsGave number session b) = Answers s l session past b
+FormsStep atoms s l past step = Unit {0}
 
 -- ---- all of it
 
@@ -170,4 +170,4 @@ pub record IsClean (history : History) (z : Setting) (atoms : Atoms) (l : Labell
   pub keys_apart : AreApart atoms is_key
   pub passwords_apart : AreApart atoms is_password
   pub labels : AtEachPlace history (LabelsStep atoms (setting_of z l history) l)
-  pub forms : AtEachPlace history (FormsStep (setting_of z l history) l)
+  pub forms : AtEachPlace history (FormsStep atoms (setting_of z l history) l)
