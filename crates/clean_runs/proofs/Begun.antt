@@ -1,6 +1,6 @@
 -- Where a conversation started: acts that begin with a start have a place in the history at which it stands, whose number is
 -- the conversation's, and whose role and holder are those of the run.
-use Rattle.std.proofs.Common.{◌≡◌, ℕ, ◌+◌, ◌<◌, ◌≤◌, List, [], ◌∷◌, ◌++◌, append_assoc, length, Option, Some, None, Bool, true, false, eqb, if◌then◌else◌, inl, inr, refl, sym, ap, subst, ◌∙◌, arith}
+use Rattle.std.proofs.Common.{◌≡◌, ℕ, ◌<◌, ◌≤◌, List, [], ◌∷◌, ◌++◌, Some, None, Bool, true, false, if◌then◌else◌, inl, inr, refl, sym, ap, subst, ◌∙◌, arith}
 use Rattle.std.proofs.lemmas.Bool.{cases_Bool, eq-eqb}
 use Rattle.std.specs.Str.{bytes_eq}
 use Rattle.wire_model.specs.declared.step.Protocol.{Protocol}
@@ -11,7 +11,7 @@ use Rattle.wire_histories.specs.Histories.{History, Act, act_in, acts_of, if_nam
 use Rattle.clean_runs.specs.Labels.{Labelling, started_as, starts_in}
 use Rattle.clean_runs.specs.Runs.{holder_at, role_at, role_by}
 use Rattle.clean_runs.proofs.Numbers.{differ, same_name}
-use Rattle.clean_runs.proofs.Steps.{begins, deals, does, nothing, Deals, Does, HasStarted, InOrder, Kind, SaysNothing, is_start, kind}
+use Rattle.clean_runs.proofs.Steps.{begins, deals, does, nothing, Kind, is_start, kind}
 
 -- acts begin with this one, and no later one is a start
 abbrev pub BeginsWith : Act → List Act → Type 0

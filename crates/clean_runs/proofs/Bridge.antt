@@ -1,12 +1,12 @@
 -- A clean legal history is a symbolic run, step by step, where each conversation is lawful and each deal of a session goes on
 -- with a run.
-use Rattle.std.proofs.Common.{◌≡◌, ℕ, ◌+◌, ◌<◌, ◌≤◌, ◌^◌, List, [], ◌∷◌, ◌++◌, append_assoc, map, length, length-append, Option, Some, None, Bool, true, false, Ok, if◌then◌else◌, inl, inr, refl, sym, ap, subst, ◌∙◌, arith}
+use Rattle.std.proofs.Common.{◌≡◌, ℕ, ◌<◌, ◌≤◌, List, [], ◌∷◌, ◌++◌, append_assoc, map, length, length-append, Option, Some, None, Bool, true, if◌then◌else◌, inl, inr, refl, sym, ap, subst, ◌∙◌, arith}
 use Rattle.std.proofs.lemmas.Bool.{cases_Bool}
 use Rattle.std.proofs.lemmas.Slice.Eq.{bytes_eq-Decides}
 use Rattle.std.specs.Str.{bytes_eq}
 use Rattle.term_trees.specs.Trees.{Tree}
 use Rattle.term_trees.specs.Derivations.{Derives}
-use Rattle.term_trees.specs.Spellings.{Atoms, spelling}
+use Rattle.term_trees.specs.Spellings.{Atoms}
 use Rattle.wire_model.specs.declared.step.Protocol.{Protocol}
 use Rattle.wire_model.specs.declared.step.Role.{Role as Part}
 use Rattle.wire_model.specs.declared.step.Step.{Step}
@@ -15,19 +15,19 @@ use Rattle.conv_challenge.specs.Starts.{proto_of, side_of}
 use Rattle.conv_set.specs.Protocols.{protocol_of}
 use Rattle.roles.specs.Starts.{role_of}
 use Rattle.symbolic_runs.specs.Moves.{Role, Move, Own}
-use Rattle.symbolic_runs.specs.Runs.{Setting as Symbolic, Event, Run, IsRun, begins as begins_run, then_starts, known, moves_of, own_of, started as started_run, given as labels_given}
-use Rattle.wire_histories.specs.Histories.{History, Act, Deal, act_in, acts_of, if_named, started}
+use Rattle.symbolic_runs.specs.Runs.{Setting as Symbolic, Run, IsRun, begins as begins_run, then_starts, known, own_of, started as started_run, given as labels_given}
+use Rattle.wire_histories.specs.Histories.{History, Act, Deal, act_in, acts_of, started}
 use Rattle.wire_histories.specs.Conversations.{protocol_as, role_as, started_by}
 use Rattle.wire_histories.specs.Legal.{IsConversation, IsLegal, IsTalk, Setting, Spoken}
 use Rattle.clean_runs.specs.Labels.{Labelled, Labelling, given, labelled, started_as, starts_in, taken}
-use Rattle.clean_runs.specs.Runs.{acts_in, events_of, is_choosing, moves_by, moves_for, number_of, role_at, role_by, holder_at, run_from, run_of, setting_of}
+use Rattle.clean_runs.specs.Runs.{acts_in, events_of, is_choosing, moves_by, moves_for, role_at, role_by, holder_at, run_from, setting_of}
 use Rattle.clean_runs.specs.Forms.{IsFormed}
-use Rattle.clean_runs.specs.Clean.{AtEachPlace, GoesOn, IsClean, IsLabelled, IsLabelledIf, LabelsStep, ReadsHolder, ReadsMet, ReadsSpoken, ReadsStep, ReadsWord}
+use Rattle.clean_runs.specs.Clean.{GoesOn, IsClean, IsLabelled, IsLabelledIf, ReadsMet, ReadsSpoken, ReadsWord}
 use Rattle.clean_runs.specs.Statements.{IsBridged, IsSpelledIf, SpellsStep}
 use Rattle.clean_runs.proofs.Begun.{Began, BeginsWith, began, begun_behind, holder_placed, idle, role_placed, start_alone}
-use Rattle.clean_runs.proofs.Follows.{CleanAct, CleanActs, Follows, IsLawful, IsRead, accepts_it, asks_it, chooses, events_with, fails_so, gives_it, hears_it, hears_none, own_by, role_in, run_on, spelled_on, takes_it, takes_none}
+use Rattle.clean_runs.proofs.Follows.{CleanAct, CleanActs, Follows, IsLawful, IsRead, accepts_it, asks_it, chooses, events_with, fails_so, gives_it, hears_it, hears_none, role_in, run_on, spelled_on, takes_it, takes_none}
 use Rattle.clean_runs.proofs.Numbers.{IsOrderly, as_many, below, events_at, label_of, labelled_by, named, not_named, number_is, own_moves, same_name, unstarted}
-use Rattle.clean_runs.proofs.Steps.{begins, deals, does, nothing, Deals, Does, HasStarted, InOrder, Kind, SaysNothing, given_by, goes_on, is_start, kind, taken_by}
+use Rattle.clean_runs.proofs.Steps.{begins, deals, does, nothing, Deals, Does, InOrder, Kind, kind, taken_by}
 
 -- ---- fronts of a history
 

@@ -1,18 +1,16 @@
 -- What a tree of bytes spells are bytes, and the records of authsrv(6) in them: a request's and a ticket's fields stand where
 -- the codec reads them.
-use Rattle.std.proofs.Common.{◌≡◌, ℕ, ◌+◌, ◌≤◌, ◌<◌, ◌/◌, ◌%◌, List, [], ◌∷◌, ◌++◌, append_assoc, append-nil, length, length-append, take, drop, get_or, slice_index, All, Option, Some, None, Result, Ok, Err, Bool, true, false, inl, inr, refl, sym, ap, subst, ◌∙◌, arith}
+use Rattle.std.proofs.Common.{◌≡◌, ℕ, ◌+◌, ◌<◌, ◌/◌, ◌%◌, List, [], ◌∷◌, ◌++◌, append_assoc, append-nil, length, length-append, drop, slice_index, All, Option, Some, None, Ok, Err, true, inl, inr, refl, sym, ap, subst, ◌∙◌, arith}
 use Rattle.std.proofs.lemmas.Bool.{and_parts, cases_Bool, ltb-false, ltb-true}
-use Rattle.std.proofs.lemmas.List.{take_at, drop_at, get_or_past}
+use Rattle.std.proofs.lemmas.List.{get_or_past}
 use Rattle.std.proofs.lemmas.List.Elements.{All-append, All-cons, All-get_or, All-nil}
 use Rattle.std.specs.List.{list_all}
 use Rattle.std.specs.Prelude.{nat_lt}
-use Rattle.std.specs.Int.{w32, to_le_bytes}
-use Rattle.hex.specs.Hex.{encode_lower, encode_with, lower_digits}
+use Rattle.hex.specs.Hex.{encode_with, lower_digits}
 use Rattle.md5.specs.Md5.{md5}
 use Rattle.md5_answers.specs.Answer.{apop_digits, cram_digits}
 use Rattle.md5_answers.specs.Hmac.{hmac}
-use Rattle.seal_mode.specs.Sealing.{opened, sealed}
-use Rattle.seal_mode.proofs.SealLaws.{IsBytes-sealed, length-sealed, sealed_undone}
+use Rattle.seal_mode.proofs.SealLaws.{IsBytes-sealed}
 use Rattle.wire_base.specs.Names.{name_field}
 use Rattle.ticket_codec.specs.Authenticator.{authenticator_text}
 use Rattle.ticket_codec.specs.Fields.{field}
@@ -30,7 +28,7 @@ use Rattle.term_trees.specs.Spellings.{Atoms, Spelling, and_then, atom_bytes, by
 use Rattle.symbolic_runs.specs.Forms.{Fields, authenticator, request, ticket}
 use Rattle.clean_runs.specs.Clean.{AllHoldBytes, GivesBytes, HoldsBytes}
 use Rattle.clean_runs.specs.Runs.{names_in}
-use Rattle.clean_runs.proofs.Spelled.{Both, Sealed, all_parts, all_spell, seal_parts}
+use Rattle.clean_runs.proofs.Spelled.{all_parts, all_spell, seal_parts}
 
 abbrev pub AreBytes : List ℕ → Type 0
 AreBytes b = All (λ n. n < 256) b

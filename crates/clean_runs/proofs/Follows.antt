@@ -1,11 +1,11 @@
 -- What an act of a conversation is in the run: a move that the table of its role allows, whose tree is spelled by the bytes that
 -- it gives. What is proved of one role at a time has this form.
-use Rattle.std.proofs.Common.{◌≡◌, ℕ, ◌<◌, List, [], ◌∷◌, ◌++◌, map, Option, Some, None, Bool, true, false, All, Ok, refl, sym, ap, subst, ◌∙◌}
+use Rattle.std.proofs.Common.{◌≡◌, ℕ, ◌<◌, List, [], ◌∷◌, ◌++◌, map, Some, Bool, true, false, Ok, refl, sym, ap, subst, ◌∙◌}
 use Rattle.term_trees.specs.Trees.{Tree, plain, nonce, long_key, password}
 use Rattle.term_trees.specs.Derivations.{Derives}
 use Rattle.term_trees.specs.Spellings.{Atoms, spelling}
 use Rattle.symbolic_runs.specs.Moves.{Role, Move, takes, hears, gives, asks, accepts, fails, Own, Row, breaks}
-use Rattle.symbolic_runs.specs.Runs.{Setting as Symbolic, Event, Run, talks, moves, IsRun, then_talks, then_moves, known, moves_of, own_of, started as started_run, given as labels_given}
+use Rattle.symbolic_runs.specs.Runs.{Setting as Symbolic, Event, Run, moves, IsRun, then_talks, then_moves, known, moves_of, own_of, started as started_run, given as labels_given}
 use Rattle.wire_histories.specs.Histories.{Act, started, gave, took, asked, answered, unanswered, accepted, failed}
 use Rattle.wire_histories.specs.Conversations.{started_by}
 use Rattle.wire_histories.specs.Legal.{IsTalk, Spoken}
@@ -13,7 +13,7 @@ use Rattle.clean_runs.specs.Labels.{Labelled}
 use Rattle.clean_runs.specs.Runs.{acts_in, is_choosing, moves_by, moves_for, role_by, talk_events}
 use Rattle.clean_runs.specs.Forms.{IsFormed}
 use Rattle.clean_runs.specs.Clean.{GivesBytes, HoldsBytes, ReadsMet, ReadsWord}
-use Rattle.clean_runs.specs.Statements.{IsSpelled, IsSpelledIf}
+use Rattle.clean_runs.specs.Statements.{IsSpelledIf}
 use Rattle.clean_runs.proofs.Begun.{BeginsWith}
 use Rattle.clean_runs.proofs.Steps.{given_by, goes_on, is_start, taken_by}
 

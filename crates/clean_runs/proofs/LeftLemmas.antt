@@ -1,5 +1,5 @@
 -- What a call leaves, by how far the conversation has come and what the call comes to.
-use Rattle.std.proofs.Common.{◌≡◌, ℕ, List, [], ◌∷◌, ◌++◌, Bool, true, false, not, ◌&&◌, None, if◌then◌else◌, refl, ap, ◌∙◌}
+use Rattle.std.proofs.Common.{◌≡◌, List, [], ◌∷◌, ◌++◌, not, ◌&&◌, None, if◌then◌else◌, refl, ap, ◌∙◌}
 use Rattle.roles.specs.declared.need.Need.{Need}
 use Rattle.roles.specs.declared.need.Outcome.{Outcome}
 use Rattle.roles.specs.Answers.{is_sought}
@@ -11,9 +11,9 @@ use Rattle.roles.specs.Talks.{Call, Progress, Verdict, give, get, found, heard, 
 use Rattle.conv_p9any.specs.Talks.{needs_any}
 use Rattle.conv_challenge.specs.declared.stage.Stage.{Stage as MailStage}
 use Rattle.conv_challenge.specs.Courses as mail
-use Rattle.conv_set.specs.Protocols.{P9sk1, P9any, Mail}
+use Rattle.conv_set.specs.Protocols.{P9sk1, Mail}
 use Rattle.wire_histories.specs.Histories.{Act, gave, took, answered, unanswered}
-use Rattle.wire_histories.specs.Conversations.{acts_by, acts_from, asks_by, end_by, if_found, is_asked, is_given, is_taken, met_by, speaks, waiting}
+use Rattle.wire_histories.specs.Conversations.{acts_by, asks_by, end_by, if_found, is_asked, is_given, is_taken, speaks, waiting}
 
 -- how far a conversation is that isn't broken
 abbrev pub at : {S : Type 0} → S → Progress S

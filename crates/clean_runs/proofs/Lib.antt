@@ -12,3 +12,4 @@ pub mod SkServers
 pub mod Bytes
 pub mod SkServerLaw
 pub mod SkClients
+pub mod SkClientLaw

@@ -1,5 +1,5 @@
 -- A mail client's acts are the moves of a symbolic mail client: it takes a challenge and gives its digest.
-use Rattle.std.proofs.Common.{◌≡◌, ℕ, List, [], ◌∷◌, ◌++◌, map, Option, Some, None, unwrap_or, Bool, true, false, Ok, refl, sym, ap, subst, ◌∙◌}
+use Rattle.std.proofs.Common.{◌≡◌, ℕ, List, [], ◌∷◌, ◌++◌, Option, Some, unwrap_or, false, Ok, refl, sym, ap, subst, ◌∙◌}
 use Rattle.term_trees.specs.declared.kind.MacKind.{MacKind}
 use Rattle.term_trees.specs.declared.kind.MacKind.TheVariants as mac
 use Rattle.term_trees.specs.Trees.{Tree, digest, password}
@@ -13,17 +13,17 @@ use Rattle.conv_challenge.specs.declared.stage.Side.TheVariants.{Client}
 use Rattle.conv_challenge.specs.Clients.{digits_by}
 use Rattle.conv_challenge.specs.Starts.{proto_of, side_of}
 use Rattle.conv_set.specs.Protocols.{Mail, protocol_of}
-use Rattle.wire_model.specs.declared.step.Role.{Role as Role'}
+use Rattle.wire_model.specs.declared.step.Role.{Role as Part}
 use Rattle.wire_model.specs.declared.step.Role.TheVariants as part
-use Rattle.symbolic_runs.specs.Moves.{Role, mail_client, Move, takes, gives, Own, Row, mail_client_challenge, mail_client_answer}
+use Rattle.symbolic_runs.specs.Moves.{Role, mail_client, takes, gives, Own, mail_client_challenge, mail_client_answer}
 use Rattle.wire_histories.specs.Histories.{Act, started, gave, took}
-use Rattle.wire_histories.specs.Conversations.{acts_from, mail_protocol, met_by, protocol_as, role_as, side_as, speaks, started_by, talk_acts}
+use Rattle.wire_histories.specs.Conversations.{acts_from, mail_protocol, met_by, protocol_as, role_as, side_as, speaks, started_by}
 use Rattle.wire_histories.specs.Legal.{IsTalk, Spoken}
 use Rattle.clean_runs.specs.Labels.{Labelled}
 use Rattle.clean_runs.specs.Runs.{acts_in, is_choosing, moves_by, moves_for, role_by}
 use Rattle.clean_runs.specs.Clean.{ReadsMet}
 use Rattle.clean_runs.proofs.Begun.{BeginsWith}
-use Rattle.clean_runs.proofs.Follows.{CleanActs, Follows, IsFollowed, IsLawful, IsOrderlyTalk, IsRead, as_follows, gives_it, more_acts, one_act, own_by, role_in, takes_it, takes_none}
+use Rattle.clean_runs.proofs.Follows.{CleanActs, Follows, IsFollowed, IsLawful, IsOrderlyTalk, as_follows, gives_it, more_acts, one_act, own_by, role_in, takes_it, takes_none}
 use Rattle.clean_runs.proofs.MailClients.{Behind, Stands, at_once, begun, digits, done, keyless, ready, stands, told}
 use Rattle.clean_runs.proofs.Steps.{is_start, taken_by}
 
@@ -104,7 +104,7 @@ orderly spoken is act acts t = subst (λ f. BeginsWith f (act ∷ acts)) (sym (f
 -- ---- what they are
 
 -- p9any isn't spoken
-not_choosing : (proto : Proto) (by : Role') (word challenge given : List ℕ) → (is_choosing (started (mail_protocol proto) by word ∷ []) ≡ false) × (is_choosing (took challenge ∷ started (mail_protocol proto) by word ∷ []) ≡ false) × (is_choosing (gave given ∷ took challenge ∷ started (mail_protocol proto) by word ∷ []) ≡ false)
+not_choosing : (proto : Proto) (by : Part) (word challenge given : List ℕ) → (is_choosing (started (mail_protocol proto) by word ∷ []) ≡ false) × (is_choosing (took challenge ∷ started (mail_protocol proto) by word ∷ []) ≡ false) × (is_choosing (gave given ∷ took challenge ∷ started (mail_protocol proto) by word ∷ []) ≡ false)
 not_choosing Apop by word challenge given = (refl, refl, refl)
 not_choosing Cram by word challenge given = (refl, refl, refl)
 
@@ -163,9 +163,9 @@ answered_in start own kind given challenge acts at_once before is =
           ∙ ap (λ act. moves_for own (mail_client kind) false (takes q.a.label ∷ []) act p.0.label ++ takes q.a.label ∷ []) p.3;
       choosing = ap is_choosing is ∙ (not_choosing (proto_of start.template) part.Client start.word challenge given).2;
     }
-answered_in start own kind given challenge acts (told {acts = acts'} b rest) before is =
-    let p = more_acts before (took b) acts' is in
-    let q = answered_in start own kind given challenge acts' rest p.1 p.4 in
+answered_in start own kind given challenge acts (told {acts = earlier} b rest) before is =
+    let p = more_acts before (took b) earlier is in
+    let q = answered_in start own kind given challenge earlier rest p.1 p.4 in
     record {
       answer = q.answer;
       asked = q.asked;
@@ -173,7 +173,7 @@ answered_in start own kind given challenge acts (told {acts = acts'} b rest) bef
           ∙ ap (λ m. moves_for own (mail_client kind) (is_choosing (acts_in p.1)) m p.0.act p.0.label ++ m) q.moves
           ∙ ap (λ c. moves_for own (mail_client kind) c (gives q.answer ∷ takes q.asked ∷ []) p.0.act p.0.label ++ gives q.answer ∷ takes q.asked ∷ []) q.choosing
           ∙ ap (λ act. moves_for own (mail_client kind) false (gives q.answer ∷ takes q.asked ∷ []) act p.0.label ++ gives q.answer ∷ takes q.asked ∷ []) p.3;
-      choosing = ap is_choosing is ∙ told_choosing start given challenge b acts' rest;
+      choosing = ap is_choosing is ∙ told_choosing start given challenge b earlier rest;
     }
 
 -- the digest spells the digits
@@ -199,10 +199,10 @@ followed_in start met act acts (it_gives challenge key secret has) atoms number 
     let kind = kind_of (proto_of start.template) in
     let q = at_challenge start (own_by number holder) kind challenge before acts_are in
     let t = digest kind (password holder) q.a.label in
-    let clean' : CleanActs atoms (own_by number holder) (mail_client kind) (q.a ∷ q.more) = subst (CleanActs atoms (own_by number holder) (mail_client kind)) q.front clean in
-    let spells = clean'.0.spells challenge (ap taken_by q.takes_it) in
-    let reads' : ReadsMet atoms (mail_client kind) holder (found key secret ∷ []) = subst (ReadsMet atoms (mail_client kind) holder) has reads in
-    as_follows atoms (own_by number holder) (mail_client kind) before a (takes q.a.label ∷ []) false (gave (digits start secret challenge)) (gives t ∷ []) q.moves q.choosing act_is refl (gives_it (digits start secret challenge) t mail_client_answer (digest_spells atoms start holder challenge secret q.a.label reads' spells))
+    let clean_here : CleanActs atoms (own_by number holder) (mail_client kind) (q.a ∷ q.more) = subst (CleanActs atoms (own_by number holder) (mail_client kind)) q.front clean in
+    let spells = clean_here.0.spells challenge (ap taken_by q.takes_it) in
+    let reads_here : ReadsMet atoms (mail_client kind) holder (found key secret ∷ []) = subst (ReadsMet atoms (mail_client kind) holder) has reads in
+    as_follows atoms (own_by number holder) (mail_client kind) before a (takes q.a.label ∷ []) false (gave (digits start secret challenge)) (gives t ∷ []) q.moves q.choosing act_is refl (gives_it (digits start secret challenge) t mail_client_answer (digest_spells atoms start holder challenge secret q.a.label reads_here spells))
 followed_in start met act acts (it_is_told given challenge b rest) atoms number holder reads before a act_is acts_are clean none =
     let kind = kind_of (proto_of start.template) in
     let q = answered_in start (own_by number holder) kind given challenge acts rest before acts_are in

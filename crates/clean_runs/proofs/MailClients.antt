@@ -1,10 +1,9 @@
 -- What a mail client's talk may leave: its start, the challenge that it took, its digits, and what it took behind these.
-use Rattle.std.proofs.Common.{◌≡◌, ℕ, List, [], ◌∷◌, ◌++◌, Bool, true, false, Option, Some, None, unwrap_or, nat_lt, length, if◌then◌else◌, refl, sym, ap, subst, ◌∙◌}
+use Rattle.std.proofs.Common.{◌≡◌, ℕ, List, [], ◌∷◌, ◌++◌, Bool, true, false, Option, unwrap_or, nat_lt, length, if◌then◌else◌, refl, sym, ap, subst, ◌∙◌}
 use Rattle.roles.specs.declared.answer.Gave.{Gave}
 use Rattle.roles.specs.declared.answer.Gave.TheVariants as g
 use Rattle.roles.specs.declared.answer.PhaseWord.TheVariants.{AwaitsRead, AwaitsWrite}
 use Rattle.roles.specs.declared.key.SkKey.{SkKey}
-use Rattle.roles.specs.Courses.{then_course}
 use Rattle.roles.specs.Starts.{Start}
 use Rattle.roles.specs.Answers.{is_sought}
 use Rattle.roles.specs.Talks.{Call, Progress, Verdict, give, get, found, heard, unheard, roomless, undone, offered, picked, goes, stays}
@@ -17,7 +16,7 @@ use Rattle.conv_challenge.specs.Courses as mail
 use Rattle.conv_challenge.specs.Starts.{proto_of, side_of}
 use Rattle.conv_set.specs.Protocols.{Mail}
 use Rattle.wire_histories.specs.Histories.{Act, gave, took}
-use Rattle.wire_histories.specs.Conversations.{acts_by, acts_from, meets, met_by, speaks, waiting}
+use Rattle.wire_histories.specs.Conversations.{acts_from, meets, met_by, speaks, waiting}
 use Rattle.clean_runs.proofs.LeftLemmas.{at, left_at, mail_goes, mail_left}
 
 -- its digits for a challenge

@@ -1,21 +1,18 @@
 -- The numbers of conversations: those that have started have different ones, below the number of starts. What a conversation
 -- did in the run is what its own labels make.
-use Rattle.std.proofs.Common.{◌≡◌, ℕ, ◌+◌, ◌<◌, ◌≤◌, List, [], ◌∷◌, ◌++◌, map, length, Option, Some, None, Bool, true, false, eqb, if◌then◌else◌, inl, inr, refl, sym, ap, subst, ◌∙◌, arith}
+use Rattle.std.proofs.Common.{◌≡◌, ℕ, ◌+◌, ◌<◌, ◌≤◌, List, [], ◌∷◌, ◌++◌, map, length, Some, None, Bool, true, false, eqb, if◌then◌else◌, inl, inr, refl, sym, ap, subst, ◌∙◌, arith}
 use Rattle.std.proofs.lemmas.Bool.{cases_Bool, eq-eqb, eqb-true}
 use Rattle.std.proofs.lemmas.Slice.Eq.{bytes_eq-Decides}
 use Rattle.std.specs.Str.{bytes_eq}
-use Rattle.term_trees.specs.Trees.{Tree}
-use Rattle.wire_model.specs.declared.step.Protocol.{Protocol}
-use Rattle.wire_model.specs.declared.step.Role.{Role as Part}
 use Rattle.wire_model.specs.declared.step.Step.{Step}
 use Rattle.wire_model.specs.declared.step.Step.TheVariants.{Start}
-use Rattle.symbolic_runs.specs.Moves.{Move, Role}
+use Rattle.symbolic_runs.specs.Moves.{Move}
 use Rattle.symbolic_runs.specs.Sessions.{Deed}
 use Rattle.symbolic_runs.specs.Runs.{Setting as Symbolic, Event, Run, starts, talks, moves, serves, moves_of, own_of, started as started_run}
 use Rattle.wire_histories.specs.Histories.{History, Act, started, gave, took, asked, answered, unanswered, accepted, failed, Deal, act_in, if_named}
 use Rattle.clean_runs.specs.Labels.{Labelled, Labelling, dealt, labelled, or_zero, requests_in, started_as, starts_in}
-use Rattle.clean_runs.specs.Runs.{acts_in, conv_events, deeds_by, deeds_for_deal, events_of, is_choosing, moves_by, moves_for, number_of, run_from, session_number, talk_events}
-use Rattle.clean_runs.proofs.Steps.{begins, deals, does, nothing, Deals, Does, HasStarted, InOrder, Kind, SaysNothing, kind}
+use Rattle.clean_runs.specs.Runs.{acts_in, deeds_by, deeds_for_deal, events_of, is_choosing, moves_by, moves_for, number_of, run_from, session_number, talk_events}
+use Rattle.clean_runs.proofs.Steps.{begins, deals, does, nothing, HasStarted, InOrder, Kind, kind}
 
 -- ---- numbers
 
@@ -228,8 +225,8 @@ own_in s l step past name number (does conv act d) order orderly is so =
     other : (begun : HasStarted conv past) → started_as name past ≡ Some number → bytes_eq conv name ≡ false → begun.0 ≡ number → ⊥
     other begun stood differs e =
         let one = apart past conv name number (begun.1 ∙ ap Some e) stood in
-        let yes' : bytes_eq conv name ≡ true = (bytes_eq-Decides conv name).1 one in
-        absurd (let both : true ≡ false = sym yes' ∙ differs in cc)
+        let are_same : bytes_eq conv name ≡ true = (bytes_eq-Decides conv name).1 one in
+        absurd (let both : true ≡ false = sym are_same ∙ differs in cc)
 
     own_here : (begun : HasStarted conv past) → moves_of number (run_from s l (step ∷ past)) ≡ moves_of number (events_at s l past conv act begun.0) ++ moves_of number (run_from s l past) → bytes_eq conv name ≡ true → started_as name past ≡ Some number → IsOwn s l name number (step ∷ past)
     own_here begun parts same stood =

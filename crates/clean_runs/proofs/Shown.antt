@@ -1,23 +1,21 @@
 -- The bridge for the roles that are shown, in histories without sessions.
-use Rattle.std.proofs.Common.{◌≡◌, ℕ, List, [], ◌∷◌, ◌++◌, Option, Some, append_assoc, Bool, if◌then◌else◌, refl, sym, ap, subst, ◌∙◌}
-use Rattle.term_trees.specs.Spellings.{Atoms}
+use Rattle.std.proofs.Common.{◌≡◌, ℕ, List, [], ◌∷◌, ◌++◌, append_assoc, Bool, if◌then◌else◌, refl, sym, ap, ◌∙◌}
 use Rattle.wire_model.specs.declared.step.Step.{Step}
 use Rattle.symbolic_runs.proofs.SecrecyLaws.{secrecy}
-use Rattle.wire_histories.specs.Histories.{Deal, History, deal_in, deals_of, if_named}
-use Rattle.wire_histories.specs.Legal.{IsLegal, Setting, Spoken}
-use Rattle.clean_runs.specs.Labels.{Labelling}
+use Rattle.wire_histories.specs.Histories.{Deal, History, deal_in, deals_of}
+use Rattle.wire_histories.specs.Legal.{Spoken}
 use Rattle.clean_runs.specs.Runs.{run_of, setting_of}
-use Rattle.clean_runs.specs.Clean.{IsClean}
-use Rattle.clean_runs.specs.Statements.{HasNoSessions, IsBridged, IsBridgedSoFar, IsSecretSoFar, IsShownRole, OfEveryCleanHistory, OfShownRoles, of_a_mail_client, of_a_server}
-use Rattle.clean_runs.proofs.Bridge.{Case, SessionsGo, bridged, same_self}
+use Rattle.clean_runs.specs.Statements.{HasNoSessions, IsBridgedSoFar, IsSecretSoFar, IsShownRole, OfEveryCleanHistory, of_a_client, of_a_mail_client, of_a_server}
+use Rattle.clean_runs.proofs.Bridge.{Case, bridged, same_self}
 use Rattle.clean_runs.proofs.Follows.{IsLawful}
 use Rattle.clean_runs.proofs.MailClientLaw.{mail_client_is_lawful}
 use Rattle.clean_runs.proofs.Steps.{Deals}
-use Rattle.clean_runs.proofs.SkClients as skc
+use Rattle.clean_runs.proofs.SkClientLaw.{client_is_lawful}
 use Rattle.clean_runs.proofs.SkServerLaw.{server_is_lawful}
 
 shown : (spoken : Spoken) → IsShownRole spoken.start → IsLawful spoken
 shown spoken (of_a_mail_client mail client) = mail_client_is_lawful spoken (record { mail = mail; client = client })
+shown spoken (of_a_client p9sk1 role) = client_is_lawful spoken (record { p9sk1 = p9sk1; client = role })
 shown spoken (of_a_server p9sk1 role) = server_is_lawful spoken (record { p9sk1 = p9sk1; server = role })
 
 deals_append : (name : List ℕ) (later past : History) → deals_of name (later ++ past) ≡ deals_of name later ++ deals_of name past

@@ -1,8 +1,8 @@
 -- What a p9sk1 client's talk may leave: its start, its challenge, the server's request and its question, the answer, the ticket
 -- that it hands on, the server's proof, and its acceptance.
-use Rattle.std.proofs.Common.{◌≡◌, ℕ, List, [], ◌∷◌, ◌++◌, Bool, true, false, Option, Some, None, Result, Ok, Err, nat_lt, length, drop, slice_index, not, ◌&&◌, ◌==◌, if◌then◌else◌, refl, sym, ap, subst, ◌∙◌, arith}
+use Rattle.std.proofs.Common.{◌≡◌, ℕ, List, [], ◌∷◌, ◌++◌, Bool, true, false, Option, Some, None, Result, Ok, Err, nat_lt, length, drop, slice_index, not, ◌&&◌, ◌==◌, if◌then◌else◌, refl, sym, ap, subst, ◌∙◌}
 use Rattle.std.proofs.lemmas.Bool.{and_parts, eqb-true}
-use Rattle.wire_base.specs.Rules.{Rule, first_told}
+use Rattle.wire_base.specs.Rules.{first_told}
 use Rattle.ticket_codec.specs.Request.{request_of}
 use Rattle.ticket_codec.specs.declared.fault.FieldFault.{FieldFault}
 use Rattle.ticket_codec.specs.declared.kind.TheConstants.{AUTH_OK, AUTH_AS}
@@ -14,10 +14,8 @@ use Rattle.roles.specs.declared.answer.Gave.{Gave}
 use Rattle.roles.specs.declared.answer.Gave.TheVariants as g
 use Rattle.roles.specs.declared.answer.PhaseWord.TheVariants.{AwaitsRead, AwaitsWrite, Broken as IsBroken}
 use Rattle.roles.specs.declared.key.SkKey.{SkKey}
-use Rattle.roles.specs.declared.need.Need.{Need}
 use Rattle.roles.specs.declared.need.Need.TheVariants.{Nothing}
-use Rattle.roles.specs.declared.need.Outcome.TheVariants.{Running, Broken}
-use Rattle.roles.specs.declared.stage.Role.{Role}
+use Rattle.roles.specs.declared.need.Outcome.TheVariants.{Running}
 use Rattle.roles.specs.declared.stage.Role.TheVariants.{Client}
 use Rattle.roles.specs.declared.stage.Stage.{Stage}
 use Rattle.roles.specs.declared.stage.Stage.TheVariants.{ClientFirst, ClientSecond, ClientKey, ClientAsk, ClientThird, ClientFourth, ClientDone}
@@ -26,13 +24,13 @@ use Rattle.roles.specs.Clients.{answer_came, grants_tickets, handed_on, is_refus
 use Rattle.roles.specs.Courses.{accepted as outcome_by, answer_need, key_need, refusal, then_course}
 use Rattle.roles.specs.Courses as sk
 use Rattle.roles.specs.Starts.{Start, role_of}
-use Rattle.roles.specs.Talks.{Call, Progress, Verdict, give, get, found, heard, unheard, roomless, undone, offered, picked, goes, stays, breaks, sized, tested, unless_told}
+use Rattle.roles.specs.Talks.{Call, Verdict, give, get, found, heard, unheard, roomless, undone, offered, picked, goes, stays, breaks, sized, tested, unless_told}
 use Rattle.roles.specs.Tickets.{proof_under, ticket_part, ticket_under, with_request, with_ticket}
 use Rattle.conv_set.specs.Protocols.{P9sk1}
 use Rattle.talks.specs.Lines.{cause_text}
 use Rattle.wire_histories.specs.Histories.{Act, gave, took, asked, answered, unanswered, accepted, failed}
-use Rattle.wire_histories.specs.Conversations.{acts_from, asks_by, end_by, if_found, is_asked, is_taken, meets, met_by, speaks, waiting}
-use Rattle.clean_runs.proofs.LeftLemmas.{at, left_at, sk_goes, sk_left}
+use Rattle.wire_histories.specs.Conversations.{asks_by, end_by, if_found, is_asked, is_taken, meets, speaks, waiting}
+use Rattle.clean_runs.proofs.LeftLemmas.{at, left_at, sk_goes}
 use Rattle.clean_runs.proofs.SkServers.{Sized, Told, acts, acts_more, at_once, fallen, few, is_sought_at, many, met, met_more, refused_is_taken, sized_by, told, well}
 
 -- its question, and what it hands on
@@ -218,29 +216,29 @@ asking_stays start first before call r request key secret given moves leaves no_
     (met_more start before call (at (ClientAsk r key)) false (found key secret ∷ []) here no_need has)
 
 -- an answer holds a ticket that opens and passes, or breaks the conversation
-data Told' (start : Start) (r : List ℕ) (key : SkKey) (a : List ℕ) : Type 0 where
-  wrong : (cause : Cause) → answer_came start r key a ≡ breaks cause → Told' start r key a
-  right : (t : Ticket) → length a ≡ 145 → ticket_under key (ticket_part (drop 1 a)) ≡ Ok t → answer_came start r key a ≡ goes (ClientThird r key (drop 1 a)) g.Ok [] → Told' start r key a
+data AnswerCame (start : Start) (r : List ℕ) (key : SkKey) (a : List ℕ) : Type 0 where
+  wrong : (cause : Cause) → answer_came start r key a ≡ breaks cause → AnswerCame start r key a
+  right : (t : Ticket) → length a ≡ 145 → ticket_under key (ticket_part (drop 1 a)) ≡ Ok t → answer_came start r key a ≡ goes (ClientThird r key (drop 1 a)) g.Ok [] → AnswerCame start r key a
 
 abbrev opened_with : Start → List ℕ → SkKey → List ℕ → Result Ticket FieldFault → Verdict Stage
 opened_with start r key a o = with_ticket BadKey o (λ t. tested (ticket_tests start r key t) (goes (ClientThird r key (drop 1 a)) g.Ok []))
 
-tests_told : (start : Start) (r : List ℕ) (key : SkKey) (a : List ℕ) (t : Ticket) (fault : Option Cause) → length a ≡ 145 → answer_came start r key a ≡ opened_with start r key a (ticket_under key (ticket_part (drop 1 a))) → ticket_under key (ticket_part (drop 1 a)) ≡ Ok t → first_told (ticket_tests start r key t) ≡ fault → Told' start r key a
+tests_told : (start : Start) (r : List ℕ) (key : SkKey) (a : List ℕ) (t : Ticket) (fault : Option Cause) → length a ≡ 145 → answer_came start r key a ≡ opened_with start r key a (ticket_under key (ticket_part (drop 1 a))) → ticket_under key (ticket_part (drop 1 a)) ≡ Ok t → first_told (ticket_tests start r key t) ≡ fault → AnswerCame start r key a
 tests_told start r key a t (Some cause) long so opens is = wrong cause (so ∙ ap (opened_with start r key a) opens ∙ ap (λ told. unless_told told (goes (ClientThird r key (drop 1 a)) g.Ok [])) is)
 tests_told start r key a t None long so opens is = right t long opens (so ∙ ap (opened_with start r key a) opens ∙ ap (λ told. unless_told told (goes (ClientThird r key (drop 1 a)) g.Ok [])) is)
 
-opened_told : (start : Start) (r : List ℕ) (key : SkKey) (a : List ℕ) (o : Result Ticket FieldFault) → length a ≡ 145 → answer_came start r key a ≡ opened_with start r key a (ticket_under key (ticket_part (drop 1 a))) → ticket_under key (ticket_part (drop 1 a)) ≡ o → Told' start r key a
+opened_told : (start : Start) (r : List ℕ) (key : SkKey) (a : List ℕ) (o : Result Ticket FieldFault) → length a ≡ 145 → answer_came start r key a ≡ opened_with start r key a (ticket_under key (ticket_part (drop 1 a))) → ticket_under key (ticket_part (drop 1 a)) ≡ o → AnswerCame start r key a
 opened_told start r key a (Ok t) long so is = tests_told start r key a t (first_told (ticket_tests start r key t)) long so is refl
 opened_told start r key a (Err fault) long so is = wrong BadKey (so ∙ ap (opened_with start r key a) is)
 
-answer_told : (start : Start) (r : List ℕ) (key : SkKey) (a : List ℕ) (refuses grants : Bool) → is_refusal a ≡ refuses → grants_tickets a ≡ grants → Told' start r key a
+answer_told : (start : Start) (r : List ℕ) (key : SkKey) (a : List ℕ) (refuses grants : Bool) → is_refusal a ≡ refuses → grants_tickets a ≡ grants → AnswerCame start r key a
 answer_told start r key a true grants is_no is_well = wrong ServerSaidNo (ap (λ (no_ : Bool). if no_ then breaks ServerSaidNo else if grants_tickets a then tickets_came start r key (drop 1 a) else breaks WrongKind) is_no)
 answer_told start r key a false false is_no is_well = wrong WrongKind (ap (λ (no_ : Bool). if no_ then breaks ServerSaidNo else if grants_tickets a then tickets_came start r key (drop 1 a) else breaks WrongKind) is_no ∙ ap (λ (well_ : Bool). if well_ then tickets_came start r key (drop 1 a) else breaks WrongKind) is_well)
 answer_told start r key a false true is_no is_well =
     let long = eqb-true (length a) 145 (and_parts (length a == 145) (slice_index a 0 == AUTH_OK) is_well).0 in
     opened_told start r key a (ticket_under key (ticket_part (drop 1 a))) long (ap (λ (no_ : Bool). if no_ then breaks ServerSaidNo else if grants_tickets a then tickets_came start r key (drop 1 a) else breaks WrongKind) is_no ∙ ap (λ (well_ : Bool). if well_ then tickets_came start r key (drop 1 a) else breaks WrongKind) is_well) refl
 
-asking_heard : (start : Start) (first : Act) (before : List Call) (r : List ℕ) (request : TicketReq) (key : SkKey) (secret : Option (List ℕ)) (a : List ℕ) → request_of r ≡ Ok request → length r ≡ 141 → sk.course start before ≡ at (ClientAsk r key) → acts start first before ≡ asked_acts start first r request key → met start before ≡ found key secret ∷ [] → Told' start r key a → Stands start first (heard a ∷ before)
+asking_heard : (start : Start) (first : Act) (before : List Call) (r : List ℕ) (request : TicketReq) (key : SkKey) (secret : Option (List ℕ)) (a : List ℕ) → request_of r ≡ Ok request → length r ≡ 141 → sk.course start before ≡ at (ClientAsk r key) → acts start first before ≡ asked_acts start first r request key → met start before ≡ found key secret ∷ [] → AnswerCame start r key a → Stands start first (heard a ∷ before)
 asking_heard start first before r request key secret a is_request size here stood has (wrong cause is) = denied r request key secret (by_answer a) cause is_request size
     (sk_goes start before (heard a) (at (ClientAsk r key)) (breaks cause) here is)
     (acts_more start first before (heard a) (at (ClientAsk r key)) (breaks cause) (failed (cause_text cause) ∷ answered a ∷ []) (asked_acts start first r request key) here is (ap (λ o. failed (cause_text cause) ∷ (asks_by (answer_need start key o) Nothing ++ (if is_asked (answer_need start key o) then answered a ∷ [] else []))) is_request) stood)

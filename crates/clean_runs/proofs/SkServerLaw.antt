@@ -1,47 +1,44 @@
 -- A p9sk1 server's acts are the moves of a symbolic server: it takes the client's challenge, gives its request, takes a ticket
 -- and an authenticator, accepts, and gives its own authenticator.
-use Rattle.std.proofs.Common.{◌≡◌, ℕ, ◌+◌, ◌≤◌, List, [], ◌∷◌, ◌++◌, All, append-nil, length, length-append, take, Option, Some, None, Bool, true, false, Ok, if◌then◌else◌, refl, sym, ap, subst, ◌∙◌, arith}
+use Rattle.std.proofs.Common.{◌≡◌, ℕ, List, [], ◌∷◌, ◌++◌, All, length, length-append, take, Option, Some, false, Ok, refl, sym, ap, subst, ◌∙◌, arith}
 use Rattle.std.proofs.lemmas.List.{take_at}
 use Rattle.std.proofs.lemmas.List.Elements.{All-head}
 use Rattle.seal_mode.specs.Sealing.{opened, sealed}
 use Rattle.seal_mode.proofs.SealLaws.{length-sealed, sealed_undone}
-use Rattle.ticket_codec.specs.Authenticator.{authenticator_text}
 use Rattle.ticket_codec.specs.Fitting.{FitsRequest}
 use Rattle.ticket_codec.specs.Ticket.{ticket_of}
-use Rattle.ticket_codec.specs.declared.kind.TheConstants.{AUTH_TREQ, AUTH_AS}
 use Rattle.ticket_codec.specs.declared.request.TicketReq.{TicketReq}
 use Rattle.ticket_codec.specs.declared.ticket.Ticket.{Ticket}
-use Rattle.term_trees.specs.Trees.{Tree, nonce, long_key, seal, none, piece, plain, joined}
+use Rattle.term_trees.specs.Trees.{Tree, nonce, long_key, seal, none, piece}
 use Rattle.term_trees.specs.Spellings.{Atoms, Spelling, atom_bytes, bytes_of, spelling}
-use Rattle.roles.specs.declared.answer.Cause.{Cause}
 use Rattle.roles.specs.declared.key.SkKey.{SkKey}
 use Rattle.roles.specs.declared.stage.Role.TheVariants as sk_role
 use Rattle.roles.specs.Servers.{server_request}
 use Rattle.roles.specs.Starts.{Start, role_of}
 use Rattle.roles.specs.Talks.{Call, found}
-use Rattle.roles.specs.Tickets.{proof_for, ticket_part, ticket_under}
+use Rattle.roles.specs.Tickets.{ticket_part, ticket_under}
 use Rattle.roles.proofs.StartLemmas.{nobody_is_name}
 use Rattle.conv_challenge.specs.Starts.{proto_of, side_of}
 use Rattle.conv_set.specs.Protocols.{P9sk1, protocol_of}
 use Rattle.talks.specs.Lines.{cause_text}
 use Rattle.wire_model.specs.declared.step.Protocol.TheVariants as protocol
 use Rattle.wire_model.specs.declared.step.Role.TheVariants as part
-use Rattle.symbolic_runs.specs.Forms.{Fields, by_client, by_server, for_server, ticket_request, authenticator, client_message, pair, request, server_message, ticket}
+use Rattle.symbolic_runs.specs.Forms.{Fields, by_client, by_server, for_server, ticket_request, authenticator, pair, request, server_message, ticket}
 use Rattle.symbolic_runs.specs.Gifts.{bytes, next_gift, part as piece_of, shown as shown_in}
 use Rattle.symbolic_runs.specs.Moves.{Role, server, Move, takes, gives, accepts, fails, Own, Row, server_accepts, server_challenge, server_proof, server_request as server_request_row, server_ticket}
 use Rattle.symbolic_runs.proofs.GiftLaws.{computed}
 use Rattle.wire_histories.specs.Histories.{Act, started, gave, took, accepted, failed}
 use Rattle.wire_histories.specs.Conversations.{acts_from, met_by, part_as, protocol_as, role_as, speaks, started_by}
-use Rattle.wire_histories.specs.Legal.{IsMet, IsRingKey, IsTalk, MayBe, Spoken}
+use Rattle.wire_histories.specs.Legal.{IsMet, IsRingKey, IsTalk, Spoken}
 use Rattle.clean_runs.specs.Labels.{Labelled}
-use Rattle.clean_runs.specs.Runs.{accepted_field, acts_in, if_some, is_choosing, moves_by, moves_for, names_in}
+use Rattle.clean_runs.specs.Runs.{acts_in, if_some, is_choosing, moves_by, moves_for, names_in}
 use Rattle.clean_runs.specs.Forms.{IsFormed, IsShown}
 use Rattle.clean_runs.specs.Clean.{GivesBytes, HoldsBytes, ReadsMet, ReadsWord}
 use Rattle.clean_runs.proofs.Begun.{BeginsWith}
 use Rattle.clean_runs.proofs.Bytes.{authenticator_is, authenticator_spells, opened_key, proof_with, request_is_spelled, ticket_long, ticket_spells, ticket_with, tree_bytes}
-use Rattle.clean_runs.proofs.Follows.{CleanActs, Follows, IsFollowed, IsLawful, IsOrderlyTalk, IsRead, Known, accepts_it, as_follows, fails_so, gives_it, known_act, moves_next, one_act, own_by, role_in, takes_it, takes_none}
+use Rattle.clean_runs.proofs.Follows.{CleanActs, Follows, IsFollowed, IsLawful, IsOrderlyTalk, accepts_it, as_follows, fails_so, gives_it, known_act, moves_next, one_act, own_by, role_in, takes_it, takes_none}
 use Rattle.clean_runs.proofs.SkServers.{Stands, Told, accepted_acts, accepting, asked_acts, asking, at_once, broken, done, greeted, keyed, proof, seeking, stands, told}
-use Rattle.clean_runs.proofs.Spelled.{Both, Sealed, all_parts, seal_parts, seal_spells}
+use Rattle.clean_runs.proofs.Spelled.{all_parts, seal_parts, seal_spells}
 use Rattle.clean_runs.proofs.Steps.{goes_on, is_start, taken_by}
 
 pub record IsServer (start : Start) : Type 0 where
@@ -79,7 +76,7 @@ asked_next start met key secret theirs has = (it_asks key secret theirs has, (it
 
 told_next : (start : Start) (met : List Call) (key : SkKey) (secret : Option (List ℕ)) (theirs b : List ℕ) (t : Ticket) (acts : List Act) → length theirs ≡ 8 → met ≡ found key secret ∷ [] → ticket_under key (ticket_part b) ≡ Ok t → Told (gave (proof theirs t) ∷ accepted_acts start (first start) key theirs b t) acts → AllNext start met acts
 told_next start met key secret theirs b t acts eight has opens at_once = (it_proves key secret theirs b t eight has opens, (it_accepts key theirs b t.cuid t.suid, (it_is_shown key theirs b, asked_next start met key secret theirs has)))
-told_next start met key secret theirs b t acts eight has opens (told {acts = acts'} more rest) = (it_is_told key theirs b t more rest, told_next start met key secret theirs b t acts' eight has opens rest)
+told_next start met key secret theirs b t acts eight has opens (told {acts = earlier} more rest) = (it_is_told key theirs b t more rest, told_next start met key secret theirs b t earlier eight has opens rest)
 
 abbrev Acts : Start → List Call → List Act
 Acts start talk = acts_from (speaks P9sk1 start) (first start) talk
@@ -107,7 +104,7 @@ nexts spoken is acts t =
 
 told_begins : (start : Start) (key : SkKey) (theirs b : List ℕ) (t : Ticket) (more : List ℕ) (acts : List Act) → Told (gave (proof theirs t) ∷ accepted_acts start (first start) key theirs b t) acts → BeginsWith (first start) (took more ∷ acts)
 told_begins start key theirs b t more acts at_once = (refl, (refl, (refl, (refl, (refl, (refl, refl))))))
-told_begins start key theirs b t more acts (told {acts = acts'} other rest) = (refl, told_begins start key theirs b t other acts' rest)
+told_begins start key theirs b t more acts (told {acts = earlier} other rest) = (refl, told_begins start key theirs b t other earlier rest)
 
 begins_with : (start : Start) (met : List Call) (act : Act) (acts : List Act) → Next start met act acts → BeginsWith (first start) (act ∷ acts)
 begins_with start met act acts it_starts = refl
@@ -261,9 +258,9 @@ proved_in atoms start own key theirs b k acts at_once before is clean =
       moves = moves_next own server before p.more p.a (accepts (bytes (piece_of (shown_in q.m) 3)) ∷ takes q.m ∷ gives (asked_label own r) ∷ takes q.t ∷ []) false (gave (proof theirs k)) (last ∷ []) p.front q.moves q.choosing p.act_is (ap if_some (proof_gift own r q.t q.m (names_in (proof theirs k)) q.form));
       choosing = ap is_choosing is;
     }
-proved_in atoms start own key theirs b k acts (told {acts = acts'} more rest) before is clean =
-    let p = known_act atoms own server before (took more) acts' is clean in
-    let q = proved_in atoms start own key theirs b k acts' rest p.more p.rest p.clean_rest in
+proved_in atoms start own key theirs b k acts (told {acts = earlier} more rest) before is clean =
+    let p = known_act atoms own server before (took more) earlier is clean in
+    let q = proved_in atoms start own key theirs b k earlier rest p.more p.rest p.clean_rest in
     record {
       p1 = q.p1;
       p2 = q.p2;
@@ -271,7 +268,7 @@ proved_in atoms start own key theirs b k acts (told {acts = acts'} more rest) be
       p4 = q.p4;
       p5 = q.p5;
       moves = moves_next own server before p.more p.a (q.p1 ∷ q.p2 ∷ q.p3 ∷ q.p4 ∷ q.p5 ∷ []) false (took more) [] p.front q.moves q.choosing p.act_is refl;
-      choosing = ap is_choosing is ∙ told_choosing start key theirs b k more acts' rest;
+      choosing = ap is_choosing is ∙ told_choosing start key theirs b k more earlier rest;
     }
 
 -- ---- what is sealed

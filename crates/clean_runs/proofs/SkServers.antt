@@ -2,7 +2,7 @@
 -- accepts, and its proof.
 use Rattle.std.proofs.Common.{◌≡◌, ℕ, List, [], ◌∷◌, ◌++◌, Bool, true, false, Option, Some, None, Result, Ok, Err, nat_lt, length, ◌&&◌, if◌then◌else◌, refl, sym, ap, subst, ◌∙◌, arith}
 use Rattle.std.proofs.lemmas.Bool.{ltb-false}
-use Rattle.wire_base.specs.Rules.{Rule, first_told}
+use Rattle.wire_base.specs.Rules.{first_told}
 use Rattle.ticket_codec.specs.declared.fault.FieldFault.{FieldFault}
 use Rattle.ticket_codec.specs.declared.kind.TheConstants.{AUTH_AS}
 use Rattle.ticket_codec.specs.declared.ticket.Ticket.{Ticket}

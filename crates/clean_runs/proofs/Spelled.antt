@@ -1,10 +1,9 @@
 -- What joined and sealed trees spell, from what their parts spell, and back.
-use Rattle.std.proofs.Common.{◌≡◌, ℕ, ◌≤◌, ◌<◌, List, [], ◌∷◌, ◌++◌, length, nat_lt, not, ◌&&◌, ◌==◌, Bool, true, false, Result, Ok, Err, if◌then◌else◌, refl, sym, ap, subst, ◌∙◌, arith}
-use Rattle.std.proofs.lemmas.Bool.{and_parts, eq-eqb, eqb-true, le-ltb, ltb-false}
+use Rattle.std.proofs.Common.{◌≡◌, ℕ, ◌≤◌, List, ◌++◌, length, nat_lt, not, ◌&&◌, ◌==◌, Bool, true, false, Ok, Err, if◌then◌else◌, refl, ap, ◌∙◌}
+use Rattle.std.proofs.lemmas.Bool.{eq-eqb, eqb-true, le-ltb, ltb-false}
 use Rattle.seal_mode.specs.Sealing.{sealed}
-use Rattle.term_trees.specs.declared.spelling.SpellFault.{SpellFault}
 use Rattle.term_trees.specs.declared.spelling.SpellFault.TheVariants.{BadSeal}
-use Rattle.term_trees.specs.Trees.{Tree, Trees, joined, seal, none, piece}
+use Rattle.term_trees.specs.Trees.{Tree, Trees, seal, piece}
 use Rattle.term_trees.specs.Spellings.{Atoms, Spelling, and_then, seal_bytes, spelling, spelling_all}
 
 pub all_spell : (atoms : Atoms) (t : Tree) (ts : Trees) (b rest : List ℕ) → spelling atoms t ≡ Ok b → spelling_all atoms ts ≡ Ok rest → spelling_all atoms (piece t ts) ≡ Ok (b ++ rest)

@@ -1,5 +1,5 @@
 -- What a step is to the conversations and the sessions: a start, an act of a conversation, a deal of a session, or nothing.
-use Rattle.std.proofs.Common.{◌≡◌, ℕ, ◌+◌, List, [], ◌∷◌, ◌++◌, Option, Some, None, Bool, true, false, refl}
+use Rattle.std.proofs.Common.{◌≡◌, ℕ, List, [], ◌∷◌, Option, Some, None, Bool, true, false, refl}
 use Rattle.wire_model.specs.declared.step.Protocol.{Protocol}
 use Rattle.wire_model.specs.declared.step.Role.{Role as Part}
 use Rattle.wire_model.specs.declared.step.Step.{Step}
@@ -7,8 +7,8 @@ use Rattle.wire_model.specs.declared.step.Step.TheVariants.{Start, Out, In, Ask,
 use Rattle.term_trees.specs.Spellings.{Atoms}
 use Rattle.symbolic_runs.specs.Runs.{Setting as Symbolic}
 use Rattle.wire_histories.specs.Histories.{History, Act, started, gave, took, asked, answered, unanswered, accepted, failed, Deal, requested, replied, ended, act_in, deal_in, if_named}
-use Rattle.clean_runs.specs.Labels.{Labelling, starts_in, requests_in, started_as, opened_as, taken, given}
-use Rattle.clean_runs.specs.Runs.{conv_events, session_events, events_of, role_at, holder_at, grant_at}
+use Rattle.clean_runs.specs.Labels.{Labelling, starts_in, started_as, taken, given}
+use Rattle.clean_runs.specs.Runs.{conv_events, session_events, events_of, role_at, holder_at}
 use Rattle.clean_runs.specs.Clean.{FormsStep, GoesOn}
 
 -- a conversation has started

@@ -13,13 +13,13 @@ use Rattle.auth_server.specs.Answers.{word, word_key}
 use Rattle.roles.specs.declared.key.SkKey.{SkKey}
 use Rattle.roles.specs.Talks.{Call, found}
 use Rattle.wire_model.specs.declared.step.Step.{Step}
-use Rattle.wire_model.specs.declared.step.Step.TheVariants.{Start, Out, In, Ask, Heard, Unheard, Accept, Fail, Reply, Refused, AsGot, AsGave, AsEnd}
+use Rattle.wire_model.specs.declared.step.Step.TheVariants.{Start, Out, In, Ask, Heard, Accept, AsGot, AsGave}
 use Rattle.symbolic_runs.specs.Moves.{Role, client, server, mail_client, mail_server}
 use Rattle.symbolic_runs.specs.Sessions.{Deed}
 use Rattle.symbolic_runs.specs.Runs.{Setting as Symbolic, known, own_of}
-use Rattle.wire_histories.specs.Histories.{History, Deal, replied}
+use Rattle.wire_histories.specs.Histories.{History, replied}
 use Rattle.wire_histories.specs.Legal.{Setting, Spoken, known_to}
-use Rattle.clean_runs.specs.Labels.{Labelling, Dealt, starts_in, requests_in, labelled, dealt, taken}
+use Rattle.clean_runs.specs.Labels.{Labelling, starts_in, requests_in, labelled, dealt, taken}
 use Rattle.clean_runs.specs.Runs.{deeds_by, deeds_for_deal, moves_by, number_of, role_by, run_from, setting_of}
 use Rattle.clean_runs.specs.Forms.{IsAnswered, IsFormed}
 

@@ -2,7 +2,7 @@
 -- from what was done before (authsrv(6) of the Plan 9 manual), with the names of a request as they stand in its bytes.
 -- Before p9any has chosen, what is given are bytes that anybody may know. A message behind a conversation's last move, which
 -- is told that it is done, is no event.
-use Rattle.std.specs.Prelude.{◌≡◌, ℕ, ◌+◌, ◌==◌, List, [], ◌∷◌, ◌++◌, Bool, true, false, length, take, map, filter, is_some, Option, Some, None, Result, Ok, Err, if◌then◌else◌}
+use Rattle.std.specs.Prelude.{ℕ, ◌==◌, List, [], ◌∷◌, ◌++◌, Bool, true, false, length, take, map, filter, is_some, Option, Some, None, Result, Ok, Err, if◌then◌else◌}
 use Rattle.std.specs.List.{list_any}
 use Rattle.wire_base.specs.Names.{name_field}
 use Rattle.term_trees.specs.declared.kind.MacKind.{MacKind}
@@ -24,12 +24,12 @@ use Rattle.wire_model.specs.declared.step.Role.TheVariants as part
 use Rattle.wire_model.specs.declared.step.Step.{Step}
 use Rattle.wire_model.specs.declared.step.Step.TheVariants.{Start, Out, In, Ask, Heard, Unheard, Accept, Fail, Reply, Refused, AsGot, AsGave, AsEnd}
 use Rattle.symbolic_runs.specs.Forms.{Fields}
-use Rattle.symbolic_runs.specs.Moves.{Role, client, server, mail_client, mail_server, Move, takes, hears, gives, asks, accepts, fails, Own}
-use Rattle.symbolic_runs.specs.Sessions.{Used, keys, key_and_password, Grant, Deed, got, gives_tickets, gives_challenge, gives_vouch, refuses, held}
+use Rattle.symbolic_runs.specs.Moves.{Role, client, server, mail_client, mail_server, Move, takes, hears, gives, accepts, fails, Own}
+use Rattle.symbolic_runs.specs.Sessions.{keys, key_and_password, Grant, Deed, got, gives_tickets, gives_challenge, gives_vouch, refuses, held}
 use Rattle.symbolic_runs.specs.Gifts.{bytes, next_gift, opened, part as piece_of, shown}
 use Rattle.symbolic_runs.specs.Runs.{Setting as Symbolic, Event, starts, talks, moves, serves, Run, own_of}
 use Rattle.wire_histories.specs.Histories.{History, Act, started, gave, took, asked, answered, unanswered, accepted, failed, Deal, requested, replied, ended}
-use Rattle.wire_histories.specs.Legal.{Setting, known_to}
+use Rattle.wire_histories.specs.Legal.{Setting}
 use Rattle.clean_runs.specs.Labels.{Labelling, Labelled, Dealt, starts_in, requests_in, started_as, opened_as, or_so, or_zero, labelled, dealt}
 
 -- ---- roles and holders of the conversations by the numbers of their starts

@@ -6,9 +6,9 @@ use Rattle.term_trees.specs.Spellings.{Atoms, spelling}
 use Rattle.wire_model.specs.declared.step.Step.{Step}
 use Rattle.symbolic_runs.specs.Runs.{Setting as Symbolic, IsSymbolicRun, given as labels_given}
 use Rattle.symbolic_runs.specs.Statements.{KeepsSecrets}
-use Rattle.roles.specs.declared.stage.Role.TheVariants.{Server}
+use Rattle.roles.specs.declared.stage.Role.TheVariants.{Client, Server}
 use Rattle.roles.specs.Starts.{Start, role_of}
-use Rattle.conv_challenge.specs.declared.stage.Side.TheVariants.{Client}
+use Rattle.conv_challenge.specs.declared.stage.Side.TheVariants as side
 use Rattle.conv_challenge.specs.Starts.{side_of}
 use Rattle.conv_set.specs.Protocols.{Mail, P9sk1, protocol_of}
 use Rattle.wire_histories.specs.Histories.{History, deals_of}
@@ -43,7 +43,8 @@ abbrev pub HasNoSessions : History → Type 0
 HasNoSessions history = (name : List ℕ) → deals_of name history ≡ []
 
 pub data IsShownRole (start : Start) : Type 0 where
-  of_a_mail_client : protocol_of start.template ≡ Mail → side_of start.template ≡ Client → IsShownRole start
+  of_a_mail_client : protocol_of start.template ≡ Mail → side_of start.template ≡ side.Client → IsShownRole start
+  of_a_client : protocol_of start.template ≡ P9sk1 → role_of start.template ≡ Client → IsShownRole start
   of_a_server : protocol_of start.template ≡ P9sk1 → role_of start.template ≡ Server → IsShownRole start
 
 abbrev pub OfShownRoles : Setting → Type 0
