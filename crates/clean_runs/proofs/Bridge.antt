@@ -151,7 +151,7 @@ clean_in : (c : Case) (later past : History) (step : Step) (conv : List ℕ) (nu
 clean_in c later past step conv number (begins other p r w) place order in_order is so = elim (cases_Bool (bytes_eq other conv)) [
   | inl same ↦ subst (CleanActs c.atoms (own_for c number) (role_for c number))
       (sym (labelled_by c.l conv (Start other p r w) past (started p r w ∷ []) (named conv other (started p r w) same)
-        ∙ ap (λ xs. label_of c.l past (started p r w) ∷ xs) (unstarted c.l past conv in_order (ap (λ n. started_as n past) (sym (same_name other conv same)) ∙ order))))
+      ∙ ap (λ xs. label_of c.l past (started p r w) ∷ xs) (unstarted c.l past conv in_order (ap (λ n. started_as n past) (sym (same_name other conv same)) ∙ order))))
       (nothing_taken c number past p r w [], tt)
   | inr differs ↦ subst (CleanActs c.atoms (own_for c number) (role_for c number))
       (sym (labelled_by c.l conv (Start other p r w) past [] (not_named conv other (started p r w) differs)))

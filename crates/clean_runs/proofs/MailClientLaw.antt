@@ -217,7 +217,7 @@ followed : (spoken : Spoken) → IsMailClient spoken.start → IsFollowed spoken
 followed spoken is atoms number holder role read before a t clean none =
     let role_so = of_this_role spoken.start role is read.of_start in
     subst (λ role. Follows atoms (own_by number holder) role (moves_by (own_by number holder) role before) (is_choosing (acts_in before)) a.act a.label (moves_for (own_by number holder) role (is_choosing (acts_in before)) (moves_by (own_by number holder) role before) a.act a.label)) (sym role_so)
-        (followed_in spoken.start spoken.met a.act (acts_in before) (nexts spoken is (a.act ∷ acts_in before) t).0 atoms number holder (subst (λ role. ReadsMet atoms role holder spoken.met) role_so read.key) before a refl refl (subst (λ role. CleanActs atoms (own_by number holder) role before) role_so clean.1) none)
+    (followed_in spoken.start spoken.met a.act (acts_in before) (nexts spoken is (a.act ∷ acts_in before) t).0 atoms number holder (subst (λ role. ReadsMet atoms role holder spoken.met) role_so read.key) before a refl refl (subst (λ role. CleanActs atoms (own_by number holder) role before) role_so clean.1) none)
 
 -- a mail client is lawful
 pub mail_client_is_lawful : (spoken : Spoken) → IsMailClient spoken.start → IsLawful spoken

@@ -211,8 +211,8 @@ own_in s l step past name number (does conv act d) order orderly is so =
     let stood : started_as name past ≡ Some number = sym (d.none.started name past) ∙ is in
     let begun = d.ordered past order in
     let parts = moves_append number (events_of s l past step) (run_from s l past)
-            ∙ ap (λ es. moves_of number es ++ moves_of number (run_from s l past)) (d.events s l past)
-            ∙ ap (λ n. moves_of number (events_at s l past conv act n) ++ moves_of number (run_from s l past)) (number_is past conv begun.0 begun.1) in
+    ∙ ap (λ es. moves_of number es ++ moves_of number (run_from s l past)) (d.events s l past)
+    ∙ ap (λ n. moves_of number (events_at s l past conv act n) ++ moves_of number (run_from s l past)) (number_is past conv begun.0 begun.1) in
     elim (cases_Bool (bytes_eq conv name)) [
       | inl same ↦ own_here begun parts same stood
       | inr differs ↦

@@ -203,7 +203,7 @@ question_gift own t q form =
     let made = computed own client (takes T ∷ gives own.word ∷ []) (asks (request ticket_request (names_in q) form.chal)) (client_question form.fields (names_in q) {chal = form.chal} form.whole) refl in
     let test = same_tree own.word own.word && (is_request ticket_request T (piece_of T 3) && are_whole (fields_of T)) in
     subst (λ t. next_gift own client (takes t ∷ gives own.word ∷ []) (names_in q) ≡ Some (asks (request ticket_request (names_in q) (piece_of t 3)))) (sym form.is)
-        (ap (λ (b : Bool). if b then Some (asks (request ticket_request (names_in q) form.chal)) else None) (was_true test (asks (request ticket_request made.0 form.chal)) (asks (request ticket_request (names_in q) form.chal)) made.1))
+    (ap (λ (b : Bool). if b then Some (asks (request ticket_request (names_in q) form.chal)) else None) (was_true test (asks (request ticket_request made.0 form.chal)) (asks (request ticket_request (names_in q) form.chal)) made.1))
 
 abbrev handed_label : Tree → Tree
 handed_label u = client_message (piece_of u 2) (piece_of (opened u) 4) (piece_of (opened u) 1)
@@ -216,14 +216,14 @@ handed_gift : (atoms : Atoms) (own : Own) (t u : Tree) (q : List ℕ) (names : F
 unfolding question_of
 handed_gift atoms own t u q names form =
     subst (λ u. next_gift own client (hears u ∷ asks (question_of own t q) ∷ takes t ∷ gives own.word ∷ []) names ≡ Some (gives (handed_label u))) (sym form.is)
-        (computed own client (hears (tickets (seal own.key (ticket for_client (piece_of t 3) form.cuid form.suid form.key)) form.handed) ∷ asks (question_of own t q) ∷ takes t ∷ gives own.word ∷ []) (gives (client_message form.handed form.key (piece_of t 3))) (client_ticket (names_in q) {chal = piece_of t 3} {key = form.key} {handed = form.handed} form.names) refl).1
+    (computed own client (hears (tickets (seal own.key (ticket for_client (piece_of t 3) form.cuid form.suid form.key)) form.handed) ∷ asks (question_of own t q) ∷ takes t ∷ gives own.word ∷ []) (gives (client_message form.handed form.key (piece_of t 3))) (client_ticket (names_in q) {chal = piece_of t 3} {key = form.key} {handed = form.handed} form.names) refl).1
 
 accepts_row : (atoms : Atoms) (own : Own) (t u m : Tree) (q : List ℕ) → IsAnswer atoms own (question_of own t q) u → m ≡ server_message (piece_of (opened u) 4) own.word → Row own client (takes m ∷ gives (handed_label u) ∷ hears u ∷ asks (question_of own t q) ∷ takes t ∷ gives own.word ∷ []) (accepts (bytes (piece_of (opened u) 3)))
 unfolding question_of
 accepts_row atoms own t u m q form is =
     subst (λ m. Row own client (takes m ∷ gives (handed_label u) ∷ hears u ∷ asks (question_of own t q) ∷ takes t ∷ gives own.word ∷ []) (accepts (bytes (piece_of (opened u) 3)))) (sym is)
     (subst (λ u. Row own client (takes (server_message (piece_of (opened u) 4) own.word) ∷ gives (handed_label u) ∷ hears u ∷ asks (question_of own t q) ∷ takes t ∷ gives own.word ∷ []) (accepts (bytes (piece_of (opened u) 3)))) (sym form.is)
-        (client_accepts {chal = piece_of t 3} {key = form.key} {handed = form.handed} {cuid = form.cuid} {suid = form.suid}))
+    (client_accepts {chal = piece_of t 3} {key = form.key} {handed = form.handed} {cuid = form.cuid} {suid = form.suid}))
 
 -- ---- the moves behind each act
 
@@ -427,7 +427,7 @@ request_bytes atoms t r q form spells size is =
     let a_is : p2.front ≡ f.authid = ok_same (sym p2.of_front) in
     let d_is : p3.front ≡ f.authdom = ok_same (sym p3.of_front) in
     let text : r ≡ request_with (1 ∷ []) f.authid f.authdom c f.hostid f.uid =
-        p1.parts ∙ ap (λ k. k ++ p1.rest) k_is ∙ ap (λ x. 1 ∷ x) (p2.parts ∙ ap (λ a. a ++ p2.rest) a_is ∙ ap (λ x. f.authid ++ x) (p3.parts ∙ ap (λ d. d ++ p3.rest) d_is ∙ ap (λ x. f.authdom ++ x) (p4.parts ∙ ap (λ t. c ++ t) tail_is))) in
+    p1.parts ∙ ap (λ k. k ++ p1.rest) k_is ∙ ap (λ x. 1 ∷ x) (p2.parts ∙ ap (λ a. a ++ p2.rest) a_is ∙ ap (λ x. f.authid ++ x) (p3.parts ∙ ap (λ d. d ++ p3.rest) d_is ∙ ap (λ x. f.authdom ++ x) (p4.parts ∙ ap (λ t. c ++ t) tail_is))) in
     let b = request_with (1 ∷ []) f.authid f.authdom c f.hostid f.uid in
     let whole_size = sym (ap length text) ∙ size in
     let la = length-append f.authid (f.authdom ++ (c ++ tail)) in
@@ -584,7 +584,7 @@ followed_in start met act acts (it_asks r q key is) atoms number holder read bef
     let b = request_bytes atoms p.t r q form p.spells is.size is.is in
     let ring = (the_key atoms start met number holder r q key read is).0 in
     as_follows atoms own client before a (takes p.t ∷ gives own.word ∷ []) false (asked Q) (asks (question_of own p.t Q) ∷ []) p.moves p.choosing act_is (ap if_some (question_gift own p.t Q form))
-        (asks_it Q (question_of own p.t Q) (question_row own p.t Q form) (question_spells atoms own start p.t r q key read.role ring b))
+    (asks_it Q (question_of own p.t Q) (question_row own p.t Q form) (question_spells atoms own start p.t r q key read.role ring b))
 followed_in start met act acts (it_hears r q key b) atoms number holder read before a act_is acts_are clean no_start =
     let own = own_by number holder in
     let p = at_asked atoms start own r q key before acts_are clean.1 in
@@ -605,7 +605,7 @@ followed_in start met act acts (it_shows r q key b t is heard_it) atoms number h
     let of_key = (the_key atoms start met number holder r q key read is).1 in
     let chal : spelling atoms (piece_of (question_of own p.t Q) 3) ≡ Ok rb.chal = ap (spelling atoms) (question_chal own p.t Q) ∙ rb.spells in
     as_follows atoms own client before a (hears p.u ∷ asks (question_of own p.t Q) ∷ takes p.t ∷ gives own.word ∷ []) false (gave (handed r b t)) (gives (handed_label p.u) ∷ []) p.moves p.choosing act_is (ap if_some (handed_gift atoms own p.t p.u Q (names_in (handed r b t)) form))
-        (gives_it (handed r b t) (handed_label p.u) (handed_row atoms own p.t p.u Q form) (handed_spells atoms read.bytes number holder key (question_of own p.t Q) p.u rb.chal r b t of_key form p.holds p.answer chal rb.eight rb.stands heard_it.opens))
+    (gives_it (handed r b t) (handed_label p.u) (handed_row atoms own p.t p.u Q form) (handed_spells atoms read.bytes number holder key (question_of own p.t Q) p.u rb.chal r b t of_key form p.holds p.answer chal rb.eight rb.stands heard_it.opens))
 followed_in start met act acts (it_takes_proof r q key b t m) atoms number holder read before a act_is acts_are clean no_start =
     let own = own_by number holder in
     let p = at_shown atoms start own r q key b t before acts_are clean.1 in
@@ -634,7 +634,7 @@ followed spoken is atoms number holder role read before a t clean no_start =
     let word = subst (λ role. ReadsWord atoms role number spoken.start.word) role_so read.word in
     let key = subst (λ role. ReadsMet atoms role holder spoken.met) role_so read.key in
     subst (λ role. Follows atoms (own_by number holder) role (moves_by (own_by number holder) role before) (is_choosing (acts_in before)) a.act a.label (moves_for (own_by number holder) role (is_choosing (acts_in before)) (moves_by (own_by number holder) role before) a.act a.label)) (sym role_so)
-        (followed_in spoken.start spoken.met a.act (acts_in before) (nexts spoken is (a.act ∷ acts_in before) t).0 atoms number holder (record { bytes = read.bytes; role = is.client; word = word; keys = t.may.keys; key = key }) before a refl refl (subst (λ role. CleanActs atoms (own_by number holder) role (a ∷ before)) role_so clean) no_start)
+    (followed_in spoken.start spoken.met a.act (acts_in before) (nexts spoken is (a.act ∷ acts_in before) t).0 atoms number holder (record { bytes = read.bytes; role = is.client; word = word; keys = t.may.keys; key = key }) before a refl refl (subst (λ role. CleanActs atoms (own_by number holder) role (a ∷ before)) role_so clean) no_start)
 
 -- a p9sk1 client is lawful
 pub client_is_lawful : (spoken : Spoken) → IsClient spoken.start → IsLawful spoken

@@ -87,7 +87,7 @@ broken_left b cause = ap (λ (t : Bool). failed (cause_text cause) ∷ (if t && 
 -- ---- nothing came so far
 
 begun_stays : (start : Start) (first : Act) (before : List Call) (call : Call) (given : Gave) → sk.verdict start (at ClientFirst) call ≡ stays given → left_at (sk.need_at start) sk.outcome_at (at ClientFirst) (stays given) (waiting (speaks P9sk1 start) first before) call ≡ [] → meets (sk.need_at start (at ClientFirst)) call ≡ false → sk.course start before ≡ at ClientFirst → acts start first before ≡ first ∷ [] → met start before ≡ [] → Stands start first (call ∷ before)
-begun_stays start first before call given moves leaves no_need here stood has = begun 
+begun_stays start first before call given moves leaves no_need here stood has = begun
     (sk_goes start before call (at ClientFirst) (stays given) here moves)
     (acts_more start first before call (at ClientFirst) (stays given) [] (first ∷ []) here moves leaves stood)
     (met_more start before call (at ClientFirst) false ([]) here no_need has)
@@ -109,7 +109,7 @@ begun_then start first before here stood has (picked place) = begun_stays start 
 -- ---- its challenge was given
 
 second_stays : (start : Start) (first : Act) (before : List Call) (call : Call) (given : Gave) → sk.verdict start (at ClientSecond) call ≡ stays given → left_at (sk.need_at start) sk.outcome_at (at ClientSecond) (stays given) (waiting (speaks P9sk1 start) first before) call ≡ [] → meets (sk.need_at start (at ClientSecond)) call ≡ false → sk.course start before ≡ at ClientSecond → acts start first before ≡ greeting start first → met start before ≡ [] → Stands start first (call ∷ before)
-second_stays start first before call given moves leaves no_need here stood has = second 
+second_stays start first before call given moves leaves no_need here stood has = second
     (sk_goes start before call (at ClientSecond) (stays given) here moves)
     (acts_more start first before call (at ClientSecond) (stays given) [] (greeting start first) here moves leaves stood)
     (met_more start before call (at ClientSecond) false ([]) here no_need has)
@@ -160,7 +160,7 @@ second_then start first before here stood has (picked place) = second_stays star
 -- ---- the request was refused
 
 refused_stays : (start : Start) (first : Act) (before : List Call) (call : Call) (r : List ℕ) (cause : Cause) (given : Gave) → sk.verdict start (fallen ClientSecond cause) call ≡ stays given → left_at (sk.need_at start) sk.outcome_at (fallen ClientSecond cause) (stays given) (waiting (speaks P9sk1 start) first before) call ≡ [] → meets (sk.need_at start (fallen ClientSecond cause)) call ≡ false → sk.course start before ≡ fallen ClientSecond cause → acts start first before ≡ failed (cause_text cause) ∷ took r ∷ greeting start first → met start before ≡ [] → Stands start first (call ∷ before)
-refused_stays start first before call r cause given moves leaves no_need here stood has = refused r cause 
+refused_stays start first before call r cause given moves leaves no_need here stood has = refused r cause
     (sk_goes start before call (fallen ClientSecond cause) (stays given) here moves)
     (acts_more start first before call (fallen ClientSecond cause) (stays given) [] (failed (cause_text cause) ∷ took r ∷ greeting start first) here moves leaves stood)
     (met_more start before call (fallen ClientSecond cause) false ([]) here no_need has)
@@ -194,8 +194,8 @@ keyless_then start first before r request is_request size here stood waited has 
     asking r request key secret is_request size
     (sk_goes start before (found key secret) (at (ClientKey r)) v here moves)
     (acts_more start first before (found key secret) (at (ClientKey r)) v (asked (question start key request) ∷ took r ∷ []) (greeting start first) here moves
-        (ap (λ o. asks_by (key_need start o) (answer_need start key o) ++ if_found (is_sought (key_need start o)) (is_sought (answer_need start key o)) (waiting (speaks P9sk1 start) first before)) is_request
-        ∙ ap (λ act. asked (question start key request) ∷ act ∷ []) waited) stood)
+    (ap (λ o. asks_by (key_need start o) (answer_need start key o) ++ if_found (is_sought (key_need start o)) (is_sought (answer_need start key o)) (waiting (speaks P9sk1 start) first before)) is_request
+    ∙ ap (λ act. asked (question start key request) ∷ act ∷ []) waited) stood)
     (met_more start before (found key secret) (at (ClientKey r)) true [] here (ap (λ o. meets (key_need start o) (found key secret)) is_request) has)
 keyless_then start first before r request is_request size here stood waited has (heard b) = keyless_stays start first before (heard b) r request refl (ap (λ o. left_at (λ p. key_need start o) sk.outcome_at (at (ClientKey r)) (stays g.Wait) (took r) (heard b)) is_request) (ap (λ o. meets (key_need start o) (heard b)) is_request) (λ h. refl) is_request size here stood waited has
 keyless_then start first before r request is_request size here stood waited has unheard = keyless_stays start first before unheard r request refl (ap (λ o. left_at (λ p. key_need start o) sk.outcome_at (at (ClientKey r)) (stays g.Wait) (took r) unheard) is_request) (ap (λ o. meets (key_need start o) unheard) is_request) (λ h. refl) is_request size here stood waited has
@@ -210,7 +210,7 @@ keyless_then start first before r request is_request size here stood waited has 
 -- ---- it asked
 
 asking_stays : (start : Start) (first : Act) (before : List Call) (call : Call) (r : List ℕ) (request : TicketReq) (key : SkKey) (secret : Option (List ℕ)) (given : Gave) → sk.verdict start (at (ClientAsk r key)) call ≡ stays given → left_at (sk.need_at start) sk.outcome_at (at (ClientAsk r key)) (stays given) (waiting (speaks P9sk1 start) first before) call ≡ [] → meets (sk.need_at start (at (ClientAsk r key))) call ≡ false → request_of r ≡ Ok request → length r ≡ 141 → sk.course start before ≡ at (ClientAsk r key) → acts start first before ≡ asked_acts start first r request key → met start before ≡ found key secret ∷ [] → Stands start first (call ∷ before)
-asking_stays start first before call r request key secret given moves leaves no_need is_request size here stood has = asking r request key secret is_request size 
+asking_stays start first before call r request key secret given moves leaves no_need is_request size here stood has = asking r request key secret is_request size
     (sk_goes start before call (at (ClientAsk r key)) (stays given) here moves)
     (acts_more start first before call (at (ClientAsk r key)) (stays given) [] (asked_acts start first r request key) here moves leaves stood)
     (met_more start before call (at (ClientAsk r key)) false (found key secret ∷ []) here no_need has)
@@ -268,7 +268,7 @@ asking_then start first before r request key secret is_request size here stood h
 -- ---- the answer was none that serves
 
 denied_stays : (start : Start) (first : Act) (before : List Call) (call : Call) (r : List ℕ) (request : TicketReq) (key : SkKey) (secret : Option (List ℕ)) (i : Instead) (cause : Cause) (given : Gave) → sk.verdict start (fallen (ClientAsk r key) cause) call ≡ stays given → left_at (sk.need_at start) sk.outcome_at (fallen (ClientAsk r key) cause) (stays given) (waiting (speaks P9sk1 start) first before) call ≡ [] → meets (sk.need_at start (fallen (ClientAsk r key) cause)) call ≡ false → request_of r ≡ Ok request → length r ≡ 141 → sk.course start before ≡ fallen (ClientAsk r key) cause → acts start first before ≡ failed (cause_text cause) ∷ (instead i ++ asked_acts start first r request key) → met start before ≡ found key secret ∷ [] → Stands start first (call ∷ before)
-denied_stays start first before call r request key secret i cause given moves leaves no_need is_request size here stood has = denied r request key secret i cause is_request size 
+denied_stays start first before call r request key secret i cause given moves leaves no_need is_request size here stood has = denied r request key secret i cause is_request size
     (sk_goes start before call (fallen (ClientAsk r key) cause) (stays given) here moves)
     (acts_more start first before call (fallen (ClientAsk r key) cause) (stays given) [] (failed (cause_text cause) ∷ (instead i ++ asked_acts start first r request key)) here moves leaves stood)
     (met_more start before call (fallen (ClientAsk r key) cause) false (found key secret ∷ []) here no_need has)
@@ -287,14 +287,14 @@ denied_then start first before r request key secret i cause is_request size here
 -- ---- it has its ticket
 
 ready_stays : (start : Start) (first : Act) (before : List Call) (call : Call) (r : List ℕ) (request : TicketReq) (key : SkKey) (secret : Option (List ℕ)) (a : List ℕ) (t : Ticket) (given : Gave) → sk.verdict start (at (ClientThird r key (drop 1 a))) call ≡ stays given → left_at (sk.need_at start) sk.outcome_at (at (ClientThird r key (drop 1 a))) (stays given) (waiting (speaks P9sk1 start) first before) call ≡ [] → meets (sk.need_at start (at (ClientThird r key (drop 1 a)))) call ≡ false → request_of r ≡ Ok request → length r ≡ 141 → length a ≡ 145 → ticket_under key (ticket_part (drop 1 a)) ≡ Ok t → sk.course start before ≡ at (ClientThird r key (drop 1 a)) → acts start first before ≡ heard_acts start first r request key a → met start before ≡ found key secret ∷ [] → Stands start first (call ∷ before)
-ready_stays start first before call r request key secret a t given moves leaves no_need is_request size long opens here stood has = ready r request key secret a t is_request size long opens 
+ready_stays start first before call r request key secret a t given moves leaves no_need is_request size long opens here stood has = ready r request key secret a t is_request size long opens
     (sk_goes start before call (at (ClientThird r key (drop 1 a))) (stays given) here moves)
     (acts_more start first before call (at (ClientThird r key (drop 1 a))) (stays given) [] (heard_acts start first r request key a) here moves leaves stood)
     (met_more start before call (at (ClientThird r key (drop 1 a))) false (found key secret ∷ []) here no_need has)
 
 ready_then : (start : Start) (first : Act) (before : List Call) (r : List ℕ) (request : TicketReq) (key : SkKey) (secret : Option (List ℕ)) (a : List ℕ) (t : Ticket) → request_of r ≡ Ok request → length r ≡ 141 → length a ≡ 145 → ticket_under key (ticket_part (drop 1 a)) ≡ Ok t → sk.course start before ≡ at (ClientThird r key (drop 1 a)) → acts start first before ≡ heard_acts start first r request key a → met start before ≡ found key secret ∷ [] → (call : Call) → Stands start first (call ∷ before)
 ready_then start first before r request key secret a t is_request size long opens here stood has (give b) = ready_stays start first before (give b) r request key secret a t (g.Phase AwaitsRead) refl refl refl is_request size long opens here stood has
-ready_then start first before r request key secret a t is_request size long opens here stood has get = 
+ready_then start first before r request key secret a t is_request size long opens here stood has get =
     let v : Verdict Stage = goes (ClientFourth r key (drop 1 a)) g.Ok (handed r a t) in
     let moves : sk.verdict start (at (ClientThird r key (drop 1 a))) get ≡ v = ap (λ o. with_ticket BadKey o (λ t. goes (ClientFourth r key (drop 1 a)) g.Ok (handed r a t))) opens in
     showing r request key secret a t is_request size long opens
@@ -312,7 +312,7 @@ ready_then start first before r request key secret a t is_request size long open
 -- ---- it handed the ticket on
 
 showing_stays : (start : Start) (first : Act) (before : List Call) (call : Call) (r : List ℕ) (request : TicketReq) (key : SkKey) (secret : Option (List ℕ)) (a : List ℕ) (t : Ticket) (given : Gave) → sk.verdict start (at (ClientFourth r key (drop 1 a))) call ≡ stays given → left_at (sk.need_at start) sk.outcome_at (at (ClientFourth r key (drop 1 a))) (stays given) (waiting (speaks P9sk1 start) first before) call ≡ [] → meets (sk.need_at start (at (ClientFourth r key (drop 1 a)))) call ≡ false → request_of r ≡ Ok request → length r ≡ 141 → length a ≡ 145 → ticket_under key (ticket_part (drop 1 a)) ≡ Ok t → sk.course start before ≡ at (ClientFourth r key (drop 1 a)) → acts start first before ≡ shown_acts start first r request key a t → met start before ≡ found key secret ∷ [] → Stands start first (call ∷ before)
-showing_stays start first before call r request key secret a t given moves leaves no_need is_request size long opens here stood has = showing r request key secret a t is_request size long opens 
+showing_stays start first before call r request key secret a t given moves leaves no_need is_request size long opens here stood has = showing r request key secret a t is_request size long opens
     (sk_goes start before call (at (ClientFourth r key (drop 1 a))) (stays given) here moves)
     (acts_more start first before call (at (ClientFourth r key (drop 1 a))) (stays given) [] (shown_acts start first r request key a t) here moves leaves stood)
     (met_more start before call (at (ClientFourth r key (drop 1 a))) false (found key secret ∷ []) here no_need has)
@@ -355,7 +355,7 @@ showing_then start first before r request key secret a t is_request size long op
 -- ---- it was deceived
 
 deceived_stays : (start : Start) (first : Act) (before : List Call) (call : Call) (r : List ℕ) (request : TicketReq) (key : SkKey) (secret : Option (List ℕ)) (a : List ℕ) (t : Ticket) (p : List ℕ) (cause : Cause) (given : Gave) → sk.verdict start (fallen (ClientFourth r key (drop 1 a)) cause) call ≡ stays given → left_at (sk.need_at start) sk.outcome_at (fallen (ClientFourth r key (drop 1 a)) cause) (stays given) (waiting (speaks P9sk1 start) first before) call ≡ [] → meets (sk.need_at start (fallen (ClientFourth r key (drop 1 a)) cause)) call ≡ false → request_of r ≡ Ok request → length r ≡ 141 → length a ≡ 145 → ticket_under key (ticket_part (drop 1 a)) ≡ Ok t → sk.course start before ≡ fallen (ClientFourth r key (drop 1 a)) cause → acts start first before ≡ failed (cause_text cause) ∷ took p ∷ shown_acts start first r request key a t → met start before ≡ found key secret ∷ [] → Stands start first (call ∷ before)
-deceived_stays start first before call r request key secret a t p cause given moves leaves no_need is_request size long opens here stood has = deceived r request key secret a t p cause is_request size long opens 
+deceived_stays start first before call r request key secret a t p cause given moves leaves no_need is_request size long opens here stood has = deceived r request key secret a t p cause is_request size long opens
     (sk_goes start before call (fallen (ClientFourth r key (drop 1 a)) cause) (stays given) here moves)
     (acts_more start first before call (fallen (ClientFourth r key (drop 1 a)) cause) (stays given) [] (failed (cause_text cause) ∷ took p ∷ shown_acts start first r request key a t) here moves leaves stood)
     (met_more start before call (fallen (ClientFourth r key (drop 1 a)) cause) false (found key secret ∷ []) here no_need has)
@@ -407,4 +407,3 @@ then_stands start first before call (done r request key secret a t p is_request 
 pub stands : (start : Start) (first : Act) → role_of start.template ≡ Client → (talk : List Call) → Stands start first talk
 stands start first role [] = begun (ap (λ role. at (sk.first_stage role)) role) (ap (λ role. if is_sought_at start (at (sk.first_stage role)) then [] else first ∷ []) role) refl
 stands start first role (call ∷ before) = then_stands start first before call (stands start first role before)
-

@@ -218,17 +218,17 @@ at_accepted atoms start own key theirs b k before is clean =
 proof_gift : (own : Own) (r : List ℕ) (t m : Tree) (names : Fields) → IsShown own m → next_gift own server (accepts (bytes (piece_of (shown_in m) 3)) ∷ takes m ∷ gives (asked_label own r) ∷ takes t ∷ []) names ≡ Some (gives (server_message (piece_of (shown_in m) 4) t))
 proof_gift own r t m names form =
     subst (λ m. next_gift own server (accepts (bytes (piece_of (shown_in m) 3)) ∷ takes m ∷ gives (asked_label own r) ∷ takes t ∷ []) names ≡ Some (gives (server_message (piece_of (shown_in m) 4) t))) (sym form.is)
-        (computed own server (accepts form.suid ∷ takes (pair (seal own.key (ticket for_server own.word form.cuid form.suid form.key)) (seal form.key (authenticator by_client own.word))) ∷ gives (asked_label own r) ∷ takes t ∷ []) (gives (server_message form.key t)) (server_proof {y = t} {key = form.key} (names_in r) {cuid = form.cuid} {suid = form.suid}) refl).1
+    (computed own server (accepts form.suid ∷ takes (pair (seal own.key (ticket for_server own.word form.cuid form.suid form.key)) (seal form.key (authenticator by_client own.word))) ∷ gives (asked_label own r) ∷ takes t ∷ []) (gives (server_message form.key t)) (server_proof {y = t} {key = form.key} (names_in r) {cuid = form.cuid} {suid = form.suid}) refl).1
 
 proof_row : (own : Own) (r : List ℕ) (t m : Tree) → IsShown own m → Row own server (accepts (bytes (piece_of (shown_in m) 3)) ∷ takes m ∷ gives (asked_label own r) ∷ takes t ∷ []) (gives (server_message (piece_of (shown_in m) 4) t))
 proof_row own r t m form =
     subst (λ m. Row own server (accepts (bytes (piece_of (shown_in m) 3)) ∷ takes m ∷ gives (asked_label own r) ∷ takes t ∷ []) (gives (server_message (piece_of (shown_in m) 4) t))) (sym form.is)
-        (server_proof {y = t} {key = form.key} (names_in r) {cuid = form.cuid} {suid = form.suid})
+    (server_proof {y = t} {key = form.key} (names_in r) {cuid = form.cuid} {suid = form.suid})
 
 accepts_row : (own : Own) (r : List ℕ) (t m : Tree) → IsShown own m → Row own server (takes m ∷ gives (asked_label own r) ∷ takes t ∷ []) (accepts (bytes (piece_of (shown_in m) 3)))
 accepts_row own r t m form =
     subst (λ m. Row own server (takes m ∷ gives (asked_label own r) ∷ takes t ∷ []) (accepts (bytes (piece_of (shown_in m) 3)))) (sym form.is)
-        (server_accepts {y = t} {key = form.key} (names_in r) {cuid = form.cuid} {suid = form.suid} form.names)
+    (server_accepts {y = t} {key = form.key} (names_in r) {cuid = form.cuid} {suid = form.suid} form.names)
 
 pub record Proved (own : Own) (before : List Labelled) : Type 0 where
   pub p1 : Move
@@ -347,7 +347,7 @@ followed_in start met act acts (it_asks key secret theirs has) atoms number hold
     let ring : IsRingKey key = All-head IsMet (found key secret) [] (subst (All IsMet) has read.keys) in
     let fits : FitsRequest request_is = record { authid = ring.user.short; authdom = ring.dom.short; chal = read.eight; hostid = nobody_is_name; uid = nobody_is_name } in
     as_follows atoms own server before a (takes q.t ∷ []) false (gave (server_request start key)) (gives (asked_label own (server_request start key)) ∷ []) q.moves q.choosing act_is refl
-        (gives_it (server_request start key) (asked_label own (server_request start key)) (server_request_row (names_in (server_request start key))) (request_is_spelled atoms request_is (nonce number) fits (ap atom_bytes read.word)))
+    (gives_it (server_request start key) (asked_label own (server_request start key)) (server_request_row (names_in (server_request start key))) (request_is_spelled atoms request_is (nonce number) fits (ap atom_bytes read.word)))
 followed_in start met act acts (it_is_shown key theirs b) atoms number holder read before a act_is acts_are clean no_start =
     let own = own_by number holder in
     let q = at_asked atoms start own key theirs before acts_are clean.1 in
@@ -369,7 +369,7 @@ followed_in start met act acts (it_proves key secret theirs b t eight has opens)
     let label = server_message (piece_of (shown_in q.m) 4) q.t in
     let of_key : ReadsMet atoms server holder (found key secret ∷ []) = subst (ReadsMet atoms server holder) has read.key in
     as_follows atoms own server before a (accepts (bytes (piece_of (shown_in q.m) 3)) ∷ takes q.m ∷ gives (asked_label own r) ∷ takes q.t ∷ []) false (gave (proof theirs t)) (gives label ∷ []) q.moves q.choosing act_is (ap if_some (proof_gift own r q.t q.m (names_in (proof theirs t)) q.form))
-        (gives_it (proof theirs t) label (proof_row own r q.t q.m q.form) (proof_spells atoms read.bytes number holder start.word key q.m q.t b theirs t read.word read.eight of_key q.form q.holds q.shown opens q.spells eight))
+    (gives_it (proof theirs t) label (proof_row own r q.t q.m q.form) (proof_spells atoms read.bytes number holder start.word key q.m q.t b theirs t read.word read.eight of_key q.form q.holds q.shown opens q.spells eight))
 followed_in start met act acts (it_is_told key theirs b t more rest) atoms number holder read before a act_is acts_are clean no_start =
     let own = own_by number holder in
     let q = proved_in atoms start own key theirs b t acts rest before acts_are clean.1 in
@@ -384,7 +384,7 @@ followed spoken is atoms number holder role read before a t clean no_start =
     let word = subst (λ role. ReadsWord atoms role number spoken.start.word) role_so read.word in
     let key = subst (λ role. ReadsMet atoms role holder spoken.met) role_so read.key in
     subst (λ role. Follows atoms (own_by number holder) role (moves_by (own_by number holder) role before) (is_choosing (acts_in before)) a.act a.label (moves_for (own_by number holder) role (is_choosing (acts_in before)) (moves_by (own_by number holder) role before) a.act a.label)) (sym role_so)
-        (followed_in spoken.start spoken.met a.act (acts_in before) (nexts spoken is (a.act ∷ acts_in before) t).0 atoms number holder (record { bytes = read.bytes; word = word; eight = t.may.word.whole; keys = t.may.keys; key = key }) before a refl refl (subst (λ role. CleanActs atoms (own_by number holder) role (a ∷ before)) role_so clean) no_start)
+    (followed_in spoken.start spoken.met a.act (acts_in before) (nexts spoken is (a.act ∷ acts_in before) t).0 atoms number holder (record { bytes = read.bytes; word = word; eight = t.may.word.whole; keys = t.may.keys; key = key }) before a refl refl (subst (λ role. CleanActs atoms (own_by number holder) role (a ∷ before)) role_so clean) no_start)
 
 -- a p9sk1 server is lawful
 pub server_is_lawful : (spoken : Spoken) → IsServer spoken.start → IsLawful spoken

@@ -100,7 +100,6 @@ refused_is_taken NoServer = refl
 refused_is_taken NoRoom = refl
 refused_is_taken BadKey = refl
 
-
 -- ---- it seeks its key
 
 seeking_stays : (start : Start) (first : Act) (before : List Call) (call : Call) → sk.verdict start (at ServerKey) call ≡ stays g.Wait → left_at (sk.need_at start) sk.outcome_at (at ServerKey) (stays g.Wait) first call ≡ [] → meets (sk.need_at start (at ServerKey)) call ≡ false → (sk.course start before ≡ at ServerKey → waiting (speaks P9sk1 start) first (call ∷ before) ≡ waiting (speaks P9sk1 start) first before) → sk.course start before ≡ at ServerKey → acts start first before ≡ [] → waiting (speaks P9sk1 start) first before ≡ first → met start before ≡ [] → Stands start first (call ∷ before)
@@ -127,7 +126,7 @@ seeking_then start first before here stood waited none (picked place) = seeking_
 -- ---- it has its key
 
 keyed_stays : (start : Start) (first : Act) (before : List Call) (call : Call) (key : SkKey) (secret : Option (List ℕ)) (given : Gave) → sk.verdict start (at (ServerFirst key)) call ≡ stays given → left_at (sk.need_at start) sk.outcome_at (at (ServerFirst key)) (stays given) (waiting (speaks P9sk1 start) first before) call ≡ [] → sk.course start before ≡ at (ServerFirst key) → acts start first before ≡ first ∷ [] → met start before ≡ found key secret ∷ [] → Stands start first (call ∷ before)
-keyed_stays start first before call key secret given moves leaves here stood has = keyed key secret 
+keyed_stays start first before call key secret given moves leaves here stood has = keyed key secret
     (sk_goes start before call (at (ServerFirst key)) (stays given) here moves)
     (acts_more start first before call (at (ServerFirst key)) (stays given) [] (first ∷ []) here moves leaves stood)
     (met_more start before call (at (ServerFirst key)) false (found key secret ∷ []) here refl has)
@@ -154,7 +153,7 @@ keyed_then start first before key secret here stood has (picked place) = keyed_s
 -- ---- the client's challenge came
 
 greeted_stays : (start : Start) (first : Act) (before : List Call) (call : Call) (key : SkKey) (secret : Option (List ℕ)) (theirs : List ℕ) (given : Gave) → sk.verdict start (at (ServerSecond key theirs)) call ≡ stays given → left_at (sk.need_at start) sk.outcome_at (at (ServerSecond key theirs)) (stays given) (waiting (speaks P9sk1 start) first before) call ≡ [] → length theirs ≡ 8 → sk.course start before ≡ at (ServerSecond key theirs) → acts start first before ≡ took theirs ∷ first ∷ [] → met start before ≡ found key secret ∷ [] → Stands start first (call ∷ before)
-greeted_stays start first before call key secret theirs given moves leaves eight here stood has = greeted key secret theirs eight 
+greeted_stays start first before call key secret theirs given moves leaves eight here stood has = greeted key secret theirs eight
     (sk_goes start before call (at (ServerSecond key theirs)) (stays given) here moves)
     (acts_more start first before call (at (ServerSecond key theirs)) (stays given) [] (took theirs ∷ first ∷ []) here moves leaves stood)
     (met_more start before call (at (ServerSecond key theirs)) false (found key secret ∷ []) here refl has)
@@ -176,7 +175,7 @@ greeted_then start first before key secret theirs eight here stood has (picked p
 -- ---- it asked
 
 asking_stays : (start : Start) (first : Act) (before : List Call) (call : Call) (key : SkKey) (secret : Option (List ℕ)) (theirs : List ℕ) (given : Gave) → sk.verdict start (at (ServerThird key theirs)) call ≡ stays given → left_at (sk.need_at start) sk.outcome_at (at (ServerThird key theirs)) (stays given) (waiting (speaks P9sk1 start) first before) call ≡ [] → length theirs ≡ 8 → sk.course start before ≡ at (ServerThird key theirs) → acts start first before ≡ asked_acts start first key theirs → met start before ≡ found key secret ∷ [] → Stands start first (call ∷ before)
-asking_stays start first before call key secret theirs given moves leaves eight here stood has = asking key secret theirs eight 
+asking_stays start first before call key secret theirs given moves leaves eight here stood has = asking key secret theirs eight
     (sk_goes start before call (at (ServerThird key theirs)) (stays given) here moves)
     (acts_more start first before call (at (ServerThird key theirs)) (stays given) [] (asked_acts start first key theirs) here moves leaves stood)
     (met_more start before call (at (ServerThird key theirs)) false (found key secret ∷ []) here refl has)
@@ -226,7 +225,7 @@ asking_then start first before key secret theirs eight here stood has (picked pl
 -- ---- it broke
 
 broken_stays : (start : Start) (first : Act) (before : List Call) (call : Call) (key : SkKey) (secret : Option (List ℕ)) (theirs : List ℕ) (b : List ℕ) (cause : Cause) (given : Gave) → sk.verdict start (fallen (ServerThird key theirs) cause) call ≡ stays given → left_at (sk.need_at start) sk.outcome_at (fallen (ServerThird key theirs) cause) (stays given) (waiting (speaks P9sk1 start) first before) call ≡ [] → sk.course start before ≡ fallen (ServerThird key theirs) cause → acts start first before ≡ failed (cause_text cause) ∷ took b ∷ asked_acts start first key theirs → met start before ≡ found key secret ∷ [] → Stands start first (call ∷ before)
-broken_stays start first before call key secret theirs b cause given moves leaves here stood has = broken key secret theirs b cause 
+broken_stays start first before call key secret theirs b cause given moves leaves here stood has = broken key secret theirs b cause
     (sk_goes start before call (fallen (ServerThird key theirs) cause) (stays given) here moves)
     (acts_more start first before call (fallen (ServerThird key theirs) cause) (stays given) [] (failed (cause_text cause) ∷ took b ∷ asked_acts start first key theirs) here moves leaves stood)
     (met_more start before call (fallen (ServerThird key theirs) cause) false (found key secret ∷ []) here refl has)
@@ -245,7 +244,7 @@ broken_then start first before key secret theirs b cause here stood has (picked 
 -- ---- it accepted
 
 accepting_stays : (start : Start) (first : Act) (before : List Call) (call : Call) (key : SkKey) (secret : Option (List ℕ)) (theirs : List ℕ) (shown : List ℕ) (ticket : Ticket) (given : Gave) → sk.verdict start (at (ServerFourth key theirs shown)) call ≡ stays given → left_at (sk.need_at start) sk.outcome_at (at (ServerFourth key theirs shown)) (stays given) (waiting (speaks P9sk1 start) first before) call ≡ [] → length theirs ≡ 8 → ticket_under key (ticket_part shown) ≡ Ok ticket → length shown ≡ 85 → sk.course start before ≡ at (ServerFourth key theirs shown) → acts start first before ≡ accepted_acts start first key theirs shown ticket → met start before ≡ found key secret ∷ [] → Stands start first (call ∷ before)
-accepting_stays start first before call key secret theirs shown ticket given moves leaves eight opens size here stood has = accepting key secret theirs shown ticket eight opens size 
+accepting_stays start first before call key secret theirs shown ticket given moves leaves eight opens size here stood has = accepting key secret theirs shown ticket eight opens size
     (sk_goes start before call (at (ServerFourth key theirs shown)) (stays given) here moves)
     (acts_more start first before call (at (ServerFourth key theirs shown)) (stays given) [] (accepted_acts start first key theirs shown ticket) here moves leaves stood)
     (met_more start before call (at (ServerFourth key theirs shown)) false (found key secret ∷ []) here refl has)
