@@ -1,0 +1,15 @@
+pub mod LeftLemmas
+pub mod MailClients
+pub mod Steps
+pub mod Numbers
+pub mod Begun
+pub mod Follows
+pub mod MailClientLaw
+pub mod Bridge
+pub mod Shown
+pub mod Spelled
+pub mod SkServers
+pub mod Bytes
+pub mod SkServerLaw
+pub mod SkClients
+pub mod SkClientLaw

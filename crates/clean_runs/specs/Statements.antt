@@ -1,0 +1,58 @@
+-- The bridge from bytes to trees: a clean legal history is a symbolic run, and each message that it gives is spelled by its
+-- label.
+use Rattle.std.specs.Prelude.{◌≡◌, ℕ, List, [], ◌∷◌, Option, Some, None, Ok}
+use Rattle.term_trees.specs.Trees.{Tree}
+use Rattle.term_trees.specs.Spellings.{Atoms, spelling}
+use Rattle.wire_model.specs.declared.step.Step.{Step}
+use Rattle.symbolic_runs.specs.Runs.{Setting as Symbolic, IsSymbolicRun, given as labels_given}
+use Rattle.symbolic_runs.specs.Statements.{KeepsSecrets}
+use Rattle.roles.specs.declared.stage.Role.TheVariants.{Client, Server}
+use Rattle.roles.specs.Starts.{Start, role_of}
+use Rattle.conv_challenge.specs.declared.stage.Side.TheVariants as side
+use Rattle.conv_challenge.specs.Starts.{side_of}
+use Rattle.conv_set.specs.Protocols.{Mail, P9sk1, protocol_of}
+use Rattle.wire_histories.specs.Histories.{History, deals_of}
+use Rattle.wire_histories.specs.Legal.{IsLegal, Setting, Spoken}
+use Rattle.clean_runs.specs.Labels.{Labelling, given}
+use Rattle.clean_runs.specs.Runs.{events_of, run_of, setting_of}
+use Rattle.clean_runs.specs.Clean.{AtEachPlace, IsClean}
+
+-- bytes that are given have one label, which spells them
+pub record IsSpelled (atoms : Atoms) (labels : List Tree) (b : List ℕ) : Type 0 where
+  pub label : Tree
+  pub one : labels ≡ label ∷ []
+  pub spells : spelling atoms label ≡ Ok b
+
+abbrev pub IsSpelledIf : Atoms → List Tree → Option (List ℕ) → Type 0
+IsSpelledIf atoms labels None = Unit {0}
+IsSpelledIf atoms labels (Some b) = IsSpelled atoms labels b
+
+abbrev pub SpellsStep : Atoms → Symbolic → Labelling → History → Step → Type 0
+SpellsStep atoms s l past step = IsSpelledIf atoms (labels_given s (events_of s l past step)) (given step)
+
+pub record IsBridged (history : History) (z : Setting) (atoms : Atoms) (l : Labelling) : Type 0 where
+  pub run : IsSymbolicRun (setting_of z l history) (run_of z l history)
+  pub spelled : AtEachPlace history (SpellsStep atoms (setting_of z l history) l)
+
+abbrev pub OfEveryCleanHistory : (History → Setting → Atoms → Labelling → Type 0) → Type 0
+OfEveryCleanHistory P = (history : History) (z : Setting) (atoms : Atoms) (l : Labelling) → IsLegal history z → IsClean history z atoms l → P history z atoms l
+
+-- ---- for which histories this is shown so far: without a session of the authentication server, with these roles alone
+
+abbrev pub HasNoSessions : History → Type 0
+HasNoSessions history = (name : List ℕ) → deals_of name history ≡ []
+
+pub data IsShownRole (start : Start) : Type 0 where
+  of_a_mail_client : protocol_of start.template ≡ Mail → side_of start.template ≡ side.Client → IsShownRole start
+  of_a_client : protocol_of start.template ≡ P9sk1 → role_of start.template ≡ Client → IsShownRole start
+  of_a_server : protocol_of start.template ≡ P9sk1 → role_of start.template ≡ Server → IsShownRole start
+
+abbrev pub OfShownRoles : Setting → Type 0
+OfShownRoles z = (name : List ℕ) (spoken : Spoken) → z.spoken name ≡ Some spoken → IsShownRole spoken.start
+
+abbrev pub IsBridgedSoFar : History → Setting → Atoms → Labelling → Type 0
+IsBridgedSoFar history z atoms l = HasNoSessions history → OfShownRoles z → IsBridged history z atoms l
+
+-- and what follows for these: no uncompromised secret derives from what is known, at any place
+abbrev pub IsSecretSoFar : History → Setting → Atoms → Labelling → Type 0
+IsSecretSoFar history z atoms l = HasNoSessions history → OfShownRoles z → KeepsSecrets (setting_of z l history) (run_of z l history)

@@ -1,0 +1,6 @@
+pub use Rattle.wire_model.specs.Lines
+pub mod Histories
+pub mod Conversations
+pub mod Sessions
+pub mod Legal
+pub mod Examples
