@@ -374,16 +374,15 @@ TABLES = [
 
 def table(about, sessions):
     print("// Sessions with an agent about %s, made by bench/vectors/agent.py," % about)
-    print("// which also says what each shows. A line a step: 1 where a new agent begins a session and else 0, the connection, the")
-    print("// session's name and the step behind their length, a request, and its reply.")
+    print("// which also says what each shows. A line a step: 1 where a new agent begins a session and else 0, the connection,")
+    print("// a request, and its reply.")
     print("pub const COUNT: usize = %d;" % sum(len(s) for _, s in sessions))
     print()
     print('pub static STEPS: &[u8] = b"\\')
     lines = []
-    for name, steps in sessions:
+    for _, steps in sessions:
         for i, (conn, request, reply) in enumerate(steps):
-            label = b"%s, step %d" % (name.encode(), i)
-            step = bytes([1 if i == 0 else 0, conn, len(label)]) + label + request + reply
+            step = bytes([1 if i == 0 else 0, conn]) + request + reply
             lines.append("".join(chr(c) if 33 <= c < 127 and c not in (34, 92) else "\\x%02x" % c for c in step))
     print("\\\n".join("    " + line for line in lines) + '";')
 

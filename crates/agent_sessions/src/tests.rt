@@ -11,7 +11,6 @@ mod refusals;
 use agent_core::{Agent, Event, StepAnswer};
 use std::alloc::Global;
 use std::process::Abort;
-use std::str::from_utf8;
 use std::test::Fail;
 use wire_base::{Bytes, NoMemory, get_u32};
 
@@ -85,35 +84,27 @@ fn frame_at(alloc: Global, steps: &[u8], at: usize) -> Result<(Bytes, usize), Fa
     Ok((Bytes::from_slice(alloc, frame)?, end))
 }
 
-// A byte of the steps.
-fn byte_at(steps: &[u8], at: usize) -> Result<u8, Fail> {
-    Ok(steps.get(at).copied().ok_or("no step")?)
-}
-
-// The text that stands at a place of the steps behind its length, and the place behind it.
-fn text_at(steps: &[u8], at: usize) -> Result<(&str, usize), Fail> {
-    let size = byte_at(steps, at)?;
-    let begin = at.saturating_add(1);
-    let end = begin.saturating_add(usize::from(size));
-    let text = steps.get(begin..end).ok_or("no text")?;
-    Ok((from_utf8(text).map_err(|_| "no text")?, end))
-}
-
 // Step by step; each session has an agent of its own.
 fn hold(rt: &impl Abort, alloc: Global, count: usize, steps: &[u8]) -> Result<(), Fail> {
     let mut agent = Agent::new(alloc)?;
     let mut at = 0_usize;
     for _ in 0..count {
-        let begins = byte_at(steps, at)?;
-        let conn = u64::from(byte_at(steps, at.saturating_add(1))?);
-        let (place, behind) = text_at(steps, at.saturating_add(2))?;
-        let (request, behind) = frame_at(alloc, steps, behind)?;
+        let begins = steps.get(at).copied().ok_or("no step")?;
+        let conn = steps.get(at.saturating_add(1)).copied().ok_or("no step")?;
+        let (request, behind) = frame_at(alloc, steps, at.saturating_add(2))?;
         let (reply, end) = frame_at(alloc, steps, behind)?;
         if begins == 1 {
             agent = Agent::new(alloc)?;
         }
-        let (request, reply) = (request.as_slice(), reply.as_slice());
-        converse(rt, alloc, &mut agent, conn, place, request, reply)?;
+        converse(
+            rt,
+            alloc,
+            &mut agent,
+            u64::from(conn),
+            "a step of a session",
+            request.as_slice(),
+            reply.as_slice(),
+        )?;
         at = end;
     }
     assert_eq!(rt; at, steps.len());

@@ -10,7 +10,6 @@ use agent_player::{Pair, Step, Steps, answer_question, take_question};
 use server::Server;
 use std::alloc::Global;
 use std::process::Abort;
-use std::str::from_utf8;
 use std::test::Fail;
 use wire_base::Bytes;
 
@@ -31,38 +30,19 @@ fn serve(alloc: Global, server: &mut Server, pair: &mut Pair, step: &Step) -> Re
     Ok(came)
 }
 
-// Makes a step, and gives what came of it.
-fn play(alloc: Global, server: &mut Server, pair: &mut Pair, step: &Step) -> Result<Bytes, Fail> {
-    if step.kind == b'A' {
-        serve(alloc, server, pair, step)
-    } else {
-        Ok(pair.play(alloc, step)?)
-    }
-}
-
-// Step by step; each session has two agents of its own, and a name.
+// Step by step; each session has two agents of its own.
 fn hold(rt: &impl Abort, alloc: Global, count: usize, steps: &[u8]) -> Result<(), Fail> {
     let mut pair = Pair::new(alloc)?;
     let mut server = Server::new(alloc)?;
     let mut steps = Steps::new(steps);
-    let mut session = Bytes::new(alloc);
-    let mut begun = 0;
     for number in 0..count {
         let step = steps.take(alloc)?;
-        if step.kind == b'b' {
-            session = Bytes::from_slice(alloc, step.given.as_slice())?;
-            begun = number;
-        }
-        let name = from_utf8(session.as_slice()).unwrap_or("a session");
-        let place = number.saturating_sub(begun);
-        let played = play(alloc, &mut server, &mut pair, &step);
-        assert!(rt; played.is_ok(), "{name}, step {place}");
-        let came = played?;
-        assert_eq!(rt;
-            came.as_slice(),
-            step.expected.as_slice(),
-            "{name}, step {place}"
-        );
+        let came = if step.kind == b'A' {
+            serve(alloc, &mut server, &mut pair, &step)?
+        } else {
+            pair.play(alloc, &step)?
+        };
+        assert_eq!(rt; came.as_slice(), step.expected.as_slice(), "step {number}");
     }
     assert!(rt; steps.is_over());
     Ok(())
