@@ -374,7 +374,8 @@ fn converse<R: Wait>(
 /// two prompters it does nothing. At each end but that, and but where the connection is gone, it hangs the connection up. It
 /// may wait.
 ///
-/// A reply belongs to the request of its tag that was made last; that is so wherever nobody else speaks on the connection.
+/// A reply is taken to belong to the request of its tag that was made last. That the agent's own replies are so paired
+/// wherever nobody else speaks on the connection isn't proved.
 pub fn serve_prompts<R: Wait>(
     rt: &R,
     alloc: Global,
