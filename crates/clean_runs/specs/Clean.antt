@@ -84,7 +84,8 @@ abbrev pub ReadsHolder : Atoms → Setting → Labelling → History → Step �
 ReadsHolder atoms z l past (Start conv protocol role random) = ReadsSpoken atoms (role_by protocol role) (l.holder conv) (z.spoken conv)
 ReadsHolder atoms z l past step = Unit {0}
 
--- different words are read differently, and so are different keys and different passwords
+-- different words are read differently, and so are different keys and different passwords: all to which the reading gives
+-- bytes, used or not
 abbrev pub is_key : Tree → Bool
 is_key (long_key name) = true
 is_key (ticket_key number) = true
