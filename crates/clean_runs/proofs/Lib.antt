@@ -17,6 +17,6 @@ pub mod Requests
 pub mod Served
 pub mod SessionStands
 pub mod Speakers
-pub mod Answers
+pub mod AnswerBytes
 pub mod SessionGifts
 pub mod SessionLaw

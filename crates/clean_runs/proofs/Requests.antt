@@ -1,24 +1,21 @@
 -- The numbers of requests: sessions that were opened have different ones, below the number of requests. What a session did in
 -- the run is what its own labels make, as many requests came in the run, and what is granted at a number is told by the bytes
 -- and the label of its request.
-use Rattle.std.proofs.Common.{◌≡◌, ◌⊎◌, ℕ, ◌+◌, ◌<◌, ◌≤◌, List, [], ◌∷◌, ◌++◌, map, length, Option, Some, None, Bool, true, false, eqb, if◌then◌else◌, inl, inr, refl, sym, ap, subst, ◌∙◌, arith}
+use Rattle.std.proofs.Common.{◌≡◌, ◌⊎◌, ℕ, ◌+◌, ◌<◌, List, [], ◌∷◌, ◌++◌, map, length, Option, Some, None, Bool, true, false, eqb, if◌then◌else◌, inl, inr, refl, sym, ap, subst, ◌∙◌, arith}
 use Rattle.std.proofs.lemmas.Bool.{cases_Bool, eq-eqb}
 use Rattle.std.proofs.lemmas.Slice.Eq.{bytes_eq-Decides}
 use Rattle.std.specs.Str.{bytes_eq}
-use Rattle.ticket_codec.specs.Request.{request_of}
 use Rattle.auth_server.specs.Standing.{Server}
-use Rattle.auth_server.specs.Requests.{kind_of}
 use Rattle.term_trees.specs.Trees.{Tree}
-use Rattle.term_trees.specs.declared.kind.MacKind.{MacKind}
 use Rattle.wire_model.specs.declared.step.Step.{Step}
 use Rattle.wire_model.specs.declared.step.Step.TheVariants.{Start, Out, In, Ask, Heard, Unheard, Accept, Fail, Reply, Refused, AsGot, AsGave, AsEnd}
 use Rattle.symbolic_runs.specs.Moves.{Move}
 use Rattle.symbolic_runs.specs.Sessions.{Deed, got, gives_tickets, gives_challenge, gives_vouch, refuses}
-use Rattle.symbolic_runs.specs.Runs.{Setting as Symbolic, Event, Run, starts, talks, moves, serves, deeds_of, requests as requests_run}
+use Rattle.symbolic_runs.specs.Runs.{Setting as Symbolic, Run, starts, talks, moves, serves, deeds_of, requests as requests_run}
 use Rattle.wire_histories.specs.Histories.{History, Act, started, gave, took, asked, answered, unanswered, accepted, failed, Deal, requested, replied, ended, deal_in, if_named}
 use Rattle.clean_runs.specs.Labels.{Dealt, Labelling, dealt, opened_as, or_so, or_zero, requests_in}
-use Rattle.clean_runs.specs.Runs.{conv_events, deed_by, deeds_answering, deeds_by, deeds_for_deal, events_of, grant_at, grant_by, if_some, is_request, run_from, session_events, session_number, talk_events, vouch_deed}
-use Rattle.clean_runs.proofs.Numbers.{deeds_at, differ, same_name}
+use Rattle.clean_runs.specs.Runs.{conv_events, deed_by, deeds_answering, deeds_by, deeds_for_deal, events_of, grant_at, if_some, is_request, session_events, session_number, talk_events}
+use Rattle.clean_runs.proofs.Numbers.{differ, same_name}
 
 -- ---- what a step is to the authentication server
 

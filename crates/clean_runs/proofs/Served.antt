@@ -10,13 +10,13 @@ use Rattle.term_trees.specs.Trees.{Tree}
 use Rattle.term_trees.specs.declared.kind.MacKind.{MacKind}
 use Rattle.wire_model.specs.declared.step.Step.{Step}
 use Rattle.wire_model.specs.declared.step.Step.TheVariants.{AsGot}
-use Rattle.symbolic_runs.specs.Sessions.{Deed, got, gives_tickets, gives_challenge, gives_vouch, held, refuses}
-use Rattle.symbolic_runs.specs.Runs.{Setting as Symbolic, Run, serves, deeds_of, requests as requests_run}
+use Rattle.symbolic_runs.specs.Sessions.{Deed, got, gives_tickets, gives_challenge, held, refuses}
+use Rattle.symbolic_runs.specs.Runs.{Setting as Symbolic, serves, deeds_of, requests as requests_run}
 use Rattle.wire_histories.specs.Histories.{History, Deal, requested, replied, ended}
-use Rattle.clean_runs.specs.Labels.{Dealt, Labelling, dealt, opened_as, or_so, requests_in}
-use Rattle.clean_runs.specs.Runs.{deed_by, deeds_answering, deeds_by, deeds_for_deal, events_of, grant_at, grant_by, if_some, is_request, mail_kind, run_from, session_events, session_number, vouch_deed}
+use Rattle.clean_runs.specs.Labels.{Dealt, Labelling, dealt, opened_as, requests_in}
+use Rattle.clean_runs.specs.Runs.{deed_by, deeds_by, deeds_for_deal, events_of, grant_at, grant_by, if_some, is_request, mail_kind, run_from, session_events, session_number, vouch_deed}
 use Rattle.clean_runs.proofs.Numbers.{deeds_at, differ, same_name}
-use Rattle.clean_runs.proofs.Requests.{IsElsewhere, IsLater, Opening, Serving, Unasked, below_requests, comes, deal_of, dealt_by, deeds_append, deeds_other, deeds_same, elsewhere, given_number, named_deal, opened, opened_number, opening, or_some, other_deal, other_number, proceeds, requests_append, serving, unasked, unasked_deal, unasked_deeds, unopened, unopened_number}
+use Rattle.clean_runs.proofs.Requests.{Opening, Serving, Unasked, below_requests, comes, deal_of, dealt_by, deeds_append, deeds_other, deeds_same, elsewhere, given_number, named_deal, opened, opened_number, opening, or_some, other_deal, other_number, proceeds, requests_append, serving, unasked, unasked_deal, unasked_deeds, unopened, unopened_number}
 
 -- ---- numbers that no session has yet
 

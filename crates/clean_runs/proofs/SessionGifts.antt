@@ -1,12 +1,12 @@
 -- What a session answers is what the table of the authentication server's deeds allows, and is spelled by its one label.
-use Rattle.std.proofs.Common.{◌≡◌, ℕ, ◌<◌, List, [], ◌∷◌, ◌++◌, append-nil, length, take, Option, Some, Ok, Bool, true, false, ◌&&◌, ◌==◌, if◌then◌else◌, refl, sym, ap, subst, ◌∙◌}
+use Rattle.std.proofs.Common.{◌≡◌, ℕ, ◌<◌, List, [], ◌∷◌, ◌++◌, append-nil, length, take, Option, Some, Ok, Bool, true, false, ◌==◌, if◌then◌else◌, refl, sym, ap, subst, ◌∙◌}
 use Rattle.std.proofs.lemmas.Bool.{eq-eqb}
 use Rattle.ticket_codec.specs.Fields.{field}
 use Rattle.ticket_codec.specs.Request.{request_of}
 use Rattle.ticket_codec.specs.declared.request.TicketReq.{TicketReq}
 use Rattle.ticket_codec.proofs.RequestLaws.{request_taken}
 use Rattle.auth_server.specs.Requests.{Asked, Challenge, is_for, kind_of, needed}
-use Rattle.auth_server.specs.Answers.{Knowledge, answer, challenge_answer, challenge_text, held, word}
+use Rattle.auth_server.specs.Answers.{Knowledge, answer, held, word}
 use Rattle.auth_server.specs.Standing.{knowledge}
 use Rattle.term_trees.specs.declared.kind.MacKind.{MacKind}
 use Rattle.term_trees.specs.declared.kind.MacKind.TheVariants.{Apop, Cram}
@@ -14,14 +14,14 @@ use Rattle.term_trees.specs.Trees.{Tree, plain, password, digest}
 use Rattle.term_trees.specs.Spellings.{Atoms, spelling}
 use Rattle.symbolic_runs.specs.Forms.{ticket_request, mail_request, mail_challenge, pair, request}
 use Rattle.symbolic_runs.specs.Gifts.{part as piece_of}
-use Rattle.symbolic_runs.specs.Sessions.{Deed, Grant, MaySpeak, SessionRow, Used, got, gives_tickets, gives_challenge, gives_vouch, keys, key_and_password, refuses, grants_tickets, challenges, vouches, refusal, deed_labels, tickets_given, vouch_given}
+use Rattle.symbolic_runs.specs.Sessions.{Deed, Grant, MaySpeak, SessionRow, got, gives_tickets, gives_challenge, gives_vouch, keys, key_and_password, grants_tickets, challenges, vouches, refusal, deed_labels, tickets_given, vouch_given}
 use Rattle.symbolic_runs.specs.Runs.{Setting as Symbolic, Run, Arrives}
 use Rattle.std.specs.List.{Contains}
 use Rattle.wire_histories.specs.Legal.{Setting, known_to}
 use Rattle.wire_histories.specs.Sessions.{IsLong, MayCome}
-use Rattle.clean_runs.specs.Runs.{grant_by, known_name, name_where, speakers, tickets_for, vouch_for}
+use Rattle.clean_runs.specs.Runs.{grant_by, known_name, name_where, tickets_for, vouch_for}
 use Rattle.clean_runs.specs.Forms.{IsAnswered, IsRequest, IsRight}
-use Rattle.clean_runs.proofs.Answers.{ChallengeIs, IsReading, answered_challenge, challenge_given, challenge_is, first_word, grant_spells, short_name, vouch_spells}
+use Rattle.clean_runs.proofs.AnswerBytes.{ChallengeIs, IsReading, answered_challenge, challenge_given, challenge_is, first_word, grant_spells, short_name, vouch_spells}
 use Rattle.clean_runs.proofs.SessionStands.{Answered, by_challenge, by_refusal, by_tickets, by_vouch, kind_number}
 use Rattle.clean_runs.proofs.Speakers.{used_speaks, user_speaks}
 

@@ -1,24 +1,21 @@
 -- Each deal of a session goes on with the run of a clean legal history: a request comes to a session that owes no answer, an
 -- answer is what the table of the server's deeds allows, and the end of a session is no event.
-use Rattle.std.proofs.Common.{◌≡◌, ℕ, ◌≤◌, List, [], ◌∷◌, ◌++◌, append_assoc, map, length, Some, None, Ok, Bool, false, true, if◌then◌else◌, refl, sym, ap, subst, ◌∙◌, arith}
+use Rattle.std.proofs.Common.{◌≡◌, ℕ, ◌≤◌, List, [], ◌∷◌, ◌++◌, append_assoc, map, length, false, true, refl, sym, ap, subst, ◌∙◌, arith}
 use Rattle.ticket_codec.specs.Request.{request_of}
 use Rattle.auth_server.specs.Requests.{Asked, is_served, kind_of}
 use Rattle.auth_server.specs.Answers.{Knowledge, answer}
-use Rattle.term_trees.specs.Trees.{Tree}
 use Rattle.term_trees.specs.Spellings.{spelling}
 use Rattle.wire_model.specs.declared.step.Step.{Step}
 use Rattle.wire_model.specs.declared.step.Step.TheVariants.{Start, Out, In, Ask, Heard, Unheard, Accept, Fail, Reply, Refused, AsGot, AsGave, AsEnd}
-use Rattle.symbolic_runs.specs.Sessions.{Deed, SessionRow, deed_labels, got, is_idle, comes as comes_row}
-use Rattle.symbolic_runs.specs.Runs.{Event, Run, IsRun, then_serves, serves, deeds_of, given as labels_given, requests as requests_run}
-use Rattle.wire_histories.specs.Histories.{History, Deal, requested, replied, ended, deal_in, deals_of, if_named}
+use Rattle.symbolic_runs.specs.Sessions.{SessionRow, got, is_idle, comes as comes_row}
+use Rattle.symbolic_runs.specs.Runs.{Event, IsRun, then_serves, serves, deeds_of, given as labels_given}
+use Rattle.wire_histories.specs.Histories.{History, Deal, requested, replied, deal_in, deals_of}
 use Rattle.wire_histories.specs.Legal.{IsServed, known_to}
 use Rattle.wire_histories.specs.Sessions.{IsSession, MayCome, has_ended, session_deals}
-use Rattle.clean_runs.specs.Labels.{Dealt, Labelling, dealt, opened_as, requests_in}
+use Rattle.clean_runs.specs.Labels.{Dealt, Labelling, dealt, requests_in}
 use Rattle.clean_runs.specs.Runs.{deed_by, deeds_by, deeds_for_deal, events_of, grant_at, grant_by, session_number}
 use Rattle.clean_runs.specs.Forms.{IsAnswered}
 use Rattle.clean_runs.specs.Clean.{EachIsAnswered, IsLabelled, ReadsWords}
-use Rattle.clean_runs.specs.Statements.{IsSpelled}
-use Rattle.clean_runs.proofs.Answers.{IsReading}
 use Rattle.clean_runs.proofs.Bridge.{Case, GoesWell, SessionsGo, run, same_self, setting}
 use Rattle.clean_runs.proofs.Requests.{Opening, deal_of, named_deal, opened, opened_number, opening, unopened, unopened_number}
 use Rattle.clean_runs.proofs.Served.{as_many_requests, fresh_deeds, grant_placed, opened_by, own_deeds, placed}

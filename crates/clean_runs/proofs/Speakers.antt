@@ -1,5 +1,5 @@
 -- A host that the authentication server's table lets speak for a user is among the user's speakers.
-use Rattle.std.proofs.Common.{◌≡◌, ℕ, zero, List, [], ◌∷◌, ◌++◌, filter, map, Bool, true, false, ◌||◌, Option, Some, None, unwrap_or, is_some, if◌then◌else◌, inl, inr, refl, sym, ap, subst, ◌∙◌, arith}
+use Rattle.std.proofs.Common.{◌≡◌, ℕ, zero, List, [], ◌∷◌, filter, map, Bool, true, false, ◌||◌, Option, Some, None, unwrap_or, is_some, if◌then◌else◌, inl, inr, refl, sym, ap, subst, ◌∙◌, arith}
 use Rattle.std.specs.List.{Contains}
 use Rattle.std.specs.Map.{lookup}
 use Rattle.std.specs.Str.{bytes_eq}

@@ -1,8 +1,8 @@
 -- What an answer of the authentication server spells: keys of names and keys that are made up, tickets, what vouches for a
 -- right answer, and challenges; and where the challenge of a request stands in its bytes.
-use Rattle.std.proofs.Common.{◌≡◌, ℕ, ◌+◌, ◌-◌, ◌*◌, ◌<◌, ◌≤◌, List, [], ◌∷◌, ◌++◌, append_assoc, append-nil, length, length-append, take, drop, replicate, codes, decimal, is_some, All, Option, Some, None, Result, Ok, Err, Bool, true, false, if◌then◌else◌, refl, sym, ap, subst, ◌∙◌, arith}
+use Rattle.std.proofs.Common.{◌≡◌, ℕ, ◌+◌, ◌-◌, ◌*◌, ◌<◌, List, [], ◌∷◌, ◌++◌, append_assoc, append-nil, length, length-append, take, drop, replicate, codes, decimal, is_some, All, Option, Some, None, Ok, Err, Bool, true, false, if◌then◌else◌, refl, sym, ap, subst, ◌∙◌, arith}
 use Rattle.std.proofs.lemmas.Fmt.{length-decimal-le}
-use Rattle.std.proofs.lemmas.List.{length-replicate, length-take, take_at, drop_at, take-append-drop}
+use Rattle.std.proofs.lemmas.List.{length-replicate, length-take, take_at, drop_at}
 use Rattle.std.proofs.lemmas.List.Elements.{All-head}
 use Rattle.hex.specs.Hex.{encode_lower, encode_with, lower_digits}
 use Rattle.md5.proofs.StandardFacts.{length-md5}
@@ -14,18 +14,16 @@ use Rattle.wire_base.specs.Names.{name_field}
 use Rattle.ticket_codec.specs.Authenticator.{authenticator_text}
 use Rattle.ticket_codec.specs.Fields.{HoldsName, field}
 use Rattle.ticket_codec.specs.Fitting.{IsBlock}
-use Rattle.ticket_codec.specs.Request.{IsRequest}
 use Rattle.ticket_codec.specs.Ticket.{ticket_text}
 use Rattle.ticket_codec.specs.declared.request.TicketReq.{TicketReq}
 use Rattle.ticket_codec.proofs.FieldLaws.{behind_field, field_here, length-name_field}
 use Rattle.auth_tables.specs.Keys.{UserKey}
 use Rattle.auth_server.specs.Answers.{challenge_answer, challenge_at, grant, granted_key, shared_key, ticket as ticket_bytes, tickets as tickets_bytes, vouch as vouch_bytes, vouch_text, word}
-use Rattle.auth_server.specs.Standing.{knowledge}
 use Rattle.term_trees.specs.declared.kind.MacKind.{MacKind}
 use Rattle.term_trees.specs.declared.kind.MacKind.TheVariants.{Apop, Cram}
 use Rattle.term_trees.specs.Trees.{Tree, Trees, plain, challenge, long_key, ticket_key, junk_key, joined, seal, digest, none, piece}
-use Rattle.term_trees.specs.Spellings.{Atoms, Spelling, and_then, atom_bytes, digest_bytes, spelling, spelling_all}
-use Rattle.symbolic_runs.specs.Forms.{answer_ok, by_client, for_client, for_server, Fields, AreFields, authenticator, mail_challenge, pair, request, ticket, tickets, vouch}
+use Rattle.term_trees.specs.Spellings.{Atoms, Spelling, and_then, atom_bytes, digest_bytes, spelling}
+use Rattle.symbolic_runs.specs.Forms.{answer_ok, by_client, Fields, AreFields, authenticator, mail_challenge, pair, request, ticket}
 use Rattle.symbolic_runs.specs.Gifts.{part as piece_of}
 use Rattle.symbolic_runs.specs.Sessions.{client_key, server_key, ticket_for_client, ticket_for_server, tickets_given, vouch_given, vouched_proof, vouched_ticket}
 use Rattle.wire_histories.specs.Legal.{Setting, known_to}
