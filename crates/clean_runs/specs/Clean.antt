@@ -171,7 +171,7 @@ pub record IsClean (history : History) (z : Setting) (atoms : Atoms) (l : Labell
   pub sevens : GivesSevens atoms
   pub words : AtEachPlace history (ReadsStep atoms)
   pub table : ReadsTable atoms z
-  -- as the call asks for it that makes the server: so short that five digits tell how long a challenge is
+  -- so short, as each is of which a server is made, that five digits tell how long a challenge is
   pub domain : IsName 48 z.server.dom
   pub holders : AtEachPlace history (ReadsHolder atoms z l)
   pub nonces_apart : AreApart atoms is_nonce
