@@ -71,6 +71,10 @@ stands_still done q None (Some c) fresh s = record { opened = rw fresh.phase s.o
 stands_still done q (Some c) None same s = absurd same
 stands_still done q (Some c) (Some d) same s = record { opened = ap is_opened same.phase ∙ s.opened; hung = ap is_hung same.phase ∙ s.hung; keeps = λ live. keeps_still done q c d same (s.keeps live) }
 
+pub same_itself : (o : Option Connection) → SameAt o o
+same_itself None = tt
+same_itself (Some c) = record { phase = refl; fids = refl; texts = λ fid. refl }
+
 pub runs_same : (H : History) (old new : Running) → RunsAfter H old → SameRunning old new → RunsAfter H new
 runs_same H old new h same = record {
   running = h.running;

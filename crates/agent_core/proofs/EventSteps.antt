@@ -21,9 +21,9 @@ use Rattle.mailboxes.specs.Deliveries.{Delivers, replies_at}
 use Rattle.agent_requests.specs.declared.connection.Connection.{Connection}
 use Rattle.agent_requests.specs.Connections.{IsHungUp, Keeps, is_opened, is_hung}
 use Rattle.agent_requests.proofs.OwnRequests.{IsOwn, answered_own, entered_by}
-use Rattle.logged_talks.specs.declared.logged.LoggedTalks.{LoggedTalks}
-use Rattle.logged_talks.specs.Logging.{Logs}
-use Rattle.logged_talks.proofs.DeedLemmas.{replies_logs}
+use Rattle.agent_shared.specs.LoggedTalks.{LoggedTalks}
+use Rattle.agent_shared.specs.Logging.{Logs}
+use Rattle.agent_shared.proofs.DeedLemmas.{replies_logs}
 use Rattle.agent_shared.specs.declared.shared.Shared.{Shared}
 use Rattle.agent_shared.specs.declared.holders.Holders.{Holders}
 use Rattle.agent_shared.specs.Sharing.{Holds, Shares}

@@ -23,7 +23,7 @@ use Rattle.agent_requests.specs.declared.connection.Connection.{Connection}
 use Rattle.agent_requests.specs.Connections.{Keeps, SameKept, IsFresh, IsHungUp, is_opened, is_hung}
 use Rattle.agent_shared.specs.declared.shared.Shared.{Shared}
 use Rattle.agent_shared.specs.Sharing.{Shares}
-use Rattle.logged_talks.specs.Logging.{calls_in, talks_in}
+use Rattle.agent_shared.specs.Logging.{calls_in, talks_in}
 
 -- ---- connections
 

@@ -5,6 +5,7 @@ ghost use Rattle.agent_history.specs.Histories.{answer_after, is_reply};
 ghost use Rattle.agent_core.specs.Events.{NoneAsked};
 
 use crate::events::{Connections, Stepped, act, has_reply, is_stop};
+use crate::news::{News, STOPPED, news_of};
 use agent_history::{Event, StepAnswer};
 use agent_shared::Shared;
 use key_ring::Key;
@@ -174,6 +175,17 @@ impl Agent {
         match replace(&mut self.state, State::Stopped) {
             State::Stopped => Ok(after_stop(event)),
             State::Runs(running) => self.run(running, event, out),
+        }
+    }
+
+    /// What is new since this was last asked, for those who wait. The agent stands for what it stood for, and it takes no
+    /// memory.
+    pub fn take_news(&mut self) -> News
+        ensures { (H : History) → StandsFor H self.old → StandsFor H self.new }
+    {
+        match &mut self.state {
+            State::Stopped => STOPPED,
+            State::Runs(running) => news_of(&mut running.shared),
         }
     }
 

@@ -3,6 +3,8 @@
 
 mod agent;
 mod events;
+mod news;
 
 pub use agent::Agent;
 pub use agent_history::{Event, Shape, StepAnswer};
+pub use news::{NO_NEWS, News, SettledFor};

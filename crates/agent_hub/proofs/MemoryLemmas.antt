@@ -7,8 +7,8 @@ use Rattle.agent_history.specs.declared.event.Event.TheVariants.{Request, Hang, 
 use Rattle.agent_history.specs.Deeds.{was_opened}
 use Rattle.agent_history.specs.Conversations.{Drop, Question, due, drops, due_of, next_question, questions}
 use Rattle.agent_history.specs.Histories.{History, answer, deeds, is_reply}
-use Rattle.agent_requests.specs.declared.connection.Connection.{Connection}
-use Rattle.agent_requests.specs.Connections.{is_hung, is_opened}
+use Rattle.agent_core.specs.Connection.{Connection}
+use Rattle.agent_core.specs.Connections.{is_hung, is_opened}
 use Rattle.agent_core.specs.declared.agent.Running.{Running}
 use Rattle.agent_core.specs.declared.agent.State.{State}
 use Rattle.agent_core.specs.declared.agent.State.TheVariants.{Runs, Stopped}

@@ -1,3 +1,4 @@
+pub use Rattle.agent_core.specs.Events
 pub mod EventOnce
 pub mod Submits
 pub mod Entries

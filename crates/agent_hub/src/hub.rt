@@ -4,7 +4,7 @@ ghost use Rattle.agent_hub.specs.EventOnce.{event_once};
 
 use crate::bells::Bells;
 use crate::held::Held;
-use agent_core::{Agent, Event, StepAnswer};
+use agent_core::{Agent, Event, NO_NEWS, News, StepAnswer};
 use std::alloc::Global;
 use std::sync::Wait;
 use turn_lock::{Seat, TurnCall, TurnLock};
@@ -22,6 +22,8 @@ pub type Submitted = Result<StepAnswer, NoMemory>;
 struct Submit<'a> {
     event: &'a Event,
     out: &'a mut Bytes,
+    /// What is new behind it.
+    news: News,
     ghost is_event: { IsEvent event.now } by { event_once event.now },
 }
 
@@ -38,7 +40,9 @@ impl<'a> TurnCall<Held> for Submit<'a> {
         × IsAnswered history call.event.now reply call.out.now after.out.now };
 
     fn run(&mut self, state: &mut Held) -> Submitted {
-        state.agent.step(self.event, self.out)
+        let answer = state.agent.step(self.event, self.out);
+        self.news = state.agent.take_news();
+        answer
     }
 }
 
@@ -63,34 +67,37 @@ impl Hub {
         ensures front { IfOk result (λ made. front made.1 ≡ []) }
         ensures number { IfOk result (λ made. numbers made.1 ≡ 0 ∷ []) }
     {
+        let bells = Bells::new(alloc)?;
         match TurnLock::new(alloc, Held { agent }) {
             Ok((lock, seat)) => {
-                let hub = Hub {
-                    lock,
-                    bells: Bells::new(),
-                };
+                let hub = Hub { lock, bells };
                 Ok((hub, seat))
             }
             Err(_) => Err(NoMemory),
         }
     }
 
-    // Carries an event out, in one turn.
+    // Carries an event out, in one turn, and tells what is new behind it.
     fn carry_out<R: Wait>(
         &self,
         rt: &R,
         seat: HubSeat,
         event: &Event,
         out: &mut Bytes,
-    ) -> (HubSeat, Submitted)
+    ) -> (HubSeat, Submitted, News)
         requires seat { IsSeatOf self.now seat }
         requires event { IsEvent event.now }
         ensures seat { IsSeatOf self.now result.0 }
         ensures turned { Turned (entered event.now result.1)
             (λ history. IsAnswered history event.now result.1 out.old out.new) seat result.0 }
     {
-        let mut call = Submit { event, out };
-        self.lock.with_turn(rt, seat, &mut call)
+        let mut call = Submit {
+            event,
+            out,
+            news: NO_NEWS,
+        };
+        let (seat, answer) = self.lock.with_turn(rt, seat, &mut call);
+        (seat, answer, call.news)
     }
 
     /// Submits one event, and puts behind `out` what it gives. May wait for the turns of others. A frame is whole and has
@@ -110,20 +117,21 @@ impl Hub {
         ensures seat { IsSeatOf self.now result.0 }
         ensures submitted { IsSubmitted event.now result.1 out.old out.new seat result.0 }
     {
-        let (seat, answer) = self.carry_out(rt, seat, event, out);
-        self.bells.ring_for(event);
+        let (seat, answer, news) = self.carry_out(rt, seat, event, out);
+        self.bells.ring_for(event, news);
         (seat, answer)
     }
 
-    /// How often there may have been new replies, on whatever connection, of which the low 32 bits count.
-    pub fn count_replies(&self) -> u32 {
-        self.bells.replies.count()
+    /// How often there may have been new replies on a connection, of which the low 32 bits count.
+    pub fn count_replies(&self, conn: u64) -> u32 {
+        self.bells.of(conn).count()
     }
 
-    /// Sleeps until there may be new replies, unless there may have been some since there were so many. Who reads the count
-    /// before a take that finds none doesn't sleep past a reply. It claims nothing: the agent has to be looked at again.
-    pub fn sleep_for_replies<R: Wait>(&self, rt: &R, count: u32) {
-        self.bells.replies.sleep(rt, count);
+    /// Sleeps until there may be new replies on a connection, unless there may have been some since there were so many. Who
+    /// reads the count before a take that finds none doesn't sleep past a reply. It claims nothing: the agent has to be
+    /// looked at again.
+    pub fn sleep_for_replies<R: Wait>(&self, rt: &R, conn: u64, count: u32) {
+        self.bells.of(conn).sleep(rt, count);
     }
 
     /// Two seats with the front of the one that came: it keeps its numbers, and the other has a new number, without

@@ -144,12 +144,12 @@ pub fn serve_out<R: Wait, W: Sink>(
 {
     let mut gathered = Bytes::new(alloc);
     for _ in rt.forever() {
-        let heard = hub.count_replies();
+        let heard = hub.count_replies(conn);
         let (next, round) = deliver(rt, hub, seat, conn, &mut gathered, sink);
         seat = next;
         match round {
             Ok(true) => {}
-            Ok(false) => hub.sleep_for_replies(rt, heard),
+            Ok(false) => hub.sleep_for_replies(rt, conn, heard),
             Err(end) => return (seat, end),
         }
     }

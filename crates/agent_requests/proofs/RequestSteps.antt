@@ -29,7 +29,7 @@ use Rattle.side_files.specs.declared.line.PromptKind.{PromptKind}
 use Rattle.side_files.specs.Lines.{found}
 use Rattle.side_files.specs.Replies as prompt
 use Rattle.ctl_lines.specs.Switches.{switches}
-use Rattle.logged_talks.specs.Logging.{Logs}
+use Rattle.agent_shared.specs.Logging.{Logs}
 use Rattle.mailboxes.proofs.DeliveryLemmas.{keys_delivers}
 use Rattle.agent_history.specs.Requests.{Call, refusal, after, reply_of, agreed, effective, lets_read, line_found, nofid, lets_write, write_reply, written, line_deed, lines_done, is_known, is_rpc, most_msize, most_talks}
 use Rattle.rpc_file.specs.Requests as rpc

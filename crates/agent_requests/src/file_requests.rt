@@ -13,7 +13,7 @@ ghost use Rattle.agent_history.specs.Requests.{ctl_text, effective, lets_read, l
 ghost use Rattle.mailboxes.specs.Kept.{reply_bytes};
 ghost use Rattle.mailboxes.specs.Deliveries.{under};
 ghost use Rattle.ctl_lines.specs.Switches.{switches};
-ghost use Rattle.logged_talks.specs.Logging.{Logs};
+ghost use Rattle.agent_shared.specs.Logging.{Logs};
 ghost use Rattle.agent_requests.specs.Connections.{Keeps, SameKept, Says, Told, Tried};
 ghost use Rattle.agent_requests.specs.LineRequests.{switching};
 
@@ -24,9 +24,8 @@ use crate::line_requests::{kind_at, read_line, write_answer};
 use crate::msize::Msize;
 use crate::refused::{Refusal, Refused, Tried};
 use crate::rpc_requests::{read_rpc, write_reply, write_rpc};
-use agent_shared::{Shared, is_rpc};
+use agent_shared::{LoggedTalks, Shared, is_rpc};
 use file_tree::{Node, reads, writes};
-use logged_talks::LoggedTalks;
 use mailboxes::Reply;
 use nine_codec::put_read;
 use wire_base::{Bytes, NoMemory};

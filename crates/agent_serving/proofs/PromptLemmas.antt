@@ -17,7 +17,7 @@ use Rattle.agent_history.specs.declared.event.Event.TheVariants.{Hang, Request, 
 use Rattle.agent_history.specs.declared.event.StepAnswer.{StepAnswer}
 use Rattle.agent_history.specs.declared.event.StepAnswer.TheVariants as a
 use Rattle.agent_history.specs.Histories.{History, answer, is_reply}
-use Rattle.agent_core.specs.Events.{Answers}
+use Rattle.agent_hub.specs.Events.{Answers}
 use Rattle.agent_hub.specs.Submits.{HubSeat, IsSubmitted}
 use Rattle.agent_hub.specs.Entries.{Adds, Entered, LastIs, entry, events_in}
 use Rattle.agent_hub.proofs.EntryLemmas.{adds_none, adds_one, adds_still, before_it}

@@ -1,3 +1,4 @@
+pub use Rattle.agent_hub.specs.Submits
 pub mod Prompting
 pub mod Jobs
 pub mod Serving

@@ -10,5 +10,6 @@ mod prompts;
 mod tests;
 
 pub use accept::{ServeEnd, serve};
+pub use agent_hub::{Agent, Hub, HubSeat};
 pub use job::{Job, JobEnd, run_job};
 pub use prompts::{PromptsEnd, serve_prompts};

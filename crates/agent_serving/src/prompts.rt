@@ -121,12 +121,12 @@ fn hear<R: Wait>(
         → HearsOne conn chain now first result.0 result.1 out reply.new }
 {
     for _ in rt.forever() {
-        let rung = hub.count_replies();
+        let rung = hub.count_replies(conn);
         let (next, taken) = take_one(rt, hub, seat, conn, reply);
         seat = next;
         match taken {
             Ok(true) => return (seat, Ok(())),
-            Ok(false) => hub.sleep_for_replies(rt, rung),
+            Ok(false) => hub.sleep_for_replies(rt, conn, rung),
             Err(end) => return (seat, Err(end)),
         }
     }

@@ -15,7 +15,7 @@ use Rattle.agent_history.specs.Deeds.{Deed, OfPrompts, OfTalk}
 use Rattle.agent_history.specs.SideFiles.{askers, prompts_of}
 use Rattle.agent_history.specs.Conversations.{Speaker, shut, speakers}
 use Rattle.agent_talks.specs.Speaks.{is_among}
-use Rattle.asking_talks.specs.Asking.{times}
+use Rattle.logged_talks.specs.Asking.{times}
 use Rattle.logged_talks.specs.declared.logged.LoggedTalks.{LoggedTalks}
 use Rattle.logged_talks.specs.Logging.{Logs}
 use Rattle.agent_shared.proofs.OwnDeeds.{delivered_answers}

@@ -1,3 +1,4 @@
+pub use Rattle.logged_talks.proofs.DeedLemmas
 pub mod OwnDeeds
 pub mod ShareLemmas
 pub mod FidLemmas

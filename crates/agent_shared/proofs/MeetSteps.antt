@@ -18,7 +18,7 @@ use Rattle.agent_history.specs.SideFiles.{all_served, prompts_of}
 use Rattle.agent_history.specs.Conversations.{asking, resumed, standing_of}
 use Rattle.agent_history.specs.Requests.{carried, carrying_out, said_by}
 use Rattle.agent_talks.specs.Speaks.{IsReady, stands}
-use Rattle.asking_talks.specs.Asking.{is_asker}
+use Rattle.logged_talks.specs.Asking.{is_asker}
 use Rattle.logged_talks.specs.declared.logged.LoggedTalks.{LoggedTalks}
 use Rattle.logged_talks.specs.Logging.{Logs, carried_logged, carried_logged_in, logged_by, logged_talk}
 use Rattle.agent_shared.specs.declared.shared.Shared.{Shared}

@@ -5,7 +5,7 @@ ghost use Rattle.agent_history.specs.SideFiles.{askers, file_of};
 ghost use Rattle.agent_history.specs.Conversations.{all_shut, closed, given_up_by, shut};
 ghost use Rattle.mailboxes.specs.Deliveries.{KeepsNone, SameRoom, StillNone};
 ghost use Rattle.side_files.specs.declared.line.PromptKind.TheVariants as k;
-ghost use Rattle.asking_talks.specs.Asking.{is_asker};
+ghost use Rattle.logged_talks.specs.Asking.{is_asker};
 ghost use Rattle.agent_shared.specs.Sharing.{Shares};
 
 use crate::shared::Shared;

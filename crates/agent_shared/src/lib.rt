@@ -13,4 +13,5 @@ mod tests;
 
 pub use deliver::{read_too_small, spell_told};
 pub use holders::{Holder, Holders};
+pub use logged_talks::LoggedTalks;
 pub use shared::{Shared, is_rpc};

@@ -13,3 +13,10 @@ pub mod Bytes
 pub mod SkServerLaw
 pub mod SkClients
 pub mod SkClientLaw
+pub mod Requests
+pub mod Served
+pub mod SessionStands
+pub mod Speakers
+pub mod AnswerBytes
+pub mod SessionGifts
+pub mod SessionLaw

@@ -1,15 +1,12 @@
--- The bridge for the roles that are shown, in histories without sessions.
-use Rattle.std.proofs.Common.{◌≡◌, ℕ, List, [], ◌∷◌, ◌++◌, append_assoc, Bool, if◌then◌else◌, refl, sym, ap, ◌∙◌}
-use Rattle.wire_model.specs.declared.step.Step.{Step}
+-- The bridge for the roles that are shown.
 use Rattle.symbolic_runs.proofs.SecrecyLaws.{secrecy}
-use Rattle.wire_histories.specs.Histories.{Deal, History, deal_in, deals_of}
 use Rattle.wire_histories.specs.Legal.{Spoken}
 use Rattle.clean_runs.specs.Runs.{run_of, setting_of}
-use Rattle.clean_runs.specs.Statements.{HasNoSessions, IsBridgedSoFar, IsSecretSoFar, IsShownRole, OfEveryCleanHistory, of_a_client, of_a_mail_client, of_a_server}
-use Rattle.clean_runs.proofs.Bridge.{Case, bridged, same_self}
+use Rattle.clean_runs.specs.Statements.{IsBridgedSoFar, IsSecretSoFar, IsShownRole, OfEveryCleanHistory, of_a_client, of_a_mail_client, of_a_server}
+use Rattle.clean_runs.proofs.Bridge.{Case, bridged}
 use Rattle.clean_runs.proofs.Follows.{IsLawful}
 use Rattle.clean_runs.proofs.MailClientLaw.{mail_client_is_lawful}
-use Rattle.clean_runs.proofs.Steps.{Deals}
+use Rattle.clean_runs.proofs.SessionLaw.{sessions_go}
 use Rattle.clean_runs.proofs.SkClientLaw.{client_is_lawful}
 use Rattle.clean_runs.proofs.SkServerLaw.{server_is_lawful}
 
@@ -18,25 +15,10 @@ shown spoken (of_a_mail_client mail client) = mail_client_is_lawful spoken (reco
 shown spoken (of_a_client p9sk1 role) = client_is_lawful spoken (record { p9sk1 = p9sk1; client = role })
 shown spoken (of_a_server p9sk1 role) = server_is_lawful spoken (record { p9sk1 = p9sk1; server = role })
 
-deals_append : (name : List ℕ) (later past : History) → deals_of name (later ++ past) ≡ deals_of name later ++ deals_of name past
-deals_append name [] past = refl
-deals_append name (step ∷ later) past = ap (λ xs. deal_in name step ++ xs) (deals_append name later past) ∙ sym (append_assoc (deal_in name step) (deals_of name later) (deals_of name past))
-
-none_behind : (xs ys : List Deal) → xs ++ ys ≡ [] → ys ≡ []
-none_behind [] ys none = none
-none_behind (x ∷ xs) ys none = absurd (cc)
-
-no_deal : (history later past : History) (step : Step) (session : List ℕ) (deal : Deal) → HasNoSessions history → Deals session deal step → history ≡ later ++ step ∷ past → ⊥
-no_deal history later past step session deal none d place =
-    let here : deals_of session (step ∷ past) ≡ [] = none_behind (deals_of session later) (deals_of session (step ∷ past)) (sym (deals_append session later (step ∷ past)) ∙ sym (ap (deals_of session) place) ∙ none session) in
-    let is : deal_in session step ≡ deal ∷ [] = d.deals session ∙ ap (λ (b : Bool). if b then deal ∷ [] else []) (same_self session) in
-    let some : deal ∷ deals_of session past ≡ [] = sym (ap (λ xs. xs ++ deals_of session past) is) ∙ here in
-    absurd (cc)
-
 pub bridged_so_far : OfEveryCleanHistory IsBridgedSoFar
-bridged_so_far history z atoms l legal clean none roles =
+bridged_so_far history z atoms l legal clean roles =
     let c : Case = record { history = history; z = z; atoms = atoms; l = l; legal = legal; clean = clean; lawful = λ name spoken is. shown spoken (roles name spoken is) } in
-    bridged c (λ later past step session deal d place. absurd (no_deal history later past step session deal none d place))
+    bridged c (sessions_go c)
 
 pub secret_so_far : OfEveryCleanHistory IsSecretSoFar
-secret_so_far history z atoms l legal clean none roles = secrecy (setting_of z l history) (run_of z l history) (bridged_so_far history z atoms l legal clean none roles).run.by_the_tables
+secret_so_far history z atoms l legal clean roles = secrecy (setting_of z l history) (run_of z l history) (bridged_so_far history z atoms l legal clean roles).run.by_the_tables

@@ -5,6 +5,7 @@
 -- label of a message whose tests all passed has the form of its move.
 use Rattle.std.specs.Prelude.{◌≡◌, ℕ, ◌+◌, ◌*◌, ◌<◌, ◌^◌, List, [], ◌∷◌, ◌++◌, All, Bool, true, false, length, Option, Some, None, Ok, unwrap_or}
 use Rattle.hex.specs.Hex.{encode_lower}
+use Rattle.wire_base.specs.Names.{IsName}
 use Rattle.term_trees.specs.Trees.{Tree, Trees, plain, nonce, challenge, long_key, ticket_key, junk_key, password, joined, seal, digest, none, piece}
 use Rattle.term_trees.specs.Derivations.{Derives}
 use Rattle.term_trees.specs.Spellings.{Atoms, bytes_of, spelling}
@@ -107,6 +108,10 @@ is_password t = false
 abbrev pub AreApart : Atoms → (Tree → Bool) → Type 0
 AreApart atoms kind = (a b : Tree) (text : List ℕ) → kind a ≡ true → kind b ≡ true → Reads atoms a text → Reads atoms b text → a ≡ b
 
+-- a key has seven bytes
+abbrev pub GivesSevens : Atoms → Type 0
+GivesSevens atoms = (key : Tree) (b : List ℕ) → is_key key ≡ true → Reads atoms key b → length b ≡ 7
+
 -- ---- (ii) what is taken
 
 -- the public parts of a tree are bytes
@@ -163,8 +168,11 @@ FormsStep atoms s l past step = Unit {0}
 pub record IsClean (history : History) (z : Setting) (atoms : Atoms) (l : Labelling) : Type 0 where
   pub short : length history < 2 ^ 31
   pub bytes : GivesBytes atoms
+  pub sevens : GivesSevens atoms
   pub words : AtEachPlace history (ReadsStep atoms)
   pub table : ReadsTable atoms z
+  -- so short, as each is of which a server is made, that five digits tell how long a challenge is
+  pub domain : IsName 48 z.server.dom
   pub holders : AtEachPlace history (ReadsHolder atoms z l)
   pub nonces_apart : AreApart atoms is_nonce
   pub challenges_apart : AreApart atoms is_challenge

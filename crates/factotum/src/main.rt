@@ -5,16 +5,14 @@
 
 ghost use Rattle.std.specs.Prelude.{◌≡◌, IfErr, IfOk, true};
 ghost use Rattle.std.specs.Arc.{arc_value};
-ghost use Rattle.agent_hub.specs.Submits.{IsSeatOf};
 ghost use Rattle.authsrv_program.specs.Statuses.{is_printable};
+ghost use Rattle.serve_program.specs.Submits.{IsSeatOf};
 ghost use Rattle.serve_program.specs.Words.{IsWithin};
 
-use agent_core::Agent;
-use agent_hub::{Hub, HubSeat};
-use agent_serving::{ServeEnd, serve};
 use factotum_program::{Status, Task, print_status, read_words, run_command};
 use serve_program::{
-    Again, HubSpawner, Task as JobTask, Tools, end_number, print_end, read_serve_words,
+    Again, Agent, Hub, HubSeat, HubSpawner, ServeEnd, Task as JobTask, Tools, end_number,
+    print_end, read_serve_words, serve,
 };
 use socket_dialer::TcpDialer;
 use socket_listener::SocketListener;

@@ -12,7 +12,7 @@ use Rattle.mailboxes.proofs.DeliveryLemmas.{untaken_taken}
 use Rattle.agent_core.specs.declared.agent.Agent.{Agent}
 use Rattle.agent_core.specs.declared.agent.State.{State}
 use Rattle.agent_core.specs.declared.agent.State.TheVariants.{Runs, Stopped}
-use Rattle.agent_requests.specs.declared.connection.Connection.{Connection}
+use Rattle.agent_core.specs.Connection.{Connection}
 use Rattle.agent_core.specs.Events.{SameAt, gives_reply, is_some_left}
 use Rattle.agent_core.specs.Agents.{StandsFor, SameState, SameAgent, connection_at, replies_in, gives_in, kept_replies}
 use Rattle.wire_streams.specs.declared.dialer.Outcome.{Outcome}

@@ -1,2 +1,3 @@
+pub use Rattle.asking_talks.specs.Asking
 pub mod Ahead
 pub mod Logging

@@ -5,10 +5,12 @@
 mod mailbox;
 mod mailboxes;
 mod reply;
+mod settled_for;
 #[cfg(test)]
 mod tests;
 mod wait;
 
 pub use mailboxes::Mailboxes;
 pub use reply::{ErrorText, Reply, ToldAnswer, ToldLine};
+pub use settled_for::SettledFor;
 pub use wait::Read;

@@ -1,6 +1,7 @@
 // The mailboxes of all connections, by their numbers.
 use crate::mailbox::Mailbox;
 use crate::reply::Reply;
+use crate::settled_for::SettledFor;
 use crate::wait::Read;
 use std::alloc::Global;
 use std::collections::BTreeMap;
@@ -15,6 +16,7 @@ const FID_GIVEN_UP: &[u8; 11] = b"unknown fid";
 pub struct Mailboxes {
     boxes: BTreeMap<u64, Mailbox>,
     settled: bool,
+    settled_for: SettledFor,
 }
 
 impl Mailboxes {
@@ -35,6 +37,7 @@ impl Mailboxes {
         Mailboxes {
             boxes: BTreeMap::new(alloc),
             settled: false,
+            settled_for: SettledFor::Nobody,
         }
     }
 
@@ -219,6 +222,7 @@ impl Mailboxes {
         if let Some(mailbox) = self.boxes.get_mut(&conn) {
             let found = mailbox.settle(tag, reply);
             self.settled = found || self.settled;
+            self.settled_for = self.settled_for.and(found, conn);
         }
     }
 
@@ -244,6 +248,7 @@ impl Mailboxes {
             let found = mailbox.has_fid(fid);
             mailbox.settle_fid(fid, FID_GIVEN_UP);
             self.settled = found || self.settled;
+            self.settled_for = self.settled_for.and(found, conn);
         }
     }
 
@@ -334,5 +339,15 @@ impl Mailboxes {
             self.sweep_boxes();
             self.settled = false;
         }
+    }
+
+    /// Whose reads were settled, or refused since their fid was given up, since this was last asked. Replies and reads stay
+    /// as they are, and it takes no memory.
+    pub fn take_settled(&mut self) -> SettledFor
+        ensures { SameMail self.old self.new }
+    {
+        let settled_for = self.settled_for;
+        self.settled_for = SettledFor::Nobody;
+        settled_for
     }
 }

@@ -1,5 +1,5 @@
 // The few calls that no request of the agent makes yet, and the order of replies.
-use crate::{ErrorText, Mailboxes, Read, Reply, ToldAnswer};
+use crate::{ErrorText, Mailboxes, Read, Reply, SettledFor, ToldAnswer};
 use nine_codec::put_flush;
 use rpc_file::{RpcAnswer, answer_fits};
 use std::alloc::Global;
@@ -132,6 +132,24 @@ fn the_reader_of_a_fid_is_the_first_read_that_is_not_settled(rt: HostRuntime) ->
     assert_eq!(rt; mailboxes.count_waits(2), 0);
     mailboxes.sweep();
     assert_eq!(rt; mailboxes.count_waits(1), 1);
+    Ok(())
+}
+
+#[test]
+fn it_is_told_whose_reads_were_settled(rt: HostRuntime) -> Result<(), Fail> {
+    let alloc = rt.alloc();
+    let mut mailboxes = Mailboxes::new(alloc);
+    mailboxes.reserve_wait(alloc, 1)?;
+    mailboxes.wait(1, WAITED_FOR);
+    mailboxes.reserve_wait(alloc, 2)?;
+    mailboxes.wait(2, WAITED_FOR);
+    mailboxes.settle(1, 5, flush_reply(alloc, 5)?);
+    mailboxes.give_up(2, 8);
+    assert_eq!(rt; mailboxes.take_settled(), SettledFor::One(1));
+    assert_eq!(rt; mailboxes.take_settled(), SettledFor::Nobody);
+    mailboxes.give_up(2, 7);
+    mailboxes.settle(1, 5, flush_reply(alloc, 5)?);
+    assert_eq!(rt; mailboxes.take_settled(), SettledFor::Several);
     Ok(())
 }
 

@@ -1,2 +1,3 @@
+pub use Rattle.agent_serving.specs.Submits
 pub mod Endings
 pub mod Words

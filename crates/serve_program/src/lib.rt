@@ -9,6 +9,7 @@ mod task;
 mod tests;
 mod words;
 
+pub use agent_serving::{Agent, Hub, HubSeat, ServeEnd, serve};
 pub use ending::{end_number, print_end};
 pub use spawner::HubSpawner;
 pub use task::{Again, Task, Tools};

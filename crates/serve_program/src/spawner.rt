@@ -3,8 +3,7 @@ ghost use Rattle.std.specs.Prelude.{◌≡◌};
 ghost use Rattle.std.specs.Arc.{arc_value};
 
 use crate::task::{Again, Task};
-use agent_hub::Hub;
-use agent_serving::Job;
+use agent_serving::{Hub, Job};
 use listeners::{NoStart, Spawner};
 use std::alloc::Global;
 use std::sync::Arc;
@@ -43,7 +42,7 @@ where
 {
     ghost use Rattle.std.specs.Prelude.{None, ⊤};
     ghost use Rattle.std.specs.Arc.{arc_value};
-    ghost use Rattle.agent_hub.specs.Submits.{IsSeatOf};
+    ghost use Rattle.agent_serving.specs.Submits.{IsSeatOf};
     ghost use Rattle.agent_serving.specs.Jobs.{seat_of};
 
     ghost takes = { λ s job. IsSeatOf (arc_value s.hub) (seat_of job)

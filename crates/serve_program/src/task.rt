@@ -1,6 +1,5 @@
 // Each job as a task of a thread.
-use agent_hub::Hub;
-use agent_serving::{Job, run_job};
+use agent_serving::{Hub, Job, run_job};
 use attr_tuples::Tuple;
 use prompt_agent::{Chain, Deny, Limited, Prompter};
 use std::alloc::Global;
@@ -42,7 +41,7 @@ pub struct Task<I, O, T> {
 impl<I, O, T> Model for Task<I, O, T> {
     ghost use Rattle.std.specs.Prelude.{⊤};
     ghost use Rattle.std.specs.Arc.{arc_value};
-    ghost use Rattle.agent_hub.specs.Submits.{IsSeatOf};
+    ghost use Rattle.agent_serving.specs.Submits.{IsSeatOf};
     ghost use Rattle.agent_serving.specs.Jobs.{seat_of};
 
     ghost Value = { ⊤ };

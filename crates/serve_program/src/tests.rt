@@ -1,7 +1,6 @@
 // Words of `serve`, its ends, and its jobs as tasks of a spawner.
 use super::{Again, HubSpawner, ServeWords, Task, Tools, end_number, print_end, read_serve_words};
-use agent_hub::{Agent, Hub};
-use agent_serving::{ServeEnd, serve};
+use agent_serving::{Agent, Hub, ServeEnd, serve};
 use listeners::{MemListener, MemSpawner};
 use std::alloc::Global;
 use std::process::Abort;

@@ -5,12 +5,10 @@ ghost use Rattle.wire_streams.specs.Dials.{IsAnswer};
 
 mod sessions;
 
-use agent_hub::{Agent, Hub};
-use agent_serving::{ServeEnd, serve};
 use auth_server::{AuthCore, Session};
 use auth_tables::{parse_keys, parse_speaks};
 use listeners::{ListenFault, Listener, MemListener};
-use serve_program::{Again, HubSpawner, Tools};
+use serve_program::{Again, Agent, Hub, HubSpawner, ServeEnd, Tools, serve};
 use sessions::{LOG_IN, READ_KEYS};
 use std::alloc::Global;
 use std::sync::Arc;

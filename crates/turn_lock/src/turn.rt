@@ -71,8 +71,12 @@ impl<S: Logged> TurnLock<S> {
         reply
     }
 
-    // Gives the turn back, with the entry of the event that the call made, and wakes those that wait: each waits for
-    // another number.
+    // Gives the turn back, with the entry of the event that the call made, and wakes those that wait, if there may be
+    // any: each waits for another number.
+    //
+    // Nobody is woken where no later ticket is seen drawn. All steps on both words stand in one order. Who draws behind
+    // that look looks for his turn behind his draw, and so behind the step that gave this one back: where he finds
+    // another number he parks only while that still stands, and it changes by the turns of those before him.
     fn give_back<N: Made<S::Event>, C: TurnCall<S>>(
         &self,
         seat: &mut Seat<S>,
@@ -88,8 +92,10 @@ impl<S: Logged> TurnLock<S> {
         ensures gave { seat.new.me
             ≡ (after_turn seat.old.me.0 (C.entry _before.now.value _reply.now), []) }
     {
-        self.table.shared.fetch_add::<Give<N>>(seat, GIVEN, 1);
-        self.table.shared.wake_all(GIVEN);
+        let given = self.table.shared.fetch_add::<Give<N>>(seat, GIVEN, 1);
+        if self.table.shared.peek(DRAWN) != given.wrapping_add(1) {
+            self.table.shared.wake_all(GIVEN);
+        }
     }
 
     /// One turn: waits until the seat's ticket is served, and then runs the call on the value. May wait for ever.
