@@ -55,18 +55,18 @@ match_out c sessions past later place number made user k (by_client {sealer} {ha
     let grant_is = grants_are c past later place number made in
     let holder : (setting c).holder k ≡ c.l.holder g.conv = sym (ap (setting c).holder g.number) ∙ g.playing.holder_is in
     let forms : moves_in c.l client g.conv g.gave ≡ hears (tickets (seal (long_key (c.l.holder g.conv)) (ticket for_client (granted made).chal cuid user (ticket_key number))) handed) ∷ before =
-        ap (λ r. moves_in c.l r g.conv g.gave) (sym role) ∙ g.moves_so ∙ opened
-        ∙ ap (λ h. hears (tickets (seal (long_key h) (ticket for_client ((setting c).grants number).chal cuid user (ticket_key number))) handed) ∷ before) holder
-        ∙ ap (λ x. hears (tickets (seal (long_key (c.l.holder g.conv)) (ticket for_client x.chal cuid user (ticket_key number))) handed) ∷ before) grant_is in
+    ap (λ r. moves_in c.l r g.conv g.gave) (sym role) ∙ g.moves_so ∙ opened
+    ∙ ap (λ h. hears (tickets (seal (long_key h) (ticket for_client ((setting c).grants number).chal cuid user (ticket_key number))) handed) ∷ before) holder
+    ∙ ap (λ x. hears (tickets (seal (long_key (c.l.holder g.conv)) (ticket for_client x.chal cuid user (ticket_key number))) handed) ∷ before) grant_is in
     record {
       conv = g.conv;
       matches = client_matches
-        (g.plays_so ∙ ap Some role)
-        (sym (ap (λ x. x.used) grant_is) ∙ used ∙ ap (λ h. keys sealer (Some h)) holder)
-        (subst (λ h. Contains (speakers c.z.server made.read.uid) h) holder (subst (λ names. Contains names ((setting c).holder k)) (ap (λ x. x.speakers) grant_is ∙ speakers_are c.z made.read _) speaks))
-        forms
-        g.happens
-        (g.labels ∙ ap (λ x. client_message handed (ticket_key number) x.chal ∷ []) grant_is);
+          (g.plays_so ∙ ap Some role)
+          (sym (ap (λ x. x.used) grant_is) ∙ used ∙ ap (λ h. keys sealer (Some h)) holder)
+          (subst (λ h. Contains (speakers c.z.server made.read.uid) h) holder (subst (λ names. Contains names ((setting c).holder k)) (ap (λ x. x.speakers) grant_is ∙ speakers_are c.z made.read _) speaks))
+          forms
+          g.happens
+          (g.labels ∙ ap (λ x. client_message handed (ticket_key number) x.chal ∷ []) grant_is);
       holder = sym (ap (λ x. client_name x.used) grant_is) ∙ named ∙ ap Some holder;
     }
 match_out c sessions past later place number made user k (by_mail_client {kind} {sealer} {session} {first} {granted = given} {gave} role used vouched stands) named =
@@ -77,12 +77,12 @@ match_out c sessions past later place number made user k (by_mail_client {kind} 
     record {
       conv = g.conv;
       matches = mail_client_matches
-        (g.plays_so ∙ ap Some role)
-        (sym (ap (λ x. x.used) grant_is) ∙ used ∙ ap (key_and_password sealer) holder)
-        v.0
-        v.1
-        g.happens
-        (g.labels ∙ ap (λ h. digest kind (password h) (mail_challenge c.z.server.dom first) ∷ []) holder);
+          (g.plays_so ∙ ap Some role)
+          (sym (ap (λ x. x.used) grant_is) ∙ used ∙ ap (key_and_password sealer) holder)
+          v.0
+          v.1
+          g.happens
+          (g.labels ∙ ap (λ h. digest kind (password h) (mail_challenge c.z.server.dom first) ∷ []) holder);
       holder = sym (ap (λ x. client_name x.used) grant_is) ∙ named ∙ ap Some holder;
     }
 

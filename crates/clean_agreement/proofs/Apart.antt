@@ -108,13 +108,13 @@ match_in c sessions past later place number made user conv (client_matches {seal
       place = here;
       started = p.started;
       matches = by_client
-        p.role_is
-        (ap (λ x. x.used) grant_is ∙ used ∙ ap (λ h. keys sealer (Some h)) (sym p.holder_is))
-        (subst (λ names. Contains names ((setting c).holder k)) (sym (ap (λ x. x.speakers) grant_is ∙ speakers_are c.z made.read _)) (subst (λ h. Contains (speakers c.z.server made.read.uid) h) (sym p.holder_is) speaks))
-        (moves_are c conv client gave behind_it here p ∙ opened
+          p.role_is
+          (ap (λ x. x.used) grant_is ∙ used ∙ ap (λ h. keys sealer (Some h)) (sym p.holder_is))
+          (subst (λ names. Contains names ((setting c).holder k)) (sym (ap (λ x. x.speakers) grant_is ∙ speakers_are c.z made.read _)) (subst (λ h. Contains (speakers c.z.server made.read.uid) h) (sym p.holder_is) speaks))
+          (moves_are c conv client gave behind_it here p ∙ opened
           ∙ ap (λ h. hears (tickets (seal (long_key h) (ticket for_client (granted made).chal cuid user (ticket_key number))) handed) ∷ before) (sym p.holder_is)
           ∙ ap (λ x. hears (tickets (seal (long_key ((setting c).holder k)) (ticket for_client x.chal cuid user (ticket_key number))) handed) ∷ before) (sym grant_is))
-        (given_out c past later gave conv b message (client_message handed (ticket_key number) ((setting c).grants number).chal) place happens (λ x e. cc) (labels ∙ ap (λ x. client_message handed (ticket_key number) x.chal ∷ []) (sym grant_is)));
+          (given_out c past later gave conv b message (client_message handed (ticket_key number) ((setting c).grants number).chal) place happens (λ x e. cc) (labels ∙ ap (λ x. client_message handed (ticket_key number) x.chal ∷ []) (sym grant_is)));
     }
 match_in c sessions past later place number made user conv (mail_client_matches {sealer} {message} {first} {b} {kind} {gave} role used holds mail happens labels) =
     let behind_it = (later ++ happens.later) ++ Out message conv b ∷ [] in
@@ -128,10 +128,10 @@ match_in c sessions past later place number made user conv (mail_client_matches 
       place = here;
       started = p.started;
       matches = by_mail_client
-        p.role_is
-        (ap (λ x. x.used) grant_is ∙ used ∙ ap (key_and_password sealer) (sym p.holder_is))
-        v.1
-        (given_out c past later gave conv b message (digest kind (password ((setting c).holder (number_of conv gave))) (mail_challenge c.z.server.dom first)) place happens (λ x e. cc) (labels ∙ ap (λ h. digest kind (password h) (mail_challenge c.z.server.dom first) ∷ []) (sym p.holder_is)));
+          p.role_is
+          (ap (λ x. x.used) grant_is ∙ used ∙ ap (key_and_password sealer) (sym p.holder_is))
+          v.1
+          (given_out c past later gave conv b message (digest kind (password ((setting c).holder (number_of conv gave))) (mail_challenge c.z.server.dom first)) place happens (λ x e. cc) (labels ∙ ap (λ h. digest kind (password h) (mail_challenge c.z.server.dom first) ∷ []) (sym p.holder_is)));
     }
   where
     l_holder : (c : Case) → List ℕ → List ℕ
@@ -143,5 +143,5 @@ one_by_a_match c sessions a b p q number other g h conv m n =
     let two = match_in c sessions b.past (behind c b) (placed_at c b) other h.made (user_of c.l b) conv n in
     let same : number_of conv two.gave ≡ number_of conv one.gave = one_number c conv one.gave one.later two.gave two.later one.place two.place one.started two.started in
     one_acceptance c a b (matched_by_one (setting c) (run c c.history) (is_run c sessions) (in_run c a) (in_run c b) (true_in c a p) (true_in c b q) number other (number_of conv one.gave) (under_in c a number g.under) (under_in c b other h.under)
-      (subst (λ u. MatchesInRun (setting c) (run c a.past) number u (number_of conv one.gave)) (sym (user_is c a)) one.matches)
-      (subst (λ k. MatchesInRun (setting c) (run c b.past) other (user_at c b) k) same (subst (λ u. MatchesInRun (setting c) (run c b.past) other u (number_of conv two.gave)) (sym (user_is c b)) two.matches)))
+    (subst (λ u. MatchesInRun (setting c) (run c a.past) number u (number_of conv one.gave)) (sym (user_is c a)) one.matches)
+    (subst (λ k. MatchesInRun (setting c) (run c b.past) other (user_at c b) k) same (subst (λ u. MatchesInRun (setting c) (run c b.past) other u (number_of conv two.gave)) (sym (user_is c b)) two.matches)))

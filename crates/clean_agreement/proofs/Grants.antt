@@ -70,12 +70,12 @@ pub granted_as : (before : List Deed) (number : ℕ) (request b : List ℕ) → 
 granted_as before number request b = elim (cases_Bool (eqb (kind_of b) 9)) [
   | inl nine ↦ subst (Granted before number request b) (sym (challenge_is before number request b nine)) it_challenges
   | inr differs ↦ subst (Granted before number request b) (sym (no_challenge before number request b differs)) (elim (cases_Bool (eqb (kind_of b) 4)) [
-      | inl four ↦ subst (Granted before number request b) (sym (granting before number request b four)) (elim (cases_Bool (eqb (kind_of request) 1)) [
-          | inl one ↦ subst (Granted before number request b) (sym (ap (λ (x : Bool). if x then gives_tickets number else vouch_deed (mail_kind request) number (held before (mail_kind request)) b) one)) (it_grants (eqb-true (kind_of b) 4 four) (eqb-true (kind_of request) 1 one))
-          | inr other ↦ subst (Granted before number request b) (sym (ap (λ (x : Bool). if x then gives_tickets number else vouch_deed (mail_kind request) number (held before (mail_kind request)) b) other)) (vouched before number request b (held before (mail_kind request)) refl (eqb-true (kind_of b) 4 four) other)
-        ])
-      | inr none ↦ subst (Granted before number request b) (sym (refusing before number request b none)) it_refuses
+    | inl four ↦ subst (Granted before number request b) (sym (granting before number request b four)) (elim (cases_Bool (eqb (kind_of request) 1)) [
+      | inl one ↦ subst (Granted before number request b) (sym (ap (λ (x : Bool). if x then gives_tickets number else vouch_deed (mail_kind request) number (held before (mail_kind request)) b) one)) (it_grants (eqb-true (kind_of b) 4 four) (eqb-true (kind_of request) 1 one))
+      | inr other ↦ subst (Granted before number request b) (sym (ap (λ (x : Bool). if x then gives_tickets number else vouch_deed (mail_kind request) number (held before (mail_kind request)) b) other)) (vouched before number request b (held before (mail_kind request)) refl (eqb-true (kind_of b) 4 four) other)
     ])
+    | inr none ↦ subst (Granted before number request b) (sym (refusing before number request b none)) it_refuses
+  ])
 ]
 
 tickets_by : (before : List Deed) (number n : ℕ) (request b : List ℕ) (deed : Deed) → Granted before number request b deed → deed ≡ gives_tickets n → ByTickets number n request b
@@ -167,9 +167,9 @@ made_at c past later earlier step number deed place happens g number_is ok r rea
     let words = a.owed.asked.words in
     let label_is : a.d.label ≡ c.l.label (length a.at.earlier) = a.at.label in
     let d_is : a.d ≡ record { deal = requested request words; number = number; label = c.l.label (length a.at.earlier) } =
-        ap (λ x. record { deal = x; number = a.d.number; label = a.d.label }) a.deal_is
-        ∙ ap (λ n. record { deal = requested request words; number = n; label = a.d.label }) number_is
-        ∙ ap (λ t. record { deal = requested request words; number = number; label = t }) label_is in
+    ap (λ x. record { deal = x; number = a.d.number; label = a.d.label }) a.deal_is
+    ∙ ap (λ n. record { deal = requested request words; number = n; label = a.d.label }) number_is
+    ∙ ap (λ t. record { deal = requested request words; number = number; label = t }) label_is in
     let came : Happens past a.at.earlier (AsGot g.session request words) = record { later = happens.later ++ gave ∷ a.at.later; place = answered.place ∙ ap (λ xs. happens.later ++ gave ∷ xs) a.at.place ∙ sym (append_assoc happens.later (gave ∷ a.at.later) (AsGot g.session request words ∷ a.at.earlier)) } in
     record {
       made = record {
@@ -190,9 +190,9 @@ made_at c past later earlier step number deed place happens g number_is ok r rea
         newest = a.front ∙ ap (λ d. d ∷ a.older) d_is;
       };
       deed_is =
-        ap (λ n. deed_by (got n a.d.label ∷ deeds_by a.older) n request g.b) (sym number_is)
-        ∙ ap (λ t. deed_by (got a.d.number t ∷ deeds_by a.older) a.d.number request g.b) (sym label_is)
-        ∙ g.deed_is;
+          ap (λ n. deed_by (got n a.d.label ∷ deeds_by a.older) n request g.b) (sym number_is)
+          ∙ ap (λ t. deed_by (got a.d.number t ∷ deeds_by a.older) a.d.number request g.b) (sym label_is)
+          ∙ g.deed_is;
     }
 
 -- ---- the request of a grant was read
@@ -323,13 +323,14 @@ answer_stands c past later place number made =
     let deal_is : requested a.owed.asked.request a.owed.asked.words ≡ requested made.request made.words = sym a.deal_is ∙ ap (λ d. d.deal) d_is in
     let request_is : a.owed.asked.request ≡ made.request = cc in
     let deed_is : deed_by (got a.d.number a.d.label ∷ deeds_by a.older) a.d.number a.owed.asked.request made.reply ≡ deed_by (got number (c.l.label (length made.asked)) ∷ deeds_by made.older) number made.request made.reply =
-        ap (λ d. deed_by (got d.number d.label ∷ deeds_by a.older) d.number a.owed.asked.request made.reply) d_is
-        ∙ ap (λ xs. deed_by (got number (c.l.label (length made.asked)) ∷ deeds_by xs) number a.owed.asked.request made.reply) older_is
-        ∙ ap (λ r. deed_by (got number (c.l.label (length made.asked)) ∷ deeds_by made.older) number r made.reply) request_is in
-    (deed_by (got a.d.number a.d.label ∷ deeds_by a.older) a.d.number a.owed.asked.request made.reply,
+    ap (λ d. deed_by (got d.number d.label ∷ deeds_by a.older) d.number a.owed.asked.request made.reply) d_is
+    ∙ ap (λ xs. deed_by (got number (c.l.label (length made.asked)) ∷ deeds_by xs) number a.owed.asked.request made.reply) older_is
+    ∙ ap (λ r. deed_by (got number (c.l.label (length made.asked)) ∷ deeds_by made.older) number r made.reply) request_is in (
+      deed_by (got a.d.number a.d.label ∷ deeds_by a.older) a.d.number a.owed.asked.request made.reply,
       session_number made.session made.past,
       stands_at c past made.past (AsGave made.message made.session made.reply) (serves (session_number made.session made.past) _) made.answered a.events,
-      deed_is)
+      deed_is,
+    )
 
 -- a deed of an answer that was ok answers the grant's number
 answers_number : (before : List Deed) (number : ℕ) (request b : List ℕ) (deed : Deed) → Granted before number request b deed → answers_to deed ≡ Some number
@@ -342,12 +343,12 @@ pub vouches_held : (c : Case) → SessionsGo c → (past later : History) → c.
 vouches_held c sessions past later place number made session first kind gave stands =
     let s = answer_stands c past later place number made in
     let before = got number (c.l.label (length made.asked)) ∷ deeds_by made.older in
-    let as = granted_as before number made.request made.reply in
+    let it = granted_as before number made.request made.reply in
     let r = (runs_on c sessions past later place).0 in
-    let same = one_answer (setting c) (run c past) gave (run c made.past) session s.1 number (gives_vouch kind number first) s.0 r stands s.2 refl (ap answers_to s.3 ∙ answers_number before number made.request made.reply _ as) in
+    let same = one_answer (setting c) (run c past) gave (run c made.past) session s.1 number (gives_vouch kind number first) s.0 r stands s.2 refl (ap answers_to s.3 ∙ answers_number before number made.request made.reply _ it) in
     let event : serves session (gives_vouch kind number first) ≡ serves s.1 s.0 = one_event (run c past) gave (run c made.past) _ _ stands s.2 same in
     let deed : gives_vouch kind number first ≡ s.0 = cc in
-    let by = vouch_by before number number made.request made.reply kind first _ as (sym s.3 ∙ sym deed) in
+    let by = vouch_by before number number made.request made.reply kind first _ it (sym s.3 ∙ sym deed) in
     (by.holds, by.kind_is)
 
 -- and the other way round: it vouches for the challenge that its session held

@@ -3,6 +3,7 @@
 -- session what requests of its own leave. Nothing ties what is taken to what was given: what comes may be lost, repeated,
 -- turned round, changed or made up. A history may end between the steps of one event.
 use Rattle.std.specs.Prelude.{◌≡◌, ℕ, List, [], ◌++◌, All, None, Some, Option, true}
+use Rattle.wire_base.specs.Names.{IsName}
 use Rattle.ticket_codec.specs.Fitting.{FitsName, IsBlock}
 use Rattle.auth_server.specs.Requests.{Asked}
 use Rattle.auth_server.specs.Answers.{Knowledge}
@@ -66,7 +67,9 @@ pub record IsServed (known : Knowledge) (deals : List Deal) : Type 0 where
   pub later : List Deal
   pub left : session_deals known requests ≡ later ++ deals
 
+-- the server's domain is such as a server is made of: so short that five digits tell how long a challenge is
 pub record IsLegal (history : History) (z : Setting) : Type 0 where
+  pub domain : IsName 48 z.server.dom
   pub conversations : (name : List ℕ) → IsConversation (z.spoken name) (acts_of name history)
   pub sessions : (name : List ℕ) → IsServed (known_to z) (deals_of name history)
   pub numbered : IsNumbered history
