@@ -53,6 +53,16 @@ mail_left start first before call stage v here moves =
 pub mail_goes : (start : Start) (before : List Call) (call : Call) (stage : MailStage) (v : Verdict MailStage) → mail.course start before ≡ at stage → mail.move start stage call ≡ v → mail.course start (call ∷ before) ≡ then_course (at stage) v
 mail_goes start before call stage v here moves = ap (λ p. then_course p (mail.verdict start p call)) here ∙ ap (then_course (at stage)) moves
 
+-- the same wherever it has come, broken or not
+pub mail_left_from : (start : Start) (first : Act) (before : List Call) (call : Call) (p : Progress MailStage) (v : Verdict MailStage) → mail.course start before ≡ p → mail.verdict start p call ≡ v → acts_by (speaks Mail start) first before call ≡ left_at (mail.need_at start) mail.outcome_at p v (waiting (speaks Mail start) first before) call
+mail_left_from start first before call p v here moves =
+    mail_leaves start first before call
+    ∙ ap (λ p. left_at (mail.need_at start) mail.outcome_at p (mail.verdict start p call) (waiting (speaks Mail start) first before) call) here
+    ∙ ap (λ v. left_at (mail.need_at start) mail.outcome_at p v (waiting (speaks Mail start) first before) call) moves
+
+pub mail_goes_from : (start : Start) (before : List Call) (call : Call) (p : Progress MailStage) (v : Verdict MailStage) → mail.course start before ≡ p → mail.verdict start p call ≡ v → mail.course start (call ∷ before) ≡ then_course p v
+mail_goes_from start before call p v here moves = ap (λ p. then_course p (mail.verdict start p call)) here ∙ ap (then_course p) moves
+
 -- ---- p9sk1
 
 sk_leaves : (start : Start) (first : Act) (before : List Call) (call : Call) → acts_by (speaks P9sk1 start) first before call ≡ left_at (sk.need_at start) sk.outcome_at (sk.course start before) (sk.verdict start (sk.course start before) call) (waiting (speaks P9sk1 start) first before) call

@@ -13,3 +13,5 @@ pub mod Bytes
 pub mod SkServerLaw
 pub mod SkClients
 pub mod SkClientLaw
+pub mod MailServers
+pub mod MailServerLaw

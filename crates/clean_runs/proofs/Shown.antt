@@ -5,16 +5,18 @@ use Rattle.symbolic_runs.proofs.SecrecyLaws.{secrecy}
 use Rattle.wire_histories.specs.Histories.{Deal, History, deal_in, deals_of}
 use Rattle.wire_histories.specs.Legal.{Spoken}
 use Rattle.clean_runs.specs.Runs.{run_of, setting_of}
-use Rattle.clean_runs.specs.Statements.{HasNoSessions, IsBridgedSoFar, IsSecretSoFar, IsShownRole, OfEveryCleanHistory, of_a_client, of_a_mail_client, of_a_server}
+use Rattle.clean_runs.specs.Statements.{HasNoSessions, IsBridgedSoFar, IsSecretSoFar, IsShownRole, OfEveryCleanHistory, of_a_client, of_a_mail_client, of_a_mail_server, of_a_server}
 use Rattle.clean_runs.proofs.Bridge.{Case, bridged, same_self}
 use Rattle.clean_runs.proofs.Follows.{IsLawful}
 use Rattle.clean_runs.proofs.MailClientLaw.{mail_client_is_lawful}
+use Rattle.clean_runs.proofs.MailServerLaw.{mail_server_is_lawful}
 use Rattle.clean_runs.proofs.Steps.{Deals}
 use Rattle.clean_runs.proofs.SkClientLaw.{client_is_lawful}
 use Rattle.clean_runs.proofs.SkServerLaw.{server_is_lawful}
 
 shown : (spoken : Spoken) → IsShownRole spoken.start → IsLawful spoken
 shown spoken (of_a_mail_client mail client) = mail_client_is_lawful spoken (record { mail = mail; client = client })
+shown spoken (of_a_mail_server mail server) = mail_server_is_lawful spoken (record { mail = mail; server = server })
 shown spoken (of_a_client p9sk1 role) = client_is_lawful spoken (record { p9sk1 = p9sk1; client = role })
 shown spoken (of_a_server p9sk1 role) = server_is_lawful spoken (record { p9sk1 = p9sk1; server = role })
 

@@ -192,7 +192,7 @@ question_row : (own : Own) (t : Tree) (q : List ℕ) → IsRequest ticket_reques
 unfolding question_of
 question_row own t q form = subst (λ t. Row own client (takes t ∷ gives own.word ∷ []) (asks (request ticket_request (names_in q) (piece_of t 3)))) (sym form.is) (client_question form.fields (names_in q) {chal = form.chal} form.whole)
 
-was_true : (test : Bool) (gift other : Move) → (if test then Some gift else None) ≡ Some other → test ≡ true
+pub was_true : (test : Bool) (gift other : Move) → (if test then Some gift else None) ≡ Some other → test ≡ true
 was_true true gift other is = refl
 was_true false gift other is = absurd (cc)
 

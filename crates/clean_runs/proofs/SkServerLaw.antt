@@ -273,7 +273,7 @@ proved_in atoms start own key theirs b k acts (told {acts = earlier} more rest) 
 
 -- ---- what is sealed
 
-ok_same : {a b : List ℕ} → ◌≡◌ {A = Spelling} (Ok a) (Ok b) → a ≡ b
+pub ok_same : {a b : List ℕ} → ◌≡◌ {A = Spelling} (Ok a) (Ok b) → a ≡ b
 ok_same e = cc
 
 -- the key of the ticket that was shown

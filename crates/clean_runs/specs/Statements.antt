@@ -44,6 +44,7 @@ HasNoSessions history = (name : List ℕ) → deals_of name history ≡ []
 
 pub data IsShownRole (start : Start) : Type 0 where
   of_a_mail_client : protocol_of start.template ≡ Mail → side_of start.template ≡ side.Client → IsShownRole start
+  of_a_mail_server : protocol_of start.template ≡ Mail → side_of start.template ≡ side.Server → IsShownRole start
   of_a_client : protocol_of start.template ≡ P9sk1 → role_of start.template ≡ Client → IsShownRole start
   of_a_server : protocol_of start.template ≡ P9sk1 → role_of start.template ≡ Server → IsShownRole start
 

@@ -3,7 +3,7 @@ ghost use Rattle.clean_runs.specs.Statements.{IsBridgedSoFar, IsSecretSoFar, OfE
 
 /// A clean legal history is a symbolic run, and each message that it gives is spelled by its label. This is shown so far of
 /// histories without sessions of the authentication server whose conversations are clients and servers of p9sk1, but for
-/// those that speak for another, and clients of APOP and CRAM.
+/// those that speak for another, and clients and servers of APOP and CRAM.
 pub fn clean_histories_are_symbolic_runs()
     ensures { OfEveryCleanHistory IsBridgedSoFar }
 {}
