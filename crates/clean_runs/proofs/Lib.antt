@@ -15,3 +15,11 @@ pub mod SkClients
 pub mod SkClientLaw
 pub mod MailServers
 pub mod MailServerLaw
+pub mod Grounds
+pub mod AnyTalks
+pub mod AnyServers
+pub mod AnyClients
+pub mod AnyLemmas
+pub mod AnyServerLaw
+pub mod AnyClientLaw
+pub mod EveryRole

@@ -1,24 +1,13 @@
--- The bridge for the roles that are shown, in histories without sessions.
+-- The bridge, in histories without sessions.
 use Rattle.std.proofs.Common.{◌≡◌, ℕ, List, [], ◌∷◌, ◌++◌, append_assoc, Bool, if◌then◌else◌, refl, sym, ap, ◌∙◌}
 use Rattle.wire_model.specs.declared.step.Step.{Step}
 use Rattle.symbolic_runs.proofs.SecrecyLaws.{secrecy}
 use Rattle.wire_histories.specs.Histories.{Deal, History, deal_in, deals_of}
-use Rattle.wire_histories.specs.Legal.{Spoken}
 use Rattle.clean_runs.specs.Runs.{run_of, setting_of}
-use Rattle.clean_runs.specs.Statements.{HasNoSessions, IsBridgedSoFar, IsSecretSoFar, IsShownRole, OfEveryCleanHistory, of_a_client, of_a_mail_client, of_a_mail_server, of_a_server}
+use Rattle.clean_runs.specs.Statements.{HasNoSessions, IsBridgedSoFar, IsSecretSoFar, OfEveryCleanHistory}
 use Rattle.clean_runs.proofs.Bridge.{Case, bridged, same_self}
-use Rattle.clean_runs.proofs.Follows.{IsLawful}
-use Rattle.clean_runs.proofs.MailClientLaw.{mail_client_is_lawful}
-use Rattle.clean_runs.proofs.MailServerLaw.{mail_server_is_lawful}
 use Rattle.clean_runs.proofs.Steps.{Deals}
-use Rattle.clean_runs.proofs.SkClientLaw.{client_is_lawful}
-use Rattle.clean_runs.proofs.SkServerLaw.{server_is_lawful}
-
-shown : (spoken : Spoken) → IsShownRole spoken.start → IsLawful spoken
-shown spoken (of_a_mail_client mail client) = mail_client_is_lawful spoken (record { mail = mail; client = client })
-shown spoken (of_a_mail_server mail server) = mail_server_is_lawful spoken (record { mail = mail; server = server })
-shown spoken (of_a_client p9sk1 role) = client_is_lawful spoken (record { p9sk1 = p9sk1; client = role })
-shown spoken (of_a_server p9sk1 role) = server_is_lawful spoken (record { p9sk1 = p9sk1; server = role })
+use Rattle.clean_runs.proofs.EveryRole.{every_role_is_lawful}
 
 deals_append : (name : List ℕ) (later past : History) → deals_of name (later ++ past) ≡ deals_of name later ++ deals_of name past
 deals_append name [] past = refl
@@ -36,9 +25,9 @@ no_deal history later past step session deal none d place =
     absurd (cc)
 
 pub bridged_so_far : OfEveryCleanHistory IsBridgedSoFar
-bridged_so_far history z atoms l legal clean none roles =
-    let c : Case = record { history = history; z = z; atoms = atoms; l = l; legal = legal; clean = clean; lawful = λ name spoken is. shown spoken (roles name spoken is) } in
+bridged_so_far history z atoms l legal clean none =
+    let c : Case = record { history = history; z = z; atoms = atoms; l = l; legal = legal; clean = clean; lawful = λ name spoken is. every_role_is_lawful spoken } in
     bridged c (λ later past step session deal d place. absurd (no_deal history later past step session deal none d place))
 
 pub secret_so_far : OfEveryCleanHistory IsSecretSoFar
-secret_so_far history z atoms l legal clean none roles = secrecy (setting_of z l history) (run_of z l history) (bridged_so_far history z atoms l legal clean none roles).run.by_the_tables
+secret_so_far history z atoms l legal clean none = secrecy (setting_of z l history) (run_of z l history) (bridged_so_far history z atoms l legal clean none).run.by_the_tables
