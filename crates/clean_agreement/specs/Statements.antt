@@ -7,12 +7,7 @@ use Rattle.wire_histories.specs.Histories.{History}
 use Rattle.wire_histories.specs.Legal.{Setting}
 use Rattle.clean_runs.specs.Labels.{Labelling}
 use Rattle.clean_runs.specs.Runs.{setting_of, speakers}
-use Rattle.clean_runs.specs.Statements.{OfEveryCleanHistory, OfShownRoles}
 use Rattle.clean_agreement.specs.Agreement.{Acceptance, ClientAcceptance, IsAnswered, IsByTicket, IsClientUnder, IsGrantedTo, IsHost, IsMade, IsMatched, IsUnder, Matches, user_of}
-
--- it is so of every clean legal history for which it is shown so far, that of the roles that are
-abbrev pub OfShownHistories : (History → Setting → Atoms → Labelling → Type 0) → Type 0
-OfShownHistories P = OfEveryCleanHistory (λ history z atoms l. OfShownRoles z → P history z atoms l)
 
 -- a name isn't compromised
 abbrev pub IsTrue : History → Setting → Labelling → List ℕ → Type 0

@@ -52,8 +52,8 @@ unfolding is_text is_utf8 chars encode
 key_fits des block = record { des = block; user = record { short = record { text = refl; short = omega arith }; bytes = bytes }; dom = record { short = record { text = refl; short = omega arith }; bytes = All-nil _ } }
 
 may_be : (des : List ℕ) → IsBlock 7 des → MayBe (mail_spoken des)
-unfolding protocol_of start_fault value_of
-may_be des block = record { fits = refl; starts = refl; word = record { whole = refl; bytes = zeros }; keys = All-cons IsMet (found (mail_key des) (Some password)) [] (key_fits des block) (All-nil IsMet) }
+unfolding protocol_of start_fault value_of is_text is_utf8 chars encode
+may_be des block = record { tuple = refl; fits = refl; starts = refl; word = record { whole = refl; bytes = zeros }; keys = All-cons IsMet (found (mail_key des) (Some password)) [] (key_fits des block) (All-nil IsMet) }
 
 is_talk : (des : List ℕ) → IsBlock 7 des → IsTalk (mail_spoken des) acts
 is_talk des block = record { may = may_be des block; talk = talk des; met = met_so des; later = []; left = acts_are des }

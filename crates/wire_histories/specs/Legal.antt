@@ -4,6 +4,7 @@
 -- turned round, changed or made up. A history may end between the steps of one event.
 use Rattle.std.specs.Prelude.{◌≡◌, ℕ, List, [], ◌++◌, All, None, Some, Option, true}
 use Rattle.wire_base.specs.Names.{IsName}
+use Rattle.attr_tuples.specs.Attributes.{is_tuple}
 use Rattle.ticket_codec.specs.Fitting.{FitsName, IsBlock}
 use Rattle.auth_server.specs.Requests.{Asked}
 use Rattle.auth_server.specs.Answers.{Knowledge}
@@ -41,8 +42,10 @@ abbrev pub IsMet : Call → Type 0
 IsMet (found key password) = IsRingKey key
 IsMet call = Unit {0}
 
--- a conversation may be so: its template starts one, it has a word of eight bytes, and it is told keys such as a ring has
+-- a conversation may be so: its template is a tuple that starts one, it has a word of eight bytes, and it is told keys such
+-- as a ring has
 pub record MayBe (spoken : Spoken) : Type 0 where
+  pub tuple : is_tuple spoken.start.template ≡ true
   pub fits : fits_start spoken.start.template ≡ true
   pub starts : refuses spoken.start.template ≡ None
   pub word : IsBlock 8 spoken.start.word
