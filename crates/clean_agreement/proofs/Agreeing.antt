@@ -1,25 +1,20 @@
 -- Agreement in clean histories, from agreement in their runs.
-use Rattle.std.proofs.Common.{◌≡◌, ℕ, List, [], ◌∷◌, ◌++◌, append_assoc, Contains, Some, false, refl, sym, ap, subst, ◌∙◌}
-use Rattle.term_trees.specs.declared.kind.MacKind.{MacKind}
-use Rattle.term_trees.specs.Trees.{Tree, plain, long_key, nonce, password, digest, seal, ticket_key}
-use Rattle.wire_model.specs.declared.step.Step.TheVariants.{Out, Accept}
-use Rattle.symbolic_runs.specs.Forms.{for_client, ticket, tickets, client_message, server_message, pair, mail_challenge}
-use Rattle.symbolic_runs.specs.Moves.{Role, Move, accepts, client, gives, hears, mail_client, server, takes}
-use Rattle.symbolic_runs.specs.Places.{Stands}
-use Rattle.symbolic_runs.specs.Runs.{Run, moves, moves_of, serves}
-use Rattle.symbolic_runs.specs.Secrets.{is_compromised, is_exposed}
-use Rattle.symbolic_runs.specs.Sessions.{Grant, gives_vouch, held, keys, key_and_password}
-use Rattle.symbolic_agreement.specs.Agreement.{Matches as MatchesInRun, IsMatched as IsMatchedInRun, client_matches as by_client, mail_client_matches as by_mail_client, server_name, client_name, SpeakersAreTrue as RunSpeakersAreTrue, IsGrantedTo as IsGrantedInRun}
+use Rattle.std.proofs.Common.{◌≡◌, ℕ, List, [], ◌∷◌, ◌++◌, length, Contains, Some, sym, ap, subst, ◌∙◌}
+use Rattle.term_trees.specs.Trees.{long_key, password, digest, seal, ticket_key}
+use Rattle.symbolic_runs.specs.Forms.{for_client, ticket, tickets, client_message, mail_challenge}
+use Rattle.symbolic_runs.specs.Moves.{client, hears}
+use Rattle.symbolic_runs.specs.Sessions.{keys, key_and_password}
+use Rattle.symbolic_agreement.specs.Agreement.{Matches as MatchesInRun, client_matches as by_client, mail_client_matches as by_mail_client, server_name, client_name, SpeakersAreTrue as RunSpeakersAreTrue, IsGrantedTo as IsGrantedInRun}
 use Rattle.symbolic_agreement.proofs.Servers.{server_agrees}
 use Rattle.symbolic_agreement.proofs.Matching.{matched}
 use Rattle.wire_histories.specs.Histories.{History}
-use Rattle.clean_runs.specs.Runs.{deeds_by, mail_kind, number_of, speakers}
+use Rattle.clean_runs.specs.Runs.{speakers}
 use Rattle.clean_runs.proofs.Bridge.{Case, SessionsGo, run, setting}
-use Rattle.clean_agreement.specs.Agreement.{Acceptance, Happens, IsByTicket, IsGrantedTo, IsMade, IsMatched, Matches, client_matches, gives_labels, granted, mail_client_matches, moves_in, plays, server_ticket, user_of}
-use Rattle.clean_agreement.specs.Statements.{ClientsMatch, IsTrueServer, ServersAgree, SpeakersAreTrue}
-use Rattle.clean_agreement.proofs.Gifts.{Given, given_in}
-use Rattle.clean_agreement.proofs.Grants.{GrantMade, grants_are, made_of, sealer_named, speakers_are, vouches_held}
-use Rattle.clean_agreement.proofs.Servers.{behind, in_run, is_run, number_at, placed_at, playing, shows_out, true_in, under_in, under_out, user_at, user_is}
+use Rattle.clean_agreement.specs.Agreement.{Acceptance, IsByTicket, IsGrantedTo, IsMade, IsMatched, client_matches, granted, mail_client_matches, moves_in}
+use Rattle.clean_agreement.specs.Statements.{ClientsMatch, ServersAgree, SpeakersAreTrue}
+use Rattle.clean_agreement.proofs.Gifts.{given_in}
+use Rattle.clean_agreement.proofs.Grants.{grants_are, made_of, sealer_named, speakers_are, vouches_held}
+use Rattle.clean_agreement.proofs.Servers.{behind, in_run, is_run, placed_at, playing, shows_out, true_in, under_in, under_out, user_at, user_is}
 
 -- ---- a server's acceptance rests on a grant
 
@@ -34,7 +29,7 @@ rests_on c sessions a number g =
       made = m.made;
       by_its_ticket = subst (IsByTicket c.l a) (sym m.ticket_is) (shows_out c a g.for_the_server g.by_its_ticket);
       sealed_for = sealed;
-      named = sealer_named c.z m.made.read _ (c.l.holder a.conv) sealed;
+      named = sealer_named c.z m.made.read (c.l.label (length m.made.asked)) (c.l.holder a.conv) sealed;
       user = sym (ap (λ x. x.user) grant_is) ∙ g.user ∙ user_is c a;
       chal = sym (ap (λ x. x.chal) grant_is) ∙ g.chal;
     }
@@ -47,7 +42,7 @@ servers_agree c sessions a is =
 -- ---- and has a match
 
 speak_true : (c : Case) (past later : History) → c.history ≡ later ++ past → (number : ℕ) (made : IsMade past c.z c.l number) → SpeakersAreTrue c.history c.z c.l made.read.uid → RunSpeakersAreTrue (setting c) number
-speak_true c past later place number made is name has = is name (subst (λ names. Contains names name) (ap (λ g. g.speakers) (grants_are c past later place number made) ∙ speakers_are c.z made.read _) has)
+speak_true c past later place number made is name has = is name (subst (λ names. Contains names name) (ap (λ g. g.speakers) (grants_are c past later place number made) ∙ speakers_are c.z made.read (c.l.label (length made.asked))) has)
 
 match_out : (c : Case) (sessions : SessionsGo c) (past later : History) (place : c.history ≡ later ++ past) (number : ℕ) (made : IsMade past c.z c.l number) (user : List ℕ) (k : ℕ) → MatchesInRun (setting c) (run c past) number user k → client_name ((setting c).grants number).used ≡ Some ((setting c).holder k) → IsMatched c.history past c.z c.l made user
 match_out c sessions past later place number made user k (by_client {sealer} {handed} {cuid} {before} {gave} role used speaks opened stands) named =
@@ -63,7 +58,7 @@ match_out c sessions past later place number made user k (by_client {sealer} {ha
       matches = client_matches
           (g.plays_so ∙ ap Some role)
           (sym (ap (λ x. x.used) grant_is) ∙ used ∙ ap (λ h. keys sealer (Some h)) holder)
-          (subst (λ h. Contains (speakers c.z.server made.read.uid) h) holder (subst (λ names. Contains names ((setting c).holder k)) (ap (λ x. x.speakers) grant_is ∙ speakers_are c.z made.read _) speaks))
+          (subst (λ h. Contains (speakers c.z.server made.read.uid) h) holder (subst (λ names. Contains names ((setting c).holder k)) (ap (λ x. x.speakers) grant_is ∙ speakers_are c.z made.read (c.l.label (length made.asked))) speaks))
           forms
           g.happens
           (g.labels ∙ ap (λ x. client_message handed (ticket_key number) x.chal ∷ []) grant_is);

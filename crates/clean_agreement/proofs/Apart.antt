@@ -1,30 +1,28 @@
 -- Two acceptances by one ticket, under one grant or with one match stand at one place of a history.
-use Rattle.std.proofs.Common.{◌≡◌, ℕ, ◌+◌, List, [], ◌∷◌, ◌++◌, append_assoc, length, length-append, Contains, Some, None, Bool, true, false, eqb, if◌then◌else◌, inl, inr, refl, sym, ap, subst, ◌∙◌, arith}
+use Rattle.std.proofs.Common.{◌≡◌, ℕ, List, [], ◌∷◌, ◌++◌, append_assoc, length, length-append, Contains, Some, None, Bool, if◌then◌else◌, inl, inr, refl, sym, ap, subst, ◌∙◌, arith}
 use Rattle.std.proofs.lemmas.Bool.{cases_Bool}
 use Rattle.std.specs.Str.{bytes_eq}
-use Rattle.term_trees.specs.declared.kind.MacKind.{MacKind}
-use Rattle.term_trees.specs.Trees.{Tree, plain, long_key, password, digest, seal, ticket_key}
+use Rattle.term_trees.specs.Trees.{long_key, password, digest, seal, ticket_key}
 use Rattle.wire_model.specs.declared.step.Step.{Step}
-use Rattle.wire_model.specs.declared.step.Step.TheVariants.{Start, Out, Accept, AsGave}
+use Rattle.wire_model.specs.declared.step.Step.TheVariants.{Out, Accept}
 use Rattle.symbolic_runs.specs.Forms.{for_client, ticket, tickets, client_message, mail_challenge}
-use Rattle.symbolic_runs.specs.Moves.{Move, accepts, client, gives, hears, mail_client}
-use Rattle.symbolic_runs.specs.Places.{Stands}
-use Rattle.symbolic_runs.specs.Runs.{Event, Run, moves, moves_of, serves}
-use Rattle.symbolic_runs.specs.Sessions.{got, gives_vouch, held, keys, key_and_password}
+use Rattle.symbolic_runs.specs.Moves.{accepts, client, hears, mail_client}
+use Rattle.symbolic_runs.specs.Runs.{Event, Run, moves}
+use Rattle.symbolic_runs.specs.Sessions.{keys, key_and_password}
 use Rattle.symbolic_agreement.specs.Agreement.{Matches as MatchesInRun, client_matches as by_client, mail_client_matches as by_mail_client}
 use Rattle.symbolic_agreement.proofs.Apart.{a_ticket, by_one_ticket, matched_by_one, under_one_grant}
 use Rattle.wire_histories.specs.Histories.{History}
 use Rattle.clean_runs.specs.Labels.{started_as, starts_in}
-use Rattle.clean_runs.specs.Runs.{deeds_by, events_of, mail_kind, number_of, speakers}
-use Rattle.clean_runs.proofs.Bridge.{Case, SessionsGo, one_more, orderly, run, setting}
+use Rattle.clean_runs.specs.Runs.{events_of, number_of, speakers}
+use Rattle.clean_runs.proofs.Bridge.{Case, SessionsGo, orderly, run, setting}
 use Rattle.clean_runs.proofs.Numbers.{IsOrderly, same_name}
 use Rattle.clean_runs.proofs.Steps.{Kind, InOrder, begins, deals, does, kind, nothing}
-use Rattle.clean_agreement.specs.Agreement.{Acceptance, Happens, IsByTicket, IsGrantedTo, IsMade, IsUnder, Matches, client_matches, gives_labels, granted, mail_client_matches, moves_in, plays, user_of}
-use Rattle.clean_agreement.specs.Statements.{EachByATicket, IsTrueServer, OneByAMatch, OneByATicket, OneUnderAGrant}
+use Rattle.clean_agreement.specs.Agreement.{Acceptance, IsMade, Matches, client_matches, granted, mail_client_matches, user_of}
+use Rattle.clean_agreement.specs.Statements.{EachByATicket, OneByAMatch, OneByATicket, OneUnderAGrant}
 use Rattle.clean_agreement.proofs.Gifts.{given_out}
 use Rattle.clean_agreement.proofs.Grants.{grants_are, speakers_are, vouch_stands}
-use Rattle.clean_agreement.proofs.Places.{Plays, fronted, moves_are, plays_in}
-use Rattle.clean_agreement.proofs.Servers.{behind, in_run, is_run, number_at, placed_at, playing, shows_in, shows_out, true_in, under_in, user_at, user_is}
+use Rattle.clean_agreement.proofs.Places.{fronted, moves_are, plays_in}
+use Rattle.clean_agreement.proofs.Servers.{behind, in_run, is_run, number_at, placed_at, shows_in, shows_out, true_in, under_in, user_at, user_is}
 
 -- ---- one place of the run is one of the history
 
@@ -110,7 +108,7 @@ match_in c sessions past later place number made user conv (client_matches {seal
       matches = by_client
           p.role_is
           (ap (λ x. x.used) grant_is ∙ used ∙ ap (λ h. keys sealer (Some h)) (sym p.holder_is))
-          (subst (λ names. Contains names ((setting c).holder k)) (sym (ap (λ x. x.speakers) grant_is ∙ speakers_are c.z made.read _)) (subst (λ h. Contains (speakers c.z.server made.read.uid) h) (sym p.holder_is) speaks))
+          (subst (λ names. Contains names ((setting c).holder k)) (sym (ap (λ x. x.speakers) grant_is ∙ speakers_are c.z made.read (c.l.label (length made.asked)))) (subst (λ h. Contains (speakers c.z.server made.read.uid) h) (sym p.holder_is) speaks))
           (moves_are c conv client gave behind_it here p ∙ opened
           ∙ ap (λ h. hears (tickets (seal (long_key h) (ticket for_client (granted made).chal cuid user (ticket_key number))) handed) ∷ before) (sym p.holder_is)
           ∙ ap (λ x. hears (tickets (seal (long_key ((setting c).holder k)) (ticket for_client x.chal cuid user (ticket_key number))) handed) ∷ before) (sym grant_is))

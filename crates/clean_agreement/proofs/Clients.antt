@@ -1,11 +1,11 @@
 -- A p9sk1 client's acceptance in a history is one in its run: a server answered it, and it is under a grant for its holder.
-use Rattle.std.proofs.Common.{◌≡◌, ℕ, List, [], ◌∷◌, ◌++◌, Some, false, refl, sym, ap, subst, ◌∙◌}
-use Rattle.term_trees.specs.Trees.{Tree, long_key, nonce, seal, ticket_key}
+use Rattle.std.proofs.Common.{◌≡◌, ℕ, List, [], ◌∷◌, ◌++◌, length, Some, refl, sym, ap, ◌∙◌}
+use Rattle.term_trees.specs.Trees.{long_key, nonce, seal, ticket_key}
 use Rattle.wire_model.specs.declared.step.Step.TheVariants.{Accept}
 use Rattle.symbolic_runs.specs.Forms.{for_client, pair, server_message, ticket, tickets}
-use Rattle.symbolic_runs.specs.Moves.{Move, accepts, client, gives, hears, server, takes}
+use Rattle.symbolic_runs.specs.Moves.{accepts, client, gives, hears, takes}
 use Rattle.symbolic_runs.specs.Runs.{moves, moves_of, own_of}
-use Rattle.symbolic_runs.specs.Secrets.{is_compromised, is_exposed}
+use Rattle.symbolic_runs.specs.Secrets.{is_compromised}
 use Rattle.symbolic_runs.specs.Sessions.{keys}
 use Rattle.symbolic_agreement.specs.Agreement.{ClientAcceptance as RunClientAcceptance, IsClientUnder as IsClientUnderInRun, server_name}
 use Rattle.symbolic_agreement.proofs.Clients.{client_answered, client_hosted}
@@ -13,7 +13,7 @@ use Rattle.wire_histories.specs.Histories.{History}
 use Rattle.clean_runs.specs.Labels.{labelled}
 use Rattle.clean_runs.specs.Runs.{accepted_field, moves_by, number_of}
 use Rattle.clean_runs.proofs.Bridge.{Case, SessionsGo, one_more, run, setting}
-use Rattle.clean_agreement.specs.Agreement.{ClientAcceptance, IsAnswered, IsClientUnder, IsHost, granted, moves_in, server_ticket}
+use Rattle.clean_agreement.specs.Agreement.{ClientAcceptance, IsClientUnder, granted, moves_in}
 use Rattle.clean_agreement.specs.Statements.{ClientsAreAnswered, ClientsAreHosts}
 use Rattle.clean_agreement.proofs.Gifts.{given_in}
 use Rattle.clean_agreement.proofs.Grants.{grants_are, host_named, made_of, tickets_made}
@@ -35,7 +35,7 @@ number_at c a = number_of a.conv a.past
 abbrev user_at : (c : Case) → ClientAcceptance c.history → List ℕ
 user_at c a = accepted_field ((setting c).role (number_at c a)) (moves_by (own_of (setting c) (number_at c a)) ((setting c).role (number_at c a)) (labelled c.l a.conv a.past))
 
-in_run : (c : Case) (a : ClientAcceptance c.history) → RunClientAcceptance (setting c) (run c c.history)
+abbrev in_run : (c : Case) (a : ClientAcceptance c.history) → RunClientAcceptance (setting c) (run c c.history)
 in_run c a = record {
   conv = number_at c a;
   user = user_at c a;
@@ -73,8 +73,8 @@ under_out c a number u = record {
 }
 
 pub clients_are_answered : (c : Case) → SessionsGo c → ClientsAreAnswered c.history c.z c.l
-clients_are_answered c sessions a number under open =
-    let r = client_answered (setting c) (run c c.history) (is_run c sessions) (in_run c a) number (under_in c a number under) open in
+clients_are_answered c sessions a number under unexposed =
+    let r = client_answered (setting c) (run c c.history) (is_run c sessions) (in_run c a) number (under_in c a number under) unexposed in
     let m = made_of c sessions a.past (behind c a) (placed_at c a) number r.for_the_server r.granted in
     let grant_is = grants_are c a.past (behind c a) (placed_at c a) number m.made in
     let g = given_in c sessions a.past (behind c a) (placed_at c a) r.conv r.gave (server_message (ticket_key number) (nonce (number_at c a))) r.answered in
@@ -102,11 +102,13 @@ clients_are_hosts c sessions a is =
     let number = h.0 in
     let m = tickets_made c sessions a.past (behind c a) (placed_at c a) number h.1.session h.1.past h.1.granted in
     let grant_is = grants_are c a.past (behind c a) (placed_at c a) number m.made in
-    let used : (granted m.made).used ≡ keys h.1.sealer (Some (c.l.holder a.conv)) = sym (ap (λ x. x.used) grant_is) ∙ h.1.used ∙ ap (λ x. keys h.1.sealer (Some x)) p.holder_is in
-    (number, record {
-      under = under_out c a number h.1.under;
-      made = m.made;
-      sealer = h.1.sealer;
-      used = used;
-      host = host_named c.z m.made.read _ h.1.sealer (c.l.holder a.conv) used;
-    })
+    let used : (granted m.made).used ≡ keys h.1.sealer (Some (c.l.holder a.conv)) = sym (ap (λ x. x.used) grant_is) ∙ h.1.used ∙ ap (λ x. keys h.1.sealer (Some x)) p.holder_is in (
+      number,
+      record {
+        under = under_out c a number h.1.under;
+        made = m.made;
+        sealer = h.1.sealer;
+        used = used;
+        host = host_named c.z m.made.read (c.l.label (length m.made.asked)) h.1.sealer (c.l.holder a.conv) used;
+      },
+    )

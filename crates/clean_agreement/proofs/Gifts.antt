@@ -1,22 +1,22 @@
 -- A message that a conversation gives in a run stands in its history as a message of that conversation.
-use Rattle.std.proofs.Common.{◌≡◌, ℕ, List, [], ◌∷◌, ◌++◌, append_assoc, map, Some, Bool, true, false, if◌then◌else◌, refl, sym, ap, subst, ◌∙◌}
+use Rattle.std.proofs.Common.{◌≡◌, ℕ, List, [], ◌∷◌, ◌++◌, append_assoc, length, map, Some, Bool, refl, sym, ap, ◌∙◌}
 use Rattle.term_trees.specs.Trees.{Tree, plain}
 use Rattle.term_trees.specs.Spellings.{Atoms}
 use Rattle.wire_model.specs.declared.step.Step.{Step}
 use Rattle.wire_model.specs.declared.step.Step.TheVariants.{Start, Out, In, Ask, Heard, Unheard, Accept, Fail, Reply, Refused, AsGot, AsGave, AsEnd}
 use Rattle.symbolic_runs.specs.Moves.{Role, Move, gives, Own}
-use Rattle.symbolic_runs.specs.Runs.{Event, Run, moves, moves_of, serves, given as labels_given}
+use Rattle.symbolic_runs.specs.Runs.{Run, moves, moves_of, serves, given as labels_given}
 use Rattle.symbolic_runs.specs.Places.{Stands}
 use Rattle.symbolic_runs.specs.Sessions.{Deed}
-use Rattle.wire_histories.specs.Histories.{History, Act, gave, took, asked, answered, unanswered, accepted, failed}
-use Rattle.clean_runs.specs.Labels.{labelled, started_as}
-use Rattle.clean_runs.specs.Runs.{acts_in, events_of, is_choosing, number_of}
+use Rattle.wire_histories.specs.Histories.{History, Act, replied, gave, took, asked, answered, unanswered, accepted, failed}
+use Rattle.clean_runs.specs.Labels.{dealt, requests_in, started_as}
+use Rattle.clean_runs.specs.Runs.{deeds_by, deeds_for_deal, events_of, number_of, session_number}
 use Rattle.clean_runs.proofs.Bridge.{Case, SessionsGo, acts_at, events_are, one_more, run, setting}
 use Rattle.clean_runs.proofs.Follows.{Follows, accepts_it, asks_it, chooses, events_with, fails_so, gives_it, hears_it, hears_none, takes_it, takes_none}
 use Rattle.clean_runs.proofs.Numbers.{number_is}
 use Rattle.clean_runs.proofs.Steps.{Does, accept_does, ask_does, fail_does, heard_does, in_does, out_does, unheard_does}
 use Rattle.clean_agreement.specs.Agreement.{Happens, gives_labels, moves_in, plays}
-use Rattle.clean_agreement.proofs.Places.{At, Plays, further_in, moves_are, plays_by, plays_in, stands_at, step_at}
+use Rattle.clean_agreement.proofs.Places.{Plays, further_in, moves_are, plays_by, plays_in, stands_at, step_at}
 
 -- the conversation of events that are one message
 number_of_gift : (atoms : Atoms) (own : Own) (role : Role) (before : List Move) (choosing : Bool) (act : Act) (label : Tree) (ms : List Move) (number k : ℕ) (t : Tree) → Follows atoms own role before choosing act label ms → events_with number choosing act ms ≡ moves k (gives t) ∷ [] → (number ≡ k) × ((b : List ℕ) × (act ≡ gave b))
@@ -63,9 +63,9 @@ gave_at c later past (Accept conv cuid suid) k t place is = absurd (none_given c
 gave_at c later past (Fail conv cause) k t place is = absurd (none_given c later past (Fail conv cause) conv (failed cause) k t (fail_does conv cause) place is (λ x e. cc))
 gave_at c later past (Reply conv answer) k t place is = absurd (cc)
 gave_at c later past (Refused node answer) k t place is = absurd (cc)
-gave_at c later past (AsGot session b words) k t place is = absurd (served_none _ k _ t is)
-gave_at c later past (AsGave n session b) k t place is = absurd (served_none _ k _ t is)
-gave_at c later past (AsEnd session) k t place is = absurd (served_none _ k _ t is)
+gave_at c later past (AsGot session b words) k t place is = absurd (cc)
+gave_at c later past (AsGave n session b) k t place is = absurd (served_none (session_number session past) k (deeds_for_deal (deeds_by (dealt c.l session past)) (dealt c.l session past) (replied b) (requests_in past) (c.l.label (length past))) t is)
+gave_at c later past (AsEnd session) k t place is = absurd (cc)
 
 -- ---- a message of the run, in the history
 

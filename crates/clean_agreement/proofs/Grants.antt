@@ -11,22 +11,22 @@ use Rattle.term_trees.specs.Trees.{Tree}
 use Rattle.wire_model.specs.declared.step.Step.{Step}
 use Rattle.wire_model.specs.declared.step.Step.TheVariants.{Start, Out, In, Ask, Heard, Unheard, Accept, Fail, Reply, Refused, AsGot, AsGave, AsEnd}
 use Rattle.symbolic_runs.specs.Moves.{Move}
-use Rattle.symbolic_runs.specs.Runs.{Event, Run, moves, serves, starts, talks}
+use Rattle.symbolic_runs.specs.Runs.{Event, Run, moves, serves, talks}
 use Rattle.symbolic_runs.specs.Places.{Stands, answers_to}
 use Rattle.symbolic_runs.proofs.OnceLaws.{one_event}
 use Rattle.symbolic_runs.proofs.SessionLaws.{one_answer}
 use Rattle.symbolic_runs.specs.Sessions.{Deed, got, gives_tickets, gives_challenge, gives_vouch, refuses, held, Grant, keys, key_and_password, ticket_for_server, vouched_ticket}
 use Rattle.symbolic_agreement.specs.Agreement.{Grants, IsGranted, by_tickets, by_vouching, server_name}
-use Rattle.wire_histories.specs.Histories.{History, requested, replied}
+use Rattle.wire_histories.specs.Histories.{History, requested}
 use Rattle.wire_histories.specs.Legal.{Setting, known_to}
-use Rattle.clean_runs.specs.Labels.{Dealt, dealt, labelled, requests_in}
-use Rattle.clean_runs.specs.Runs.{deed_by, deeds_by, deeds_for_deal, events_of, grant_at, grant_by, mail_kind, number_of, known_name, name_where, session_number, speakers, talk_events, tickets_for, vouch_deed, vouch_for, is_choosing, acts_in}
-use Rattle.clean_runs.proofs.Bridge.{Case, SessionsGo, one_more, run, runs_on, setting}
+use Rattle.clean_runs.specs.Labels.{labelled, requests_in}
+use Rattle.clean_runs.specs.Runs.{deed_by, deeds_by, events_of, grant_at, grant_by, mail_kind, number_of, known_name, name_where, session_number, speakers, tickets_for, vouch_deed, vouch_for, is_choosing, acts_in}
+use Rattle.clean_runs.proofs.Bridge.{Case, SessionsGo, run, runs_on, setting}
 use Rattle.clean_runs.proofs.Served.{grant_placed}
 use Rattle.clean_runs.proofs.SessionLaw.{Answering, answering}
 use Rattle.clean_runs.proofs.SessionStands.{Answered, by_challenge, by_refusal, by_tickets as answered_by_tickets, by_vouch, kind_number}
 use Rattle.clean_agreement.specs.Agreement.{Happens, IsMade, granted, server_ticket}
-use Rattle.clean_agreement.proofs.Places.{At, further_in, stands_at, step_at}
+use Rattle.clean_agreement.proofs.Places.{further_in, stands_at, step_at}
 
 -- ---- what a deed tells of the answer
 
@@ -128,10 +128,10 @@ gives_of c later past (Start conv p r w) session deed place answers is = absurd 
 gives_of c later past (Out n conv b) session deed place answers is = absurd (talked (number_of conv past) session b (is_choosing (acts_in (labelled c.l conv past))) _ deed [] is)
 gives_of c later past (In conv b) session deed place answers is = absurd (moved (number_of conv past) session [] _ deed [] refl is)
 gives_of c later past (Ask n conv b) session deed place answers is = absurd (moved (number_of conv past) session [] _ deed [] refl is)
-gives_of c later past (Heard conv b) session deed place answers is = absurd (moved (number_of conv past) session [] _ deed [] refl is)
-gives_of c later past (Unheard conv) session deed place answers is = absurd (moved (number_of conv past) session [] _ deed [] refl is)
-gives_of c later past (Accept conv cuid suid) session deed place answers is = absurd (moved (number_of conv past) session [] _ deed [] refl is)
-gives_of c later past (Fail conv cause) session deed place answers is = absurd (moved (number_of conv past) session [] _ deed [] refl is)
+gives_of c later past (Heard conv b) session deed place answers is = absurd (cc)
+gives_of c later past (Unheard conv) session deed place answers is = absurd (cc)
+gives_of c later past (Accept conv cuid suid) session deed place answers is = absurd (cc)
+gives_of c later past (Fail conv cause) session deed place answers is = absurd (cc)
 gives_of c later past (Reply conv answer) session deed place answers is = absurd (cc)
 gives_of c later past (Refused node answer) session deed place answers is = absurd (cc)
 gives_of c later past (AsGot name b words) session deed place answers is = absurd (let same : got (requests_in past) (c.l.label (length past)) ≡ deed = cc in let both : false ≡ true = ap is_answer same ∙ answers in cc)
@@ -153,12 +153,13 @@ grants_are c past later place number made =
     ∙ grant_placed c.z.server c.l here.later made.session made.request made.words made.asked
     ∙ ap (λ r. grant_by c.z.server r (c.l.label (length made.asked))) made.is_read
 
-pub record Made (c : Case) (past : History) (number : ℕ) (deed : Deed) : Type 0 where
+pub record Made (c : Case) (past : History) (number : ℕ) (deed : Deed) (r : TicketReq) : Type 0 where
   pub made : IsMade past c.z c.l number
+  pub read_is : made.read ≡ r
   pub deed_is : deed_by (got number (c.l.label (length made.asked)) ∷ deeds_by made.older) number made.request made.reply ≡ deed
 
 -- the step that gives tickets or a vouch makes a grant
-made_at : (c : Case) (past later earlier : History) (step : Step) (number : ℕ) (deed : Deed) → c.history ≡ later ++ past → (happens : Happens past earlier step) → (g : Gives c (later ++ happens.later) earlier step deed) → g.answering.d.number ≡ number → kind_of g.b ≡ 4 → (r : TicketReq) → request_of g.answering.owed.asked.request ≡ Ok r → Made c past number deed
+made_at : (c : Case) (past later earlier : History) (step : Step) (number : ℕ) (deed : Deed) → c.history ≡ later ++ past → (happens : Happens past earlier step) → (g : Gives c (later ++ happens.later) earlier step deed) → g.answering.d.number ≡ number → kind_of g.b ≡ 4 → (r : TicketReq) → request_of g.answering.owed.asked.request ≡ Ok r → Made c past number deed r
 made_at c past later earlier step number deed place happens g number_is ok r read =
     let a = g.answering in
     let gave = AsGave g.message g.session g.b in
@@ -189,6 +190,7 @@ made_at c past later earlier step number deed place happens g number_is ok r rea
         older = a.older;
         newest = a.front ∙ ap (λ d. d ∷ a.older) d_is;
       };
+      read_is = refl;
       deed_is =
           ap (λ n. deed_by (got n a.d.label ∷ deeds_by a.older) n request g.b) (sym number_is)
           ∙ ap (λ t. deed_by (got a.d.number t ∷ deeds_by a.older) a.d.number request g.b) (sym label_is)
@@ -240,7 +242,7 @@ tickets_made c sessions past later place number session gave stands =
     record {
       made = m.made;
       deed_is = m.deed_is;
-      ticket_is = ticket_by c past later place number m.made ticket_for_server (ap (λ (x : ℕ). if eqb x 1 then ticket_for_server (granted m.made) number else vouched_ticket (granted m.made) number) read.so);
+      ticket_is = ticket_by c past later place number m.made ticket_for_server (ap (λ (x : ℕ). if eqb x 1 then ticket_for_server (granted m.made) number else vouched_ticket (granted m.made) number) (ap (λ r. r.kind) m.read_is ∙ read.so));
     }
 
 vouch_made : (c : Case) → SessionsGo c → (past later : History) → c.history ≡ later ++ past → (number session first : ℕ) (kind : MacKind) (gave : Run) → Stands (run c past) gave (serves session (gives_vouch kind number first)) → MadeSo c past number (gives_vouch kind number first) (vouched_ticket ((setting c).grants number) number)
@@ -255,7 +257,7 @@ vouch_made c sessions past later place number session first kind gave stands =
     record {
       made = m.made;
       deed_is = m.deed_is;
-      ticket_is = ticket_by c past later place number m.made vouched_ticket (ap (λ (x : Bool). if x then ticket_for_server (granted m.made) number else vouched_ticket (granted m.made) number) read.so);
+      ticket_is = ticket_by c past later place number m.made vouched_ticket (ap (λ (x : Bool). if x then ticket_for_server (granted m.made) number else vouched_ticket (granted m.made) number) (ap (λ r. eqb r.kind 1) m.read_is ∙ read.so));
     }
 
 pub record GrantMade (c : Case) (past : History) (number : ℕ) (tree : Tree) : Type 0 where
@@ -390,5 +392,5 @@ vouch_stands c past later place number made sealer name used kind first holds ma
     (s.1, subst (λ d. Stands (run c past) (run c made.past) (serves s.1 d)) deed s.2)
   where
     not_so : (b : Bool) → (b ≡ true → ⊥) → b ≡ false
-    not_so true no = absurd (no refl)
-    not_so false no = refl
+    not_so true never = absurd (never refl)
+    not_so false never = refl

@@ -1,6 +1,6 @@
 -- Steps of a history and events of its run: each place of the one is a place of the other, and what a conversation did by its
 -- labels is what it did in the run.
-use Rattle.std.proofs.Common.{◌≡◌, ℕ, ◌≤◌, List, [], ◌∷◌, ◌++◌, append_assoc, length, Option, Some, None, Bool, true, false, if◌then◌else◌, inl, inr, refl, sym, ap, subst, ◌∙◌, arith}
+use Rattle.std.proofs.Common.{◌≡◌, ◌⊎◌, ℕ, ◌≤◌, List, [], ◌∷◌, ◌++◌, append_assoc, length, Some, Bool, true, if◌then◌else◌, inl, inr, refl, sym, ap, ◌∙◌, arith}
 use Rattle.std.proofs.lemmas.Bool.{cases_Bool}
 use Rattle.std.specs.Str.{bytes_eq}
 use Rattle.term_trees.specs.Trees.{nonce, long_key, password}
@@ -8,7 +8,7 @@ use Rattle.wire_model.specs.declared.step.Protocol.{Protocol}
 use Rattle.wire_model.specs.declared.step.Role.{Role as Part}
 use Rattle.wire_model.specs.declared.step.Step.{Step}
 use Rattle.wire_model.specs.declared.step.Step.TheVariants.{Start, Out, In, Ask, Heard, Unheard, Accept, Fail, Reply, Refused, AsGot, AsGave, AsEnd}
-use Rattle.symbolic_runs.specs.Moves.{Role, Move, Own}
+use Rattle.symbolic_runs.specs.Moves.{Role}
 use Rattle.symbolic_runs.specs.Places.{Stands}
 use Rattle.symbolic_runs.specs.Runs.{Event, Run, moves_of, own_of}
 use Rattle.wire_histories.specs.Histories.{History}
@@ -89,29 +89,27 @@ started_here c conv role past later other p r w place same is =
       holder_is = ap (λ h. holder_at c.l h (starts_in past)) place ∙ holder_placed c.l later other p r w past ∙ ap c.l.holder (same_name other conv same);
     }
 
-placed : (c : Case) (conv : List ℕ) (role : Role) (past later : History) → c.history ≡ later ++ past → plays conv past ≡ Some role → Placed c conv role past
+placed_before : (c : Case) (conv : List ℕ) (role : Role) (past : History) (step : Step) → started_as conv (step ∷ past) ≡ started_as conv past → Placed c conv role past → Placed c conv role (step ∷ past)
+placed_before c conv role past step same p = record { number = p.number; started = same ∙ p.started; role_is = p.role_is; holder_is = p.holder_is }
 
-placed_before : (c : Case) (conv : List ℕ) (role : Role) (past later : History) (step : Step) → c.history ≡ later ++ step ∷ past → started_as conv (step ∷ past) ≡ started_as conv past → plays conv past ≡ Some role → Placed c conv role (step ∷ past)
-placed_before c conv role past later step place same is =
-    let p = placed c conv role past (later ++ step ∷ []) (one_more c later past step place) is in
-    record { number = p.number; started = same ∙ p.started; role_is = p.role_is; holder_is = p.holder_is }
+placed : (c : Case) (conv : List ℕ) (role : Role) (past later : History) → c.history ≡ later ++ past → plays conv past ≡ Some role → Placed c conv role past
 placed c conv role [] later place is = absurd (cc)
 placed c conv role (Start other p r w ∷ past) later place is = elim (cases_Bool (bytes_eq other conv)) [
   | inl same ↦ started_here c conv role past later other p r w place same (sym (ap (λ (b : Bool). if b then Some (role_by p r) else plays conv past) same) ∙ is)
-  | inr differs ↦ placed_before c conv role past later (Start other p r w) place (ap (λ (b : Bool). if b then Some (starts_in past) else started_as conv past) differs) (sym (ap (λ (b : Bool). if b then Some (role_by p r) else plays conv past) differs) ∙ is)
+  | inr differs ↦ placed_before c conv role past (Start other p r w) (ap (λ (b : Bool). if b then Some (starts_in past) else started_as conv past) differs) (placed c conv role past (later ++ Start other p r w ∷ []) (one_more c later past (Start other p r w) place) (sym (ap (λ (b : Bool). if b then Some (role_by p r) else plays conv past) differs) ∙ is))
 ]
-placed c conv role (Out n name b ∷ past) later place is = placed_before c conv role past later (Out n name b) place refl is
-placed c conv role (In name b ∷ past) later place is = placed_before c conv role past later (In name b) place refl is
-placed c conv role (Ask n name b ∷ past) later place is = placed_before c conv role past later (Ask n name b) place refl is
-placed c conv role (Heard name b ∷ past) later place is = placed_before c conv role past later (Heard name b) place refl is
-placed c conv role (Unheard name ∷ past) later place is = placed_before c conv role past later (Unheard name) place refl is
-placed c conv role (Accept name cuid suid ∷ past) later place is = placed_before c conv role past later (Accept name cuid suid) place refl is
-placed c conv role (Fail name cause ∷ past) later place is = placed_before c conv role past later (Fail name cause) place refl is
-placed c conv role (Reply name answer ∷ past) later place is = placed_before c conv role past later (Reply name answer) place refl is
-placed c conv role (Refused node answer ∷ past) later place is = placed_before c conv role past later (Refused node answer) place refl is
-placed c conv role (AsGot session b words ∷ past) later place is = placed_before c conv role past later (AsGot session b words) place refl is
-placed c conv role (AsGave n session b ∷ past) later place is = placed_before c conv role past later (AsGave n session b) place refl is
-placed c conv role (AsEnd session ∷ past) later place is = placed_before c conv role past later (AsEnd session) place refl is
+placed c conv role (Out n name b ∷ past) later place is = placed_before c conv role past (Out n name b) refl (placed c conv role past (later ++ Out n name b ∷ []) (one_more c later past (Out n name b) place) is)
+placed c conv role (In name b ∷ past) later place is = placed_before c conv role past (In name b) refl (placed c conv role past (later ++ In name b ∷ []) (one_more c later past (In name b) place) is)
+placed c conv role (Ask n name b ∷ past) later place is = placed_before c conv role past (Ask n name b) refl (placed c conv role past (later ++ Ask n name b ∷ []) (one_more c later past (Ask n name b) place) is)
+placed c conv role (Heard name b ∷ past) later place is = placed_before c conv role past (Heard name b) refl (placed c conv role past (later ++ Heard name b ∷ []) (one_more c later past (Heard name b) place) is)
+placed c conv role (Unheard name ∷ past) later place is = placed_before c conv role past (Unheard name) refl (placed c conv role past (later ++ Unheard name ∷ []) (one_more c later past (Unheard name) place) is)
+placed c conv role (Accept name cuid suid ∷ past) later place is = placed_before c conv role past (Accept name cuid suid) refl (placed c conv role past (later ++ Accept name cuid suid ∷ []) (one_more c later past (Accept name cuid suid) place) is)
+placed c conv role (Fail name cause ∷ past) later place is = placed_before c conv role past (Fail name cause) refl (placed c conv role past (later ++ Fail name cause ∷ []) (one_more c later past (Fail name cause) place) is)
+placed c conv role (Reply name answer ∷ past) later place is = placed_before c conv role past (Reply name answer) refl (placed c conv role past (later ++ Reply name answer ∷ []) (one_more c later past (Reply name answer) place) is)
+placed c conv role (Refused node answer ∷ past) later place is = placed_before c conv role past (Refused node answer) refl (placed c conv role past (later ++ Refused node answer ∷ []) (one_more c later past (Refused node answer) place) is)
+placed c conv role (AsGot session b words ∷ past) later place is = placed_before c conv role past (AsGot session b words) refl (placed c conv role past (later ++ AsGot session b words ∷ []) (one_more c later past (AsGot session b words) place) is)
+placed c conv role (AsGave n session b ∷ past) later place is = placed_before c conv role past (AsGave n session b) refl (placed c conv role past (later ++ AsGave n session b ∷ []) (one_more c later past (AsGave n session b) place) is)
+placed c conv role (AsEnd session ∷ past) later place is = placed_before c conv role past (AsEnd session) refl (placed c conv role past (later ++ AsEnd session ∷ []) (one_more c later past (AsEnd session) place) is)
 
 pub plays_in : (c : Case) (conv : List ℕ) (role : Role) (past later : History) → c.history ≡ later ++ past → plays conv past ≡ Some role → Plays c conv role past
 plays_in c conv role past later place is =
@@ -124,33 +122,30 @@ plays_in c conv role past later place is =
     }
 
 -- the other way round: a conversation that has started plays the role of its number
-pub plays_by : (c : Case) (conv : List ℕ) (past later : History) → c.history ≡ later ++ past → (number : ℕ) → started_as conv past ≡ Some number → plays conv past ≡ Some ((setting c).role number)
-
-plays_before : (c : Case) (conv : List ℕ) (past later : History) (step : Step) → c.history ≡ later ++ step ∷ past → plays conv (step ∷ past) ≡ plays conv past → (number : ℕ) → started_as conv past ≡ Some number → plays conv (step ∷ past) ≡ Some ((setting c).role number)
-plays_before c conv past later step place same number is = same ∙ plays_by c conv past (later ++ step ∷ []) (one_more c later past step place) number is
-
 plays_here : (c : Case) (conv : List ℕ) (past later : History) (other : List ℕ) (p : Protocol) (r : Part) (w : List ℕ) → c.history ≡ later ++ Start other p r w ∷ past → (number : ℕ) → bytes_eq other conv ≡ true → Some (starts_in past) ≡ Some number → plays conv (Start other p r w ∷ past) ≡ Some ((setting c).role number)
 plays_here c conv past later other p r w place number same is =
     let n : starts_in past ≡ number = cc in
     let role : (setting c).role number ≡ role_by p r = ap (setting c).role (sym n) ∙ ap (λ h. role_at h (starts_in past)) place ∙ role_placed later other p r w past in
     ap (λ (b : Bool). if b then Some (role_by p r) else plays conv past) same ∙ ap Some (sym role)
+
+pub plays_by : (c : Case) (conv : List ℕ) (past later : History) → c.history ≡ later ++ past → (number : ℕ) → started_as conv past ≡ Some number → plays conv past ≡ Some ((setting c).role number)
 plays_by c conv [] later place number is = absurd (cc)
 plays_by c conv (Start other p r w ∷ past) later place number is = elim (cases_Bool (bytes_eq other conv)) [
   | inl same ↦ plays_here c conv past later other p r w place number same (sym (ap (λ (b : Bool). if b then Some (starts_in past) else started_as conv past) same) ∙ is)
-  | inr differs ↦ plays_before c conv past later (Start other p r w) place (ap (λ (b : Bool). if b then Some (role_by p r) else plays conv past) differs) number (sym (ap (λ (b : Bool). if b then Some (starts_in past) else started_as conv past) differs) ∙ is)
+  | inr differs ↦ ap (λ (b : Bool). if b then Some (role_by p r) else plays conv past) differs ∙ plays_by c conv past (later ++ Start other p r w ∷ []) (one_more c later past (Start other p r w) place) number (sym (ap (λ (b : Bool). if b then Some (starts_in past) else started_as conv past) differs) ∙ is)
 ]
-plays_by c conv (Out n name b ∷ past) later place number is = plays_before c conv past later (Out n name b) place refl number is
-plays_by c conv (In name b ∷ past) later place number is = plays_before c conv past later (In name b) place refl number is
-plays_by c conv (Ask n name b ∷ past) later place number is = plays_before c conv past later (Ask n name b) place refl number is
-plays_by c conv (Heard name b ∷ past) later place number is = plays_before c conv past later (Heard name b) place refl number is
-plays_by c conv (Unheard name ∷ past) later place number is = plays_before c conv past later (Unheard name) place refl number is
-plays_by c conv (Accept name cuid suid ∷ past) later place number is = plays_before c conv past later (Accept name cuid suid) place refl number is
-plays_by c conv (Fail name cause ∷ past) later place number is = plays_before c conv past later (Fail name cause) place refl number is
-plays_by c conv (Reply name answer ∷ past) later place number is = plays_before c conv past later (Reply name answer) place refl number is
-plays_by c conv (Refused node answer ∷ past) later place number is = plays_before c conv past later (Refused node answer) place refl number is
-plays_by c conv (AsGot session b words ∷ past) later place number is = plays_before c conv past later (AsGot session b words) place refl number is
-plays_by c conv (AsGave n session b ∷ past) later place number is = plays_before c conv past later (AsGave n session b) place refl number is
-plays_by c conv (AsEnd session ∷ past) later place number is = plays_before c conv past later (AsEnd session) place refl number is
+plays_by c conv (Out n name b ∷ past) later place number is = plays_by c conv past (later ++ Out n name b ∷ []) (one_more c later past (Out n name b) place) number is
+plays_by c conv (In name b ∷ past) later place number is = plays_by c conv past (later ++ In name b ∷ []) (one_more c later past (In name b) place) number is
+plays_by c conv (Ask n name b ∷ past) later place number is = plays_by c conv past (later ++ Ask n name b ∷ []) (one_more c later past (Ask n name b) place) number is
+plays_by c conv (Heard name b ∷ past) later place number is = plays_by c conv past (later ++ Heard name b ∷ []) (one_more c later past (Heard name b) place) number is
+plays_by c conv (Unheard name ∷ past) later place number is = plays_by c conv past (later ++ Unheard name ∷ []) (one_more c later past (Unheard name) place) number is
+plays_by c conv (Accept name cuid suid ∷ past) later place number is = plays_by c conv past (later ++ Accept name cuid suid ∷ []) (one_more c later past (Accept name cuid suid) place) number is
+plays_by c conv (Fail name cause ∷ past) later place number is = plays_by c conv past (later ++ Fail name cause ∷ []) (one_more c later past (Fail name cause) place) number is
+plays_by c conv (Reply name answer ∷ past) later place number is = plays_by c conv past (later ++ Reply name answer ∷ []) (one_more c later past (Reply name answer) place) number is
+plays_by c conv (Refused node answer ∷ past) later place number is = plays_by c conv past (later ++ Refused node answer ∷ []) (one_more c later past (Refused node answer) place) number is
+plays_by c conv (AsGot session b words ∷ past) later place number is = plays_by c conv past (later ++ AsGot session b words ∷ []) (one_more c later past (AsGot session b words) place) number is
+plays_by c conv (AsGave n session b ∷ past) later place number is = plays_by c conv past (later ++ AsGave n session b ∷ []) (one_more c later past (AsGave n session b) place) number is
+plays_by c conv (AsEnd session ∷ past) later place number is = plays_by c conv past (later ++ AsEnd session ∷ []) (one_more c later past (AsEnd session) place) number is
 
 -- what it has of its own is what it has in the run, and so are its moves
 pub own_is : (c : Case) (conv : List ℕ) (past : History) → (setting c).holder (number_of conv past) ≡ c.l.holder conv → own_of (setting c) (number_of conv past) ≡ own_in c.l conv past

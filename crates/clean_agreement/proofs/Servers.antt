@@ -1,8 +1,8 @@
 -- A server's acceptance in a history is one in its run, by the same ticket and under the same grants.
-use Rattle.std.proofs.Common.{◌≡◌, ℕ, List, [], ◌∷◌, ◌++◌, Some, false, refl, sym, ap, subst, ◌∙◌}
+use Rattle.std.proofs.Common.{◌≡◌, ℕ, List, [], ◌∷◌, ◌++◌, false, refl, sym, ap, subst, ◌∙◌}
 use Rattle.term_trees.specs.Trees.{Tree}
 use Rattle.wire_model.specs.declared.step.Step.TheVariants.{Accept}
-use Rattle.symbolic_runs.specs.Moves.{Role, accepts, Move}
+use Rattle.symbolic_runs.specs.Moves.{accepts}
 use Rattle.symbolic_runs.specs.Runs.{IsRun, moves, moves_of, own_of}
 use Rattle.symbolic_runs.specs.Secrets.{is_compromised}
 use Rattle.symbolic_agreement.specs.Agreement.{Acceptance as RunAcceptance, IsByTicket as IsByRunTicket, IsUnder as IsUnderInRun, Shows, is_server}
@@ -34,7 +34,7 @@ number_at c a = number_of a.conv a.past
 abbrev pub user_at : (c : Case) → Acceptance c.history → List ℕ
 user_at c a = accepted_field ((setting c).role (number_at c a)) (moves_by (own_of (setting c) (number_at c a)) ((setting c).role (number_at c a)) (labelled c.l a.conv a.past))
 
-pub in_run : (c : Case) (a : Acceptance c.history) → RunAcceptance (setting c) (run c c.history)
+abbrev pub in_run : (c : Case) (a : Acceptance c.history) → RunAcceptance (setting c) (run c c.history)
 in_run c a = record {
   conv = number_at c a;
   user = user_at c a;

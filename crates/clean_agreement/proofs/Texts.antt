@@ -1,9 +1,9 @@
 -- Two acceptances by the same bytes under one key stand at one place: a ticket holds the server's own word.
-use Rattle.std.proofs.Common.{◌≡◌, ℕ, ◌<◌, ◌≤◌, List, [], ◌∷◌, ◌++◌, All, length, length-append, map, take, drop, Option, Some, None, Ok, Bool, true, false, eqb, if◌then◌else◌, refl, sym, ap, subst, ◌∙◌, arith}
-use Rattle.std.proofs.lemmas.List.{take_at, drop_at}
+use Rattle.std.proofs.Common.{◌≡◌, ℕ, ◌<◌, ◌≤◌, List, [], ◌∷◌, ◌++◌, All, length, map, take, drop, Option, Some, None, Ok, Bool, true, false, eqb, if◌then◌else◌, refl, sym, ap, subst, ◌∙◌}
+use Rattle.std.proofs.lemmas.List.{take_at}
 use Rattle.seal_mode.specs.Sealing.{opened, sealed}
 use Rattle.seal_mode.proofs.SealLaws.{sealed_undone}
-use Rattle.term_trees.specs.Trees.{Tree, Trees, nonce, long_key, plain, seal, none, piece}
+use Rattle.term_trees.specs.Trees.{Tree, nonce, long_key, plain, seal, none, piece}
 use Rattle.term_trees.specs.Spellings.{Atoms, Spelling, atom_bytes, bytes_of, spelling}
 use Rattle.wire_model.specs.declared.step.Step.{Step}
 use Rattle.wire_model.specs.declared.step.Step.TheVariants.{Accept}
@@ -18,18 +18,18 @@ use Rattle.symbolic_agreement.proofs.Matching.{one_ticket}
 use Rattle.symbolic_agreement.proofs.Servers.{seen_at}
 use Rattle.wire_histories.specs.Histories.{History, Act, accepted}
 use Rattle.clean_runs.specs.Labels.{taken}
-use Rattle.clean_runs.specs.Runs.{events_of, number_of}
-use Rattle.clean_runs.specs.Clean.{HoldsBytes, IsLabelledIf, ReadsWord}
-use Rattle.clean_runs.proofs.Bridge.{Case, SessionsGo, acts_at, events_are, goes_by, labelled_if, one_more, read_at, run, setting}
+use Rattle.clean_runs.specs.Runs.{events_of}
+use Rattle.clean_runs.specs.Clean.{HoldsBytes, ReadsWord}
+use Rattle.clean_runs.proofs.Bridge.{Case, SessionsGo, acts_at, events_are, labelled_if, one_more, read_at, run, setting}
 use Rattle.clean_runs.proofs.Bytes.{tree_bytes}
 use Rattle.clean_runs.proofs.Follows.{Follows, accepts_it, asks_it, chooses, events_with, fails_so, gives_it, hears_it, hears_none, takes_it, takes_none}
 use Rattle.clean_runs.proofs.Numbers.{number_is}
 use Rattle.clean_runs.proofs.Spelled.{all_parts, seal_parts}
-use Rattle.clean_runs.proofs.Steps.{Does, Kind, accept_does, begins, deals, does, kind, nothing, taken_by}
-use Rattle.clean_agreement.specs.Agreement.{Acceptance, IsByTicket}
+use Rattle.clean_runs.proofs.Steps.{Kind, accept_does, begins, deals, does, kind, nothing, taken_by}
+use Rattle.clean_agreement.specs.Agreement.{Acceptance}
 use Rattle.clean_agreement.specs.Statements.{IsByText, OneByAText}
-use Rattle.clean_agreement.proofs.Apart.{one_acceptance, one_by_a_ticket}
-use Rattle.clean_agreement.proofs.Servers.{behind, in_run, is_run, number_at, placed_at, playing, shows_in, shows_out, user_at}
+use Rattle.clean_agreement.proofs.Apart.{one_acceptance}
+use Rattle.clean_agreement.proofs.Servers.{behind, in_run, is_run, number_at, placed_at, playing, shows_in, user_at}
 
 -- ---- what a conversation took holds bytes
 
@@ -51,7 +51,7 @@ served_hold session [] = tt
 served_hold session (d ∷ ds) = (tt, served_hold session ds)
 
 act_holds : (atoms : Atoms) (own : Own) (role : Role) (before : List Move) (choosing : Bool) (act : Act) (label : Tree) (ms : List Move) (number : ℕ) → Follows atoms own role before choosing act label ms → ((b : List ℕ) → taken_by act ≡ Some b → HoldsBytes label) → AllHold (events_with number choosing act ms)
-act_holds atoms own role before choosing act label ms number (chooses b none) holds = (tt, tt)
+act_holds atoms own role before choosing act label ms number (chooses b empty) holds = (tt, tt)
 act_holds atoms own role before choosing act label ms number (gives_it b t row spells) holds = (tt, tt)
 act_holds atoms own role before choosing act label ms number (takes_it b row) holds = (holds b refl, tt)
 act_holds atoms own role before choosing act label ms number (takes_none b) holds = tt
@@ -88,16 +88,16 @@ one_move (asks t) ms k here rest = rest
 one_move (accepts user) ms k here rest = rest
 one_move fails ms k here rest = rest
 
+move_holds : (same : Bool) (m : Move) (ms : List Move) (k : ℕ) → Holds (moves k m) → MovesHold ms → MovesHold (if same then m ∷ ms else ms)
+move_holds true m ms k here rest = one_move m ms k here rest
+move_holds false m ms k here rest = rest
+
 moves_hold : (k : ℕ) (events : Run) → AllHold events → MovesHold (moves_of k events)
 moves_hold k [] all = tt
 moves_hold k (starts ∷ events) all = moves_hold k events all.1
 moves_hold k (talks other b ∷ events) all = moves_hold k events all.1
 moves_hold k (serves session d ∷ events) all = moves_hold k events all.1
-moves_hold k (moves other m ∷ events) all = by (eqb other k)
-  where
-    by : (same : Bool) → MovesHold (if same then m ∷ moves_of k events else moves_of k events)
-    by true = one_move m (moves_of k events) other all.0 (moves_hold k events all.1)
-    by false = moves_hold k events all.1
+moves_hold k (moves other m ∷ events) all = move_holds (eqb other k) m (moves_of k events) other all.0 (moves_hold k events all.1)
 
 shown_holds : (role : Role) (ms : List Move) (t : Tree) → Shows role ms t → MovesHold ms → HoldsBytes t
 shown_holds role ms t by_a_client holds = holds.0.0

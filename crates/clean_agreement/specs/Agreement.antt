@@ -2,7 +2,7 @@
 -- user, which conversation of the user's client took part, and which server answered a client (Lowe, A Hierarchy of
 -- Authentication Specifications, 1997). A place of a history is told by what stands before it. What a conversation took and
 -- gave is told by labels, move by move. The user whom a server accepts is the field of the ticket.
-use Rattle.std.specs.Prelude.{◌≡◌, ℕ, List, [], ◌∷◌, ◌++◌, length, Contains, false, true, Option, Some, None, Ok, ◌==◌, if◌then◌else◌}
+use Rattle.std.specs.Prelude.{◌≡◌, ℕ, List, [], ◌∷◌, ◌++◌, length, Contains, true, Option, Some, None, Ok, ◌==◌, if◌then◌else◌}
 use Rattle.std.specs.Str.{bytes_eq}
 use Rattle.ticket_codec.specs.declared.request.TicketReq.{TicketReq}
 use Rattle.ticket_codec.specs.Request.{request_of}
@@ -14,8 +14,7 @@ use Rattle.wire_model.specs.declared.step.Step.TheVariants.{Start, Out, Accept, 
 use Rattle.symbolic_runs.specs.Forms.{for_server, for_client, pair, ticket, tickets, client_message, server_message, mail_challenge}
 use Rattle.symbolic_runs.specs.Moves.{Role, client, server, mail_client, Move, takes, hears, gives, accepts, Own}
 use Rattle.symbolic_runs.specs.Sessions.{Grant, keys, key_and_password, held, ticket_for_server, vouched_ticket}
-use Rattle.symbolic_runs.specs.Runs.{Setting as Symbolic, given as labels_given}
-use Rattle.symbolic_runs.specs.Secrets.{is_compromised}
+use Rattle.symbolic_runs.specs.Runs.{given as labels_given}
 use Rattle.symbolic_agreement.specs.Agreement.{is_server, server_name, client_name, Shows}
 use Rattle.wire_histories.specs.Histories.{History, requested}
 use Rattle.wire_histories.specs.Legal.{Setting}

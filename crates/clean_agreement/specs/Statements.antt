@@ -7,7 +7,7 @@ use Rattle.wire_histories.specs.Histories.{History}
 use Rattle.wire_histories.specs.Legal.{Setting}
 use Rattle.clean_runs.specs.Labels.{Labelling}
 use Rattle.clean_runs.specs.Runs.{setting_of, speakers}
-use Rattle.clean_agreement.specs.Agreement.{Acceptance, ClientAcceptance, IsAnswered, IsByTicket, IsClientUnder, IsGrantedTo, IsHost, IsMade, IsMatched, IsUnder, Matches, user_of}
+use Rattle.clean_agreement.specs.Agreement.{Acceptance, ClientAcceptance, IsAnswered, IsByTicket, IsClientUnder, IsGrantedTo, IsHost, IsMatched, IsUnder, Matches, user_of}
 
 -- a name isn't compromised
 abbrev pub IsTrue : History → Setting → Labelling → List ℕ → Type 0

@@ -20,7 +20,7 @@ use Rattle.clean_runs.proofs.Bridge.{Case, GoesWell, SessionsGo, run, same_self,
 use Rattle.clean_runs.proofs.Requests.{Opening, deal_of, named_deal, opened, opened_number, opening, unopened, unopened_number}
 use Rattle.clean_runs.proofs.Served.{Placed, as_many_requests, fresh_deeds, grant_placed, opened_by, own_deeds, placed}
 use Rattle.clean_runs.proofs.SessionGifts.{Gift, IsAsked, gift}
-use Rattle.clean_runs.proofs.SessionStands.{AllNext, Next, all_next, answer_deeds, answered, asked_deeds, deals_in, front, it_answers, it_ends, it_is_asked, more_deals, stands}
+use Rattle.clean_runs.proofs.SessionStands.{Answered, AllNext, Next, all_next, answer_deeds, answered, asked_deeds, deals_in, front, it_answers, it_ends, it_is_asked, more_deals, stands}
 use Rattle.clean_runs.proofs.Steps.{Deals}
 
 -- ---- the deals of a session
@@ -174,7 +174,7 @@ answers_well c later past number session b place =
     let labels : IsLabelled c.atoms s l a.at.earlier o.asked.request = c.clean.labels a.whole_later a.at.earlier (AsGot session o.asked.request o.asked.words) a.whole in
     let words : ReadsWords c.atoms (requests_in a.at.earlier) o.asked.words = c.clean.words a.whole_later a.at.earlier (AsGot session o.asked.request o.asked.words) a.whole in
     let is_asked : IsAsked c.atoms c.z s o.before o.asked d.number d.label = record {
-      reading = record { words = subst (λ n. ReadsWords c.atoms n o.asked.words) (sym a.at.number) words; table = c.clean.table; sevens = c.clean.sevens };
+      reading = record { drawn = subst (λ n. ReadsWords c.atoms n o.asked.words) (sym a.at.number) words; table = c.clean.table; sevens = c.clean.sevens };
       domain = refl;
       short = c.legal.domain.short;
       may = o.may;

@@ -12,7 +12,7 @@ use Rattle.clean_runs.proofs.EveryRole.{every_role_is_lawful}
 use Rattle.clean_runs.proofs.SessionLaw.{sessions_go}
 
 -- what is known of a clean legal history
-pub case_of : (history : History) (z : Setting) (atoms : Atoms) (l : Labelling) → IsLegal history z → IsClean history z atoms l → Case
+abbrev pub case_of : (history : History) (z : Setting) (atoms : Atoms) (l : Labelling) → IsLegal history z → IsClean history z atoms l → Case
 case_of history z atoms l legal clean = record { history = history; z = z; atoms = atoms; l = l; legal = legal; clean = clean; lawful = λ name spoken is. every_role_is_lawful spoken }
 
 pub all_bridged : OfEveryCleanHistory IsBridged

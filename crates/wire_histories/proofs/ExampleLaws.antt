@@ -8,6 +8,7 @@ use lib.Utf8.{encode}
 use Rattle.wire_base.specs.Texts.{is_text}
 use Rattle.md5_answers.specs.Answer.{apop_digits}
 use Rattle.attr_tuples.specs.Matching.{value_of}
+use Rattle.wire_base.specs.Names.{IsName}
 use Rattle.ticket_codec.specs.Fitting.{IsBlock}
 use Rattle.roles.specs.Starts.{role_of}
 use Rattle.roles.specs.Talks.{Call, give, get, found}
@@ -66,5 +67,9 @@ by_name des block false = refl
 nobody : (des : List ℕ) → IsServed (known_to (mail_setting des)) []
 nobody des = record { requests = []; session = tt; later = []; left = refl }
 
+domain_fits : IsName 48 (codes "x")
+unfolding is_text is_utf8 chars encode
+domain_fits = record { text = refl; short = omega arith }
+
 pub mail_legal : (des : List ℕ) → IsBlock 7 des → IsLegal mail_history (mail_setting des)
-mail_legal des block = record { conversations = λ name. by_name des block (bytes_eq conv name); sessions = λ name. nobody des; numbered = (tt, (refl, (tt, (tt, tt)))) }
+mail_legal des block = record { domain = domain_fits; conversations = λ name. by_name des block (bytes_eq conv name); sessions = λ name. nobody des; numbered = (tt, (refl, (tt, (tt, tt)))) }
