@@ -113,7 +113,7 @@ order_at c later past step (does conv act d) place =
 order_at c later past step (deals session deal d) place = d.in_order past
 order_at c later past step (nothing d) place = d.in_order past
 
-one_more : (c : Case) (later past : History) (step : Step) → c.history ≡ later ++ step ∷ past → c.history ≡ (later ++ step ∷ []) ++ past
+pub one_more : (c : Case) (later past : History) (step : Step) → c.history ≡ later ++ step ∷ past → c.history ≡ (later ++ step ∷ []) ++ past
 one_more c later past step place = place ∙ sym (append_assoc later (step ∷ []) past)
 
 pub orderly : (c : Case) (past later : History) → c.history ≡ later ++ past → IsOrderly past
@@ -128,7 +128,7 @@ role_for c number = (setting c).role number
 abbrev own_for : Case → ℕ → Own
 own_for c number = own_of (setting c) number
 
-labelled_if : (atoms : Atoms) (s : Symbolic) (l : Labelling) (past : History) (o : Option (List ℕ)) (b : List ℕ) → o ≡ Some b → IsLabelledIf atoms s l past o → IsLabelled atoms s l past b
+pub labelled_if : (atoms : Atoms) (s : Symbolic) (l : Labelling) (past : History) (o : Option (List ℕ)) (b : List ℕ) → o ≡ Some b → IsLabelledIf atoms s l past o → IsLabelled atoms s l past b
 labelled_if atoms s l past o b is labels = subst (IsLabelledIf atoms s l past) is labels
 
 clean_at : (c : Case) (later past : History) (step : Step) (conv : List ℕ) (act : Act) (number : ℕ) → Does conv act step → c.history ≡ later ++ step ∷ past → started_as conv past ≡ Some number → CleanAct c.atoms (own_for c number) (role_for c number) (labelled c.l conv past) (label_of c.l past act)
@@ -206,27 +206,45 @@ pub record ActsAt (c : Case) (past : History) (conv : List ℕ) (act : Act) : Ty
   pub started : started_as conv past ≡ Some number
   pub follows : FollowsNow c past conv act number
 
-acts_at : (c : Case) (later past : History) (step : Step) (conv : List ℕ) (act : Act) → Does conv act step → c.history ≡ later ++ step ∷ past → ActsAt c past conv act
-acts_at c later past step conv act d place =
+-- the reading of a conversation that does something at a place
+pub record ReadAt (c : Case) (past : History) (conv : List ℕ) (act : Act) : Type 0 where
+  pub spoken : Spoken
+  pub is : c.z.spoken conv ≡ Some spoken
+  pub talk : IsTalk spoken (act ∷ acts_of conv past)
+  pub number : ℕ
+  pub started : started_as conv past ≡ Some number
+  pub read : IsRead c.atoms spoken number ((setting c).holder number) (role_for c number)
+
+pub read_at : (c : Case) (later past : History) (step : Step) (conv : List ℕ) (act : Act) → Does conv act step → c.history ≡ later ++ step ∷ past → ReadAt c past conv act
+read_at c later past step conv act d place =
     let sp = speaking c later past step conv act place (d.acts conv ∙ named conv conv act (same_self conv)) in
-    let law = c.lawful conv sp.spoken sp.is in
     let start = sp.spoken.start in
     let p = protocol_as (protocol_of start.template) (proto_of start.template) in
     let r = role_as (protocol_of start.template) (role_of start.template) (side_of start.template) in
-    let begun = begun_behind (started_by start) act (acts_of conv past) refl d.no_start (law.orderly act (acts_of conv past) sp.talk) in
+    let begun = begun_behind (started_by start) act (acts_of conv past) refl d.no_start ((c.lawful conv sp.spoken sp.is).orderly act (acts_of conv past) sp.talk) in
     let b = began conv p r start.word past begun in
-    let number = starts_in b.earlier in
-    let rest = one_more c later past step place in
-    let read = is_read c sp.spoken conv (later ++ step ∷ []) past p r refl sp.is rest b in
-    let talk = subst (λ acts. IsTalk sp.spoken (act ∷ acts)) (sym (acts_labelled c.l conv past)) sp.talk in
-    let clean : CleanActs c.atoms (own_for c number) (role_for c number) (label_of c.l past act ∷ labelled c.l conv past) = (clean_at c later past step conv act number d place b.number, all_clean c past (later ++ step ∷ []) conv number rest b.number) in
     record {
-      number = number;
+      spoken = sp.spoken;
+      is = sp.is;
+      talk = sp.talk;
+      number = starts_in b.earlier;
       started = b.number;
-      follows = law.followed c.atoms number ((setting c).holder number) (role_for c number) read (labelled c.l conv past) (label_of c.l past act) talk clean d.no_start;
+      read = is_read c sp.spoken conv (later ++ step ∷ []) past p r refl sp.is (one_more c later past step place) b;
     }
 
-events_are : (c : Case) (past : History) (step : Step) (conv : List ℕ) (act : Act) (number : ℕ) → Does conv act step → started_as conv past ≡ Some number → events_of (setting c) c.l past step ≡ events_with number (is_choosing (acts_in (labelled c.l conv past))) act (moves_now c past conv act number)
+pub acts_at : (c : Case) (later past : History) (step : Step) (conv : List ℕ) (act : Act) → Does conv act step → c.history ≡ later ++ step ∷ past → ActsAt c past conv act
+acts_at c later past step conv act d place =
+    let r = read_at c later past step conv act d place in
+    let number = r.number in
+    let talk = subst (λ acts. IsTalk r.spoken (act ∷ acts)) (sym (acts_labelled c.l conv past)) r.talk in
+    let clean : CleanActs c.atoms (own_for c number) (role_for c number) (label_of c.l past act ∷ labelled c.l conv past) = (clean_at c later past step conv act number d place r.started, all_clean c past (later ++ step ∷ []) conv number (one_more c later past step place) r.started) in
+    record {
+      number = number;
+      started = r.started;
+      follows = (c.lawful conv r.spoken r.is).followed c.atoms number ((setting c).holder number) (role_for c number) r.read (labelled c.l conv past) (label_of c.l past act) talk clean d.no_start;
+    }
+
+pub events_are : (c : Case) (past : History) (step : Step) (conv : List ℕ) (act : Act) (number : ℕ) → Does conv act step → started_as conv past ≡ Some number → events_of (setting c) c.l past step ≡ events_with number (is_choosing (acts_in (labelled c.l conv past))) act (moves_now c past conv act number)
 events_are c past step conv act number d is = d.events (setting c) c.l past ∙ ap (events_at (setting c) c.l past conv act) (number_is past conv number is)
 
 -- an act is one event at most
@@ -266,7 +284,7 @@ act_goes c later past step conv act d place =
 abbrev pub SessionsGo : Case → Type 0
 SessionsGo c = (later past : History) (step : Step) (session : List ℕ) (deal : Deal) → Deals session deal step → c.history ≡ later ++ step ∷ past → GoesWell c past step
 
-goes_by : (c : Case) → SessionsGo c → (later past : History) (step : Step) → Kind step → c.history ≡ later ++ step ∷ past → GoesWell c past step
+pub goes_by : (c : Case) → SessionsGo c → (later past : History) (step : Step) → Kind step → c.history ≡ later ++ step ∷ past → GoesWell c past step
 goes_by c sessions later past step (begins conv protocol role word) place = record { runs = λ is. then_starts is; spelled = tt; short = omega arith }
 goes_by c sessions later past step (does conv act d) place = act_goes c later past step conv act d place
 goes_by c sessions later past step (deals session deal d) place = sessions later past step session deal d place
@@ -276,7 +294,7 @@ goes_by c sessions later past step (nothing d) place = record {
   short = subst (λ es. length es ≤ 1) (sym (d.events (setting c) c.l past)) (omega arith);
 }
 
-runs_on : (c : Case) → SessionsGo c → (past later : History) → c.history ≡ later ++ past → IsRun (setting c) (run c past) × (length (run c past) ≤ length past)
+pub runs_on : (c : Case) → SessionsGo c → (past later : History) → c.history ≡ later ++ past → IsRun (setting c) (run c past) × (length (run c past) ≤ length past)
 runs_on c sessions [] later place = (begins_run, omega arith)
 runs_on c sessions (step ∷ past) later place =
     let so = runs_on c sessions past (later ++ step ∷ []) (one_more c later past step place) in

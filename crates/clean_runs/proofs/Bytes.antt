@@ -1,10 +1,10 @@
 -- What a tree of bytes spells are bytes, and the records of authsrv(6) in them: a request's and a ticket's fields stand where
 -- the codec reads them.
-use Rattle.std.proofs.Common.{◌≡◌, ℕ, ◌+◌, ◌<◌, ◌/◌, ◌%◌, List, [], ◌∷◌, ◌++◌, append_assoc, append-nil, length, length-append, drop, slice_index, All, Option, Some, None, Ok, Err, true, inl, inr, refl, sym, ap, subst, ◌∙◌, arith}
+use Rattle.std.proofs.Common.{◌≡◌, ℕ, ◌+◌, ◌<◌, ◌/◌, ◌%◌, List, [], ◌∷◌, ◌++◌, append_assoc, append-nil, length, length-append, drop, slice_index, All, Option, Some, None, Ok, Err, Bool, true, false, ◌==◌, if◌then◌else◌, inl, inr, refl, sym, ap, subst, ◌∙◌, arith}
 use Rattle.std.proofs.lemmas.Bool.{and_parts, cases_Bool, ltb-false, ltb-true}
 use Rattle.std.proofs.lemmas.List.{get_or_past}
 use Rattle.std.proofs.lemmas.List.Elements.{All-append, All-cons, All-get_or, All-nil}
-use Rattle.std.specs.List.{list_all}
+use Rattle.std.specs.List.{list_all, list_any}
 use Rattle.std.specs.Prelude.{nat_lt}
 use Rattle.hex.specs.Hex.{encode_with, lower_digits}
 use Rattle.md5.specs.Md5.{md5}
@@ -12,8 +12,9 @@ use Rattle.md5_answers.specs.Answer.{apop_digits, cram_digits}
 use Rattle.md5_answers.specs.Hmac.{hmac}
 use Rattle.seal_mode.proofs.SealLaws.{IsBytes-sealed}
 use Rattle.wire_base.specs.Names.{name_field}
+use Rattle.wire_base.specs.Texts.{is_text}
 use Rattle.ticket_codec.specs.Authenticator.{authenticator_text}
-use Rattle.ticket_codec.specs.Fields.{field}
+use Rattle.ticket_codec.specs.Fields.{HoldsName, field}
 use Rattle.ticket_codec.specs.Fitting.{FitsRequest}
 use Rattle.ticket_codec.specs.Request.{request_text}
 use Rattle.ticket_codec.specs.Ticket.{ticket_of}
@@ -25,7 +26,7 @@ use Rattle.term_trees.specs.declared.kind.MacKind.{MacKind}
 use Rattle.term_trees.specs.declared.kind.MacKind.TheVariants.{Apop, Cram}
 use Rattle.term_trees.specs.Trees.{Tree, Trees, plain, nonce, challenge, long_key, ticket_key, junk_key, password, joined, seal, digest, none, piece}
 use Rattle.term_trees.specs.Spellings.{Atoms, Spelling, and_then, atom_bytes, bytes_of, digest_bytes, spelling, spelling_all}
-use Rattle.symbolic_runs.specs.Forms.{Fields, authenticator, request, ticket}
+use Rattle.symbolic_runs.specs.Forms.{Fields, authenticator, name_text, request, ticket}
 use Rattle.clean_runs.specs.Clean.{AllHoldBytes, GivesBytes, HoldsBytes}
 use Rattle.clean_runs.specs.Runs.{names_in}
 use Rattle.clean_runs.proofs.Spelled.{all_parts, all_spell, seal_parts}
@@ -120,48 +121,69 @@ text_is r =
     let u = name_field 28 r.uid in
     append_assoc (((k ++ a) ++ d) ++ c) h u ∙ append_assoc ((k ++ a) ++ d) c (h ++ u) ∙ append_assoc (k ++ a) d (c ++ (h ++ u)) ∙ append_assoc k a (d ++ (c ++ (h ++ u))) ∙ ap (λ e. k ++ (a ++ (d ++ (c ++ (h ++ e))))) (sym (append-nil u))
 
--- the names of a request stand in its text
-pub record NamesAre (r : TicketReq) : Type 0 where
-  pub authid : (names_in (request_text r)).authid ≡ name_field 28 r.authid
-  pub authdom : (names_in (request_text r)).authdom ≡ name_field 48 r.authdom
-  pub hostid : (names_in (request_text r)).hostid ≡ name_field 28 r.hostid
-  pub uid : (names_in (request_text r)).uid ≡ name_field 28 r.uid
-
-pub names_are : (r : TicketReq) → FitsRequest r → NamesAre r
-names_are r fits =
+-- with more behind it
+text_before : (r : TicketReq) (more : List ℕ) → request_text r ++ more ≡ (r.kind ∷ []) ++ (name_field 28 r.authid ++ (name_field 48 r.authdom ++ (r.chal ++ (name_field 28 r.hostid ++ (name_field 28 r.uid ++ more)))))
+text_before r more =
     let a = name_field 28 r.authid in
     let d = name_field 48 r.authdom in
     let c = r.chal in
     let h = name_field 28 r.hostid in
     let u = name_field 28 r.uid in
-    let b = fields_text r in
+    ap (λ x. x ++ more) (text_is r)
+    ∙ ap (λ x. r.kind ∷ x) (append_assoc a (d ++ (c ++ (h ++ (u ++ [])))) more
+    ∙ ap (λ x. a ++ x) (append_assoc d (c ++ (h ++ (u ++ []))) more
+    ∙ ap (λ x. d ++ x) (append_assoc c (h ++ (u ++ [])) more
+    ∙ ap (λ x. c ++ x) (append_assoc h (u ++ []) more
+    ∙ ap (λ x. h ++ x) (append_assoc u [] more)))))
+
+-- the names of a request stand in bytes
+pub record NamesAre (b : List ℕ) (r : TicketReq) : Type 0 where
+  pub authid : (names_in b).authid ≡ name_field 28 r.authid
+  pub authdom : (names_in b).authdom ≡ name_field 48 r.authdom
+  pub hostid : (names_in b).hostid ≡ name_field 28 r.hostid
+  pub uid : (names_in b).uid ≡ name_field 28 r.uid
+
+names_stand : (r : TicketReq) (text more : List ℕ) → FitsRequest r → text ≡ (r.kind ∷ []) ++ (name_field 28 r.authid ++ (name_field 48 r.authdom ++ (r.chal ++ (name_field 28 r.hostid ++ (name_field 28 r.uid ++ more))))) → NamesAre text r
+names_stand r text more fits is =
+    let a = name_field 28 r.authid in
+    let d = name_field 48 r.authdom in
+    let c = r.chal in
+    let h = name_field 28 r.hostid in
+    let u = name_field 28 r.uid in
+    let b = (r.kind ∷ []) ++ (a ++ (d ++ (c ++ (h ++ (u ++ more))))) in
     let la = length-name_field 28 r.authid fits.authid.short in
     let ld = length-name_field 48 r.authdom fits.authdom.short in
     let lh = length-name_field 28 r.hostid fits.hostid.short in
     let lu = length-name_field 28 r.uid fits.uid.short in
-    let e1 : drop 1 b ≡ a ++ (d ++ (c ++ (h ++ (u ++ [])))) = refl in
-    let e29 : drop 29 b ≡ d ++ (c ++ (h ++ (u ++ []))) = behind_field b a (d ++ (c ++ (h ++ (u ++ [])))) 1 28 la e1 in
-    let e77 : drop 77 b ≡ c ++ (h ++ (u ++ [])) = behind_field b d (c ++ (h ++ (u ++ []))) 29 48 ld e29 in
-    let e85 : drop 85 b ≡ h ++ (u ++ []) = behind_field b c (h ++ (u ++ [])) 77 8 fits.chal e77 in
-    let e113 : drop 113 b ≡ u ++ [] = behind_field b h (u ++ []) 85 28 lh e85 in
+    let e1 : drop 1 b ≡ a ++ (d ++ (c ++ (h ++ (u ++ more)))) = refl in
+    let e29 : drop 29 b ≡ d ++ (c ++ (h ++ (u ++ more))) = behind_field b a (d ++ (c ++ (h ++ (u ++ more)))) 1 28 la e1 in
+    let e77 : drop 77 b ≡ c ++ (h ++ (u ++ more)) = behind_field b d (c ++ (h ++ (u ++ more))) 29 48 ld e29 in
+    let e85 : drop 85 b ≡ h ++ (u ++ more) = behind_field b c (h ++ (u ++ more)) 77 8 fits.chal e77 in
+    let e113 : drop 113 b ≡ u ++ more = behind_field b h (u ++ more) 85 28 lh e85 in
     record {
-      authid = ap (λ b. field 1 28 b) (text_is r) ∙ field_here b a (d ++ (c ++ (h ++ (u ++ [])))) 1 28 la e1;
-      authdom = ap (λ b. field 29 48 b) (text_is r) ∙ field_here b d (c ++ (h ++ (u ++ []))) 29 48 ld e29;
-      hostid = ap (λ b. field 85 28 b) (text_is r) ∙ field_here b h (u ++ []) 85 28 lh e85;
-      uid = ap (λ b. field 113 28 b) (text_is r) ∙ field_here b u [] 113 28 lu e113;
+      authid = ap (λ b. field 1 28 b) is ∙ field_here b a (d ++ (c ++ (h ++ (u ++ more)))) 1 28 la e1;
+      authdom = ap (λ b. field 29 48 b) is ∙ field_here b d (c ++ (h ++ (u ++ more))) 29 48 ld e29;
+      hostid = ap (λ b. field 85 28 b) is ∙ field_here b h (u ++ more) 85 28 lh e85;
+      uid = ap (λ b. field 113 28 b) is ∙ field_here b u more 113 28 lu e113;
     }
 
--- a request that is written is spelled by the tree with its names
-pub request_is_spelled : (atoms : Atoms) (r : TicketReq) (x : Tree) → FitsRequest r → spelling atoms x ≡ Ok r.chal → spelling atoms (request (r.kind ∷ []) (names_in (request_text r)) x) ≡ Ok (request_text r)
-request_is_spelled atoms r x fits is =
-    let n = names_are r fits in
-    let f = names_in (request_text r) in
+-- the tree with these names spells the request
+names_spell : (atoms : Atoms) (r : TicketReq) (x : Tree) (b : List ℕ) → NamesAre b r → spelling atoms x ≡ Ok r.chal → spelling atoms (request (r.kind ∷ []) (names_in b) x) ≡ Ok (request_text r)
+names_spell atoms r x b n is =
+    let f = names_in b in
     request_spells atoms (r.kind ∷ []) f x r.chal is
     ∙ ap (λ a. Ok (request_with (r.kind ∷ []) a f.authdom r.chal f.hostid f.uid)) n.authid
     ∙ ap (λ d. Ok (request_with (r.kind ∷ []) (name_field 28 r.authid) d r.chal f.hostid f.uid)) n.authdom
     ∙ ap (λ h. Ok (request_with (r.kind ∷ []) (name_field 28 r.authid) (name_field 48 r.authdom) r.chal h f.uid)) n.hostid
     ∙ ap (λ u. Ok (request_with (r.kind ∷ []) (name_field 28 r.authid) (name_field 48 r.authdom) r.chal (name_field 28 r.hostid) u)) n.uid
     ∙ ap Ok (sym (text_is r))
+
+-- a request that is written is spelled by the tree with its names, and so is one with more behind it
+pub request_is_spelled : (atoms : Atoms) (r : TicketReq) (x : Tree) → FitsRequest r → spelling atoms x ≡ Ok r.chal → spelling atoms (request (r.kind ∷ []) (names_in (request_text r)) x) ≡ Ok (request_text r)
+request_is_spelled atoms r x fits is = names_spell atoms r x (request_text r) (names_stand r (request_text r) [] fits (text_is r)) is
+
+pub request_before_is_spelled : (atoms : Atoms) (r : TicketReq) (x : Tree) (more : List ℕ) → FitsRequest r → spelling atoms x ≡ Ok r.chal → spelling atoms (request (r.kind ∷ []) (names_in (request_text r ++ more)) x) ≡ Ok (request_text r)
+request_before_is_spelled atoms r x more fits is = names_spell atoms r x (request_text r ++ more) (names_stand r (request_text r ++ more) more fits (text_before r more)) is
 
 -- ---- an authenticator
 
@@ -199,6 +221,35 @@ opened_key number c cuid suid key t lc lu ls lk is =
     let e37 : drop 37 b ≡ suid ++ (key ++ []) = behind_field b cuid (suid ++ (key ++ [])) 9 28 lu e9 in
     let e65 : drop 65 b ≡ key ++ [] = behind_field b suid (key ++ []) 37 28 ls e37 in
     sym ((ticket_layout b t).0 is).key ∙ field_here b key [] 65 7 lk e65
+
+-- its names are the texts of its fields
+name_before : (name behind : List ℕ) → list_any (λ b. b == 0) name ≡ false → name_text (name ++ 0 ∷ behind) ≡ name
+name_before [] behind clean = refl
+name_before (b ∷ name) behind clean = elim (cases_Bool (b == 0)) [
+  | inl is ↦ absurd (let so : true ≡ false = rw is at clean in cc)
+  | inr is_none ↦ (
+      let rest : list_any (λ b. b == 0) name ≡ false = rw is_none at clean in
+      ap (λ (nul : Bool). if nul then [] else b ∷ name_text (name ++ 0 ∷ behind)) is_none ∙ ap (λ text. b ∷ text) (name_before name behind rest))
+]
+
+no_nul : (name : List ℕ) → is_text name ≡ true → list_any (λ b. b == 0) name ≡ false
+unfolding is_text
+no_nul name text = elim (cases_Bool (list_any (λ b. b == 0) name)) [
+  | inl is ↦ absurd (let so : false ≡ true = rw is at text in cc)
+  | inr is_none ↦ is_none
+]
+
+pub text_of_name : (b name : List ℕ) → HoldsName b name → name_text b ≡ name
+text_of_name b name holds = ap name_text holds.parts ∙ name_before name holds.behind (no_nul name holds.text)
+
+pub opened_names : (number : ℕ) (c cuid suid key : List ℕ) (t : Ticket) → length c ≡ 8 → length cuid ≡ 28 → length suid ≡ 28 → ticket_of (ticket_with (number ∷ []) c cuid suid key) ≡ Ok t → (name_text cuid ≡ t.cuid) × (name_text suid ≡ t.suid)
+opened_names number c cuid suid key t lc lu ls is =
+    let b = ticket_with (number ∷ []) c cuid suid key in
+    let e1 : drop 1 b ≡ c ++ (cuid ++ (suid ++ (key ++ []))) = refl in
+    let e9 : drop 9 b ≡ cuid ++ (suid ++ (key ++ [])) = behind_field b c (cuid ++ (suid ++ (key ++ []))) 1 8 lc e1 in
+    let e37 : drop 37 b ≡ suid ++ (key ++ []) = behind_field b cuid (suid ++ (key ++ [])) 9 28 lu e9 in
+    let layout = (ticket_layout b t).0 is in
+    (text_of_name cuid t.cuid (subst (λ x. HoldsName x t.cuid) (field_here b cuid (suid ++ (key ++ [])) 9 28 lu e9) layout.cuid), text_of_name suid t.suid (subst (λ x. HoldsName x t.suid) (field_here b suid (key ++ []) 37 28 ls e37) layout.suid))
 
 pub ticket_long : (number : ℕ) (c cuid suid key : List ℕ) → length c ≡ 8 → length cuid ≡ 28 → length suid ≡ 28 → length (ticket_with (number ∷ []) c cuid suid key) ≡ 65 + length key
 ticket_long number c cuid suid key lc lu ls =

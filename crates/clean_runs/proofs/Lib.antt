@@ -20,3 +20,13 @@ pub mod Speakers
 pub mod AnswerBytes
 pub mod SessionGifts
 pub mod SessionLaw
+pub mod MailServers
+pub mod MailServerLaw
+pub mod Grounds
+pub mod AnyTalks
+pub mod AnyServers
+pub mod AnyClients
+pub mod AnyLemmas
+pub mod AnyServerLaw
+pub mod AnyClientLaw
+pub mod EveryRole

@@ -38,7 +38,7 @@ first start = started (mail_protocol (proto_of start.template)) part.Client star
 first_is : (start : Start) → IsMailClient start → started_by start ≡ first start
 first_is start is = ap (λ p. started (protocol_as p (proto_of start.template)) (role_as p (role_of start.template) (side_of start.template)) start.word) is.mail ∙ ap (λ s. started (mail_protocol (proto_of start.template)) (side_as s) start.word) is.client
 
-kind_of : Proto → MacKind
+unfoldable pub kind_of : Proto → MacKind
 kind_of Apop = mac.Apop
 kind_of Cram = mac.Cram
 

@@ -61,20 +61,20 @@ begun_stays : (start : Start) (first : Act) (before : List Call) (call : Call) (
 begun_stays start first before call given moves leaves here stood none = begun (mail_goes start before call ClientFirst (stays given) here moves) (acts_more start first before call ClientFirst (stays given) [] (first ∷ []) here moves leaves stood) (met_more start before call ClientFirst false [] here refl none)
 
 -- a challenge comes: too short, too long, or well
-data Bounded (most : ℕ) (b : List ℕ) (whole : Verdict Stage) : Type 0 where
+pub data Bounded (most : ℕ) (b : List ℕ) (whole : Verdict Stage) : Type 0 where
   few : bounded most b whole ≡ stays (g.TooSmall 1) → Bounded most b whole
   many : bounded most b whole ≡ stays g.TooLong → Bounded most b whole
-  well : bounded most b whole ≡ whole → Bounded most b whole
+  well : nat_lt most (length b) ≡ false → bounded most b whole ≡ whole → Bounded most b whole
 
-bounded_by : (most : ℕ) (b : List ℕ) (whole : Verdict Stage) (short long : Bool) → nat_lt (length b) 1 ≡ short → nat_lt most (length b) ≡ long → Bounded most b whole
+pub bounded_by : (most : ℕ) (b : List ℕ) (whole : Verdict Stage) (short long : Bool) → nat_lt (length b) 1 ≡ short → nat_lt most (length b) ≡ long → Bounded most b whole
 bounded_by most b whole true long is_short is_long = few (ap (λ (short : Bool). if short then stays (g.TooSmall 1) else if nat_lt most (length b) then stays g.TooLong else whole) is_short)
 bounded_by most b whole false true is_short is_long = many (ap (λ (short : Bool). if short then stays (g.TooSmall 1) else if nat_lt most (length b) then stays g.TooLong else whole) is_short ∙ ap (λ (long : Bool). if long then stays g.TooLong else whole) is_long)
-bounded_by most b whole false false is_short is_long = well (ap (λ (short : Bool). if short then stays (g.TooSmall 1) else if nat_lt most (length b) then stays g.TooLong else whole) is_short ∙ ap (λ (long : Bool). if long then stays g.TooLong else whole) is_long)
+bounded_by most b whole false false is_short is_long = well is_long (ap (λ (short : Bool). if short then stays (g.TooSmall 1) else if nat_lt most (length b) then stays g.TooLong else whole) is_short ∙ ap (λ (long : Bool). if long then stays g.TooLong else whole) is_long)
 
 begun_given : (start : Start) (first : Act) (before : List Call) (b : List ℕ) → mail.course start before ≡ at ClientFirst → acts start first before ≡ first ∷ [] → met start before ≡ [] → Bounded MOST_CHALLENGE b (goes (ClientKey b) g.Wait []) → Stands start first (give b ∷ before)
 begun_given start first before b here stood none (few is) = begun_stays start first before (give b) (g.TooSmall 1) is refl here stood none
 begun_given start first before b here stood none (many is) = begun_stays start first before (give b) g.TooLong is refl here stood none
-begun_given start first before b here stood none (well is) = keyless b
+begun_given start first before b here stood none (well short is) = keyless b
     (mail_goes start before (give b) ClientFirst (goes (ClientKey b) g.Wait []) here is)
     (acts_more start first before (give b) ClientFirst (goes (ClientKey b) g.Wait []) [] (first ∷ []) here is refl stood)
     (ap (λ p. if is_sought_at start p then waiting (speaks Mail start) first before else took b) here)

@@ -18,9 +18,9 @@ use Rattle.clean_runs.specs.Forms.{IsAnswered}
 use Rattle.clean_runs.specs.Clean.{EachIsAnswered, IsLabelled, ReadsWords}
 use Rattle.clean_runs.proofs.Bridge.{Case, GoesWell, SessionsGo, run, same_self, setting}
 use Rattle.clean_runs.proofs.Requests.{Opening, deal_of, named_deal, opened, opened_number, opening, unopened, unopened_number}
-use Rattle.clean_runs.proofs.Served.{as_many_requests, fresh_deeds, grant_placed, opened_by, own_deeds, placed}
+use Rattle.clean_runs.proofs.Served.{Placed, as_many_requests, fresh_deeds, grant_placed, opened_by, own_deeds, placed}
 use Rattle.clean_runs.proofs.SessionGifts.{Gift, IsAsked, gift}
-use Rattle.clean_runs.proofs.SessionStands.{AllNext, Next, all_next, answer_deeds, answered, asked_deeds, deals_in, front, it_answers, it_ends, it_is_asked, more_deals, stands}
+use Rattle.clean_runs.proofs.SessionStands.{Answered, AllNext, Next, all_next, answer_deeds, answered, asked_deeds, deals_in, front, it_answers, it_ends, it_is_asked, more_deals, stands}
 use Rattle.clean_runs.proofs.Steps.{Deals}
 
 -- ---- the deals of a session
@@ -100,8 +100,25 @@ comes_well c later past session b words place =
 
 -- ---- it is answered
 
-answers_well : (c : Case) (later past : History) (number : ℕ) (session b : List ℕ) → c.history ≡ later ++ AsGave number session b ∷ past → GoesWell c past (AsGave number session b)
-answers_well c later past number session b place =
+-- an answer at a place: the request that it answers, where that came, and the deed that it is
+pub record Answering (c : Case) (past : History) (session b : List ℕ) : Type 0 where
+  pub owed : Owing (known_to c.z) (deals_of session past) b
+  pub d : Dealt
+  pub older : List Dealt
+  pub front : dealt c.l session past ≡ d ∷ older
+  pub deal_is : d.deal ≡ requested owed.asked.request owed.asked.words
+  pub rest : deals_in older ≡ session_deals (known_to c.z) owed.before
+  pub at : Placed c.l past session owed.asked.request owed.asked.words d
+  pub whole_later : History
+  pub whole : c.history ≡ whole_later ++ AsGot session owed.asked.request owed.asked.words ∷ at.earlier
+  pub granted : (setting c).grants d.number ≡ grant_by c.z.server (request_of owed.asked.request) d.label
+  pub asked_for : deeds_by (dealt c.l session past) ≡ got d.number d.label ∷ deeds_by older
+  pub one_deed : deeds_for_deal (deeds_by (dealt c.l session past)) (dealt c.l session past) (replied b) (requests_in past) (c.l.label (length past)) ≡ deed_by (got d.number d.label ∷ deeds_by older) d.number owed.asked.request b ∷ []
+  pub is_answered : Answered (known_to c.z) owed.before owed.asked (deeds_by older) d.number (deed_by (got d.number d.label ∷ deeds_by older) d.number owed.asked.request b)
+  pub events : map (serves (session_number session past)) (deeds_for_deal (deeds_by (dealt c.l session past)) (dealt c.l session past) (replied b) (requests_in past) (c.l.label (length past))) ≡ serves (session_number session past) (deed_by (got d.number d.label ∷ deeds_by older) d.number owed.asked.request b) ∷ []
+
+pub answering : (c : Case) (later past : History) (number : ℕ) (session b : List ℕ) → c.history ≡ later ++ AsGave number session b ∷ past → Answering c past session b
+answering c later past number session b place =
     let s = setting c in
     let l = c.l in
     let step = AsGave number session b in
@@ -115,49 +132,78 @@ answers_well c later past number session b place =
     let at = placed l past session o.asked.request o.asked.words d older p.3 p.2 in
     let got_step = AsGot session o.asked.request o.asked.words in
     let whole : c.history ≡ (later ++ step ∷ at.later) ++ got_step ∷ at.earlier = place ∙ ap (λ xs. later ++ step ∷ xs) at.place ∙ sym (append_assoc later (step ∷ at.later) (got_step ∷ at.earlier)) in
-    let labels : IsLabelled c.atoms s l at.earlier o.asked.request = c.clean.labels (later ++ step ∷ at.later) at.earlier got_step whole in
-    let words : ReadsWords c.atoms (requests_in at.earlier) o.asked.words = c.clean.words (later ++ step ∷ at.later) at.earlier got_step whole in
     let granted : s.grants d.number ≡ grant_by c.z.server (request_of o.asked.request) d.label =
     ap (λ n. s.grants n) at.number
     ∙ ap (λ h. grant_at c.z.server l h (requests_in at.earlier)) whole
     ∙ grant_placed c.z.server l (later ++ step ∷ at.later) session o.asked.request o.asked.words at.earlier
     ∙ ap (grant_by c.z.server (request_of o.asked.request)) (sym at.label) in
-    let is_asked : IsAsked c.atoms c.z s o.before o.asked d.number d.label = record {
-      reading = record { drawn = subst (λ n. ReadsWords c.atoms n o.asked.words) (sym at.number) words; table = c.clean.table; sevens = c.clean.sevens };
-      domain = refl;
-      short = c.clean.domain.short;
-      may = o.may;
-      spells = ap (spelling c.atoms) at.label ∙ labels.spells;
-      granted = granted;
-    } in
     let asked_for : deeds_by ds ≡ got d.number d.label ∷ deeds = asked_deeds ds older d o.asked.request o.asked.words p.2 p.3 in
     let deed = deed_by (got d.number d.label ∷ deeds) d.number o.asked.request b in
     let one_deed : deeds_for_deal (deeds_by ds) ds (replied b) (requests_in past) (l.label (length past)) ≡ deed ∷ [] =
     answer_deeds (deeds_by ds) ds older d o.asked.request b o.asked.words (requests_in past) (l.label (length past)) p.2 p.3
     ∙ ap (λ xs. deed_by xs d.number o.asked.request b ∷ []) asked_for in
-    let forms : EachIsAnswered s (deeds_by ds) (deeds_for_deal (deeds_by ds) ds (replied b) (requests_in past) (l.label (length past))) = c.clean.forms later past step place in
-    let form : EachIsAnswered s (got d.number d.label ∷ deeds) (deed ∷ []) = subst (λ xs. EachIsAnswered s xs (deed ∷ [])) asked_for (subst (EachIsAnswered s (deeds_by ds)) one_deed forms) in
     let stood = stands known o.before o.session o.may.goes_on older p.4 in
+    record {
+      owed = o;
+      d = d;
+      older = older;
+      front = p.2;
+      deal_is = p.3;
+      rest = p.4;
+      at = at;
+      whole_later = later ++ step ∷ at.later;
+      whole = whole;
+      granted = granted;
+      asked_for = asked_for;
+      one_deed = one_deed;
+      is_answered = subst (λ x. Answered known o.before o.asked deeds d.number (deed_by (got d.number d.label ∷ deeds) d.number o.asked.request x)) (sym o.answer_is) (answered known o.before o.asked deeds d.number d.label stood.alike o.served);
+      events = ap (map (serves (session_number session past))) one_deed;
+    }
+
+answers_well : (c : Case) (later past : History) (number : ℕ) (session b : List ℕ) → c.history ≡ later ++ AsGave number session b ∷ past → GoesWell c past (AsGave number session b)
+answers_well c later past number session b place =
+    let s = setting c in
+    let l = c.l in
+    let step = AsGave number session b in
+    let known = known_to c.z in
+    let a = answering c later past number session b place in
+    let o = a.owed in
+    let d = a.d in
+    let deeds = deeds_by a.older in
+    let ds = dealt l session past in
+    let labels : IsLabelled c.atoms s l a.at.earlier o.asked.request = c.clean.labels a.whole_later a.at.earlier (AsGot session o.asked.request o.asked.words) a.whole in
+    let words : ReadsWords c.atoms (requests_in a.at.earlier) o.asked.words = c.clean.words a.whole_later a.at.earlier (AsGot session o.asked.request o.asked.words) a.whole in
+    let is_asked : IsAsked c.atoms c.z s o.before o.asked d.number d.label = record {
+      reading = record { drawn = subst (λ n. ReadsWords c.atoms n o.asked.words) (sym a.at.number) words; table = c.clean.table; sevens = c.clean.sevens };
+      domain = refl;
+      short = c.legal.domain.short;
+      may = o.may;
+      spells = ap (spelling c.atoms) a.at.label ∙ labels.spells;
+      granted = a.granted;
+    } in
+    let deed = deed_by (got d.number d.label ∷ deeds) d.number o.asked.request b in
+    let forms : EachIsAnswered s (deeds_by ds) (deeds_for_deal (deeds_by ds) ds (replied b) (requests_in past) (l.label (length past))) = c.clean.forms later past step place in
+    let form : EachIsAnswered s (got d.number d.label ∷ deeds) (deed ∷ []) = subst (λ xs. EachIsAnswered s xs (deed ∷ [])) a.asked_for (subst (EachIsAnswered s (deeds_by ds)) a.one_deed forms) in
+    let stood = stands known o.before o.session o.may.goes_on a.older a.rest in
     let is_answered = answered known o.before o.asked deeds d.number d.label stood.alike o.served in
     let deed_is : deed ≡ deed_by (got d.number d.label ∷ deeds) d.number o.asked.request (answer known o.before o.asked) = ap (deed_by (got d.number d.label ∷ deeds) d.number o.asked.request) o.answer_is in
     let given : Gift c.atoms s (got d.number d.label ∷ deeds) deed b =
     subst (Gift c.atoms s (got d.number d.label ∷ deeds) deed) (sym o.answer_is)
     (subst (λ x. Gift c.atoms s (got d.number d.label ∷ deeds) x (answer known o.before o.asked)) (sym deed_is)
     (gift c.atoms c.z s o.before o.asked d.number d.label deeds is_asked _ is_answered (subst (IsAnswered s (got d.number d.label ∷ deeds)) deed_is form.0))) in
-    let begun = opened_by l past session o.asked.request o.asked.words d older p.3 p.2 in
+    let begun = opened_by l past session o.asked.request o.asked.words d a.older a.deal_is a.front in
     let deeds_are : deeds_of (session_number session past) (run c past) ≡ got d.number d.label ∷ deeds =
     ap (λ k. deeds_of k (run c past)) (opened_number past session begun.0 begun.1)
     ∙ own_deeds s l past session begun.0 begun.1
-    ∙ asked_for in
-    let events : events_of s l past step ≡ serves (session_number session past) deed ∷ [] = ap (map (serves (session_number session past))) one_deed in
+    ∙ a.asked_for in
     record {
-      runs = λ is. subst (λ es. IsRun s (es ++ run c past)) (sym events) (then_serves is (subst (λ xs. SessionRow s.domain s.grants xs deed) (sym deeds_are) given.row) (given.arrives (run c past)));
+      runs = λ is. subst (λ es. IsRun s (es ++ run c past)) (sym a.events) (then_serves is (subst (λ xs. SessionRow s.domain s.grants xs deed) (sym deeds_are) given.row) (given.arrives (run c past)));
       spelled = record {
         label = given.label;
-        one = ap (labels_given s) events ∙ ap (λ xs. xs ++ []) given.one;
+        one = ap (labels_given s) a.events ∙ ap (λ xs. xs ++ []) given.one;
         spells = given.spells;
       };
-      short = subst (λ (es : List Event). length es ≤ 1) (sym events) (omega arith);
+      short = subst (λ (es : List Event). length es ≤ 1) (sym a.events) (omega arith);
     }
 
 -- ---- each deal

@@ -1,24 +1,22 @@
--- The bridge for the roles that are shown.
+-- The bridge: every role and every session goes on with a run.
 use Rattle.symbolic_runs.proofs.SecrecyLaws.{secrecy}
-use Rattle.wire_histories.specs.Legal.{Spoken}
+use Rattle.wire_histories.specs.Histories.{History}
+use Rattle.wire_histories.specs.Legal.{IsLegal, Setting}
+use Rattle.term_trees.specs.Spellings.{Atoms}
+use Rattle.clean_runs.specs.Clean.{IsClean}
+use Rattle.clean_runs.specs.Labels.{Labelling}
 use Rattle.clean_runs.specs.Runs.{run_of, setting_of}
-use Rattle.clean_runs.specs.Statements.{IsBridgedSoFar, IsSecretSoFar, IsShownRole, OfEveryCleanHistory, of_a_client, of_a_mail_client, of_a_server}
+use Rattle.clean_runs.specs.Statements.{IsBridged, IsSecret, OfEveryCleanHistory}
 use Rattle.clean_runs.proofs.Bridge.{Case, bridged}
-use Rattle.clean_runs.proofs.Follows.{IsLawful}
-use Rattle.clean_runs.proofs.MailClientLaw.{mail_client_is_lawful}
+use Rattle.clean_runs.proofs.EveryRole.{every_role_is_lawful}
 use Rattle.clean_runs.proofs.SessionLaw.{sessions_go}
-use Rattle.clean_runs.proofs.SkClientLaw.{client_is_lawful}
-use Rattle.clean_runs.proofs.SkServerLaw.{server_is_lawful}
 
-shown : (spoken : Spoken) → IsShownRole spoken.start → IsLawful spoken
-shown spoken (of_a_mail_client mail client) = mail_client_is_lawful spoken (record { mail = mail; client = client })
-shown spoken (of_a_client p9sk1 role) = client_is_lawful spoken (record { p9sk1 = p9sk1; client = role })
-shown spoken (of_a_server p9sk1 role) = server_is_lawful spoken (record { p9sk1 = p9sk1; server = role })
+-- what is known of a clean legal history
+abbrev pub case_of : (history : History) (z : Setting) (atoms : Atoms) (l : Labelling) → IsLegal history z → IsClean history z atoms l → Case
+case_of history z atoms l legal clean = record { history = history; z = z; atoms = atoms; l = l; legal = legal; clean = clean; lawful = λ name spoken is. every_role_is_lawful spoken }
 
-pub bridged_so_far : OfEveryCleanHistory IsBridgedSoFar
-bridged_so_far history z atoms l legal clean roles =
-    let c : Case = record { history = history; z = z; atoms = atoms; l = l; legal = legal; clean = clean; lawful = λ name spoken is. shown spoken (roles name spoken is) } in
-    bridged c (sessions_go c)
+pub all_bridged : OfEveryCleanHistory IsBridged
+all_bridged history z atoms l legal clean = let c = case_of history z atoms l legal clean in bridged c (sessions_go c)
 
-pub secret_so_far : OfEveryCleanHistory IsSecretSoFar
-secret_so_far history z atoms l legal clean roles = secrecy (setting_of z l history) (run_of z l history) (bridged_so_far history z atoms l legal clean roles).run.by_the_tables
+pub all_secret : OfEveryCleanHistory IsSecret
+all_secret history z atoms l legal clean = secrecy (setting_of z l history) (run_of z l history) (all_bridged history z atoms l legal clean).run.by_the_tables

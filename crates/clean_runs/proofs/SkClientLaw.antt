@@ -1,6 +1,7 @@
 -- A p9sk1 client's acts are the moves of a symbolic client: it gives its challenge, takes a server's request, asks the
 -- authentication server, hands the server's ticket on with an authenticator, takes the server's authenticator, and accepts.
-use Rattle.std.proofs.Common.{◌≡◌, ℕ, List, [], ◌∷◌, ◌++◌, All, append-nil, length, length-append, take, drop, Option, Some, None, Bool, true, false, Ok, ◌&&◌, if◌then◌else◌, refl, sym, ap, subst, ◌∙◌, arith}
+use Rattle.std.proofs.Common.{◌≡◌, ℕ, List, [], ◌∷◌, ◌++◌, All, append-nil, append_assoc, length, length-append, take, drop, Option, Some, None, Bool, true, false, Ok, ◌&&◌, if◌then◌else◌, inl, inr, refl, sym, ap, subst, ◌∙◌, arith}
+use Rattle.std.specs.Prelude.{◌⊎◌}
 use Rattle.std.proofs.lemmas.List.{take_at, drop_at}
 use Rattle.std.proofs.lemmas.List.Elements.{All-head}
 use Rattle.seal_mode.specs.Sealing.{opened as opened_bytes, sealed}
@@ -9,17 +10,19 @@ use Rattle.wire_base.specs.Names.{IsName}
 use Rattle.ticket_codec.specs.Authenticator.{authenticator_text}
 use Rattle.ticket_codec.specs.Fields.{HoldsName, field}
 use Rattle.ticket_codec.specs.Fitting.{FitsRequest}
-use Rattle.ticket_codec.specs.Request.{request_of, request_text}
+use Rattle.ticket_codec.specs.Request.{request_of}
 use Rattle.ticket_codec.specs.Ticket.{ticket_of}
 use Rattle.ticket_codec.specs.declared.request.TicketReq.{TicketReq}
 use Rattle.ticket_codec.specs.declared.ticket.Ticket.{Ticket}
 use Rattle.ticket_codec.proofs.FieldLaws.{behind_field, field_here}
 use Rattle.ticket_codec.proofs.RequestLaws.{request_taken}
 use Rattle.term_trees.specs.Trees.{Tree, same_tree, nonce, long_key, seal, none, piece, plain}
-use Rattle.term_trees.specs.Spellings.{Atoms, Spelling, atom_bytes, bytes_of, spelling}
+use Rattle.term_trees.specs.Spellings.{Atoms, atom_bytes, bytes_of, spelling}
 use Rattle.roles.specs.declared.key.SkKey.{SkKey}
-use Rattle.roles.specs.declared.stage.Role.TheVariants as sk_role
-use Rattle.roles.specs.Clients.{question_for}
+use Rattle.roles.specs.declared.stage.Role.{Role as SkRole}
+use Rattle.roles.specs.Answers.{is_sought}
+use Rattle.roles.specs.Courses as sk
+use Rattle.roles.specs.Clients.{wanted_user}
 use Rattle.roles.specs.Starts.{Start, role_of}
 use Rattle.roles.specs.Talks.{Call, found}
 use Rattle.roles.specs.Tickets.{challenge_in, rest_part, ticket_part, ticket_under}
@@ -27,7 +30,6 @@ use Rattle.conv_challenge.specs.Starts.{proto_of, side_of}
 use Rattle.conv_set.specs.Protocols.{P9sk1, protocol_of}
 use Rattle.talks.specs.Lines.{cause_text}
 use Rattle.wire_model.specs.declared.step.Protocol.TheVariants as protocol
-use Rattle.wire_model.specs.declared.step.Role.TheVariants as part
 use Rattle.symbolic_runs.specs.Forms.{Fields, by_client, for_client, ticket_request, authenticator, client_message, request, server_message, ticket, tickets}
 use Rattle.symbolic_runs.specs.Gifts.{are_whole, bytes, fields_of, is_request, next_gift, opened, part as piece_of}
 use Rattle.symbolic_runs.specs.Moves.{Role, client, Move, takes, hears, gives, asks, accepts, fails, Own, Row, client_accepts, client_answer, client_challenge, client_proof, client_question, client_request, client_ticket}
@@ -36,33 +38,35 @@ use Rattle.wire_histories.specs.Histories.{Act, started, gave, took, asked, answ
 use Rattle.wire_histories.specs.Conversations.{acts_from, met_by, part_as, protocol_as, role_as, speaks, started_by}
 use Rattle.wire_histories.specs.Legal.{IsMet, IsRingKey, IsTalk, Spoken}
 use Rattle.clean_runs.specs.Labels.{Labelled}
-use Rattle.clean_runs.specs.Runs.{acts_in, if_some, is_choosing, moves_by, moves_for, names_in}
+use Rattle.clean_runs.specs.Runs.{acts_in, if_some, is_choosing, moves_by, moves_for, names_in, role_by}
 use Rattle.clean_runs.specs.Forms.{IsAnswer, IsFormed, IsRequest}
 use Rattle.clean_runs.specs.Clean.{GivesBytes, HoldsBytes, ReadsMet, ReadsWord}
 use Rattle.clean_runs.proofs.Begun.{BeginsWith}
 use Rattle.clean_runs.proofs.Bytes.{authenticator_is, authenticator_spells, opened_key, proof_with, request_is_spelled, request_with, ticket_long, ticket_spells, ticket_with, tree_bytes}
-use Rattle.clean_runs.proofs.Follows.{CleanActs, Follows, IsFollowed, IsLawful, IsOrderlyTalk, accepts_it, as_follows, asks_it, fails_so, gives_it, hears_it, hears_none, known_act, moves_next, one_act, own_by, role_in, takes_it, takes_none}
-use Rattle.clean_runs.proofs.SkClients.{Instead, Stands, accepted_acts, asked_acts, asking, begun, by_answer, by_no_room, by_none, deceived, denied, done, greeting, handed, heard_acts, instead, keyless, question, ready, refused, second, showing, shown_acts, stands}
+use Rattle.clean_runs.proofs.Follows.{CleanActs, Follows, IsFollowed, IsLawful, IsOrderlyTalk, accepts_it, as_follows, asks_it, fails_so, gives_it, hears_it, hears_none, known_act, moves_next, own_by, role_in, takes_it, takes_none}
+use Rattle.clean_runs.proofs.Grounds.{Each, Found, Ground, begins_more, each_behind, sk_ground, told_begins, told_on, told_quiet}
+use Rattle.clean_runs.proofs.LeftLemmas.{above_all, acts_above, at}
+use Rattle.clean_runs.proofs.SkClients.{Instead, IsClientRole, Stands, accepted_acts, asked_acts, asking, begun, by_answer, by_no_room, by_none, deceived, denied, done, for_another, for_itself, greeting, handed, heard_acts, instead, keyless, question, ready, refused, second, showing, shown_acts, stands}
+use Rattle.clean_runs.proofs.SkServerLaw.{ok_same}
 use Rattle.clean_runs.proofs.SkServers.{Told, at_once, told}
 use Rattle.clean_runs.proofs.Spelled.{all_parts, all_spell, seal_parts, seal_spells}
 use Rattle.clean_runs.proofs.Steps.{goes_on, is_start, taken_by}
 
 pub record IsClient (start : Start) : Type 0 where
   pub p9sk1 : protocol_of start.template ≡ P9sk1
-  pub client : role_of start.template ≡ sk_role.Client
+  pub client : IsClientRole (role_of start.template)
 
 abbrev pub first : Start → Act
-first start = started protocol.P9sk1 part.Client start.word
+first start = started protocol.P9sk1 (part_as (role_of start.template)) start.word
 
 first_is : (start : Start) → IsClient start → started_by start ≡ first start
-first_is start is = ap (λ p. started (protocol_as p (proto_of start.template)) (role_as p (role_of start.template) (side_of start.template)) start.word) is.p9sk1 ∙ ap (λ r. started protocol.P9sk1 (part_as r) start.word) is.client
+first_is start is = ap (λ p. started (protocol_as p (proto_of start.template)) (role_as p (role_of start.template) (side_of start.template)) start.word) is.p9sk1
 
 -- ---- what may come next
 
 -- what a server's request and an answer to the question must be
 pub record IsAsked (met : List Call) (r : List ℕ) (q : TicketReq) (key : SkKey) : Type 0 where
-  pub secret : Option (List ℕ)
-  pub has : met ≡ found key secret ∷ []
+  pub has : Found met key
   pub is : request_of r ≡ Ok q
   pub size : length r ≡ 141
 
@@ -70,118 +74,93 @@ pub record IsHeard (key : SkKey) (a : List ℕ) (t : Ticket) : Type 0 where
   pub long : length a ≡ 145
   pub opens : ticket_under key (ticket_part (drop 1 a)) ≡ Ok t
 
-abbrev greetings : Start → List Act
-greetings start = greeting start (first start)
+pub data Next (start : Start) (ground : List Act) (met : List Call) : Act → List Act → Type 0 where
+  it_greets : Next start ground met (gave start.word) ground
+  it_takes : (r : List ℕ) → Next start ground met (took r) (greeting start ground)
+  it_refuses : (r cause : List ℕ) → Next start ground met (failed cause) (took r ∷ greeting start ground)
+  it_asks : (r : List ℕ) (q : TicketReq) (key : SkKey) → IsAsked met r q key → Next start ground met (asked (question start key q)) (took r ∷ greeting start ground)
+  it_hears : (r : List ℕ) (q : TicketReq) (key : SkKey) (a : List ℕ) → Next start ground met (answered a) (asked_acts start ground r q key)
+  it_hears_none : (r : List ℕ) (q : TicketReq) (key : SkKey) → Next start ground met unanswered (asked_acts start ground r q key)
+  it_is_denied : (r : List ℕ) (q : TicketReq) (key : SkKey) (i : Instead) (cause : List ℕ) → Next start ground met (failed cause) (instead i ++ asked_acts start ground r q key)
+  it_shows : (r : List ℕ) (q : TicketReq) (key : SkKey) (a : List ℕ) (t : Ticket) → IsAsked met r q key → IsHeard key a t → Next start ground met (gave (handed r a t)) (heard_acts start ground r q key a)
+  it_takes_proof : (r : List ℕ) (q : TicketReq) (key : SkKey) (a : List ℕ) (t : Ticket) (p : List ℕ) → Next start ground met (took p) (shown_acts start ground r q key a t)
+  it_breaks : (r : List ℕ) (q : TicketReq) (key : SkKey) (a : List ℕ) (t : Ticket) (p cause : List ℕ) → Next start ground met (failed cause) (took p ∷ shown_acts start ground r q key a t)
+  it_accepts : (r : List ℕ) (q : TicketReq) (key : SkKey) (a : List ℕ) (t : Ticket) (p cuid suid : List ℕ) → Next start ground met (accepted cuid suid) (took p ∷ shown_acts start ground r q key a t)
+  it_is_told : {acts : List Act} (r : List ℕ) (q : TicketReq) (key : SkKey) (a : List ℕ) (t : Ticket) (p more : List ℕ) → Told (accepted_acts start ground r q key a t p) acts → Next start ground met (took more) acts
 
-abbrev askeds : Start → List ℕ → TicketReq → SkKey → List Act
-askeds start r q key = asked_acts start (first start) r q key
+-- or what stands on the ground
+abbrev pub Comes : Start → List Act → List Call → (Act → List Act → Type 0) → Act → List Act → Type 0
+Comes start ground met Before act acts = Next start ground met act acts ⊎ Before act acts
 
-abbrev heards : Start → List ℕ → TicketReq → SkKey → List ℕ → List Act
-heards start r q key a = heard_acts start (first start) r q key a
+greeted_next : (start : Start) (ground : List Act) (met : List Call) (Before : Act → List Act → Type 0) → Each (Comes start ground met Before) ground → Each (Comes start ground met Before) (greeting start ground)
+greeted_next start ground met Before stand = (inl it_greets, stand)
 
-abbrev showns : Start → List ℕ → TicketReq → SkKey → List ℕ → Ticket → List Act
-showns start r q key a t = shown_acts start (first start) r q key a t
+asked_next : (start : Start) (ground : List Act) (met : List Call) (Before : Act → List Act → Type 0) (r : List ℕ) (q : TicketReq) (key : SkKey) → IsAsked met r q key → Each (Comes start ground met Before) ground → Each (Comes start ground met Before) (asked_acts start ground r q key)
+asked_next start ground met Before r q key is stand = (inl (it_asks r q key is), (inl (it_takes r), greeted_next start ground met Before stand))
 
-abbrev accepteds : Start → List ℕ → TicketReq → SkKey → List ℕ → Ticket → List ℕ → List Act
-accepteds start r q key a t p = accepted_acts start (first start) r q key a t p
+heard_next : (start : Start) (ground : List Act) (met : List Call) (Before : Act → List Act → Type 0) (r : List ℕ) (q : TicketReq) (key : SkKey) (a : List ℕ) → IsAsked met r q key → Each (Comes start ground met Before) ground → Each (Comes start ground met Before) (heard_acts start ground r q key a)
+heard_next start ground met Before r q key a is stand = (inl (it_hears r q key a), asked_next start ground met Before r q key is stand)
 
-data Next (start : Start) (met : List Call) : Act → List Act → Type 0 where
-  it_starts : Next start met (first start) []
-  it_greets : Next start met (gave start.word) (first start ∷ [])
-  it_takes : (r : List ℕ) → Next start met (took r) (greetings start)
-  it_refuses : (r cause : List ℕ) → Next start met (failed cause) (took r ∷ greetings start)
-  it_asks : (r : List ℕ) (q : TicketReq) (key : SkKey) → IsAsked met r q key → Next start met (asked (question start key q)) (took r ∷ greetings start)
-  it_hears : (r : List ℕ) (q : TicketReq) (key : SkKey) (a : List ℕ) → Next start met (answered a) (askeds start r q key)
-  it_hears_none : (r : List ℕ) (q : TicketReq) (key : SkKey) → Next start met unanswered (askeds start r q key)
-  it_is_denied : (r : List ℕ) (q : TicketReq) (key : SkKey) (i : Instead) (cause : List ℕ) → Next start met (failed cause) (instead i ++ askeds start r q key)
-  it_shows : (r : List ℕ) (q : TicketReq) (key : SkKey) (a : List ℕ) (t : Ticket) → IsAsked met r q key → IsHeard key a t → Next start met (gave (handed r a t)) (heards start r q key a)
-  it_takes_proof : (r : List ℕ) (q : TicketReq) (key : SkKey) (a : List ℕ) (t : Ticket) (p : List ℕ) → Next start met (took p) (showns start r q key a t)
-  it_breaks : (r : List ℕ) (q : TicketReq) (key : SkKey) (a : List ℕ) (t : Ticket) (p cause : List ℕ) → Next start met (failed cause) (took p ∷ showns start r q key a t)
-  it_accepts : (r : List ℕ) (q : TicketReq) (key : SkKey) (a : List ℕ) (t : Ticket) (p cuid suid : List ℕ) → Next start met (accepted cuid suid) (took p ∷ showns start r q key a t)
-  it_is_told : {acts : List Act} (r : List ℕ) (q : TicketReq) (key : SkKey) (a : List ℕ) (t : Ticket) (p more : List ℕ) → Told (accepteds start r q key a t p) acts → Next start met (took more) acts
+shown_next : (start : Start) (ground : List Act) (met : List Call) (Before : Act → List Act → Type 0) (r : List ℕ) (q : TicketReq) (key : SkKey) (a : List ℕ) (t : Ticket) → IsAsked met r q key → IsHeard key a t → Each (Comes start ground met Before) ground → Each (Comes start ground met Before) (shown_acts start ground r q key a t)
+shown_next start ground met Before r q key a t is heard_it stand = (inl (it_shows r q key a t is heard_it), heard_next start ground met Before r q key a is stand)
 
-abbrev AllNext : Start → List Call → List Act → Type 0
-AllNext start met [] = Unit {0}
-AllNext start met (act ∷ acts) = Next start met act acts × AllNext start met acts
+told_next : (start : Start) (ground : List Act) (met : List Call) (Before : Act → List Act → Type 0) (r : List ℕ) (q : TicketReq) (key : SkKey) (a : List ℕ) (t : Ticket) (p : List ℕ) (acts : List Act) → IsAsked met r q key → IsHeard key a t → Each (Comes start ground met Before) ground → Told (accepted_acts start ground r q key a t p) acts → Each (Comes start ground met Before) acts
+told_next start ground met Before r q key a t p acts is heard_it stand at_once = (inl (it_accepts r q key a t p t.cuid t.suid), (inl (it_takes_proof r q key a t p), shown_next start ground met Before r q key a t is heard_it stand))
+told_next start ground met Before r q key a t p acts is heard_it stand (told {acts = earlier} more rest) = (inl (it_is_told r q key a t p more rest), told_next start ground met Before r q key a t p earlier is heard_it stand rest)
 
-front : (start : Start) (met : List Call) (later acts : List Act) → AllNext start met (later ++ acts) → AllNext start met acts
-front start met [] acts all = all
-front start met (act ∷ later) acts all = front start met later acts all.1
+denied_next : (start : Start) (ground : List Act) (met : List Call) (Before : Act → List Act → Type 0) (r : List ℕ) (q : TicketReq) (key : SkKey) (i : Instead) → IsAsked met r q key → Each (Comes start ground met Before) ground → Each (Comes start ground met Before) (instead i ++ asked_acts start ground r q key)
+denied_next start ground met Before r q key (by_answer a) is stand = heard_next start ground met Before r q key a is stand
+denied_next start ground met Before r q key by_none is stand = (inl (it_hears_none r q key), asked_next start ground met Before r q key is stand)
+denied_next start ground met Before r q key by_no_room is stand = asked_next start ground met Before r q key is stand
 
-greeted_next : (start : Start) (met : List Call) → AllNext start met (greetings start)
-greeted_next start met = (it_greets, (it_starts, tt))
-
-asked_next : (start : Start) (met : List Call) (r : List ℕ) (q : TicketReq) (key : SkKey) → IsAsked met r q key → AllNext start met (askeds start r q key)
-asked_next start met r q key is = (it_asks r q key is, (it_takes r, greeted_next start met))
-
-heard_next : (start : Start) (met : List Call) (r : List ℕ) (q : TicketReq) (key : SkKey) (a : List ℕ) → IsAsked met r q key → AllNext start met (heards start r q key a)
-heard_next start met r q key a is = (it_hears r q key a, asked_next start met r q key is)
-
-shown_next : (start : Start) (met : List Call) (r : List ℕ) (q : TicketReq) (key : SkKey) (a : List ℕ) (t : Ticket) → IsAsked met r q key → IsHeard key a t → AllNext start met (showns start r q key a t)
-shown_next start met r q key a t is heard_it = (it_shows r q key a t is heard_it, heard_next start met r q key a is)
-
-told_next : (start : Start) (met : List Call) (r : List ℕ) (q : TicketReq) (key : SkKey) (a : List ℕ) (t : Ticket) (p : List ℕ) (acts : List Act) → IsAsked met r q key → IsHeard key a t → Told (accepteds start r q key a t p) acts → AllNext start met acts
-told_next start met r q key a t p acts is heard_it at_once = (it_accepts r q key a t p t.cuid t.suid, (it_takes_proof r q key a t p, shown_next start met r q key a t is heard_it))
-told_next start met r q key a t p acts is heard_it (told {acts = earlier} more rest) = (it_is_told r q key a t p more rest, told_next start met r q key a t p earlier is heard_it rest)
-
-denied_next : (start : Start) (met : List Call) (r : List ℕ) (q : TicketReq) (key : SkKey) (i : Instead) → IsAsked met r q key → AllNext start met (instead i ++ askeds start r q key)
-denied_next start met r q key (by_answer a) is = heard_next start met r q key a is
-denied_next start met r q key by_none is = (it_hears_none r q key, asked_next start met r q key is)
-denied_next start met r q key by_no_room is = asked_next start met r q key is
-
-abbrev Acts : Start → List Call → List Act
-Acts start talk = acts_from (speaks P9sk1 start) (first start) talk
+abbrev Acts : Start → Act → List Call → List Act
+Acts start first talk = acts_above (speaks P9sk1 start) first talk
 
 abbrev Met : Start → List Call → List Call
 Met start talk = met_by (speaks P9sk1 start) talk
 
-all_next : (start : Start) (talk : List Call) → Stands start (first start) talk → AllNext start (Met start talk) (Acts start talk)
-all_next start talk (begun here stood has) = subst (AllNext start (Met start talk)) (sym stood) (it_starts, tt)
-all_next start talk (second here stood has) = subst (AllNext start (Met start talk)) (sym stood) (greeted_next start (Met start talk))
-all_next start talk (refused r cause here stood has) = subst (AllNext start (Met start talk)) (sym stood) (it_refuses r (cause_text cause), (it_takes r, greeted_next start (Met start talk)))
-all_next start talk (keyless r q is size here stood waited has) = subst (AllNext start (Met start talk)) (sym stood) (greeted_next start (Met start talk))
-all_next start talk (asking r q key secret is size here stood has) = subst (AllNext start (Met start talk)) (sym stood) (asked_next start (Met start talk) r q key (record { secret = secret; has = has; is = is; size = size }))
-all_next start talk (denied r q key secret i cause is size here stood has) = subst (AllNext start (Met start talk)) (sym stood) (it_is_denied r q key i (cause_text cause), denied_next start (Met start talk) r q key i (record { secret = secret; has = has; is = is; size = size }))
-all_next start talk (ready r q key secret a t is size long opens here stood has) = subst (AllNext start (Met start talk)) (sym stood) (heard_next start (Met start talk) r q key a (record { secret = secret; has = has; is = is; size = size }))
-all_next start talk (showing r q key secret a t is size long opens here stood has) = subst (AllNext start (Met start talk)) (sym stood) (shown_next start (Met start talk) r q key a t (record { secret = secret; has = has; is = is; size = size }) (record { long = long; opens = opens }))
-all_next start talk (deceived r q key secret a t p cause is size long opens here stood has) = subst (AllNext start (Met start talk)) (sym stood) (it_breaks r q key a t p (cause_text cause), (it_takes_proof r q key a t p, shown_next start (Met start talk) r q key a t (record { secret = secret; has = has; is = is; size = size }) (record { long = long; opens = opens })))
-all_next start talk (done r q key secret a t p is size long opens here stood has) = told_next start (Met start talk) r q key a t p (Acts start talk) (record { secret = secret; has = has; is = is; size = size }) (record { long = long; opens = opens }) stood
+asks_so : (start : Start) (talk met more : List Call) (r : List ℕ) (q : TicketReq) (key : SkKey) (secret : Option (List ℕ)) → met ≡ Met start talk ++ more → Met start talk ≡ found key secret ∷ [] → request_of r ≡ Ok q → length r ≡ 141 → IsAsked met r q key
+asks_so start talk met more r q key secret met_is has is size = record { has = record { secret = secret; more = more; is = met_is ∙ ap (λ m. m ++ more) has }; is = is; size = size }
 
-nexts : (spoken : Spoken) → IsClient spoken.start → (acts : List Act) → IsTalk spoken acts → AllNext spoken.start spoken.met acts
-nexts spoken is acts t =
-    let start = spoken.start in
-    let mets : Met start t.talk ≡ spoken.met = sym (ap (λ p. met_by (speaks p start) t.talk) is.p9sk1) ∙ t.met in
-    let left : Acts start t.talk ≡ t.later ++ acts = sym (ap (λ p. acts_from (speaks p start) (started_by start) t.talk) is.p9sk1 ∙ ap (λ f. acts_from (speaks P9sk1 start) f t.talk) (first_is start is)) ∙ t.left in
-    front start spoken.met t.later acts (subst (AllNext start spoken.met) left (subst (λ m. AllNext start m (Acts start t.talk)) mets (all_next start t.talk (stands start (first start) is.client t.talk))))
+-- all that a talk leaves on what stood before it
+pub all_next : (start : Start) (act : Act) (ground : List Act) (met more : List Call) (Before : Act → List Act → Type 0) (talk : List Call) → Each (Comes start ground met Before) ground → met ≡ Met start talk ++ more → Stands start act talk → Each (Comes start ground met Before) (Acts start act talk ++ ground)
+all_next start act ground met more Before talk stand met_is (begun here stood has) = subst (λ xs. Each (Comes start ground met Before) (xs ++ ground)) (sym stood) stand
+all_next start act ground met more Before talk stand met_is (second here stood has) = subst (λ xs. Each (Comes start ground met Before) (xs ++ ground)) (sym stood) (greeted_next start ground met Before stand)
+all_next start act ground met more Before talk stand met_is (refused r cause here stood has) = subst (λ xs. Each (Comes start ground met Before) (xs ++ ground)) (sym stood) (inl (it_refuses r (cause_text cause)), (inl (it_takes r), greeted_next start ground met Before stand))
+all_next start act ground met more Before talk stand met_is (keyless r q is size here stood waited has) = subst (λ xs. Each (Comes start ground met Before) (xs ++ ground)) (sym stood) (greeted_next start ground met Before stand)
+all_next start act ground met more Before talk stand met_is (asking r q key secret is size here stood has) = subst (λ xs. Each (Comes start ground met Before) (xs ++ ground)) (sym stood) (asked_next start ground met Before r q key (asks_so start talk met more r q key secret met_is has is size) stand)
+all_next start act ground met more Before talk stand met_is (denied r q key secret i cause is size here stood has) =
+    let so = asks_so start talk met more r q key secret met_is has is size in
+    subst (λ xs. Each (Comes start ground met Before) (xs ++ ground)) (sym stood)
+    (subst (λ xs. Each (Comes start ground met Before) (failed (cause_text cause) ∷ xs)) (sym (append_assoc (instead i) (asked_acts start [] r q key) ground)) (inl (it_is_denied r q key i (cause_text cause)), denied_next start ground met Before r q key i so stand))
+all_next start act ground met more Before talk stand met_is (ready r q key secret a t is size long opens here stood has) = subst (λ xs. Each (Comes start ground met Before) (xs ++ ground)) (sym stood) (heard_next start ground met Before r q key a (asks_so start talk met more r q key secret met_is has is size) stand)
+all_next start act ground met more Before talk stand met_is (showing r q key secret a t is size long opens here stood has) = subst (λ xs. Each (Comes start ground met Before) (xs ++ ground)) (sym stood) (shown_next start ground met Before r q key a t (asks_so start talk met more r q key secret met_is has is size) (record { long = long; opens = opens }) stand)
+all_next start act ground met more Before talk stand met_is (deceived r q key secret a t p cause is size long opens here stood has) = subst (λ xs. Each (Comes start ground met Before) (xs ++ ground)) (sym stood) (inl (it_breaks r q key a t p (cause_text cause)), (inl (it_takes_proof r q key a t p), shown_next start ground met Before r q key a t (asks_so start talk met more r q key secret met_is has is size) (record { long = long; opens = opens }) stand))
+all_next start act ground met more Before talk stand met_is (done r q key secret a t p is size long opens here stood has) = told_next start ground met Before r q key a t p (Acts start act talk ++ ground) (asks_so start talk met more r q key secret met_is has is size) (record { long = long; opens = opens }) stand (told_on ground (accepted_acts start [] r q key a t p) (Acts start act talk) stood)
 
 -- ---- they begin with the start
 
-told_begins : (start : Start) (r : List ℕ) (q : TicketReq) (key : SkKey) (a : List ℕ) (t : Ticket) (p more : List ℕ) (acts : List Act) → Told (accepteds start r q key a t p) acts → BeginsWith (first start) (took more ∷ acts)
-told_begins start r q key a t p more acts at_once = (refl, (refl, (refl, (refl, (refl, (refl, (refl, (refl, refl))))))))
-told_begins start r q key a t p more acts (told {acts = earlier} other rest) = (refl, told_begins start r q key a t p other earlier rest)
+asked_begins : (outer : Act) (start : Start) (ground : List Act) (r : List ℕ) (q : TicketReq) (key : SkKey) → BeginsWith outer ground → BeginsWith outer (asked_acts start ground r q key)
+asked_begins outer start ground r q key so_far = (refl, (refl, begins_more outer (gave start.word) ground refl so_far))
 
-denied_begins : (start : Start) (r : List ℕ) (q : TicketReq) (key : SkKey) (i : Instead) (cause : List ℕ) → BeginsWith (first start) (failed cause ∷ (instead i ++ askeds start r q key))
-denied_begins start r q key (by_answer a) cause = (refl, (refl, (refl, (refl, (refl, refl)))))
-denied_begins start r q key by_none cause = (refl, (refl, (refl, (refl, (refl, refl)))))
-denied_begins start r q key by_no_room cause = (refl, (refl, (refl, (refl, refl))))
+denied_begins : (outer : Act) (start : Start) (ground : List Act) (r : List ℕ) (q : TicketReq) (key : SkKey) (i : Instead) (cause : List ℕ) → BeginsWith outer ground → BeginsWith outer (failed cause ∷ (instead i ++ asked_acts start ground r q key))
+denied_begins outer start ground r q key (by_answer a) cause so_far = (refl, (refl, asked_begins outer start ground r q key so_far))
+denied_begins outer start ground r q key by_none cause so_far = (refl, (refl, asked_begins outer start ground r q key so_far))
+denied_begins outer start ground r q key by_no_room cause so_far = (refl, asked_begins outer start ground r q key so_far)
 
-begins_with : (start : Start) (met : List Call) (act : Act) (acts : List Act) → Next start met act acts → BeginsWith (first start) (act ∷ acts)
-begins_with start met act acts it_starts = refl
-begins_with start met act acts it_greets = (refl, refl)
-begins_with start met act acts (it_takes r) = (refl, (refl, refl))
-begins_with start met act acts (it_refuses r cause) = (refl, (refl, (refl, refl)))
-begins_with start met act acts (it_asks r q key is) = (refl, (refl, (refl, refl)))
-begins_with start met act acts (it_hears r q key a) = (refl, (refl, (refl, (refl, refl))))
-begins_with start met act acts (it_hears_none r q key) = (refl, (refl, (refl, (refl, refl))))
-begins_with start met act acts (it_is_denied r q key i cause) = denied_begins start r q key i cause
-begins_with start met act acts (it_shows r q key a t is heard_it) = (refl, (refl, (refl, (refl, (refl, refl)))))
-begins_with start met act acts (it_takes_proof r q key a t p) = (refl, (refl, (refl, (refl, (refl, (refl, refl))))))
-begins_with start met act acts (it_breaks r q key a t p cause) = (refl, (refl, (refl, (refl, (refl, (refl, (refl, refl)))))))
-begins_with start met act acts (it_accepts r q key a t p cuid suid) = (refl, (refl, (refl, (refl, (refl, (refl, (refl, refl)))))))
-begins_with start met act acts (it_is_told r q key a t p more rest) = told_begins start r q key a t p more acts rest
-
-orderly : (spoken : Spoken) → IsClient spoken.start → IsOrderlyTalk spoken
-orderly spoken is act acts t = subst (λ f. BeginsWith f (act ∷ acts)) (sym (first_is spoken.start is)) (begins_with spoken.start spoken.met act acts (nexts spoken is (act ∷ acts) t).0)
+pub begins_with : (outer : Act) (start : Start) (ground : List Act) (met : List Call) (act : Act) (acts : List Act) → BeginsWith outer ground → Next start ground met act acts → BeginsWith outer (act ∷ acts)
+begins_with outer start ground met act acts so_far it_greets = begins_more outer (gave start.word) ground refl so_far
+begins_with outer start ground met act acts so_far (it_takes r) = (refl, begins_more outer (gave start.word) ground refl so_far)
+begins_with outer start ground met act acts so_far (it_refuses r cause) = (refl, (refl, begins_more outer (gave start.word) ground refl so_far))
+begins_with outer start ground met act acts so_far (it_asks r q key is) = asked_begins outer start ground r q key so_far
+begins_with outer start ground met act acts so_far (it_hears r q key a) = (refl, asked_begins outer start ground r q key so_far)
+begins_with outer start ground met act acts so_far (it_hears_none r q key) = (refl, asked_begins outer start ground r q key so_far)
+begins_with outer start ground met act acts so_far (it_is_denied r q key i cause) = denied_begins outer start ground r q key i cause so_far
+begins_with outer start ground met act acts so_far (it_shows r q key a t is heard_it) = (refl, (refl, asked_begins outer start ground r q key so_far))
+begins_with outer start ground met act acts so_far (it_takes_proof r q key a t p) = (refl, (refl, (refl, asked_begins outer start ground r q key so_far)))
+begins_with outer start ground met act acts so_far (it_breaks r q key a t p cause) = (refl, (refl, (refl, (refl, asked_begins outer start ground r q key so_far))))
+begins_with outer start ground met act acts so_far (it_accepts r q key a t p cuid suid) = (refl, (refl, (refl, (refl, asked_begins outer start ground r q key so_far))))
+begins_with outer start ground met act acts so_far (it_is_told r q key a t p more rest) = begins_more outer (took more) acts refl (told_begins outer (accepted_acts start ground r q key a t p) acts (refl, (refl, (refl, (refl, asked_begins outer start ground r q key so_far)))) rest)
 
 -- ---- what is computed
 
@@ -192,7 +171,7 @@ question_row : (own : Own) (t : Tree) (q : List ℕ) → IsRequest ticket_reques
 unfolding question_of
 question_row own t q form = subst (λ t. Row own client (takes t ∷ gives own.word ∷ []) (asks (request ticket_request (names_in q) (piece_of t 3)))) (sym form.is) (client_question form.fields (names_in q) {chal = form.chal} form.whole)
 
-was_true : (test : Bool) (gift other : Move) → (if test then Some gift else None) ≡ Some other → test ≡ true
+pub was_true : (test : Bool) (gift other : Move) → (if test then Some gift else None) ≡ Some other → test ≡ true
 was_true true gift other is = refl
 was_true false gift other is = absurd (cc)
 
@@ -227,16 +206,10 @@ accepts_row atoms own t u m q form is =
 
 -- ---- the moves behind each act
 
-at_start : (start : Start) (own : Own) (before : List Labelled) → acts_in before ≡ first start ∷ [] → (moves_by own client before ≡ []) × (is_choosing (acts_in before) ≡ false)
-at_start start own before is =
-    let a = one_act before (first start) is in
-    (ap (moves_by own client) a.1 ∙ ap (λ act. moves_for own client false [] act a.0.label ++ []) a.2, ap is_choosing is)
-
-at_greeted : (atoms : Atoms) (start : Start) (own : Own) (before : List Labelled) → acts_in before ≡ greetings start → CleanActs atoms own client before → (moves_by own client before ≡ gives own.word ∷ []) × (is_choosing (acts_in before) ≡ false)
-at_greeted atoms start own before is clean =
-    let p = known_act atoms own client before (gave start.word) (first start ∷ []) is clean in
-    let q = at_start start own p.more p.rest in
-    (moves_next own client before p.more p.a [] false (gave start.word) (gives own.word ∷ []) p.front q.0 q.1 p.act_is refl, ap is_choosing is)
+at_greeted : (atoms : Atoms) (start : Start) (outer : Act) (ground : List Act) (g : Ground outer client ground) (own : Own) (before : List Labelled) → acts_in before ≡ greeting start ground → CleanActs atoms own client before → (moves_by own client before ≡ gives own.word ∷ []) × (is_choosing (acts_in before) ≡ false)
+at_greeted atoms start outer ground g own before is clean =
+    let p = known_act atoms own client before (gave start.word) ground is clean in
+    (moves_next own client before p.more p.a [] false (gave start.word) (gives own.word ∷ []) p.front (g.still own p.more p.rest) (ap is_choosing p.rest ∙ g.quiet) p.act_is refl, ap is_choosing is ∙ g.gave_quiet start.word)
 
 pub record TookIt (atoms : Atoms) (own : Own) (r : List ℕ) (before : List Labelled) : Type 0 where
   pub t : Tree
@@ -244,10 +217,10 @@ pub record TookIt (atoms : Atoms) (own : Own) (r : List ℕ) (before : List Labe
   pub choosing : is_choosing (acts_in before) ≡ false
   pub spells : spelling atoms t ≡ Ok r
 
-at_took : (atoms : Atoms) (start : Start) (own : Own) (r : List ℕ) (before : List Labelled) → acts_in before ≡ took r ∷ greetings start → CleanActs atoms own client before → TookIt atoms own r before
-at_took atoms start own r before is clean =
-    let p = known_act atoms own client before (took r) (greetings start) is clean in
-    let q = at_greeted atoms start own p.more p.rest p.clean_rest in
+at_took : (atoms : Atoms) (start : Start) (outer : Act) (ground : List Act) (g : Ground outer client ground) (own : Own) (r : List ℕ) (before : List Labelled) → acts_in before ≡ took r ∷ greeting start ground → CleanActs atoms own client before → TookIt atoms own r before
+at_took atoms start outer ground g own r before is clean =
+    let p = known_act atoms own client before (took r) (greeting start ground) is clean in
+    let q = at_greeted atoms start outer ground g own p.more p.rest p.clean_rest in
     record {
       t = p.a.label;
       moves = moves_next own client before p.more p.a (gives own.word ∷ []) false (took r) (takes p.a.label ∷ []) p.front q.0 q.1 p.act_is refl;
@@ -262,10 +235,10 @@ pub record AskedIt (atoms : Atoms) (own : Own) (r q : List ℕ) (before : List L
   pub choosing : is_choosing (acts_in before) ≡ false
   pub spells : spelling atoms t ≡ Ok r
 
-at_asked : (atoms : Atoms) (start : Start) (own : Own) (r : List ℕ) (q : TicketReq) (key : SkKey) (before : List Labelled) → acts_in before ≡ askeds start r q key → CleanActs atoms own client before → AskedIt atoms own r (question start key q) before
-at_asked atoms start own r q key before is clean =
-    let p = known_act atoms own client before (asked (question start key q)) (took r ∷ greetings start) is clean in
-    let b = at_took atoms start own r p.more p.rest p.clean_rest in
+at_asked : (atoms : Atoms) (start : Start) (outer : Act) (ground : List Act) (g : Ground outer client ground) (own : Own) (r : List ℕ) (q : TicketReq) (key : SkKey) (before : List Labelled) → acts_in before ≡ asked_acts start ground r q key → CleanActs atoms own client before → AskedIt atoms own r (question start key q) before
+at_asked atoms start outer ground g own r q key before is clean =
+    let p = known_act atoms own client before (asked (question start key q)) (took r ∷ greeting start ground) is clean in
+    let b = at_took atoms start outer ground g own r p.more p.rest p.clean_rest in
     let form : IsRequest ticket_request b.t = subst (IsFormed atoms own client) b.moves (p.clean.formed (ap goes_on p.act_is)) in
     record {
       t = b.t;
@@ -285,10 +258,10 @@ pub record HeardIt (atoms : Atoms) (own : Own) (r q a : List ℕ) (before : List
   pub answer : spelling atoms u ≡ Ok a
   pub holds : HoldsBytes u
 
-at_heard : (atoms : Atoms) (start : Start) (own : Own) (r : List ℕ) (q : TicketReq) (key : SkKey) (a : List ℕ) (before : List Labelled) → acts_in before ≡ heards start r q key a → CleanActs atoms own client before → HeardIt atoms own r (question start key q) a before
-at_heard atoms start own r q key a before is clean =
-    let p = known_act atoms own client before (answered a) (askeds start r q key) is clean in
-    let b = at_asked atoms start own r q key p.more p.rest p.clean_rest in
+at_heard : (atoms : Atoms) (start : Start) (outer : Act) (ground : List Act) (g : Ground outer client ground) (own : Own) (r : List ℕ) (q : TicketReq) (key : SkKey) (a : List ℕ) (before : List Labelled) → acts_in before ≡ heard_acts start ground r q key a → CleanActs atoms own client before → HeardIt atoms own r (question start key q) a before
+at_heard atoms start outer ground g own r q key a before is clean =
+    let p = known_act atoms own client before (answered a) (asked_acts start ground r q key) is clean in
+    let b = at_asked atoms start outer ground g own r q key p.more p.rest p.clean_rest in
     record {
       t = b.t;
       form = b.form;
@@ -307,11 +280,11 @@ pub record ShownIt (atoms : Atoms) (own : Own) (r q a : List ℕ) (before : List
   pub moves : moves_by own client before ≡ gives (handed_label u) ∷ hears u ∷ asks (question_of own t q) ∷ takes t ∷ gives own.word ∷ []
   pub choosing : is_choosing (acts_in before) ≡ false
 
-at_shown : (atoms : Atoms) (start : Start) (own : Own) (r : List ℕ) (q : TicketReq) (key : SkKey) (a : List ℕ) (k : Ticket) (before : List Labelled) → acts_in before ≡ showns start r q key a k → CleanActs atoms own client before → ShownIt atoms own r (question start key q) a before
-at_shown atoms start own r q key a k before is clean =
+at_shown : (atoms : Atoms) (start : Start) (outer : Act) (ground : List Act) (g : Ground outer client ground) (own : Own) (r : List ℕ) (q : TicketReq) (key : SkKey) (a : List ℕ) (k : Ticket) (before : List Labelled) → acts_in before ≡ shown_acts start ground r q key a k → CleanActs atoms own client before → ShownIt atoms own r (question start key q) a before
+at_shown atoms start outer ground g own r q key a k before is clean =
     let Q = question start key q in
-    let p = known_act atoms own client before (gave (handed r a k)) (heards start r q key a) is clean in
-    let b = at_heard atoms start own r q key a p.more p.rest p.clean_rest in
+    let p = known_act atoms own client before (gave (handed r a k)) (heard_acts start ground r q key a) is clean in
+    let b = at_heard atoms start outer ground g own r q key a p.more p.rest p.clean_rest in
     let form : IsAnswer atoms own (question_of own b.t Q) b.u = subst (IsFormed atoms own client) b.moves (p.clean.formed (ap goes_on p.act_is)) in
     record {
       t = b.t;
@@ -329,11 +302,11 @@ pub record ProvenIt (atoms : Atoms) (own : Own) (r q a : List ℕ) (before : Lis
   pub moves : moves_by own client before ≡ takes m ∷ gives (handed_label u) ∷ hears u ∷ asks (question_of own t q) ∷ takes t ∷ gives own.word ∷ []
   pub choosing : is_choosing (acts_in before) ≡ false
 
-at_proven : (atoms : Atoms) (start : Start) (own : Own) (r : List ℕ) (q : TicketReq) (key : SkKey) (a : List ℕ) (k : Ticket) (b : List ℕ) (before : List Labelled) → acts_in before ≡ took b ∷ showns start r q key a k → CleanActs atoms own client before → ProvenIt atoms own r (question start key q) a before
-at_proven atoms start own r q key a k b before is clean =
+at_proven : (atoms : Atoms) (start : Start) (outer : Act) (ground : List Act) (g : Ground outer client ground) (own : Own) (r : List ℕ) (q : TicketReq) (key : SkKey) (a : List ℕ) (k : Ticket) (b : List ℕ) (before : List Labelled) → acts_in before ≡ took b ∷ shown_acts start ground r q key a k → CleanActs atoms own client before → ProvenIt atoms own r (question start key q) a before
+at_proven atoms start outer ground g own r q key a k b before is clean =
     let Q = question start key q in
-    let p = known_act atoms own client before (took b) (showns start r q key a k) is clean in
-    let c = at_shown atoms start own r q key a k p.more p.rest p.clean_rest in
+    let p = known_act atoms own client before (took b) (shown_acts start ground r q key a k) is clean in
+    let c = at_shown atoms start outer ground g own r q key a k p.more p.rest p.clean_rest in
     record {
       t = c.t;
       u = c.u;
@@ -354,15 +327,11 @@ pub record Ended (own : Own) (before : List Labelled) : Type 0 where
   pub moves : moves_by own client before ≡ p1 ∷ p2 ∷ p3 ∷ p4 ∷ p5 ∷ p6 ∷ p7 ∷ []
   pub choosing : is_choosing (acts_in before) ≡ false
 
-told_choosing : (start : Start) (r : List ℕ) (q : TicketReq) (key : SkKey) (a : List ℕ) (k : Ticket) (b more : List ℕ) (acts : List Act) → Told (accepteds start r q key a k b) acts → is_choosing (took more ∷ acts) ≡ false
-told_choosing start r q key a k b more acts at_once = refl
-told_choosing start r q key a k b more acts (told c rest) = refl
-
-ended_in : (atoms : Atoms) (start : Start) (own : Own) (r : List ℕ) (q : TicketReq) (key : SkKey) (a : List ℕ) (k : Ticket) (b : List ℕ) (acts : List Act) → Told (accepteds start r q key a k b) acts → (before : List Labelled) → acts_in before ≡ acts → CleanActs atoms own client before → Ended own before
-ended_in atoms start own r q key a k b acts at_once before is clean =
+ended_in : (atoms : Atoms) (start : Start) (outer : Act) (ground : List Act) (g : Ground outer client ground) (own : Own) (r : List ℕ) (q : TicketReq) (key : SkKey) (a : List ℕ) (k : Ticket) (b : List ℕ) (acts : List Act) → Told (accepted_acts start ground r q key a k b) acts → (before : List Labelled) → acts_in before ≡ acts → CleanActs atoms own client before → Ended own before
+ended_in atoms start outer ground g own r q key a k b acts at_once before is clean =
     let Q = question start key q in
-    let p = known_act atoms own client before (accepted k.cuid k.suid) (took b ∷ showns start r q key a k) is clean in
-    let c = at_proven atoms start own r q key a k b p.more p.rest p.clean_rest in
+    let p = known_act atoms own client before (accepted k.cuid k.suid) (took b ∷ shown_acts start ground r q key a k) is clean in
+    let c = at_proven atoms start outer ground g own r q key a k b p.more p.rest p.clean_rest in
     record {
       p1 = accepts (bytes (piece_of (opened c.u) 3));
       p2 = takes c.m;
@@ -374,9 +343,9 @@ ended_in atoms start own r q key a k b acts at_once before is clean =
       moves = moves_next own client before p.more p.a (takes c.m ∷ gives (handed_label c.u) ∷ hears c.u ∷ asks (question_of own c.t Q) ∷ takes c.t ∷ gives own.word ∷ []) false (accepted k.cuid k.suid) (accepts (bytes (piece_of (opened c.u) 3)) ∷ []) p.front c.moves c.choosing p.act_is refl;
       choosing = ap is_choosing is;
     }
-ended_in atoms start own r q key a k b acts (told {acts = earlier} more rest) before is clean =
+ended_in atoms start outer ground g own r q key a k b acts (told {acts = earlier} more rest) before is clean =
     let p = known_act atoms own client before (took more) earlier is clean in
-    let c = ended_in atoms start own r q key a k b earlier rest p.more p.rest p.clean_rest in
+    let c = ended_in atoms start outer ground g own r q key a k b earlier rest p.more p.rest p.clean_rest in
     record {
       p1 = c.p1;
       p2 = c.p2;
@@ -386,13 +355,10 @@ ended_in atoms start own r q key a k b acts (told {acts = earlier} more rest) be
       p6 = c.p6;
       p7 = c.p7;
       moves = moves_next own client before p.more p.a (c.p1 ∷ c.p2 ∷ c.p3 ∷ c.p4 ∷ c.p5 ∷ c.p6 ∷ c.p7 ∷ []) false (took more) [] p.front c.moves c.choosing p.act_is refl;
-      choosing = ap is_choosing is ∙ told_choosing start r q key a k b more earlier rest;
+      choosing = ap is_choosing is ∙ told_quiet (accepted_acts start ground r q key a k b) earlier (λ more. refl) rest more;
     }
 
 -- ---- what the server's request spells
-
-ok_same : {a b : List ℕ} → ◌≡◌ {A = Spelling} (Ok a) (Ok b) → a ≡ b
-ok_same e = cc
 
 -- its challenge, and its names as they are read
 pub record RequestBytes (atoms : Atoms) (t : Tree) (r : List ℕ) (q : TicketReq) : Type 0 where
@@ -529,104 +495,141 @@ handed_spells atoms reads number holder key Q u c r a t of_key form holds spells
 
 -- ---- each act
 
+-- what the reading says of a conversation with a key for its role
 pub record Reading (atoms : Atoms) (start : Start) (met : List Call) (number : ℕ) (holder : List ℕ) : Type 0 where
   pub bytes : GivesBytes atoms
-  pub role : role_of start.template ≡ sk_role.Client
+  pub role : IsClientRole (role_of start.template)
   pub word : bytes_of atoms (nonce number) ≡ Some start.word
   pub keys : All IsMet met
   pub key : ReadsMet atoms client holder met
 
 the_key : (atoms : Atoms) (start : Start) (met : List Call) (number : ℕ) (holder r : List ℕ) (q : TicketReq) (key : SkKey) → Reading atoms start met number holder → IsAsked met r q key → IsRingKey key × (bytes_of atoms (long_key holder) ≡ Some key.des.0)
 the_key atoms start met number holder r q key read is =
-    let of_key : ReadsMet atoms client holder (found key is.secret ∷ []) = subst (ReadsMet atoms client holder) is.has read.key in
-    (All-head IsMet (found key is.secret) [] (subst (All IsMet) is.has read.keys), of_key)
+    let of_key : ReadsMet atoms client holder (found key is.has.secret ∷ is.has.more) = subst (ReadsMet atoms client holder) is.has.is read.key in
+    (All-head IsMet (found key is.has.secret) is.has.more (subst (All IsMet) is.has.is read.keys), of_key)
 
 -- the question's challenge is the request's
 question_chal : (own : Own) (t : Tree) (q : List ℕ) → piece_of (question_of own t q) 3 ≡ piece_of t 3
 unfolding question_of
 question_chal own t q = refl
 
-question_spells : (atoms : Atoms) (own : Own) (start : Start) (t : Tree) (r : List ℕ) (q : TicketReq) (key : SkKey) → role_of start.template ≡ sk_role.Client → IsRingKey key → RequestBytes atoms t r q → spelling atoms (question_of own t (question start key q)) ≡ Ok (question start key q)
+-- whom a client asks to be fits a field
+wanted_fits : (role : SkRole) (key : SkKey) → IsClientRole role → IsName 28 key.user → IsName 28 (wanted_user role key)
+wanted_fits role key for_itself name = name
+wanted_fits role key (for_another user fits) name = fits
+
+question_spells : (atoms : Atoms) (own : Own) (start : Start) (t : Tree) (r : List ℕ) (q : TicketReq) (key : SkKey) → IsClientRole (role_of start.template) → IsRingKey key → RequestBytes atoms t r q → spelling atoms (question_of own t (question start key q)) ≡ Ok (question start key q)
 unfolding question_of
 question_spells atoms own start t r q key role ring b =
-    let asks_for : TicketReq = record { kind = 1; authid = q.authid; authdom = q.authdom; chal = q.chal; hostid = key.user; uid = key.user } in
-    let fits : FitsRequest asks_for = record { authid = b.authid; authdom = b.authdom; chal = ap length b.read ∙ b.eight; hostid = ring.user.short; uid = ring.user.short } in
-    let so : question start key q ≡ request_text asks_for = ap (λ role. question_for role key q) role in
-    ap (λ text. spelling atoms (request ticket_request (names_in text) (piece_of t 3))) so
-    ∙ request_is_spelled atoms asks_for (piece_of t 3) fits (b.spells ∙ ap Ok (sym b.read))
-    ∙ ap Ok (sym so)
+    let asks_for : TicketReq = record { kind = 1; authid = q.authid; authdom = q.authdom; chal = q.chal; hostid = key.user; uid = wanted_user (role_of start.template) key } in
+    let fits : FitsRequest asks_for = record { authid = b.authid; authdom = b.authdom; chal = ap length b.read ∙ b.eight; hostid = ring.user.short; uid = wanted_fits (role_of start.template) key role ring.user.short } in
+    request_is_spelled atoms asks_for (piece_of t 3) fits (b.spells ∙ ap Ok (sym b.read))
 
-denied_moves : (start : Start) (r : List ℕ) (q : TicketReq) (key : SkKey) (i : Instead) → is_choosing (instead i ++ askeds start r q key) ≡ false
-denied_moves start r q key (by_answer a) = refl
-denied_moves start r q key by_none = refl
-denied_moves start r q key by_no_room = refl
-
-followed_in : (start : Start) (met : List Call) (act : Act) (acts : List Act) → Next start met act acts → (atoms : Atoms) (number : ℕ) (holder : List ℕ) → Reading atoms start met number holder → (before : List Labelled) (a : Labelled) → a.act ≡ act → acts_in before ≡ acts → CleanActs atoms (own_by number holder) client (a ∷ before) → is_start act ≡ false →
+pub followed_in : (outer : Act) (ground : List Act) (g : Ground outer client ground) (start : Start) (met : List Call) (act : Act) (acts : List Act) → Next start ground met act acts → (atoms : Atoms) (number : ℕ) (holder : List ℕ) → Reading atoms start met number holder → (before : List Labelled) (a : Labelled) → a.act ≡ act → acts_in before ≡ acts → CleanActs atoms (own_by number holder) client (a ∷ before) → is_start act ≡ false →
     Follows atoms (own_by number holder) client (moves_by (own_by number holder) client before) (is_choosing (acts_in before)) a.act a.label (moves_for (own_by number holder) client (is_choosing (acts_in before)) (moves_by (own_by number holder) client before) a.act a.label)
-followed_in start met act acts it_starts atoms number holder read before a act_is acts_are clean no_start = absurd (cc)
-followed_in start met act acts it_greets atoms number holder read before a act_is acts_are clean no_start =
+followed_in outer ground g start met act acts it_greets atoms number holder read before a act_is acts_are clean no_start =
     let own = own_by number holder in
-    let p = at_start start own before acts_are in
-    as_follows atoms own client before a [] false (gave start.word) (gives own.word ∷ []) p.0 p.1 act_is refl (gives_it start.word own.word client_challenge (ap atom_bytes read.word))
-followed_in start met act acts (it_takes r) atoms number holder read before a act_is acts_are clean no_start =
+    as_follows atoms own client before a [] false (gave start.word) (gives own.word ∷ []) (g.still own before acts_are) (ap is_choosing acts_are ∙ g.quiet) act_is refl (gives_it start.word own.word client_challenge (ap atom_bytes read.word))
+followed_in outer ground g start met act acts (it_takes r) atoms number holder read before a act_is acts_are clean no_start =
     let own = own_by number holder in
-    let p = at_greeted atoms start own before acts_are clean.1 in
+    let p = at_greeted atoms start outer ground g own before acts_are clean.1 in
     as_follows atoms own client before a (gives own.word ∷ []) false (took r) (takes a.label ∷ []) p.0 p.1 act_is refl (takes_it r client_request)
-followed_in start met act acts (it_refuses r cause) atoms number holder read before a act_is acts_are clean no_start =
+followed_in outer ground g start met act acts (it_refuses r cause) atoms number holder read before a act_is acts_are clean no_start =
     let own = own_by number holder in
-    let p = at_took atoms start own r before acts_are clean.1 in
+    let p = at_took atoms start outer ground g own r before acts_are clean.1 in
     as_follows atoms own client before a (takes p.t ∷ gives own.word ∷ []) false (failed cause) (fails ∷ []) p.moves p.choosing act_is refl (fails_so cause)
-followed_in start met act acts (it_asks r q key is) atoms number holder read before a act_is acts_are clean no_start =
+followed_in outer ground g start met act acts (it_asks r q key is) atoms number holder read before a act_is acts_are clean no_start =
     let own = own_by number holder in
     let Q = question start key q in
-    let p = at_took atoms start own r before acts_are clean.1 in
+    let p = at_took atoms start outer ground g own r before acts_are clean.1 in
     let form : IsRequest ticket_request p.t = subst (IsFormed atoms own client) p.moves (clean.0.formed (ap goes_on act_is)) in
     let b = request_bytes atoms p.t r q form p.spells is.size is.is in
     let ring = (the_key atoms start met number holder r q key read is).0 in
     as_follows atoms own client before a (takes p.t ∷ gives own.word ∷ []) false (asked Q) (asks (question_of own p.t Q) ∷ []) p.moves p.choosing act_is (ap if_some (question_gift own p.t Q form))
     (asks_it Q (question_of own p.t Q) (question_row own p.t Q form) (question_spells atoms own start p.t r q key read.role ring b))
-followed_in start met act acts (it_hears r q key b) atoms number holder read before a act_is acts_are clean no_start =
+followed_in outer ground g start met act acts (it_hears r q key b) atoms number holder read before a act_is acts_are clean no_start =
     let own = own_by number holder in
-    let p = at_asked atoms start own r q key before acts_are clean.1 in
+    let p = at_asked atoms start outer ground g own r q key before acts_are clean.1 in
     as_follows atoms own client before a (asks (question_of own p.t (question start key q)) ∷ takes p.t ∷ gives own.word ∷ []) false (answered b) (hears a.label ∷ []) p.moves p.choosing act_is refl (hears_it b client_answer)
-followed_in start met act acts (it_hears_none r q key) atoms number holder read before a act_is acts_are clean no_start =
+followed_in outer ground g start met act acts (it_hears_none r q key) atoms number holder read before a act_is acts_are clean no_start =
     let own = own_by number holder in
-    let p = at_asked atoms start own r q key before acts_are clean.1 in
+    let p = at_asked atoms start outer ground g own r q key before acts_are clean.1 in
     as_follows atoms own client before a (asks (question_of own p.t (question start key q)) ∷ takes p.t ∷ gives own.word ∷ []) false unanswered [] p.moves p.choosing act_is refl hears_none
-followed_in start met act acts (it_is_denied r q key i cause) atoms number holder read before a act_is acts_are clean no_start =
+followed_in outer ground g start met act acts (it_is_denied r q key i cause) atoms number holder read before a act_is acts_are clean no_start =
     let own = own_by number holder in
     as_follows atoms own client before a (moves_by own client before) (is_choosing (acts_in before)) (failed cause) (fails ∷ []) refl refl act_is refl (fails_so cause)
-followed_in start met act acts (it_shows r q key b t is heard_it) atoms number holder read before a act_is acts_are clean no_start =
+followed_in outer ground g start met act acts (it_shows r q key b t is heard_it) atoms number holder read before a act_is acts_are clean no_start =
     let own = own_by number holder in
     let Q = question start key q in
-    let p = at_heard atoms start own r q key b before acts_are clean.1 in
+    let p = at_heard atoms start outer ground g own r q key b before acts_are clean.1 in
     let form : IsAnswer atoms own (question_of own p.t Q) p.u = subst (IsFormed atoms own client) p.moves (clean.0.formed (ap goes_on act_is)) in
     let rb = request_bytes atoms p.t r q p.form p.spells is.size is.is in
     let of_key = (the_key atoms start met number holder r q key read is).1 in
     let chal : spelling atoms (piece_of (question_of own p.t Q) 3) ≡ Ok rb.chal = ap (spelling atoms) (question_chal own p.t Q) ∙ rb.spells in
     as_follows atoms own client before a (hears p.u ∷ asks (question_of own p.t Q) ∷ takes p.t ∷ gives own.word ∷ []) false (gave (handed r b t)) (gives (handed_label p.u) ∷ []) p.moves p.choosing act_is (ap if_some (handed_gift atoms own p.t p.u Q (names_in (handed r b t)) form))
     (gives_it (handed r b t) (handed_label p.u) (handed_row atoms own p.t p.u Q form) (handed_spells atoms read.bytes number holder key (question_of own p.t Q) p.u rb.chal r b t of_key form p.holds p.answer chal rb.eight rb.stands heard_it.opens))
-followed_in start met act acts (it_takes_proof r q key b t m) atoms number holder read before a act_is acts_are clean no_start =
+followed_in outer ground g start met act acts (it_takes_proof r q key b t m) atoms number holder read before a act_is acts_are clean no_start =
     let own = own_by number holder in
-    let p = at_shown atoms start own r q key b t before acts_are clean.1 in
+    let p = at_shown atoms start outer ground g own r q key b t before acts_are clean.1 in
     as_follows atoms own client before a (gives (handed_label p.u) ∷ hears p.u ∷ asks (question_of own p.t (question start key q)) ∷ takes p.t ∷ gives own.word ∷ []) false (took m) (takes a.label ∷ []) p.moves p.choosing act_is refl (takes_it m client_proof)
-followed_in start met act acts (it_breaks r q key b t m cause) atoms number holder read before a act_is acts_are clean no_start =
+followed_in outer ground g start met act acts (it_breaks r q key b t m cause) atoms number holder read before a act_is acts_are clean no_start =
     let own = own_by number holder in
-    let p = at_proven atoms start own r q key b t m before acts_are clean.1 in
+    let p = at_proven atoms start outer ground g own r q key b t m before acts_are clean.1 in
     as_follows atoms own client before a (moves_by own client before) (is_choosing (acts_in before)) (failed cause) (fails ∷ []) refl refl act_is refl (fails_so cause)
-followed_in start met act acts (it_accepts r q key b t m cuid suid) atoms number holder read before a act_is acts_are clean no_start =
+followed_in outer ground g start met act acts (it_accepts r q key b t m cuid suid) atoms number holder read before a act_is acts_are clean no_start =
     let own = own_by number holder in
     let Q = question start key q in
-    let p = at_proven atoms start own r q key b t m before acts_are clean.1 in
+    let p = at_proven atoms start outer ground g own r q key b t m before acts_are clean.1 in
     let is : p.m ≡ server_message (piece_of (opened p.u) 4) own.word = subst (IsFormed atoms own client) p.moves (clean.0.formed (ap goes_on act_is)) in
     as_follows atoms own client before a (takes p.m ∷ gives (handed_label p.u) ∷ hears p.u ∷ asks (question_of own p.t Q) ∷ takes p.t ∷ gives own.word ∷ []) false (accepted cuid suid) (accepts (bytes (piece_of (opened p.u) 3)) ∷ []) p.moves p.choosing act_is refl (accepts_it cuid suid (bytes (piece_of (opened p.u) 3)) (accepts_row atoms own p.t p.u p.m Q p.form is))
-followed_in start met act acts (it_is_told r q key b t m more rest) atoms number holder read before a act_is acts_are clean no_start =
+followed_in outer ground g start met act acts (it_is_told r q key b t m more rest) atoms number holder read before a act_is acts_are clean no_start =
     let own = own_by number holder in
-    let p = ended_in atoms start own r q key b t m acts rest before acts_are clean.1 in
+    let p = ended_in atoms start outer ground g own r q key b t m acts rest before acts_are clean.1 in
     as_follows atoms own client before a (p.p1 ∷ p.p2 ∷ p.p3 ∷ p.p4 ∷ p.p5 ∷ p.p6 ∷ p.p7 ∷ []) false (took more) [] p.moves p.choosing act_is refl (takes_none more)
 
+-- ---- p9sk1 alone
+
+-- its start
+abbrev IsStart : Start → Act → List Act → Type 0
+IsStart start act acts = (act ≡ first start) × (acts ≡ [])
+
+seeks_none : (start : Start) (role : SkRole) → IsClientRole role → is_sought (sk.need_at start (at (sk.first_stage role))) ≡ false
+seeks_none start role for_itself = refl
+seeks_none start role (for_another user name) = refl
+
+first_alone : (start : Start) (act : Act) → IsClientRole (role_of start.template) → acts_from (speaks P9sk1 start) act [] ≡ act ∷ []
+first_alone start act role = ap (λ (b : Bool). if b then [] else act ∷ []) (seeks_none start (role_of start.template) role)
+
+nexts : (spoken : Spoken) → IsClient spoken.start → (acts : List Act) → IsTalk spoken acts → Each (Comes spoken.start (first spoken.start ∷ []) spoken.met (IsStart spoken.start)) acts
+nexts spoken is acts t =
+    let start = spoken.start in
+    let P = Comes start (first start ∷ []) spoken.met (IsStart start) in
+    let mets : Met start t.talk ≡ spoken.met = sym (ap (λ p. met_by (speaks p start) t.talk) is.p9sk1) ∙ t.met in
+    let all : acts_from (speaks P9sk1 start) (first start) t.talk ≡ t.later ++ acts = sym (ap (λ p. acts_from (speaks p start) (started_by start) t.talk) is.p9sk1 ∙ ap (λ f. acts_from (speaks P9sk1 start) f t.talk) (first_is start is)) ∙ t.left in
+    let left : Acts start (first start) t.talk ++ (first start ∷ []) ≡ t.later ++ acts = ap (λ xs. Acts start (first start) t.talk ++ xs) (sym (first_alone start (first start) is.client)) ∙ sym (above_all (speaks P9sk1 start) (first start) t.talk) ∙ all in
+    each_behind P t.later acts (subst (Each P) left (all_next start (first start) (first start ∷ []) spoken.met [] (IsStart start) t.talk (inr (refl, refl), tt) (sym mets ∙ sym (append-nil (Met start t.talk))) (stands start (first start) is.client t.talk)))
+
+begins_so : (start : Start) (met : List Call) (act : Act) (acts : List Act) → Comes start (first start ∷ []) met (IsStart start) act acts → BeginsWith (first start) (act ∷ acts)
+begins_so start met act acts (inl next) = begins_with (first start) start (first start ∷ []) met act acts refl next
+begins_so start met act acts (inr is) = subst (λ xs. BeginsWith (first start) (act ∷ xs)) (sym is.1) is.0
+
+orderly : (spoken : Spoken) → IsClient spoken.start → IsOrderlyTalk spoken
+orderly spoken is act acts t = subst (λ f. BeginsWith f (act ∷ acts)) (sym (first_is spoken.start is)) (begins_so spoken.start spoken.met act acts (nexts spoken is (act ∷ acts) t).0)
+
+follows_so : (start : Start) (met : List Call) (act : Act) (acts : List Act) → Comes start (first start ∷ []) met (IsStart start) act acts → (atoms : Atoms) (number : ℕ) (holder : List ℕ) → Reading atoms start met number holder → (before : List Labelled) (a : Labelled) → a.act ≡ act → acts_in before ≡ acts → CleanActs atoms (own_by number holder) client (a ∷ before) → is_start act ≡ false →
+    Follows atoms (own_by number holder) client (moves_by (own_by number holder) client before) (is_choosing (acts_in before)) a.act a.label (moves_for (own_by number holder) client (is_choosing (acts_in before)) (moves_by (own_by number holder) client before) a.act a.label)
+follows_so start met act acts (inl next) atoms number holder read before a act_is acts_are clean no_start = followed_in (first start) (first start ∷ []) (sk_ground (part_as (role_of start.template)) start.word client) start met act acts next atoms number holder read before a act_is acts_are clean no_start
+follows_so start met act acts (inr is) atoms number holder read before a act_is acts_are clean no_start = absurd (let both : true ≡ false = sym (ap is_start is.0) ∙ no_start in cc)
+
+-- the part that a client names
+client_part : (role : SkRole) → IsClientRole role → role_by protocol.P9sk1 (part_as role) ≡ client
+client_part role for_itself = refl
+client_part role (for_another user name) = refl
+
 of_this_role : (start : Start) (role : Role) → IsClient start → role_in (started_by start) role → role ≡ client
-of_this_role start role is in_it = subst (λ act. role_in act role) (first_is start is) in_it
+of_this_role start role is in_it =
+    let so : role ≡ role_by protocol.P9sk1 (part_as (role_of start.template)) = subst (λ act. role_in act role) (first_is start is) in_it in
+    so ∙ client_part (role_of start.template) is.client
 
 followed : (spoken : Spoken) → IsClient spoken.start → IsFollowed spoken
 followed spoken is atoms number holder role read before a t clean no_start =
@@ -634,8 +637,8 @@ followed spoken is atoms number holder role read before a t clean no_start =
     let word = subst (λ role. ReadsWord atoms role number spoken.start.word) role_so read.word in
     let key = subst (λ role. ReadsMet atoms role holder spoken.met) role_so read.key in
     subst (λ role. Follows atoms (own_by number holder) role (moves_by (own_by number holder) role before) (is_choosing (acts_in before)) a.act a.label (moves_for (own_by number holder) role (is_choosing (acts_in before)) (moves_by (own_by number holder) role before) a.act a.label)) (sym role_so)
-    (followed_in spoken.start spoken.met a.act (acts_in before) (nexts spoken is (a.act ∷ acts_in before) t).0 atoms number holder (record { bytes = read.bytes; role = is.client; word = word; keys = t.may.keys; key = key }) before a refl refl (subst (λ role. CleanActs atoms (own_by number holder) role (a ∷ before)) role_so clean) no_start)
+    (follows_so spoken.start spoken.met a.act (acts_in before) (nexts spoken is (a.act ∷ acts_in before) t).0 atoms number holder (record { bytes = read.bytes; role = is.client; word = word; keys = t.may.keys; key = key }) before a refl refl (subst (λ role. CleanActs atoms (own_by number holder) role (a ∷ before)) role_so clean) no_start)
 
--- a p9sk1 client is lawful
+-- a p9sk1 client is lawful, for itself or speaking for another
 pub client_is_lawful : (spoken : Spoken) → IsClient spoken.start → IsLawful spoken
 client_is_lawful spoken is = record { orderly = orderly spoken is; followed = followed spoken is }

@@ -16,7 +16,7 @@ use Rattle.roles.specs.declared.stage.Role.TheVariants.{Server}
 use Rattle.roles.specs.declared.stage.Stage.{Stage}
 use Rattle.roles.specs.declared.stage.Stage.TheVariants.{ServerKey, ServerFirst, ServerSecond, ServerThird, ServerFourth, ServerDone}
 use Rattle.roles.specs.Answers.{is_sought}
-use Rattle.roles.specs.Courses.{accepted as outcome_by, refusal, then_course}
+use Rattle.roles.specs.Courses.{accepted as outcome_by, refusal}
 use Rattle.roles.specs.Courses as sk
 use Rattle.roles.specs.Servers.{server_request, shown_came, shown_tests}
 use Rattle.roles.specs.Starts.{Start, role_of}
@@ -25,11 +25,11 @@ use Rattle.roles.specs.Tickets.{proof_for, proof_under, rest_part, ticket_part, 
 use Rattle.conv_set.specs.Protocols.{P9sk1}
 use Rattle.talks.specs.Lines.{cause_text}
 use Rattle.wire_histories.specs.Histories.{Act, gave, took, accepted, failed}
-use Rattle.wire_histories.specs.Conversations.{acts_from, end_by, is_taken, meets, met_by, speaks, waiting}
-use Rattle.clean_runs.proofs.LeftLemmas.{at, left_at, sk_goes, sk_left}
+use Rattle.wire_histories.specs.Conversations.{end_by, is_taken, meets, met_by, speaks, waiting}
+use Rattle.clean_runs.proofs.LeftLemmas.{acts_above, at, left_at, sk_goes, sk_left}
 
 abbrev pub acts : Start → Act → List Call → List Act
-acts start first talk = acts_from (speaks P9sk1 start) first talk
+acts start first talk = acts_above (speaks P9sk1 start) first talk
 
 abbrev pub met : Start → List Call → List Call
 met start talk = met_by (speaks P9sk1 start) talk
@@ -46,22 +46,22 @@ pub data Told (base : List Act) : List Act → Type 0 where
 abbrev pub proof : List ℕ → Ticket → List ℕ
 proof theirs ticket = proof_for AUTH_AS theirs ticket
 
--- its acts up to its request, and behind what it was shown
-abbrev pub asked_acts : Start → Act → SkKey → List ℕ → List Act
-asked_acts start first key theirs = gave (server_request start key) ∷ took theirs ∷ first ∷ []
+-- its acts up to its request, and behind what it was shown, on what stands before them
+abbrev pub asked_acts : Start → List Act → SkKey → List ℕ → List Act
+asked_acts start ground key theirs = gave (server_request start key) ∷ took theirs ∷ ground
 
-abbrev pub accepted_acts : Start → Act → SkKey → List ℕ → List ℕ → Ticket → List Act
-accepted_acts start first key theirs shown ticket = accepted ticket.cuid ticket.suid ∷ took shown ∷ asked_acts start first key theirs
+abbrev pub accepted_acts : Start → List Act → SkKey → List ℕ → List ℕ → Ticket → List Act
+accepted_acts start ground key theirs shown ticket = accepted ticket.cuid ticket.suid ∷ took shown ∷ asked_acts start ground key theirs
 
 -- how it stands behind a talk
 pub data Stands (start : Start) (first : Act) (talk : List Call) : Type 0 where
   seeking : sk.course start talk ≡ at ServerKey → acts start first talk ≡ [] → waiting (speaks P9sk1 start) first talk ≡ first → met start talk ≡ [] → Stands start first talk
   keyed : (key : SkKey) (secret : Option (List ℕ)) → sk.course start talk ≡ at (ServerFirst key) → acts start first talk ≡ first ∷ [] → met start talk ≡ found key secret ∷ [] → Stands start first talk
   greeted : (key : SkKey) (secret : Option (List ℕ)) (theirs : List ℕ) → length theirs ≡ 8 → sk.course start talk ≡ at (ServerSecond key theirs) → acts start first talk ≡ took theirs ∷ first ∷ [] → met start talk ≡ found key secret ∷ [] → Stands start first talk
-  asking : (key : SkKey) (secret : Option (List ℕ)) (theirs : List ℕ) → length theirs ≡ 8 → sk.course start talk ≡ at (ServerThird key theirs) → acts start first talk ≡ asked_acts start first key theirs → met start talk ≡ found key secret ∷ [] → Stands start first talk
-  broken : (key : SkKey) (secret : Option (List ℕ)) (theirs b : List ℕ) (cause : Cause) → sk.course start talk ≡ fallen (ServerThird key theirs) cause → acts start first talk ≡ failed (cause_text cause) ∷ took b ∷ asked_acts start first key theirs → met start talk ≡ found key secret ∷ [] → Stands start first talk
-  accepting : (key : SkKey) (secret : Option (List ℕ)) (theirs shown : List ℕ) (ticket : Ticket) → length theirs ≡ 8 → ticket_under key (ticket_part shown) ≡ Ok ticket → length shown ≡ 85 → sk.course start talk ≡ at (ServerFourth key theirs shown) → acts start first talk ≡ accepted_acts start first key theirs shown ticket → met start talk ≡ found key secret ∷ [] → Stands start first talk
-  done : (key : SkKey) (secret : Option (List ℕ)) (theirs shown : List ℕ) (ticket : Ticket) → length theirs ≡ 8 → ticket_under key (ticket_part shown) ≡ Ok ticket → length shown ≡ 85 → sk.course start talk ≡ at (ServerDone key theirs shown) → Told (gave (proof theirs ticket) ∷ accepted_acts start first key theirs shown ticket) (acts start first talk) → met start talk ≡ found key secret ∷ [] → Stands start first talk
+  asking : (key : SkKey) (secret : Option (List ℕ)) (theirs : List ℕ) → length theirs ≡ 8 → sk.course start talk ≡ at (ServerThird key theirs) → acts start first talk ≡ asked_acts start (first ∷ []) key theirs → met start talk ≡ found key secret ∷ [] → Stands start first talk
+  broken : (key : SkKey) (secret : Option (List ℕ)) (theirs b : List ℕ) (cause : Cause) → sk.course start talk ≡ fallen (ServerThird key theirs) cause → acts start first talk ≡ failed (cause_text cause) ∷ took b ∷ asked_acts start (first ∷ []) key theirs → met start talk ≡ found key secret ∷ [] → Stands start first talk
+  accepting : (key : SkKey) (secret : Option (List ℕ)) (theirs shown : List ℕ) (ticket : Ticket) → length theirs ≡ 8 → ticket_under key (ticket_part shown) ≡ Ok ticket → length shown ≡ 85 → sk.course start talk ≡ at (ServerFourth key theirs shown) → acts start first talk ≡ accepted_acts start (first ∷ []) key theirs shown ticket → met start talk ≡ found key secret ∷ [] → Stands start first talk
+  done : (key : SkKey) (secret : Option (List ℕ)) (theirs shown : List ℕ) (ticket : Ticket) → length theirs ≡ 8 → ticket_under key (ticket_part shown) ≡ Ok ticket → length shown ≡ 85 → sk.course start talk ≡ at (ServerDone key theirs shown) → Told (gave (proof theirs ticket) ∷ accepted_acts start (first ∷ []) key theirs shown ticket) (acts start first talk) → met start talk ≡ found key secret ∷ [] → Stands start first talk
 
 -- what stands behind one call more
 pub acts_more : (start : Start) (first : Act) (before : List Call) (call : Call) (p : Progress Stage) (v : Verdict Stage) (left more : List Act) → sk.course start before ≡ p → sk.verdict start p call ≡ v → left_at (sk.need_at start) sk.outcome_at p v (waiting (speaks P9sk1 start) first before) call ≡ left → acts start first before ≡ more → acts start first (call ∷ before) ≡ left ++ more
@@ -174,10 +174,10 @@ greeted_then start first before key secret theirs eight here stood has (picked p
 
 -- ---- it asked
 
-asking_stays : (start : Start) (first : Act) (before : List Call) (call : Call) (key : SkKey) (secret : Option (List ℕ)) (theirs : List ℕ) (given : Gave) → sk.verdict start (at (ServerThird key theirs)) call ≡ stays given → left_at (sk.need_at start) sk.outcome_at (at (ServerThird key theirs)) (stays given) (waiting (speaks P9sk1 start) first before) call ≡ [] → length theirs ≡ 8 → sk.course start before ≡ at (ServerThird key theirs) → acts start first before ≡ asked_acts start first key theirs → met start before ≡ found key secret ∷ [] → Stands start first (call ∷ before)
+asking_stays : (start : Start) (first : Act) (before : List Call) (call : Call) (key : SkKey) (secret : Option (List ℕ)) (theirs : List ℕ) (given : Gave) → sk.verdict start (at (ServerThird key theirs)) call ≡ stays given → left_at (sk.need_at start) sk.outcome_at (at (ServerThird key theirs)) (stays given) (waiting (speaks P9sk1 start) first before) call ≡ [] → length theirs ≡ 8 → sk.course start before ≡ at (ServerThird key theirs) → acts start first before ≡ asked_acts start (first ∷ []) key theirs → met start before ≡ found key secret ∷ [] → Stands start first (call ∷ before)
 asking_stays start first before call key secret theirs given moves leaves eight here stood has = asking key secret theirs eight
     (sk_goes start before call (at (ServerThird key theirs)) (stays given) here moves)
-    (acts_more start first before call (at (ServerThird key theirs)) (stays given) [] (asked_acts start first key theirs) here moves leaves stood)
+    (acts_more start first before call (at (ServerThird key theirs)) (stays given) [] (asked_acts start (first ∷ []) key theirs) here moves leaves stood)
     (met_more start before call (at (ServerThird key theirs)) false (found key secret ∷ []) here refl has)
 
 -- what a client shows opens and passes, or breaks the conversation
@@ -196,22 +196,22 @@ came_by start key theirs b (Err fault) is = bad WrongKind (ap (λ r. with_ticket
 broken_left : (b : List ℕ) (cause : Cause) → failed (cause_text cause) ∷ (if is_taken (refusal cause) && true then took b ∷ [] else []) ≡ failed (cause_text cause) ∷ took b ∷ []
 broken_left b cause = ap (λ (t : Bool). failed (cause_text cause) ∷ (if t && true then took b ∷ [] else [])) (refused_is_taken cause)
 
-asking_came : (start : Start) (first : Act) (before : List Call) (b : List ℕ) (key : SkKey) (secret : Option (List ℕ)) (theirs : List ℕ) → length theirs ≡ 8 → sk.course start before ≡ at (ServerThird key theirs) → acts start first before ≡ asked_acts start first key theirs → met start before ≡ found key secret ∷ [] → length b ≡ 85 → sized 85 b (shown_came start key theirs b) ≡ shown_came start key theirs b → Came start key theirs b → Stands start first (give b ∷ before)
+asking_came : (start : Start) (first : Act) (before : List Call) (b : List ℕ) (key : SkKey) (secret : Option (List ℕ)) (theirs : List ℕ) → length theirs ≡ 8 → sk.course start before ≡ at (ServerThird key theirs) → acts start first before ≡ asked_acts start (first ∷ []) key theirs → met start before ≡ found key secret ∷ [] → length b ≡ 85 → sized 85 b (shown_came start key theirs b) ≡ shown_came start key theirs b → Came start key theirs b → Stands start first (give b ∷ before)
 asking_came start first before b key secret theirs eight here stood has size whole (bad cause is) = broken key secret theirs b cause
     (sk_goes start before (give b) (at (ServerThird key theirs)) (breaks cause) here (whole ∙ is))
-    (acts_more start first before (give b) (at (ServerThird key theirs)) (breaks cause) (failed (cause_text cause) ∷ took b ∷ []) (asked_acts start first key theirs) here (whole ∙ is) (broken_left b cause) stood)
+    (acts_more start first before (give b) (at (ServerThird key theirs)) (breaks cause) (failed (cause_text cause) ∷ took b ∷ []) (asked_acts start (first ∷ []) key theirs) here (whole ∙ is) (broken_left b cause) stood)
     (met_more start before (give b) (at (ServerThird key theirs)) false (found key secret ∷ []) here refl has)
 asking_came start first before b key secret theirs eight here stood has size whole (good ticket opens is) = accepting key secret theirs b ticket eight opens size
     (sk_goes start before (give b) (at (ServerThird key theirs)) (goes (ServerFourth key theirs b) g.Ok []) here (whole ∙ is))
-    (acts_more start first before (give b) (at (ServerThird key theirs)) (goes (ServerFourth key theirs b) g.Ok []) (accepted ticket.cuid ticket.suid ∷ took b ∷ []) (asked_acts start first key theirs) here (whole ∙ is) (ap (λ r. end_by (sk.outcome_at (at (ServerThird key theirs))) (outcome_by WrongKind r) ++ took b ∷ []) opens) stood)
+    (acts_more start first before (give b) (at (ServerThird key theirs)) (goes (ServerFourth key theirs b) g.Ok []) (accepted ticket.cuid ticket.suid ∷ took b ∷ []) (asked_acts start (first ∷ []) key theirs) here (whole ∙ is) (ap (λ r. end_by (sk.outcome_at (at (ServerThird key theirs))) (outcome_by WrongKind r) ++ took b ∷ []) opens) stood)
     (met_more start before (give b) (at (ServerThird key theirs)) false (found key secret ∷ []) here refl has)
 
-asking_given : (start : Start) (first : Act) (before : List Call) (b : List ℕ) (key : SkKey) (secret : Option (List ℕ)) (theirs : List ℕ) → length theirs ≡ 8 → sk.course start before ≡ at (ServerThird key theirs) → acts start first before ≡ asked_acts start first key theirs → met start before ≡ found key secret ∷ [] → Sized 85 b (shown_came start key theirs b) → Stands start first (give b ∷ before)
+asking_given : (start : Start) (first : Act) (before : List Call) (b : List ℕ) (key : SkKey) (secret : Option (List ℕ)) (theirs : List ℕ) → length theirs ≡ 8 → sk.course start before ≡ at (ServerThird key theirs) → acts start first before ≡ asked_acts start (first ∷ []) key theirs → met start before ≡ found key secret ∷ [] → Sized 85 b (shown_came start key theirs b) → Stands start first (give b ∷ before)
 asking_given start first before b key secret theirs eight here stood has (few is) = asking_stays start first before (give b) key secret theirs (g.TooSmall 85) is refl eight here stood has
 asking_given start first before b key secret theirs eight here stood has (many is) = asking_stays start first before (give b) key secret theirs g.TooLong is refl eight here stood has
 asking_given start first before b key secret theirs eight here stood has (well size is) = asking_came start first before b key secret theirs eight here stood has size is (came_by start key theirs b (ticket_under key (ticket_part b)) refl)
 
-asking_then : (start : Start) (first : Act) (before : List Call) (key : SkKey) (secret : Option (List ℕ)) (theirs : List ℕ) → length theirs ≡ 8 → sk.course start before ≡ at (ServerThird key theirs) → acts start first before ≡ asked_acts start first key theirs → met start before ≡ found key secret ∷ [] → (call : Call) → Stands start first (call ∷ before)
+asking_then : (start : Start) (first : Act) (before : List Call) (key : SkKey) (secret : Option (List ℕ)) (theirs : List ℕ) → length theirs ≡ 8 → sk.course start before ≡ at (ServerThird key theirs) → acts start first before ≡ asked_acts start (first ∷ []) key theirs → met start before ≡ found key secret ∷ [] → (call : Call) → Stands start first (call ∷ before)
 asking_then start first before key secret theirs eight here stood has (give b) = asking_given start first before b key secret theirs eight here stood has (sized_by 85 b (shown_came start key theirs b) (nat_lt (length b) 85) (nat_lt 85 (length b)) refl refl)
 asking_then start first before key secret theirs eight here stood has get = asking_stays start first before get key secret theirs (g.Phase AwaitsWrite) refl refl eight here stood has
 asking_then start first before key secret theirs eight here stood has (found other more) = asking_stays start first before (found other more) key secret theirs (g.Phase AwaitsWrite) refl refl eight here stood has
@@ -224,13 +224,13 @@ asking_then start first before key secret theirs eight here stood has (picked pl
 
 -- ---- it broke
 
-broken_stays : (start : Start) (first : Act) (before : List Call) (call : Call) (key : SkKey) (secret : Option (List ℕ)) (theirs : List ℕ) (b : List ℕ) (cause : Cause) (given : Gave) → sk.verdict start (fallen (ServerThird key theirs) cause) call ≡ stays given → left_at (sk.need_at start) sk.outcome_at (fallen (ServerThird key theirs) cause) (stays given) (waiting (speaks P9sk1 start) first before) call ≡ [] → sk.course start before ≡ fallen (ServerThird key theirs) cause → acts start first before ≡ failed (cause_text cause) ∷ took b ∷ asked_acts start first key theirs → met start before ≡ found key secret ∷ [] → Stands start first (call ∷ before)
+broken_stays : (start : Start) (first : Act) (before : List Call) (call : Call) (key : SkKey) (secret : Option (List ℕ)) (theirs : List ℕ) (b : List ℕ) (cause : Cause) (given : Gave) → sk.verdict start (fallen (ServerThird key theirs) cause) call ≡ stays given → left_at (sk.need_at start) sk.outcome_at (fallen (ServerThird key theirs) cause) (stays given) (waiting (speaks P9sk1 start) first before) call ≡ [] → sk.course start before ≡ fallen (ServerThird key theirs) cause → acts start first before ≡ failed (cause_text cause) ∷ took b ∷ asked_acts start (first ∷ []) key theirs → met start before ≡ found key secret ∷ [] → Stands start first (call ∷ before)
 broken_stays start first before call key secret theirs b cause given moves leaves here stood has = broken key secret theirs b cause
     (sk_goes start before call (fallen (ServerThird key theirs) cause) (stays given) here moves)
-    (acts_more start first before call (fallen (ServerThird key theirs) cause) (stays given) [] (failed (cause_text cause) ∷ took b ∷ asked_acts start first key theirs) here moves leaves stood)
+    (acts_more start first before call (fallen (ServerThird key theirs) cause) (stays given) [] (failed (cause_text cause) ∷ took b ∷ asked_acts start (first ∷ []) key theirs) here moves leaves stood)
     (met_more start before call (fallen (ServerThird key theirs) cause) false (found key secret ∷ []) here refl has)
 
-broken_then : (start : Start) (first : Act) (before : List Call) (key : SkKey) (secret : Option (List ℕ)) (theirs : List ℕ) (b : List ℕ) (cause : Cause) → sk.course start before ≡ fallen (ServerThird key theirs) cause → acts start first before ≡ failed (cause_text cause) ∷ took b ∷ asked_acts start first key theirs → met start before ≡ found key secret ∷ [] → (call : Call) → Stands start first (call ∷ before)
+broken_then : (start : Start) (first : Act) (before : List Call) (key : SkKey) (secret : Option (List ℕ)) (theirs : List ℕ) (b : List ℕ) (cause : Cause) → sk.course start before ≡ fallen (ServerThird key theirs) cause → acts start first before ≡ failed (cause_text cause) ∷ took b ∷ asked_acts start (first ∷ []) key theirs → met start before ≡ found key secret ∷ [] → (call : Call) → Stands start first (call ∷ before)
 broken_then start first before key secret theirs b cause here stood has (give more) = broken_stays start first before (give more) key secret theirs b cause (g.Phase IsBroken) refl refl here stood has
 broken_then start first before key secret theirs b cause here stood has get = broken_stays start first before get key secret theirs b cause (g.Phase IsBroken) refl refl here stood has
 broken_then start first before key secret theirs b cause here stood has (found other more) = broken_stays start first before (found other more) key secret theirs b cause (g.Phase IsBroken) refl refl here stood has
@@ -243,20 +243,20 @@ broken_then start first before key secret theirs b cause here stood has (picked 
 
 -- ---- it accepted
 
-accepting_stays : (start : Start) (first : Act) (before : List Call) (call : Call) (key : SkKey) (secret : Option (List ℕ)) (theirs : List ℕ) (shown : List ℕ) (ticket : Ticket) (given : Gave) → sk.verdict start (at (ServerFourth key theirs shown)) call ≡ stays given → left_at (sk.need_at start) sk.outcome_at (at (ServerFourth key theirs shown)) (stays given) (waiting (speaks P9sk1 start) first before) call ≡ [] → length theirs ≡ 8 → ticket_under key (ticket_part shown) ≡ Ok ticket → length shown ≡ 85 → sk.course start before ≡ at (ServerFourth key theirs shown) → acts start first before ≡ accepted_acts start first key theirs shown ticket → met start before ≡ found key secret ∷ [] → Stands start first (call ∷ before)
+accepting_stays : (start : Start) (first : Act) (before : List Call) (call : Call) (key : SkKey) (secret : Option (List ℕ)) (theirs : List ℕ) (shown : List ℕ) (ticket : Ticket) (given : Gave) → sk.verdict start (at (ServerFourth key theirs shown)) call ≡ stays given → left_at (sk.need_at start) sk.outcome_at (at (ServerFourth key theirs shown)) (stays given) (waiting (speaks P9sk1 start) first before) call ≡ [] → length theirs ≡ 8 → ticket_under key (ticket_part shown) ≡ Ok ticket → length shown ≡ 85 → sk.course start before ≡ at (ServerFourth key theirs shown) → acts start first before ≡ accepted_acts start (first ∷ []) key theirs shown ticket → met start before ≡ found key secret ∷ [] → Stands start first (call ∷ before)
 accepting_stays start first before call key secret theirs shown ticket given moves leaves eight opens size here stood has = accepting key secret theirs shown ticket eight opens size
     (sk_goes start before call (at (ServerFourth key theirs shown)) (stays given) here moves)
-    (acts_more start first before call (at (ServerFourth key theirs shown)) (stays given) [] (accepted_acts start first key theirs shown ticket) here moves leaves stood)
+    (acts_more start first before call (at (ServerFourth key theirs shown)) (stays given) [] (accepted_acts start (first ∷ []) key theirs shown ticket) here moves leaves stood)
     (met_more start before call (at (ServerFourth key theirs shown)) false (found key secret ∷ []) here refl has)
 
-accepting_then : (start : Start) (first : Act) (before : List Call) (key : SkKey) (secret : Option (List ℕ)) (theirs : List ℕ) (shown : List ℕ) (ticket : Ticket) → length theirs ≡ 8 → ticket_under key (ticket_part shown) ≡ Ok ticket → length shown ≡ 85 → sk.course start before ≡ at (ServerFourth key theirs shown) → acts start first before ≡ accepted_acts start first key theirs shown ticket → met start before ≡ found key secret ∷ [] → (call : Call) → Stands start first (call ∷ before)
+accepting_then : (start : Start) (first : Act) (before : List Call) (key : SkKey) (secret : Option (List ℕ)) (theirs : List ℕ) (shown : List ℕ) (ticket : Ticket) → length theirs ≡ 8 → ticket_under key (ticket_part shown) ≡ Ok ticket → length shown ≡ 85 → sk.course start before ≡ at (ServerFourth key theirs shown) → acts start first before ≡ accepted_acts start (first ∷ []) key theirs shown ticket → met start before ≡ found key secret ∷ [] → (call : Call) → Stands start first (call ∷ before)
 accepting_then start first before key secret theirs shown ticket eight opens size here stood has (give b) = accepting_stays start first before (give b) key secret theirs shown ticket (g.Phase AwaitsRead) refl (ap (λ r. end_by (outcome_by WrongKind r) (outcome_by WrongKind r) ++ []) opens) eight opens size here stood has
 accepting_then start first before key secret theirs shown ticket eight opens size here stood has get =
     let v = goes (ServerDone key theirs shown) g.Ok (proof theirs ticket) in
     let moves : sk.verdict start (at (ServerFourth key theirs shown)) get ≡ v = ap (λ r. with_ticket WrongKind r (λ ticket. goes (ServerDone key theirs shown) g.Ok (proof_for AUTH_AS theirs ticket))) opens in
     done key secret theirs shown ticket eight opens size
     (sk_goes start before get (at (ServerFourth key theirs shown)) v here moves)
-    (subst (Told (gave (proof theirs ticket) ∷ accepted_acts start first key theirs shown ticket)) (sym (acts_more start first before get (at (ServerFourth key theirs shown)) v (gave (proof theirs ticket) ∷ []) (accepted_acts start first key theirs shown ticket) here moves (ap (λ r. end_by (outcome_by WrongKind r) (outcome_by WrongKind r) ++ gave (proof theirs ticket) ∷ []) opens) stood)) at_once)
+    (subst (Told (gave (proof theirs ticket) ∷ accepted_acts start (first ∷ []) key theirs shown ticket)) (sym (acts_more start first before get (at (ServerFourth key theirs shown)) v (gave (proof theirs ticket) ∷ []) (accepted_acts start (first ∷ []) key theirs shown ticket) here moves (ap (λ r. end_by (outcome_by WrongKind r) (outcome_by WrongKind r) ++ gave (proof theirs ticket) ∷ []) opens) stood)) at_once)
     (met_more start before get (at (ServerFourth key theirs shown)) false (found key secret ∷ []) here refl has)
 accepting_then start first before key secret theirs shown ticket eight opens size here stood has (found other more) = accepting_stays start first before (found other more) key secret theirs shown ticket (g.Phase AwaitsRead) refl (ap (λ r. end_by (outcome_by WrongKind r) (outcome_by WrongKind r) ++ []) opens) eight opens size here stood has
 accepting_then start first before key secret theirs shown ticket eight opens size here stood has (heard b) = accepting_stays start first before (heard b) key secret theirs shown ticket (g.Phase AwaitsRead) refl (ap (λ r. end_by (outcome_by WrongKind r) (outcome_by WrongKind r) ++ []) opens) eight opens size here stood has
@@ -268,13 +268,13 @@ accepting_then start first before key secret theirs shown ticket eight opens siz
 
 -- ---- it gave its proof
 
-done_with : (start : Start) (first : Act) (before : List Call) (call : Call) (key : SkKey) (secret : Option (List ℕ)) (theirs : List ℕ) (shown : List ℕ) (ticket : Ticket) (left : List Act) → sk.verdict start (at (ServerDone key theirs shown)) call ≡ stays (g.Done true) → left_at (sk.need_at start) sk.outcome_at (at (ServerDone key theirs shown)) (stays (g.Done true)) (waiting (speaks P9sk1 start) first before) call ≡ left → length theirs ≡ 8 → ticket_under key (ticket_part shown) ≡ Ok ticket → length shown ≡ 85 → sk.course start before ≡ at (ServerDone key theirs shown) → Told (gave (proof theirs ticket) ∷ accepted_acts start first key theirs shown ticket) (left ++ acts start first before) → met start before ≡ found key secret ∷ [] → Stands start first (call ∷ before)
+done_with : (start : Start) (first : Act) (before : List Call) (call : Call) (key : SkKey) (secret : Option (List ℕ)) (theirs : List ℕ) (shown : List ℕ) (ticket : Ticket) (left : List Act) → sk.verdict start (at (ServerDone key theirs shown)) call ≡ stays (g.Done true) → left_at (sk.need_at start) sk.outcome_at (at (ServerDone key theirs shown)) (stays (g.Done true)) (waiting (speaks P9sk1 start) first before) call ≡ left → length theirs ≡ 8 → ticket_under key (ticket_part shown) ≡ Ok ticket → length shown ≡ 85 → sk.course start before ≡ at (ServerDone key theirs shown) → Told (gave (proof theirs ticket) ∷ accepted_acts start (first ∷ []) key theirs shown ticket) (left ++ acts start first before) → met start before ≡ found key secret ∷ [] → Stands start first (call ∷ before)
 done_with start first before call key secret theirs shown ticket left moves leaves eight opens size here stood has = done key secret theirs shown ticket eight opens size
     (sk_goes start before call (at (ServerDone key theirs shown)) (stays (g.Done true)) here moves)
-    (subst (Told (gave (proof theirs ticket) ∷ accepted_acts start first key theirs shown ticket)) (sym (acts_more start first before call (at (ServerDone key theirs shown)) (stays (g.Done true)) left (acts start first before) here moves leaves refl)) stood)
+    (subst (Told (gave (proof theirs ticket) ∷ accepted_acts start (first ∷ []) key theirs shown ticket)) (sym (acts_more start first before call (at (ServerDone key theirs shown)) (stays (g.Done true)) left (acts start first before) here moves leaves refl)) stood)
     (met_more start before call (at (ServerDone key theirs shown)) false (found key secret ∷ []) here refl has)
 
-done_then : (start : Start) (first : Act) (before : List Call) (key : SkKey) (secret : Option (List ℕ)) (theirs : List ℕ) (shown : List ℕ) (ticket : Ticket) → length theirs ≡ 8 → ticket_under key (ticket_part shown) ≡ Ok ticket → length shown ≡ 85 → sk.course start before ≡ at (ServerDone key theirs shown) → Told (gave (proof theirs ticket) ∷ accepted_acts start first key theirs shown ticket) (acts start first before) → met start before ≡ found key secret ∷ [] → (call : Call) → Stands start first (call ∷ before)
+done_then : (start : Start) (first : Act) (before : List Call) (key : SkKey) (secret : Option (List ℕ)) (theirs : List ℕ) (shown : List ℕ) (ticket : Ticket) → length theirs ≡ 8 → ticket_under key (ticket_part shown) ≡ Ok ticket → length shown ≡ 85 → sk.course start before ≡ at (ServerDone key theirs shown) → Told (gave (proof theirs ticket) ∷ accepted_acts start (first ∷ []) key theirs shown ticket) (acts start first before) → met start before ≡ found key secret ∷ [] → (call : Call) → Stands start first (call ∷ before)
 done_then start first before key secret theirs shown ticket eight opens size here stood has (give b) = done_with start first before (give b) key secret theirs shown ticket (took b ∷ []) refl (ap (λ r. end_by (outcome_by WrongKind r) (outcome_by WrongKind r) ++ took b ∷ []) opens) eight opens size here (told b stood) has
 done_then start first before key secret theirs shown ticket eight opens size here stood has get = done_with start first before get key secret theirs shown ticket ([]) refl (ap (λ r. end_by (outcome_by WrongKind r) (outcome_by WrongKind r) ++ []) opens) eight opens size here stood has
 done_then start first before key secret theirs shown ticket eight opens size here stood has (found other more) = done_with start first before (found other more) key secret theirs shown ticket ([]) refl (ap (λ r. end_by (outcome_by WrongKind r) (outcome_by WrongKind r) ++ []) opens) eight opens size here stood has
@@ -297,5 +297,5 @@ then_stands start first before call (accepting key secret theirs shown ticket ei
 then_stands start first before call (done key secret theirs shown ticket eight opens size here stood has) = done_then start first before key secret theirs shown ticket eight opens size here stood has call
 
 pub stands : (start : Start) (first : Act) → role_of start.template ≡ Server → (talk : List Call) → Stands start first talk
-stands start first role [] = seeking (ap (λ role. at (sk.first_stage role)) role) (ap (λ role. if is_sought_at start (at (sk.first_stage role)) then [] else first ∷ []) role) refl refl
+stands start first role [] = seeking (ap (λ role. at (sk.first_stage role)) role) refl refl refl
 stands start first role (call ∷ before) = then_stands start first before call (stands start first role before)

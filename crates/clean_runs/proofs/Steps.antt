@@ -97,15 +97,37 @@ pub data Kind : Step → Type 0 where
   deals : {step : Step} (session : List ℕ) (deal : Deal) → Deals session deal step → Kind step
   nothing : {step : Step} → SaysNothing step → Kind step
 
+-- what each step does
+pub out_does : (number : ℕ) (conv b : List ℕ) → Does conv (gave b) (Out number conv b)
+out_does number conv b = record { none = record { starts = λ past. refl; started = λ name past. refl; roles = λ past n. refl; holders = λ l past n. refl }; acts = λ name. refl; no_start = refl; events = λ s l past. refl; ordered = λ past o. o; in_order = λ past o. o; taken = refl; given = refl; forms = λ atoms s l past on f. f }
+
+pub in_does : (conv b : List ℕ) → Does conv (took b) (In conv b)
+in_does conv b = record { none = record { starts = λ past. refl; started = λ name past. refl; roles = λ past n. refl; holders = λ l past n. refl }; acts = λ name. refl; no_start = refl; events = λ s l past. refl; ordered = λ past o. o; in_order = λ past o. o; taken = refl; given = refl; forms = λ atoms s l past on f. f }
+
+pub ask_does : (number : ℕ) (conv b : List ℕ) → Does conv (asked b) (Ask number conv b)
+ask_does number conv b = record { none = record { starts = λ past. refl; started = λ name past. refl; roles = λ past n. refl; holders = λ l past n. refl }; acts = λ name. refl; no_start = refl; events = λ s l past. refl; ordered = λ past o. o; in_order = λ past o. o; taken = refl; given = refl; forms = λ atoms s l past on f. f }
+
+pub heard_does : (conv b : List ℕ) → Does conv (answered b) (Heard conv b)
+heard_does conv b = record { none = record { starts = λ past. refl; started = λ name past. refl; roles = λ past n. refl; holders = λ l past n. refl }; acts = λ name. refl; no_start = refl; events = λ s l past. refl; ordered = λ past o. o; in_order = λ past o. o; taken = refl; given = refl; forms = λ atoms s l past on f. f }
+
+pub unheard_does : (conv : List ℕ) → Does conv unanswered (Unheard conv)
+unheard_does conv = record { none = record { starts = λ past. refl; started = λ name past. refl; roles = λ past n. refl; holders = λ l past n. refl }; acts = λ name. refl; no_start = refl; events = λ s l past. refl; ordered = λ past o. o; in_order = λ past o. o; taken = refl; given = refl; forms = λ atoms s l past on f. absurd (cc) }
+
+pub accept_does : (conv cuid suid : List ℕ) → Does conv (accepted cuid suid) (Accept conv cuid suid)
+accept_does conv cuid suid = record { none = record { starts = λ past. refl; started = λ name past. refl; roles = λ past n. refl; holders = λ l past n. refl }; acts = λ name. refl; no_start = refl; events = λ s l past. refl; ordered = λ past o. o; in_order = λ past o. o; taken = refl; given = refl; forms = λ atoms s l past on f. f }
+
+pub fail_does : (conv cause : List ℕ) → Does conv (failed cause) (Fail conv cause)
+fail_does conv cause = record { none = record { starts = λ past. refl; started = λ name past. refl; roles = λ past n. refl; holders = λ l past n. refl }; acts = λ name. refl; no_start = refl; events = λ s l past. refl; ordered = λ past o. o; in_order = λ past o. o; taken = refl; given = refl; forms = λ atoms s l past on f. absurd (cc) }
+
 pub kind : (step : Step) → Kind step
 kind (Start conv protocol role word) = begins conv protocol role word
-kind (Out number conv b) = does conv (gave b) (record { none = record { starts = λ past. refl; started = λ name past. refl; roles = λ past n. refl; holders = λ l past n. refl }; acts = λ name. refl; no_start = refl; events = λ s l past. refl; ordered = λ past o. o; in_order = λ past o. o; taken = refl; given = refl; forms = λ atoms s l past on f. f })
-kind (In conv b) = does conv (took b) (record { none = record { starts = λ past. refl; started = λ name past. refl; roles = λ past n. refl; holders = λ l past n. refl }; acts = λ name. refl; no_start = refl; events = λ s l past. refl; ordered = λ past o. o; in_order = λ past o. o; taken = refl; given = refl; forms = λ atoms s l past on f. f })
-kind (Ask number conv b) = does conv (asked b) (record { none = record { starts = λ past. refl; started = λ name past. refl; roles = λ past n. refl; holders = λ l past n. refl }; acts = λ name. refl; no_start = refl; events = λ s l past. refl; ordered = λ past o. o; in_order = λ past o. o; taken = refl; given = refl; forms = λ atoms s l past on f. f })
-kind (Heard conv b) = does conv (answered b) (record { none = record { starts = λ past. refl; started = λ name past. refl; roles = λ past n. refl; holders = λ l past n. refl }; acts = λ name. refl; no_start = refl; events = λ s l past. refl; ordered = λ past o. o; in_order = λ past o. o; taken = refl; given = refl; forms = λ atoms s l past on f. f })
-kind (Unheard conv) = does conv unanswered (record { none = record { starts = λ past. refl; started = λ name past. refl; roles = λ past n. refl; holders = λ l past n. refl }; acts = λ name. refl; no_start = refl; events = λ s l past. refl; ordered = λ past o. o; in_order = λ past o. o; taken = refl; given = refl; forms = λ atoms s l past on f. absurd (cc) })
-kind (Accept conv cuid suid) = does conv (accepted cuid suid) (record { none = record { starts = λ past. refl; started = λ name past. refl; roles = λ past n. refl; holders = λ l past n. refl }; acts = λ name. refl; no_start = refl; events = λ s l past. refl; ordered = λ past o. o; in_order = λ past o. o; taken = refl; given = refl; forms = λ atoms s l past on f. f })
-kind (Fail conv cause) = does conv (failed cause) (record { none = record { starts = λ past. refl; started = λ name past. refl; roles = λ past n. refl; holders = λ l past n. refl }; acts = λ name. refl; no_start = refl; events = λ s l past. refl; ordered = λ past o. o; in_order = λ past o. o; taken = refl; given = refl; forms = λ atoms s l past on f. absurd (cc) })
+kind (Out number conv b) = does conv (gave b) (out_does number conv b)
+kind (In conv b) = does conv (took b) (in_does conv b)
+kind (Ask number conv b) = does conv (asked b) (ask_does number conv b)
+kind (Heard conv b) = does conv (answered b) (heard_does conv b)
+kind (Unheard conv) = does conv unanswered (unheard_does conv)
+kind (Accept conv cuid suid) = does conv (accepted cuid suid) (accept_does conv cuid suid)
+kind (Fail conv cause) = does conv (failed cause) (fail_does conv cause)
 kind (Reply conv answer) = nothing (record { none = record { starts = λ past. refl; started = λ name past. refl; roles = λ past n. refl; holders = λ l past n. refl }; acts = λ name. refl; events = λ s l past. refl; in_order = λ past. tt; given = refl })
 kind (Refused node answer) = nothing (record { none = record { starts = λ past. refl; started = λ name past. refl; roles = λ past n. refl; holders = λ l past n. refl }; acts = λ name. refl; events = λ s l past. refl; in_order = λ past. tt; given = refl })
 kind (AsGot session b words) = deals session (requested b words) (record { none = record { starts = λ past. refl; started = λ name past. refl; roles = λ past n. refl; holders = λ l past n. refl }; acts = λ name. refl; deals = λ name. refl; events = λ s l past. refl; in_order = λ past. tt })

@@ -5,7 +5,6 @@
 -- label of a message whose tests all passed has the form of its move.
 use Rattle.std.specs.Prelude.{◌≡◌, ℕ, ◌+◌, ◌*◌, ◌<◌, ◌^◌, List, [], ◌∷◌, ◌++◌, All, Bool, true, false, length, Option, Some, None, Ok, unwrap_or}
 use Rattle.hex.specs.Hex.{encode_lower}
-use Rattle.wire_base.specs.Names.{IsName}
 use Rattle.term_trees.specs.Trees.{Tree, Trees, plain, nonce, challenge, long_key, ticket_key, junk_key, password, joined, seal, digest, none, piece}
 use Rattle.term_trees.specs.Derivations.{Derives}
 use Rattle.term_trees.specs.Spellings.{Atoms, bytes_of, spelling}
@@ -171,8 +170,6 @@ pub record IsClean (history : History) (z : Setting) (atoms : Atoms) (l : Labell
   pub sevens : GivesSevens atoms
   pub words : AtEachPlace history (ReadsStep atoms)
   pub table : ReadsTable atoms z
-  -- so short, as each is of which a server is made, that five digits tell how long a challenge is
-  pub domain : IsName 48 z.server.dom
   pub holders : AtEachPlace history (ReadsHolder atoms z l)
   pub nonces_apart : AreApart atoms is_nonce
   pub challenges_apart : AreApart atoms is_challenge

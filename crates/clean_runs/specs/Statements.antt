@@ -6,13 +6,8 @@ use Rattle.term_trees.specs.Spellings.{Atoms, spelling}
 use Rattle.wire_model.specs.declared.step.Step.{Step}
 use Rattle.symbolic_runs.specs.Runs.{Setting as Symbolic, IsSymbolicRun, given as labels_given}
 use Rattle.symbolic_runs.specs.Statements.{KeepsSecrets}
-use Rattle.roles.specs.declared.stage.Role.TheVariants.{Client, Server}
-use Rattle.roles.specs.Starts.{Start, role_of}
-use Rattle.conv_challenge.specs.declared.stage.Side.TheVariants as side
-use Rattle.conv_challenge.specs.Starts.{side_of}
-use Rattle.conv_set.specs.Protocols.{Mail, P9sk1, protocol_of}
 use Rattle.wire_histories.specs.Histories.{History}
-use Rattle.wire_histories.specs.Legal.{IsLegal, Setting, Spoken}
+use Rattle.wire_histories.specs.Legal.{IsLegal, Setting}
 use Rattle.clean_runs.specs.Labels.{Labelling, given}
 use Rattle.clean_runs.specs.Runs.{events_of, run_of, setting_of}
 use Rattle.clean_runs.specs.Clean.{AtEachPlace, IsClean}
@@ -37,19 +32,6 @@ pub record IsBridged (history : History) (z : Setting) (atoms : Atoms) (l : Labe
 abbrev pub OfEveryCleanHistory : (History → Setting → Atoms → Labelling → Type 0) → Type 0
 OfEveryCleanHistory P = (history : History) (z : Setting) (atoms : Atoms) (l : Labelling) → IsLegal history z → IsClean history z atoms l → P history z atoms l
 
--- ---- for which histories this is shown so far: with these roles alone
-
-pub data IsShownRole (start : Start) : Type 0 where
-  of_a_mail_client : protocol_of start.template ≡ Mail → side_of start.template ≡ side.Client → IsShownRole start
-  of_a_client : protocol_of start.template ≡ P9sk1 → role_of start.template ≡ Client → IsShownRole start
-  of_a_server : protocol_of start.template ≡ P9sk1 → role_of start.template ≡ Server → IsShownRole start
-
-abbrev pub OfShownRoles : Setting → Type 0
-OfShownRoles z = (name : List ℕ) (spoken : Spoken) → z.spoken name ≡ Some spoken → IsShownRole spoken.start
-
-abbrev pub IsBridgedSoFar : History → Setting → Atoms → Labelling → Type 0
-IsBridgedSoFar history z atoms l = OfShownRoles z → IsBridged history z atoms l
-
--- and what follows for these: no uncompromised secret derives from what is known, at any place
-abbrev pub IsSecretSoFar : History → Setting → Atoms → Labelling → Type 0
-IsSecretSoFar history z atoms l = OfShownRoles z → KeepsSecrets (setting_of z l history) (run_of z l history)
+-- and what follows: no uncompromised secret derives from what is known, at any place
+abbrev pub IsSecret : History → Setting → Atoms → Labelling → Type 0
+IsSecret history z atoms l = KeepsSecrets (setting_of z l history) (run_of z l history)

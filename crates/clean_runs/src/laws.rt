@@ -1,14 +1,13 @@
 // Laws of clean histories, each the contract of a function that does nothing.
-ghost use Rattle.clean_runs.specs.Statements.{IsBridgedSoFar, IsSecretSoFar, OfEveryCleanHistory};
+ghost use Rattle.clean_runs.specs.Statements.{IsBridged, IsSecret, OfEveryCleanHistory};
 
-/// A clean legal history is a symbolic run, and each message that it gives is spelled by its label. This is shown so far of
-/// histories whose conversations are clients and servers of p9sk1, but for those that speak for another, and clients of APOP
-/// and CRAM, whatever sessions the authentication server has.
+/// A clean legal history is a symbolic run, and each message that it gives is spelled by its label, whatever the protocols
+/// and the roles of its conversations are and whatever sessions the authentication server has.
 pub fn clean_histories_are_symbolic_runs()
-    ensures { OfEveryCleanHistory IsBridgedSoFar }
+    ensures { OfEveryCleanHistory IsBridged }
 {}
 
 /// No uncompromised secret derives from what the network saw of such a history, at any place.
 pub fn clean_histories_keep_their_secrets()
-    ensures { OfEveryCleanHistory IsSecretSoFar }
+    ensures { OfEveryCleanHistory IsSecret }
 {}

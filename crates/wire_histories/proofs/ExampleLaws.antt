@@ -8,6 +8,7 @@ use lib.Utf8.{encode}
 use Rattle.wire_base.specs.Texts.{is_text}
 use Rattle.md5_answers.specs.Answer.{apop_digits}
 use Rattle.attr_tuples.specs.Matching.{value_of}
+use Rattle.wire_base.specs.Names.{IsName}
 use Rattle.ticket_codec.specs.Fitting.{IsBlock}
 use Rattle.roles.specs.Starts.{role_of}
 use Rattle.roles.specs.Talks.{Call, give, get, found}
@@ -52,8 +53,8 @@ unfolding is_text is_utf8 chars encode
 key_fits des block = record { des = block; user = record { short = record { text = refl; short = omega arith }; bytes = bytes }; dom = record { short = record { text = refl; short = omega arith }; bytes = All-nil _ } }
 
 may_be : (des : List ℕ) → IsBlock 7 des → MayBe (mail_spoken des)
-unfolding protocol_of start_fault value_of
-may_be des block = record { fits = refl; starts = refl; word = record { whole = refl; bytes = zeros }; keys = All-cons IsMet (found (mail_key des) (Some password)) [] (key_fits des block) (All-nil IsMet) }
+unfolding protocol_of start_fault value_of is_text is_utf8 chars encode
+may_be des block = record { tuple = refl; fits = refl; starts = refl; word = record { whole = refl; bytes = zeros }; keys = All-cons IsMet (found (mail_key des) (Some password)) [] (key_fits des block) (All-nil IsMet) }
 
 is_talk : (des : List ℕ) → IsBlock 7 des → IsTalk (mail_spoken des) acts
 is_talk des block = record { may = may_be des block; talk = talk des; met = met_so des; later = []; left = acts_are des }
@@ -66,5 +67,9 @@ by_name des block false = refl
 nobody : (des : List ℕ) → IsServed (known_to (mail_setting des)) []
 nobody des = record { requests = []; session = tt; later = []; left = refl }
 
+domain_fits : IsName 48 (codes "x")
+unfolding is_text is_utf8 chars encode
+domain_fits = record { text = refl; short = omega arith }
+
 pub mail_legal : (des : List ℕ) → IsBlock 7 des → IsLegal mail_history (mail_setting des)
-mail_legal des block = record { conversations = λ name. by_name des block (bytes_eq conv name); sessions = λ name. nobody des; numbered = (tt, (refl, (tt, (tt, tt)))) }
+mail_legal des block = record { domain = domain_fits; conversations = λ name. by_name des block (bytes_eq conv name); sessions = λ name. nobody des; numbered = (tt, (refl, (tt, (tt, tt)))) }

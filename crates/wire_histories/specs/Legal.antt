@@ -3,6 +3,8 @@
 -- session what requests of its own leave. Nothing ties what is taken to what was given: what comes may be lost, repeated,
 -- turned round, changed or made up. A history may end between the steps of one event.
 use Rattle.std.specs.Prelude.{◌≡◌, ℕ, List, [], ◌++◌, All, None, Some, Option, true}
+use Rattle.wire_base.specs.Names.{IsName}
+use Rattle.attr_tuples.specs.Attributes.{is_tuple}
 use Rattle.ticket_codec.specs.Fitting.{FitsName, IsBlock}
 use Rattle.auth_server.specs.Requests.{Asked}
 use Rattle.auth_server.specs.Answers.{Knowledge}
@@ -40,8 +42,10 @@ abbrev pub IsMet : Call → Type 0
 IsMet (found key password) = IsRingKey key
 IsMet call = Unit {0}
 
--- a conversation may be so: its template starts one, it has a word of eight bytes, and it is told keys such as a ring has
+-- a conversation may be so: its template is a tuple that starts one, it has a word of eight bytes, and it is told keys such
+-- as a ring has
 pub record MayBe (spoken : Spoken) : Type 0 where
+  pub tuple : is_tuple spoken.start.template ≡ true
   pub fits : fits_start spoken.start.template ≡ true
   pub starts : refuses spoken.start.template ≡ None
   pub word : IsBlock 8 spoken.start.word
@@ -66,7 +70,9 @@ pub record IsServed (known : Knowledge) (deals : List Deal) : Type 0 where
   pub later : List Deal
   pub left : session_deals known requests ≡ later ++ deals
 
+-- the server's domain is such as a server is made of: so short that five digits tell how long a challenge is
 pub record IsLegal (history : History) (z : Setting) : Type 0 where
+  pub domain : IsName 48 z.server.dom
   pub conversations : (name : List ℕ) → IsConversation (z.spoken name) (acts_of name history)
   pub sessions : (name : List ℕ) → IsServed (known_to z) (deals_of name history)
   pub numbered : IsNumbered history
