@@ -1,5 +1,5 @@
 // The steps of a record.
-use wire_base::{Bytes, Text};
+use wire_base::Bytes;
 
 /// The protocol that a conversation started with.
 #[derive(Clone, Copy, Debug, PartialEq, Eq)]
@@ -23,7 +23,7 @@ pub enum Role {
 pub enum Step {
     /// A conversation started, with this random word.
     Start {
-        conv: Text,
+        conv: Bytes,
         protocol: Protocol,
         role: Role,
         word: [u8; 8],
@@ -31,64 +31,64 @@ pub enum Step {
     /// A conversation gave a message.
     Out {
         number: u32,
-        conv: Text,
+        conv: Bytes,
         bytes: Bytes,
     },
     /// A conversation took these bytes.
     In {
-        conv: Text,
+        conv: Bytes,
         bytes: Bytes,
     },
     /// A conversation's question for the authentication server.
     Ask {
         number: u32,
-        conv: Text,
+        conv: Bytes,
         bytes: Bytes,
     },
     /// A conversation heard the authentication server's answer.
     Heard {
-        conv: Text,
+        conv: Bytes,
         bytes: Bytes,
     },
     /// A conversation heard that there is no answer.
     Unheard {
-        conv: Text,
+        conv: Bytes,
     },
     /// A conversation accepted: the users on the client's machine and on the server's.
     Accept {
-        conv: Text,
-        cuid: Text,
-        suid: Text,
+        conv: Bytes,
+        cuid: Bytes,
+        suid: Bytes,
     },
     /// A conversation broke.
     Fail {
-        conv: Text,
-        cause: Text,
+        conv: Bytes,
+        cause: Bytes,
     },
     /// An answer to a conversation's request that isn't ok and with which it didn't break.
     Reply {
-        conv: Text,
-        answer: Text,
+        conv: Bytes,
+        answer: Bytes,
     },
     /// A node refused a line of ctl.
     Refused {
-        node: Text,
-        answer: Text,
+        node: Bytes,
+        answer: Bytes,
     },
     /// A session of the authentication server took a request, with its three random words.
     AsGot {
-        session: Text,
+        session: Bytes,
         bytes: Bytes,
         words: [[u8; 8]; 3],
     },
     /// A session of the authentication server answered.
     AsGave {
         number: u32,
-        session: Text,
+        session: Bytes,
         bytes: Bytes,
     },
     /// A session of the authentication server ended.
     AsEnd {
-        session: Text,
+        session: Bytes,
     },
 }

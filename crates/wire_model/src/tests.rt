@@ -3,12 +3,12 @@ use super::{Protocol, Role, Step, Wire, print_step};
 use std::alloc::Global;
 use std::process::Abort;
 use std::test::Fail;
-use wire_base::{Bytes, Text};
+use wire_base::Bytes;
 
 const WORD: [u8; 8] = *b"\x01\x23\x45\x67\x89\xab\xcd\xef";
 
-fn text(alloc: Global, text: &str) -> Result<Text, Fail> {
-    Ok(Text::from_slice(alloc, text.as_bytes())?.ok_or("no text")?)
+fn text(alloc: Global, text: &str) -> Result<Bytes, Fail> {
+    Ok(Bytes::from_slice(alloc, text.as_bytes())?)
 }
 
 fn bytes(alloc: Global, bytes: &[u8]) -> Result<Bytes, Fail> {

@@ -1,0 +1,163 @@
+#!/usr/bin/env python3
+"""Writes the records of the scripts in docs/worlds: worlds.py FOLDER puts NAME.record beside each NAME.script that is named here.
+
+Written by hand from the manual's words (Plan 9: factotum(4), authsrv(6)), RFC 1939 and the form of a record; OpenSSL's DES seals,
+and its MD5 makes the digits. A script is read here for its bytes alone: what each line comes to is told below, in order.
+"""
+import hashlib
+import sys
+from pathlib import Path
+
+from passwords import pass_to_key
+from sealing import seal
+
+ANN, BOB, SRV = (pass_to_key(password) for password in (b"annpass", b"bobpass", b"srvpass"))
+TREQ, OK, COUNTED, APOP = 1, 4, 9, 7
+TO_SERVER, TO_CLIENT, BY_SERVER, BY_CLIENT = 64, 65, 66, 67
+NO_WORD = bytes(8)
+
+
+def field(name: bytes, size: int) -> bytes:
+    return name.ljust(size, b"\0")
+
+
+def request(kind: int, chal: bytes, host: bytes = b"", user: bytes = b"") -> bytes:
+    return bytes([kind]) + field(b"srv", 28) + field(b"x", 48) + chal + field(host, 28) + field(user, 28)
+
+
+def ticket(key: bytes, kind: int, chal: bytes, user: bytes, shared: bytes) -> bytes:
+    return seal(key, bytes([kind]) + chal + field(user, 28) + field(user, 28) + shared)
+
+
+def proof(kind: int, chal: bytes, shared: bytes) -> bytes:
+    return seal(shared, bytes([kind]) + chal + bytes(4))
+
+
+class Record:
+    """The lines of a record. A message is numbered by its place."""
+
+    def __init__(self) -> None:
+        self.lines: list[str] = []
+        self.messages = 0
+
+    def put(self, *words: object) -> None:
+        self.lines.append(" ".join(word.hex() if isinstance(word, bytes) else str(word) for word in words))
+
+    def give(self, kind: str, name: str, message: bytes) -> bytes:
+        self.put(kind, self.messages, name, message)
+        self.messages += 1
+        return message
+
+    def login(self, client: str, server: str, words: tuple[bytes, bytes], drawn: list[bytes]) -> None:
+        """p9sk1 from its first message to both acceptances, of ann at srv."""
+        mine, theirs = words
+        shared = drawn[0][:7]
+        self.put("in", server, self.give("out", client, mine))
+        self.put("in", client, self.give("out", server, request(TREQ, theirs)))
+        asked = self.give("ask", client, request(TREQ, theirs, b"ann", b"ann"))
+        self.put("asgot", "r", asked, *drawn)
+        grant = bytes([OK]) + ticket(ANN, TO_CLIENT, theirs, b"ann", shared) + ticket(SRV, TO_SERVER, theirs, b"ann", shared)
+        self.put("heard", client, self.give("asgave", "r", grant))
+        self.put("in", server, self.give("out", client, grant[73:] + proof(BY_CLIENT, theirs, shared)))
+        self.put("accept", server, "ann", "ann")
+        self.put("in", client, self.give("out", server, proof(BY_SERVER, mine, shared)))
+        self.put("accept", client, "ann", "ann")
+
+
+def words(digit: int, count: int) -> list[bytes]:
+    return [bytes([(digit + step) * 17]) * 8 for step in range(count)]
+
+
+def mail_client() -> Record:
+    record = Record()
+    challenge = b"<1896.697170952@dbc.mtview.ca.us>"
+    record.put("start", "c", "apop", "client", NO_WORD)
+    record.put("in", "c", challenge)
+    record.give("out", "c", hashlib.md5(challenge + b"tanstaaf").hexdigest().encode())
+    record.put("reply", "c", "done")
+    return record
+
+
+def negotiated_login() -> Record:
+    record = Record()
+    mine, theirs = words(1, 2)
+    record.put("start", "c", "p9any", "client", mine)
+    record.put("start", "s", "p9any", "server", theirs)
+    record.put("in", "c", record.give("out", "s", b"p9sk1@x\0"))
+    record.put("in", "s", record.give("out", "c", b"p9sk1 x\0"))
+    record.login("c", "s", (mine, theirs), words(4, 3))
+    return record
+
+
+def one_ticket_for_two() -> Record:
+    record = Record()
+    first, second, theirs, others = words(1, 4)
+    drawn = words(5, 3)
+    shared = drawn[0][:7]
+    record.put("start", "c", "p9sk1", "client", first)
+    record.put("start", "d", "p9sk1", "client", second)
+    record.put("start", "s", "p9sk1", "server", theirs)
+    record.put("start", "t", "p9sk1", "server", others)
+    record.put("in", "s", record.give("out", "c", first))
+    asked = record.give("out", "s", request(TREQ, theirs))
+    record.give("out", "d", second)
+    question = request(TREQ, theirs, b"ann", b"ann")
+    for client in "cd":
+        record.put("in", client, asked)
+        record.give("ask", client, question)
+    record.put("asgot", "r", question, *drawn)
+    grant = bytes([OK]) + ticket(ANN, TO_CLIENT, theirs, b"ann", shared) + ticket(SRV, TO_SERVER, theirs, b"ann", shared)
+    record.give("asgave", "r", grant)
+    passed = grant[73:] + proof(BY_CLIENT, theirs, shared)
+    for client in "cd":
+        record.put("heard", client, grant)
+        record.give("out", client, passed)
+    record.put("in", "s", passed)
+    record.put("accept", "s", "ann", "ann")
+    record.put("reply", "s", "phase awaits read")
+    record.put("in", "t", second)
+    record.give("out", "t", request(TREQ, others))
+    record.put("in", "t", passed)
+    record.put("fail", "t", "wrong challenge")
+    return record
+
+
+def mail_login_for_another() -> Record:
+    record = Record()
+    own, theirs = words(1, 2)
+    first, second = words(3, 3), words(6, 3)
+    record.put("start", "s", "p9sk1", "server", theirs)
+    record.put("in", "s", own)
+    record.give("out", "s", request(TREQ, theirs))
+    record.put("asgot", "r", request(APOP, theirs), *first)
+    challenge = b"<" + first[0].hex().encode() + b"@x>"
+    record.give("asgave", "r", bytes([COUNTED]) + str(len(challenge)).encode().ljust(5) + challenge)
+    record.put("start", "c", "apop", "client", NO_WORD)
+    record.put("in", "c", challenge)
+    digits = record.give("out", "c", hashlib.md5(challenge + b"bobpass").hexdigest().encode())
+    record.put("asgot", "r", request(APOP, theirs, b"", b"bob") + digits, *second)
+    shared = second[0][:7]
+    vouch = record.give("asgave", "r", bytes([OK]) + ticket(SRV, TO_SERVER, theirs, b"bob", shared) + proof(BY_CLIENT, theirs, shared))
+    record.put("in", "s", vouch[1:])
+    record.put("accept", "s", "bob", "bob")
+    record.give("out", "s", proof(BY_SERVER, own, shared))
+    return record
+
+
+RECORDS = {
+    "mail_client": mail_client,
+    "negotiated_login": negotiated_login,
+    "one_ticket_for_two": one_ticket_for_two,
+    "mail_login_for_another": mail_login_for_another,
+}
+
+
+def main() -> None:
+    folder = Path(sys.argv[1])
+    for name, made in RECORDS.items():
+        if (folder / f"{name}.script").exists():
+            (folder / f"{name}.record").write_text("".join(line + "\n" for line in made().lines))
+
+
+if __name__ == "__main__":
+    main()

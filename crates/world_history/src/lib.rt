@@ -1,0 +1,10 @@
+//! What a script of a network means: the acts that its lines come to, the histories of the agents that they drive, the
+//! requests of the sessions of an authentication server, and the record of their steps. The crate that runs scripts proves
+//! that it records so.
+#![tactic(auto)]
+
+mod cause;
+mod question;
+
+pub use cause::ScriptCause;
+pub use question::{Question, Questions};
