@@ -12,6 +12,7 @@ use prompt_agent::{Chain, Deny, Limited, Prompter};
 use std::alloc::Global;
 use std::process::Abort;
 use std::sync::Wait;
+use std::sync::atomic::{AtomicU64, Ordering};
 use std::test::Fail;
 use std::thread::join;
 use wire_base::{Bytes, get_u32};
@@ -23,6 +24,12 @@ static VERSION: &[u8] = b"\x13\x00\x00\x00d\xff\xff\x18\x20\x00\x00\x06\x009P200
 
 // A challenge of RFC 1939, section 7, which a client of APOP answers by a key.
 static CHALLENGE: &[u8] = b"write <1896.697170952@dbc.mtview.ca.us>";
+
+// A line of ctl that adds a key which is used by consent alone.
+static KEY: &[u8] = b"key proto=apop user=ann !password=b confirm";
+
+// As many bytes as a write of ctl may have.
+const MOST_WRITTEN: usize = 8192;
 
 // A hub without keys and connections.
 fn new_hub(alloc: Global) -> Result<(Hub, HubSeat), Fail>
@@ -49,7 +56,7 @@ fn nobody(alloc: Global) -> Chain {
 fn frame_of(rt: &impl Abort, alloc: Global, kind: u8, tag: u8, fields: &[u8]) -> Result<Bytes, Fail>
     ensures { IfOk result (λ frame. IsFrame frame) }
 {
-    if fields.len() > 4096 {
+    if fields.len() > MOST_WRITTEN + 16 {
         return Err("too long".into());
     }
     let size = 7_u32.saturating_add(fields.len() as u32);
@@ -115,7 +122,7 @@ fn write<R: Wait + Abort>(
     ensures { IfOk result (λ seat. IsSeatOf hub.now seat) }
 {
     let mut fields = Bytes::from_slice(alloc, &[fid, 0, 0, 0, 0, 0, 0, 0, 0, 0, 0, 0])?;
-    if text.len() > 4096 {
+    if text.len() > MOST_WRITTEN {
         return Err("too long".into());
     }
     fields.append(&(text.len() as u32).to_le_bytes())?;
@@ -168,13 +175,17 @@ fn open<R: Wait + Abort>(
     hub: &Hub,
     seat: HubSeat,
     fid: u8,
-    name: &[u8; 3],
+    name: &[u8],
 ) -> Result<HubSeat, Fail>
     requires { IsSeatOf hub.now seat }
     ensures { IfOk result (λ seat. IsSeatOf hub.now seat) }
 {
     let mut fields = Bytes::from_slice(alloc, &[0, 0, 0, 0, fid, 0, 0, 0, 2, 0, 8, 0])?;
-    fields.append(b"factotum\x03\x00")?;
+    if name.len() > 28 {
+        return Err("too long".into());
+    }
+    fields.append(b"factotum")?;
+    fields.append(&[name.len() as u8, 0])?;
     fields.append(name)?;
     let walk = frame_of(rt, alloc, 110, 1, fields.as_slice())?;
     let (seat, reply) = exchange(rt, alloc, hub, seat, walk)?;
@@ -185,13 +196,8 @@ fn open<R: Wait + Abort>(
     Ok(seat)
 }
 
-// Begins connection 0, and adds a key that is used by consent alone.
-fn add_key<R: Wait + Abort>(
-    rt: &R,
-    alloc: Global,
-    hub: &Hub,
-    seat: HubSeat,
-) -> Result<HubSeat, Fail>
+// Begins connection 0.
+fn begin<R: Wait + Abort>(rt: &R, alloc: Global, hub: &Hub, seat: HubSeat) -> Result<HubSeat, Fail>
     requires { IsSeatOf hub.now seat }
     ensures { IfOk result (λ seat. IsSeatOf hub.now seat) }
 {
@@ -199,16 +205,30 @@ fn add_key<R: Wait + Abort>(
     let (seat, _) = exchange(rt, alloc, hub, seat, version)?;
     let attach = b"\x00\x00\x00\x00\xff\xff\xff\xff\x03\x00ann\x00\x00";
     let (seat, _) = exchange(rt, alloc, hub, seat, frame_of(rt, alloc, 104, 1, attach)?)?;
+    Ok(seat)
+}
+
+// Begins connection 0, and writes a line to ctl.
+fn add_key<R: Wait + Abort>(
+    rt: &R,
+    alloc: Global,
+    hub: &Hub,
+    seat: HubSeat,
+    line: &[u8],
+) -> Result<HubSeat, Fail>
+    requires { IsSeatOf hub.now seat }
+    ensures { IfOk result (λ seat. IsSeatOf hub.now seat) }
+{
+    let seat = begin(rt, alloc, hub, seat)?;
     let seat = open(rt, alloc, hub, seat, 1, b"ctl")?;
-    let key = b"key proto=apop user=ann !password=b confirm";
-    write(rt, alloc, hub, seat, 1, key)
+    write(rt, alloc, hub, seat, 1, line)
 }
 
 // Uses the key twice; then the agent stops. Until confirm is open no use is consented to, so the first is tried again.
 fn use_key<R: Wait + Abort>(rt: &R, alloc: Global, hub: &Hub, seat: HubSeat) -> Result<Bytes, Fail>
     requires { IsSeatOf hub.now seat }
 {
-    let seat = add_key(rt, alloc, hub, seat)?;
+    let seat = add_key(rt, alloc, hub, seat, KEY)?;
     let seat = start(rt, alloc, hub, seat, 2)?;
     let mut seat = start(rt, alloc, hub, seat, 3)?;
     for _ in rt.forever() {
@@ -255,6 +275,76 @@ fn one_question_is_consented_to_and_the_next_is_not(rt: HostRuntime) -> Result<(
     assert_eq!(rt; end, JobEnd::Prompts(PromptsEnd::Gone));
     assert_eq!(rt; left, 1);
     assert!(rt; reply.as_slice().ends_with(b"error confirmation denied"));
+    Ok(())
+}
+
+#[test]
+fn a_file_that_another_client_has_open_is_in_use(rt: HostRuntime) -> Result<(), Fail> {
+    let alloc = rt.alloc();
+    let (hub, seat) = new_hub(alloc)?;
+    let seat = begin(&rt, alloc, &hub, seat)?;
+    let seat = open(&rt, alloc, &hub, seat, 1, b"confirm")?;
+    let (end, _) = answer(&rt, alloc, &hub, seat)?;
+    assert_eq!(rt; end, JobEnd::Prompts(PromptsEnd::InUse));
+    Ok(())
+}
+
+// Answers a user's questions, and shows when that ended.
+fn answer_to_the_end<R: Wait>(
+    rt: &R,
+    alloc: Global,
+    hub: &Hub,
+    seat: HubSeat,
+    ended: &AtomicU64,
+) -> Result<(JobEnd, usize), Fail>
+    requires { IsSeatOf hub.now seat }
+{
+    let answered = answer(rt, alloc, hub, seat);
+    ended.store(1, Ordering::SeqCst);
+    answered
+}
+
+// Uses a key whose question is longer than a read may be, until nobody answers questions any more.
+fn use_long_key<R: Wait + Abort>(
+    rt: &R,
+    alloc: Global,
+    hub: &Hub,
+    seat: HubSeat,
+    ended: &AtomicU64,
+) -> Result<(), Fail>
+    requires { IsSeatOf hub.now seat }
+{
+    let mut line = KEY.to_vec(alloc)?;
+    line.extend_from_slice(b" x=")?;
+    line.resize(MOST_WRITTEN, b'x')?;
+    let seat = add_key(rt, alloc, hub, seat, line.as_slice())?;
+    let mut seat = start(rt, alloc, hub, seat, 2)?;
+    for _ in rt.forever() {
+        if ended.load(Ordering::SeqCst) == 1 {
+            break;
+        }
+        let (next, _) = ask(rt, alloc, hub, seat, 2, CHALLENGE)?;
+        seat = next;
+    }
+    Ok(())
+}
+
+#[test]
+fn a_question_longer_than_a_read_ends_the_answers(rt: HostRuntime) -> Result<(), Fail> {
+    let alloc = rt.alloc();
+    let (hub, seat) = new_hub(alloc)?;
+    let (one, other) = hub.split(seat);
+    let ended = AtomicU64::new(0);
+    let (answered, used) = join(
+        &rt,
+        || answer_to_the_end(&rt, alloc, &hub, one, &ended),
+        || use_long_key(&rt, alloc, &hub, other, &ended),
+    );
+    let Ok((end, _)) = answered else {
+        panic!(rt; "memory is short")
+    };
+    used?;
+    assert_eq!(rt; end, JobEnd::Prompts(PromptsEnd::TooLong));
     Ok(())
 }
 
