@@ -1,9 +1,9 @@
 mod AskLaws
 mod SettleLaws
-mod KindLaws
+pub mod KindLaws
 mod PromptLaws
-mod MetLaws
-mod GrowLaws
+pub mod MetLaws
+pub mod GrowLaws
 mod DeedLaws
 mod FidLaws
 mod HeldLaws
@@ -29,7 +29,7 @@ mod SizeLaws
 mod SizedLaws
 mod ShutLaws
 mod LineLaws
-mod ClosedLaws
+pub mod ClosedLaws
 mod EditLaws
 mod PutLaws
 mod KeyedLaws
