@@ -1,0 +1,14 @@
+//! What is done to one agent of a network: lines of its ctl, requests to its conversations, and the authentication server's
+//! answers to their questions. What is recorded of it is what the definitions of networks say of the agent's history.
+#![tactic(auto)]
+
+mod ends;
+mod following;
+mod replies;
+mod starts;
+mod steps;
+#[cfg(test)]
+mod tests;
+mod turns;
+
+pub use turns::{Asks, Turn, Turned, take_turn};

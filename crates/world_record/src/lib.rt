@@ -1,0 +1,10 @@
+//! The record of a network while it is made: its steps, the messages among them by their numbers, and the lines that are
+//! written.
+#![tactic(auto)]
+
+mod record;
+mod spelling;
+#[cfg(test)]
+mod tests;
+
+pub use record::{Cut, Record};
