@@ -1,0 +1,2 @@
+pub mod FidLemmas
+pub mod NodeLemmas

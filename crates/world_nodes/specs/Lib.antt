@@ -1,0 +1,3 @@
+pub mod Fids
+pub mod Nodes
+pub mod Opening

@@ -1,0 +1,4 @@
+pub mod ListLemmas
+pub mod TalkLemmas
+pub mod LineLemmas
+pub mod PlayLemmas

@@ -1,0 +1,3 @@
+pub mod Told
+pub mod Servers
+pub mod Telling
