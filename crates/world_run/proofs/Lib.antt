@@ -1,0 +1,3 @@
+pub mod NameLemmas
+pub mod PlayingLemmas
+pub mod RunLemmas

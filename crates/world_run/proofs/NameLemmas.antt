@@ -1,0 +1,448 @@
+-- What carrying out a line does to a run where nodes are made, conversations are opened or closed, or the authentication server
+-- is told of or asked.
+use Rattle.std.proofs.Common.{◌≡◌, ℕ, ◌+◌, ◌<◌, ◌≤◌, List, [], ◌∷◌, ◌++◌, map, filter, length, Bool, true, false, cond, not, ◌||◌, Option, Some, None, Ok, Err, refl, sym, ap, subst, ◌∙◌, inl, inr, arith, length-append}
+use Rattle.std.specs.Prelude.{is_some, nat_le, option_map}
+use Rattle.std.specs.Map.{lookup}
+use Rattle.std.specs.Str.{bytes_eq}
+use Rattle.std.specs.Cmp.Lexicographic.{bytes_decides}
+use Rattle.std.proofs.lemmas.Bool.{cases_Bool, cond-true, cond-false, false≢true, le-leb, lt-leb}
+use Rattle.auth_server.specs.Answers.{Knowledge, is_over}
+use Rattle.auth_server.specs.Answers as server
+use Rattle.auth_server.specs.Requests as req
+use Rattle.auth_server.specs.Requests.{asked_so, is_served, kind_of}
+use Rattle.auth_server.specs.Standing.{knowledge}
+use Rattle.agent_history.specs.Histories.{History}
+use Rattle.agent_turns.specs.declared.turns.Turned.{Turned}
+use Rattle.wire_model.specs.declared.step.Step.{Step}
+use Rattle.wire_model.specs.declared.step.Step.TheVariants as s
+use Rattle.world_scripts.specs.Reading.{line_of}
+use Rattle.world_scripts.specs.Scripts.{Numbered}
+use Rattle.world_history.specs.Acts as acts
+use Rattle.world_history.specs.Acts.{Act, Domain, KeyLine, SpeakLine, Made, Opened, Asked, Closed, has_name, is_node, key_lines, nodes, opened_names, speak_lines, talk_of, was_asked}
+use Rattle.world_scripts.specs.Lines as l
+use Rattle.world_scripts.specs.Pieces.{Piece}
+use Rattle.world_history.specs.declared.cause.ScriptCause.TheVariants.{NoSuchMessage}
+use Rattle.world_history.specs.Scripts.{fitting, is_unfit, judged, spelled}
+use Rattle.world_history.specs.Turns.{Turn, closes, lets_open, turn_steps}
+use Rattle.world_history.specs.Worlds.{Done, done_to, fid_for, history, history_by, known, messages, messages_in, on_talk, requests, session_steps, steps, steps_by, steps_to, was_misasked}
+use Rattle.world_standing.specs.Standing.{IsFree, IsOpen, conv_on}
+use Rattle.world_standing.proofs.ListLemmas.{fids_named, left_on, one_more}
+use Rattle.world_standing.proofs.TalkLemmas.{SameNames, now_open, free_beside, closed_beside, open_beside, now_closed, free_left, closed_left, open_left, done_on_open}
+use Rattle.world_standing.proofs.LineLemmas.{fits}
+use Rattle.world_names.specs.declared.clients.Served.{Served}
+use Rattle.world_names.specs.declared.clients.Served.TheVariants as served
+use Rattle.world_names.specs.declared.live.Client.{Client}
+use Rattle.world_names.specs.declared.named_talks.Talk.{Talk as Kept}
+use Rattle.world_names.specs.Names.{changed_under, put_under}
+use Rattle.world_names.specs.Sessions.{ClientsAre, ServesSo}
+use Rattle.world_names.specs.Sessions as sessions
+use Rattle.world_nodes.specs.declared.node.Node.{Node}
+use Rattle.world_nodes.specs.declared.nodes.Nodes.{Nodes}
+use Rattle.world_nodes.specs.Nodes.{NodeIs, NodesAre, TurnsTo, View, done_on, next_fid, node_at}
+use Rattle.world_nodes.specs.Nodes as n
+use Rattle.world_tables.proofs.TellLemmas.{tells_on}
+use Rattle.world_run.specs.declared.run.Run.{Run}
+use Rattle.world_run.specs.Serving.{served_steps}
+use Rattle.world_run.specs.Standing.{IsDone, Stands, TalkIs, TalksAre, nodes_by, sessions_by}
+use Rattle.world_run.proofs.RunLemmas.{client_moves, node_moves, talks_stay, with_both}
+
+or_true : (b c : Bool) → c ≡ true → b || c ≡ true
+or_true true c is = refl
+or_true false c is = is
+
+pub or_known : (b c : Bool) → b ≡ true → b || c ≡ true
+or_known true c is = refl
+or_known false c is = absurd (false≢true is)
+
+pub or_neither : (b c d : Bool) → b ≡ false → c ≡ d → b || c ≡ d
+or_neither true c d is same = absurd (false≢true (sym is))
+or_neither false c d is same = same
+
+-- how many nodes there are
+pub many_known : (k n : ℕ) → k ≡ n → 64 ≤ k → nat_le 64 n ≡ true
+many_known k n same many = le-leb 64 n (subst (λ (m : ℕ). 64 ≤ m) same many)
+
+pub few_known : (k n : ℕ) → k ≡ n → k < 64 → nat_le 64 n ≡ false
+few_known k n same few = lt-leb 64 n (subst (λ (m : ℕ). m < 64) same few)
+
+-- ---- a node is made
+
+abbrev pub with_node : Run → Nodes → Run
+with_node r nodes = record {
+  alloc = r.alloc;
+  nodes = nodes;
+  talks = r.talks;
+  clients = r.clients;
+  tables = r.tables;
+  recorded = r.recorded;
+  made = r.made + 1;
+  keys = r.keys;
+  speaks = r.speaks;
+  asked = r.asked;
+}
+
+same_made : (before : List Act) (node : List ℕ) → SameNames before (Made node ∷ before)
+same_made before node = record { names = refl; talks = refl; nodes = λ name is. or_true (bytes_eq node name) (has_name name (nodes before)) is }
+
+or_cond : (b c : Bool) → b || c ≡ cond b true c
+or_cond true c = refl
+or_cond false c = refl
+
+pub made_done : (line : Numbered) (left : List Numbered) (before : List Act) (node : List ℕ) (old : Run) (table : Nodes)
+    → judged before (line_of line.text) ≡ Ok (Made node) → Stands (line ∷ left) before old → NodesAre (n.made node (nodes_by before)) table
+    → IsDone left before (line_of line.text) [] (with_node old table)
+made_done line left before node old table is h t = record {
+  act = Made node;
+  fits = is;
+  made = refl;
+  stands = record {
+    nodes = λ name. node_moves _ (is_node (Made node ∷ before) name) _ (history (Made node ∷ before) name) _ (conv_on name (acts.talks before)) (node_at table name) (or_cond (bytes_eq node name) (is_node before name)) refl refl (t name);
+    talks = talks_stay before (Made node ∷ before) old.talks (same_made before node) (λ _. refl) h.talks;
+    clients = h.clients;
+    tables = tells_on line left before (Made node) old.tables h.tables is;
+    recorded = h.recorded;
+    made = ap (λ (k : ℕ). k + 1) h.made ∙ omega arith;
+    keys = h.keys;
+    speaks = h.speaks;
+    asked = h.asked;
+  };
+}
+
+-- ---- the server is told of
+
+abbrev pub with_counts : Run → ℕ → ℕ → Run
+with_counts r keys speaks = record {
+  alloc = r.alloc;
+  nodes = r.nodes;
+  talks = r.talks;
+  clients = r.clients;
+  tables = r.tables;
+  recorded = r.recorded;
+  made = r.made;
+  keys = keys;
+  speaks = speaks;
+  asked = r.asked;
+}
+
+same_domain : (before : List Act) (dom : List ℕ) → SameNames before (Domain dom ∷ before)
+same_domain before dom = record { names = refl; talks = refl; nodes = λ _ is. is }
+
+same_key : (before : List Act) (tuple : List ℕ) → SameNames before (KeyLine tuple ∷ before)
+same_key before tuple = record { names = refl; talks = refl; nodes = λ _ is. is }
+
+same_speak : (before : List Act) (tuple : List ℕ) → SameNames before (SpeakLine tuple ∷ before)
+same_speak before tuple = record { names = refl; talks = refl; nodes = λ _ is. is }
+
+pub domain_done : (line : Numbered) (left : List Numbered) (before : List Act) (dom : List ℕ) (old : Run)
+    → judged before (line_of line.text) ≡ Ok (Domain dom) → Stands (line ∷ left) before old → IsDone left before (line_of line.text) [] old
+domain_done line left before dom old is h = record {
+  act = Domain dom;
+  fits = is;
+  made = refl;
+  stands = record {
+    nodes = h.nodes;
+    talks = talks_stay before (Domain dom ∷ before) old.talks (same_domain before dom) (λ _. refl) h.talks;
+    clients = h.clients;
+    tables = tells_on line left before (Domain dom) old.tables h.tables is;
+    recorded = h.recorded;
+    made = h.made;
+    keys = h.keys;
+    speaks = h.speaks;
+    asked = h.asked;
+  };
+}
+
+length_behind : (lines : List (List ℕ)) (tuple : List ℕ) (count : ℕ) → count ≡ length lines → count + 1 ≡ length (lines ++ tuple ∷ [])
+length_behind lines tuple count is = ap (λ (k : ℕ). k + 1) is ∙ sym (length-append lines (tuple ∷ []))
+
+pub key_done : (line : Numbered) (left : List Numbered) (before : List Act) (tuple : List ℕ) (old : Run) (more : ℕ)
+    → judged before (line_of line.text) ≡ Ok (KeyLine tuple) → Stands (line ∷ left) before old → more ≡ old.keys + 1 → IsDone left before (line_of line.text) [] (with_counts old more old.speaks)
+key_done line left before tuple old more is h counts = record {
+  act = KeyLine tuple;
+  fits = is;
+  made = refl;
+  stands = record {
+    nodes = h.nodes;
+    talks = talks_stay before (KeyLine tuple ∷ before) old.talks (same_key before tuple) (λ _. refl) h.talks;
+    clients = h.clients;
+    tables = tells_on line left before (KeyLine tuple) old.tables h.tables is;
+    recorded = h.recorded;
+    made = h.made;
+    keys = counts ∙ length_behind (key_lines before) tuple old.keys h.keys;
+    speaks = h.speaks;
+    asked = h.asked;
+  };
+}
+
+pub speak_done : (line : Numbered) (left : List Numbered) (before : List Act) (tuple : List ℕ) (old : Run) (more : ℕ)
+    → judged before (line_of line.text) ≡ Ok (SpeakLine tuple) → Stands (line ∷ left) before old → more ≡ old.speaks + 1 → IsDone left before (line_of line.text) [] (with_counts old old.keys more)
+speak_done line left before tuple old more is h counts = record {
+  act = SpeakLine tuple;
+  fits = is;
+  made = refl;
+  stands = record {
+    nodes = h.nodes;
+    talks = talks_stay before (SpeakLine tuple ∷ before) old.talks (same_speak before tuple) (λ _. refl) h.talks;
+    clients = h.clients;
+    tables = tells_on line left before (SpeakLine tuple) old.tables h.tables is;
+    recorded = h.recorded;
+    made = h.made;
+    keys = h.keys;
+    speaks = counts ∙ length_behind (speak_lines before) tuple old.speaks h.speaks;
+    asked = h.asked;
+  };
+}
+
+-- ---- a conversation is opened
+
+talk_beside : (before : List Act) (conv node name : List ℕ) (o : Option (Option Kept)) → bytes_eq conv name ≡ false → TalkIs before name o → TalkIs (Opened node conv ∷ before) name o
+talk_beside before conv node name None other h = free_beside before conv node name other h
+talk_beside before conv node name (Some None) other h = closed_beside before conv node name other h
+talk_beside before conv node name (Some (Some t)) other h = open_beside before conv node name t.node t.fid t.call other h
+
+talks_opened : (before : List Act) (conv node : List ℕ) (table after : List (List ℕ × Option Kept)) → IsFree before conv → is_node before node ≡ true
+    → ((name : List ℕ) → lookup (bytes_eq name) after ≡ put_under conv (Some (record { node = node; fid = fid_for before node; call = None })) table name)
+    → TalksAre before table → TalksAre (Opened node conv ∷ before) after
+talks_opened before conv node table after free made put h = λ name. elim (cases_Bool (bytes_eq conv name)) [
+  | inl is ↦ subst (λ (o : Option (Option Kept)). TalkIs (Opened node conv ∷ before) name o) (sym (put name ∙ cond-true _ _ _ is))
+      (subst (λ (x : List ℕ). IsOpen (Opened node conv ∷ before) x node (fid_for before node) None) ((bytes_decides conv name).0 is) (now_open before conv node free made))
+  | inr is ↦ subst (λ (o : Option (Option Kept)). TalkIs (Opened node conv ∷ before) name o) (sym (put name ∙ cond-false _ _ _ is))
+      (talk_beside before conv node name (lookup (bytes_eq name) table) is (h name))
+]
+
+-- what the look-up of a name tells of it
+pub name_known : (before : List Act) (conv : List ℕ) (o : Option (Option Kept)) → TalkIs before conv o → is_some o ≡ true → has_name conv (opened_names before) ≡ true
+name_known before conv None h some = absurd (false≢true some)
+name_known before conv (Some None) h some = h.taken
+name_known before conv (Some (Some t)) h some = h.taken
+
+pub opened_free : (before : List Act) (conv : List ℕ) (o : Option (Option Kept)) → TalkIs before conv o → is_some o ≡ false → IsFree before conv
+opened_free before conv None h none = h
+opened_free before conv (Some t) h none = absurd (false≢true (sym none))
+
+pub name_free : (before : List Act) (conv : List ℕ) (o : Option (Option Kept)) → TalkIs before conv o → is_some o ≡ false → has_name conv (opened_names before) ≡ false
+name_free before conv o h none = (opened_free before conv o h none).free
+
+-- by the least fid that isn't held
+pub fid_known : (before : List Act) (node : List ℕ) → next_fid (nodes_by before) node ≡ fid_for before node
+fid_known before node = ap acts.least_fid (fids_named node (acts.talks before))
+
+nodes_opened : (before : List Act) (conv node : List ℕ) (fid : ℕ) (table : Nodes) → fid ≡ fid_for before node → NodesAre (n.opened node conv fid (nodes_by before)) table → NodesAre (nodes_by (Opened node conv ∷ before)) table
+nodes_opened before conv node fid table is h = λ name.
+    node_moves (is_node before name) (is_node before name) _ (history (Opened node conv ∷ before) name) _ (conv_on name (acts.talks (Opened node conv ∷ before))) (node_at table name) refl
+    (ap (λ (f : ℕ). history_by (done_to node (lets_open f)) name (history before name)) (sym is))
+    (one_more name (acts.talks before) (record { conv = conv; node = node; fid = fid_for before node })
+    ∙ ap (λ (f : ℕ). cond (bytes_eq node name) (conv_on name (acts.talks before) ++ (conv, f) ∷ []) (conv_on name (acts.talks before))) (sym is))
+    (h name)
+
+-- it is recorded nowhere
+opened_steps : (number : ℕ) (before : List Act) (node conv : List ℕ) → [] ≡ steps_by number before (Opened node conv)
+unfolding turn_steps
+opened_steps number before node conv = refl
+
+pub opened_done : (line : Numbered) (left : List Numbered) (before : List Act) (node conv : List ℕ) (old : Run) (fid : ℕ) (table : Nodes) (talks : List (List ℕ × Option Kept))
+    → judged before (line_of line.text) ≡ Ok (Opened node conv) → Stands (line ∷ left) before old → is_node before node ≡ true → IsFree before conv → fid ≡ next_fid (nodes_by before) node
+    → NodesAre (n.opened node conv (next_fid (nodes_by before) node) (nodes_by before)) table
+    → ((name : List ℕ) → lookup (bytes_eq name) talks ≡ put_under conv (Some (record { node = node; fid = fid; call = None })) old.talks name)
+    → IsDone left before (line_of line.text) [] (with_both old table talks)
+opened_done line left before node conv old fid table talks is h made free least t put = record {
+  act = Opened node conv;
+  fits = is;
+  made = opened_steps (length (messages before)) before node conv;
+  stands = record {
+    nodes = nodes_opened before conv node (next_fid (nodes_by before) node) table (fid_known before node) t;
+    talks = talks_opened before conv node old.talks talks free made (subst (λ (f : ℕ). (name : List ℕ) → lookup (bytes_eq name) talks ≡ put_under conv (Some (record { node = node; fid = f; call = None })) old.talks name) (least ∙ fid_known before node) put) h.talks;
+    clients = h.clients;
+    tables = tells_on line left before (Opened node conv) old.tables h.tables is;
+    recorded = h.recorded;
+    made = h.made;
+    keys = h.keys;
+    speaks = h.speaks;
+    asked = h.asked;
+  };
+}
+
+-- ---- a conversation is closed
+
+talk_left : (before : List Act) (conv node name : List ℕ) (fid : ℕ) (call : Option ℕ) (o : Option (Option Kept)) → bytes_eq conv name ≡ false → IsOpen before conv node fid call → TalkIs before name o → TalkIs (Closed conv ∷ before) name o
+talk_left before conv node name fid call None other was h = free_left before conv node name fid call was h
+talk_left before conv node name fid call (Some None) other was h = closed_left before conv name h
+talk_left before conv node name fid call (Some (Some t)) other was h = open_left before conv node name t.node fid t.fid call t.call other was h
+
+abbrev option_shut : Option (Option Kept) → Option (Option Kept)
+option_shut None = None
+option_shut (Some t) = Some None
+
+talk_shut : (before : List Act) (conv node : List ℕ) (fid : ℕ) (call : Option ℕ) (o : Option (Option Kept)) → IsOpen before conv node fid call → TalkIs before conv o → TalkIs (Closed conv ∷ before) conv (option_shut o)
+talk_shut before conv node fid call None was h = free_left before conv node conv fid call was h
+talk_shut before conv node fid call (Some t) was h = now_closed before conv node fid call was
+
+talks_closed : (before : List Act) (conv node : List ℕ) (fid : ℕ) (call : Option ℕ) (table after : List (List ℕ × Option Kept)) → IsOpen before conv node fid call
+    → ((name : List ℕ) → lookup (bytes_eq name) after ≡ changed_under conv (λ _. None) table name)
+    → TalksAre before table → TalksAre (Closed conv ∷ before) after
+talks_closed before conv node fid call table after was changed h = λ name. elim (cases_Bool (bytes_eq conv name)) [
+  | inl is ↦ let same = (bytes_decides conv name).0 is in
+      subst (λ (o : Option (Option Kept)). TalkIs (Closed conv ∷ before) name o) (sym (changed name ∙ (cond-true _ _ _ is ∙ shut (lookup (bytes_eq name) table))))
+      (subst (λ (x : List ℕ). TalkIs (Closed conv ∷ before) x (option_shut (lookup (bytes_eq x) table))) same (talk_shut before conv node fid call (lookup (bytes_eq conv) table) was (h conv)))
+  | inr is ↦ subst (λ (o : Option (Option Kept)). TalkIs (Closed conv ∷ before) name o) (sym (changed name ∙ cond-false _ _ _ is))
+      (talk_left before conv node name fid call (lookup (bytes_eq name) table) is was (h name))
+] where
+  shut : (o : Option (Option Kept)) → option_map (λ (x : Option Kept). None) o ≡ option_shut o
+  shut None = refl
+  shut (Some t) = refl
+
+nodes_closed : (before : List Act) (conv node : List ℕ) (fid : ℕ) (call : Option ℕ) (table : Nodes) → IsOpen before conv node fid call
+    → NodesAre (n.closed node conv (done_on node (closes conv fid) (nodes_by before))) table → NodesAre (nodes_by (Closed conv ∷ before)) table
+nodes_closed before conv node fid call table was h = λ name.
+    node_moves (is_node before name) (is_node before name) _ (history (Closed conv ∷ before) name) _ (conv_on name (acts.talks (Closed conv ∷ before))) (node_at table name) refl
+    (ap (λ (d : Option Done). history_by d name (history before name)) (done_on_open before conv node fid call (λ f. closes conv f) was))
+    (left_on conv node name (acts.talks before) was.alone)
+    (h name)
+
+pub closed_done : (line : Numbered) (left : List Numbered) (before : List Act) (conv node : List ℕ) (fid : ℕ) (call : Option ℕ) (old : Run) (turned : Turned) (table : Nodes) (talks : List (List ℕ × Option Kept))
+    → judged before (line_of line.text) ≡ Ok (Closed conv) → IsOpen before conv node fid call → Stands (line ∷ left) before old
+    → turned.steps.items ≡ turn_steps (length (messages_in old.recorded)) (closes conv fid) (history before node)
+    → NodesAre (n.closed node conv (done_on node (closes conv fid) (nodes_by before))) table
+    → ((name : List ℕ) → lookup (bytes_eq name) talks ≡ changed_under conv (λ _. None) old.talks name)
+    → IsDone left before (line_of line.text) turned.steps.items (with_both old table talks)
+closed_done line left before conv node fid call old turned table talks is was h its t changed = record {
+  act = Closed conv;
+  fits = is;
+  made = its ∙ (ap (λ (recorded : List Step). turn_steps (length (messages_in recorded)) (closes conv fid) (history before node)) h.recorded
+      ∙ sym (ap (steps_to (length (messages before)) before) (done_on_open before conv node fid call (λ f. closes conv f) was)));
+  stands = record {
+    nodes = nodes_closed before conv node fid call table was t;
+    talks = talks_closed before conv node fid call old.talks talks was changed h.talks;
+    clients = h.clients;
+    tables = tells_on line left before (Closed conv) old.tables h.tables is;
+    recorded = h.recorded;
+    made = h.made;
+    keys = h.keys;
+    speaks = h.speaks;
+    asked = h.asked;
+  };
+}
+
+-- ---- a session is asked
+
+abbrev pub with_clients : Run → List (List ℕ × Client) → Run
+with_clients r clients = record {
+  alloc = r.alloc;
+  nodes = r.nodes;
+  talks = r.talks;
+  clients = clients;
+  tables = r.tables;
+  recorded = r.recorded;
+  made = r.made;
+  keys = r.keys;
+  speaks = r.speaks;
+  asked = true;
+}
+
+same_asked : (before : List Act) (session request : List ℕ) (words : List (List ℕ)) → SameNames before (Asked session request words ∷ before)
+same_asked before session request words = record { names = refl; talks = refl; nodes = λ _ is. is }
+
+pub asked_done : (line : Numbered) (left : List Numbered) (before : List Act) (session request : List ℕ) (words : List (List ℕ)) (old : Run) (made : List Step) (clients : List (List ℕ × Client))
+    → judged before (line_of line.text) ≡ Ok (Asked session request words) → Stands (line ∷ left) before old
+    → made ≡ session_steps (known before) (length (messages before)) session (requests before session) (asked_so request words)
+    → ClientsAre (knowledge old.tables.core) (sessions_by (Asked session request words ∷ before)) clients
+    → IsDone left before (line_of line.text) made (with_clients old clients)
+asked_done line left before session request words old made clients is h its t = record {
+  act = Asked session request words;
+  fits = is;
+  made = its;
+  stands = record {
+    nodes = h.nodes;
+    talks = talks_stay before (Asked session request words ∷ before) old.talks (same_asked before session request words) (λ _. refl) h.talks;
+    clients = t;
+    tables = tells_on line left before (Asked session request words) old.tables h.tables is;
+    recorded = h.recorded;
+    made = h.made;
+    keys = h.keys;
+    speaks = h.speaks;
+    asked = refl;
+  };
+}
+
+same_both : {X : Type 0} (b : Bool) (x : X) → cond b x x ≡ x
+same_both true x = refl
+same_both false x = refl
+
+-- one that is answered, and one of a kind that isn't served
+pub clients_answered : (before : List Act) (session request : List ℕ) (words : List (List ℕ)) (k : Knowledge) (clients : List (List ℕ × Client)) → is_served (kind_of request) ≡ true
+    → ClientsAre k (sessions.answered session (asked_so request words) (sessions_by before)) clients → ClientsAre k (sessions_by (Asked session request words ∷ before)) clients
+clients_answered before session request words k clients served h = λ name.
+    client_moves k _ (requests (Asked session request words ∷ before) name) _ (was_misasked (Asked session request words ∷ before) name) (lookup (bytes_eq name) clients)
+    (ap (λ (b : Bool). cond (bytes_eq session name) (cond b (asked_so request words ∷ requests before name) (requests before name)) (requests before name)) served)
+    (ap (λ (b : Bool). cond (bytes_eq session name) (cond b (was_misasked before name) true) (was_misasked before name)) served ∙ same_both (bytes_eq session name) (was_misasked before name))
+    (h name)
+
+pub clients_misasked : (before : List Act) (session request : List ℕ) (words : List (List ℕ)) (k : Knowledge) (clients : List (List ℕ × Client)) → is_served (kind_of request) ≡ false
+    → ClientsAre k (sessions.misasked session (sessions_by before)) clients → ClientsAre k (sessions_by (Asked session request words ∷ before)) clients
+clients_misasked before session request words k clients unserved h = λ name.
+    client_moves k _ (requests (Asked session request words ∷ before) name) _ (was_misasked (Asked session request words ∷ before) name) (lookup (bytes_eq name) clients)
+    (ap (λ (b : Bool). cond (bytes_eq session name) (cond b (asked_so request words ∷ requests before name) (requests before name)) (requests before name)) unserved ∙ same_both (bytes_eq session name) (requests before name))
+    (ap (λ (b : Bool). cond (bytes_eq session name) (cond b (was_misasked before name) true) (was_misasked before name)) unserved)
+    (h name)
+
+-- the steps of both
+pub answered_steps : (knows : Knowledge) (number : ℕ) (session request : List ℕ) (words : List (List ℕ)) (before : List req.Asked) → is_served (kind_of request) ≡ true
+    → session_steps knows number session before (asked_so request words)
+    ≡ s.AsGot session request words ∷ s.AsGave number session (server.answer knows before (asked_so request words)) ∷ (cond (is_over knows (asked_so request words ∷ before)) (s.AsEnd session ∷ []) [])
+unfolding session_steps
+answered_steps knows number session request words before served = rw served refl
+
+pub misasked_steps : (knows : Knowledge) (number : ℕ) (session request : List ℕ) (words : List (List ℕ)) (before : List req.Asked) → is_served (kind_of request) ≡ false
+    → session_steps knows number session before (asked_so request words) ≡ s.AsGot session request words ∷ s.AsEnd session ∷ []
+unfolding session_steps
+misasked_steps knows number session request words before unserved = rw unserved refl
+
+-- what a session refuses is what no line may ask of it
+pub asked_unfit : (before : List Act) (session request : List ℕ) (words : List (List ℕ)) → is_unfit before (Asked session request words) ≡ sessions.is_refused (known before) (requests before session) (was_misasked before session) request
+unfolding is_unfit
+asked_unfit before session request words = refl
+
+-- its steps, in other words
+answered_known : (session request : List ℕ) (words : List (List ℕ)) (number : ℕ) (answer : List ℕ) (over : Bool) (before : List req.Asked) (k j : Knowledge) (count : ℕ)
+    → k ≡ j → answer ≡ server.answer j before (asked_so request words) → over ≡ is_over j (asked_so request words ∷ before) → number ≡ count
+    → s.AsGot session request words ∷ s.AsGave number session answer ∷ (cond over (s.AsEnd session ∷ []) [])
+    ≡ s.AsGot session request words ∷ s.AsGave count session (server.answer k before (asked_so request words)) ∷ (cond (is_over k (asked_so request words ∷ before)) (s.AsEnd session ∷ []) [])
+answered_known session request words number answer over before k j count same puts ends numbered =
+    ap (λ (b : Bool). s.AsGot session request words ∷ s.AsGave number session answer ∷ (cond b (s.AsEnd session ∷ []) [])) (ends ∙ ap (λ (x : Knowledge). is_over x (asked_so request words ∷ before)) (sym same))
+    ∙ (ap (λ (n : ℕ). s.AsGot session request words ∷ s.AsGave n session answer ∷ (cond (is_over k (asked_so request words ∷ before)) (s.AsEnd session ∷ []) [])) numbered
+    ∙ ap (λ (text : List ℕ). s.AsGot session request words ∷ s.AsGave count session text ∷ (cond (is_over k (asked_so request words ∷ before)) (s.AsEnd session ∷ []) [])) (puts ∙ ap (λ (x : Knowledge). server.answer x before (asked_so request words)) (sym same)))
+
+-- a request that isn't refused
+pub served_done : (line : Numbered) (left : List Numbered) (before : List Act) (session request : List ℕ) (words : List (List ℕ)) (number : ℕ) (answer : List ℕ) (what : Served) (old : Run) (made : List Step) (clients : List (List ℕ × Client))
+    → Stands (line ∷ left) before old → known before ≡ knowledge old.tables.core
+    → judged before (line_of line.text) ≡ fitting before (Some (Asked session request words))
+    → ServesSo (knowledge old.tables.core) (sessions_by before) session (asked_so request words) what [] answer clients
+    → (what ≡ served.Refused → ⊥) → number ≡ length (messages before)
+    → made ≡ served_steps number session request words what answer
+    → IsDone left before (line_of line.text) made (with_clients old clients)
+served_done line left before session request words number answer served.Refused old made clients h knows is so goes numbered its = absurd (goes refl)
+served_done line left before session request words number answer (served.Answered over) old made clients h knows is so goes numbered its =
+    let fit = asked_unfit before session request words ∙ (ap (λ (k : Knowledge). sessions.is_refused k (requests before session) (was_misasked before session) request) knows ∙ so.fits) in
+    asked_done line left before session request words old made clients (is ∙ fits before (Asked session request words) fit) h
+    (its ∙ (answered_known session request words number answer over (requests before session) (known before) (knowledge old.tables.core) (length (messages before)) knows so.put so.ends numbered
+    ∙ sym (answered_steps (known before) (length (messages before)) session request words (requests before session) so.served)))
+    (clients_answered before session request words (knowledge old.tables.core) clients so.served so.clients)
+served_done line left before session request words number answer served.Ended old made clients h knows is so goes numbered its =
+    let fit = asked_unfit before session request words ∙ (ap (λ (k : Knowledge). sessions.is_refused k (requests before session) (was_misasked before session) request) knows ∙ so.fits) in
+    asked_done line left before session request words old made clients (is ∙ fits before (Asked session request words) fit) h
+    (its ∙ sym (misasked_steps (known before) (length (messages before)) session request words (requests before session) so.served))
+    (clients_misasked before session request words (knowledge old.tables.core) clients so.served so.clients)
+
+-- one that is
+pub served_refused : (before : List Act) (session request : List ℕ) (words : List (List ℕ)) (k : Knowledge) (answer : List ℕ) (clients : List (List ℕ × Client))
+    → known before ≡ k → ServesSo k (sessions_by before) session (asked_so request words) served.Refused [] answer clients → is_unfit before (Asked session request words) ≡ true
+served_refused before session request words k answer clients knows so = asked_unfit before session request words ∙ (ap (λ (k : Knowledge). sessions.is_refused k (requests before session) (was_misasked before session) request) knows ∙ so)
+
+-- the line of a request
+pub ask_judged : (before : List Act) (session request first second third : List ℕ) (pieces : List Piece) → spelled (messages before) pieces ≡ Some request
+    → judged before (Some (l.AsGive session pieces first second third)) ≡ fitting before (Some (Asked session request (first ∷ second ∷ third ∷ [])))
+ask_judged before session request first second third pieces some = ap (λ (o : Option (List ℕ)). fitting before (option_map (λ given. Asked session given (first ∷ second ∷ third ∷ [])) o)) some
+
+pub ask_unspelled : (before : List Act) (session first second third : List ℕ) (pieces : List Piece) → spelled (messages before) pieces ≡ None
+    → judged before (Some (l.AsGive session pieces first second third)) ≡ Err NoSuchMessage
+ask_unspelled before session first second third pieces none = ap (λ (o : Option (List ℕ)). fitting before (option_map (λ given. Asked session given (first ∷ second ∷ third ∷ [])) o)) none

@@ -1,0 +1,16 @@
+use Rattle.std.proofs.Common.{◌≡◌, [], refl, sym, ap, subst, ◌∙◌}
+use Rattle.world_scripts.specs.Scripts.{script_lines}
+use Rattle.world_run.specs.Standing.{Stands}
+use Rattle.world_run.proofs.PlayingLemmas.{ran_all, ran_not}
+use Rattle.world_tables.proofs.TellLemmas.{tells_first}
+use Rattle.world_run.proofs.play.run_world.Goals as goal
+
+pub returns-in-Err-clause-so : goal.returns-in-Err-clause-so
+returns-in-Err-clause-so g c = ran_not c.args.script.now c.new.result (g.W.Sink.holds c.args.sink.now) c.new.ensures
+
+pub returns-clause-so : goal.returns-clause-so
+returns-clause-so g c =
+    let st = c.new-run.ensures (script_lines c.args.script.now) (tells_first c.args.script.now c.in-Ok.tables c.in-Ok.ensures) in
+    ran_all c.args.script.now c.new-2.result c.play_all-end.result c.new-run.result.recorded c.play_all-end.new.self.recorded c.into_steps.result (g.W.Sink.holds c.args.sink.now) (g.W.Sink.holds c.play_all-end.new.sink)
+    c.new-2.ensures st.recorded c.into_steps.ensures
+    (c.play_all-end.ensures.played [] (subst (λ ls. Stands ls [] c.new-run.result) (sym c.new-2.ensures) st))

@@ -1,0 +1,23 @@
+use Rattle.std.proofs.Common.{◌≡◌, ◌∷◌, ◌++◌, [], ℕ, List, length, true, false, Some, None, Ok, Err, refl, sym, ap, subst, ◌∙◌, rules, arith}
+use Rattle.std.specs.Prelude.{is_some}
+use Rattle.std.proofs.lemmas.Result.{err_from_is_err_and}
+use Rattle.agent_turns.specs.Turning.{said_asks}
+use Rattle.world_history.specs.Acts as a
+use Rattle.world_history.specs.Talking as talk
+use Rattle.world_history.specs.Turns as does
+use Rattle.world_history.specs.Worlds.{history}
+use Rattle.world_scripts.specs.Lines as l
+use Rattle.world_scripts.specs.Reading.{line_of}
+use Rattle.world_run.specs.Standing.{nodes_by}
+use Rattle.world_run.proofs.RunLemmas.{find_gives, find_stops, open_found}
+use Rattle.world_run.proofs.run.Run.ask.Goals as goal
+
+pub returns-in_err-found-clause-carried : goal.returns-in_err-found-clause-carried
+returns-in_err-found-clause-carried c = λ before left acts by h.
+    let p = err_from_is_err_and c.from_residual.result c.from_residual.ensures.1 in
+    rw (p.1, p.2) (find_stops c.args.conv.now c.args.self.now.talks c.in_err-found.field-0.0 left acts (line_of before.text) c.args.self.now c.in_err-found.ensures h.talks by.closed)
+
+pub returns-clause-carried : goal.returns-clause-carried
+returns-clause-carried c = λ before left acts by h.
+    let o = find_gives c.args.conv.now c.args.self.now.talks c.in_ok-found.found acts c.in_ok-found.ensures h.talks in
+    c.ask_it.ensures.carried before left acts o (by.opened (open_found acts c.args.conv.now c.in_ok-found.found.node c.in_ok-found.found.fid c.in_ok-found.found.call o)) h

@@ -1,0 +1,45 @@
+use Rattle.std.proofs.Common.{◌≡◌, ◌∷◌, ◌++◌, [], ℕ, List, length, true, false, Some, None, Ok, Err, refl, sym, ap, subst, ◌∙◌, rules, arith}
+use Rattle.std.specs.Prelude.{is_some}
+use Rattle.std.proofs.lemmas.Result.{err_from_is_err_and}
+use Rattle.agent_turns.specs.Turning.{said_asks}
+use Rattle.world_history.specs.Acts as a
+use Rattle.world_history.specs.Talking as talk
+use Rattle.world_history.specs.Turns as does
+use Rattle.world_history.specs.Worlds.{history}
+use Rattle.world_scripts.specs.Lines as l
+use Rattle.world_scripts.specs.Reading.{line_of}
+use Rattle.world_run.specs.Standing.{nodes_by}
+use Rattle.world_history.specs.Scripts.{call_now, call_or, judged}
+use Rattle.world_standing.proofs.LineLemmas.{conv_known, conv_unknown, fits, miss_fits, miss_unfit, unfit}
+use Rattle.world_run.proofs.RunLemmas.{done_as, find_gives, find_stops, line_judged, miss_done, open_found, take_stops, with_both}
+use Rattle.world_run.proofs.run.Run.miss.Goals as goal
+
+pub returns-in_err-found-clause-carried : goal.returns-in_err-found-clause-carried
+returns-in_err-found-clause-carried c = λ before left acts is h.
+    let p = err_from_is_err_and c.from_residual.result c.from_residual.ensures.1 in
+    rw (p.1, p.2) (find_stops c.args.conv.now c.args.self.now.talks c.in_err-found.field-0.0 left acts (Some (l.NoAnswer c.args.conv.now)) c.args.self.now c.in_err-found.ensures h.talks (conv_unknown acts (l.NoAnswer c.args.conv.now) c.args.conv.now refl))
+
+pub returns-in_default-clause-carried : goal.returns-in_default-clause-carried
+returns-in_default-clause-carried c = λ before left acts is h.
+    let o = find_gives c.args.conv.now c.args.self.now.talks c.in_ok-found.found acts c.in_ok-found.ensures h.talks in
+    let there = open_found acts c.args.conv.now c.in_ok-found.found.node c.in_ok-found.found.fid c.in_ok-found.found.call o in
+    conv_known acts (l.NoAnswer c.args.conv.now) c.args.conv.now refl there
+    ∙ unfit acts (a.Unanswered c.args.conv.now (call_now acts c.args.conv.now)) (miss_unfit acts c.args.conv.now (call_now acts c.args.conv.now) (o.asks ∙ search (rules, c.in_default)))
+
+pub returns-in_err-turned-clause-carried : goal.returns-in_err-turned-clause-carried
+returns-in_err-turned-clause-carried c = λ before left acts is h.
+    let p = err_from_is_err_and c.from_residual-in_err-turned.result c.from_residual-in_err-turned.ensures.1 in
+    let o = find_gives c.args.conv.now c.args.self.now.talks c.in_ok-found.found acts c.in_ok-found.ensures h.talks in
+    rw (p.1, p.2) (take_stops c.as_slice-node.result.now (does.misses c.args.conv.now c.in_ok-found.found.fid c.in-Some.call) c.args.self.now.nodes c.args.self.now.recorded c.in_err-turned.field-0.0 c.take.new.nodes (nodes_by acts) left acts (Some (l.NoAnswer c.args.conv.now)) (with_both c.args.self.now c.take.new.nodes c.args.self.now.talks) c.in_err-turned.ensures h.nodes (ap (a.is_node acts) c.as_slice-node.ensures ∙ o.made))
+
+pub returns-clause-carried : goal.returns-clause-carried
+returns-clause-carried c = λ before left acts is h.
+    let o = find_gives c.args.conv.now c.args.self.now.talks c.in_ok-found.found acts c.in_ok-found.ensures h.talks in
+    let there = open_found acts c.args.conv.now c.in_ok-found.found.node c.in_ok-found.found.fid c.in_ok-found.found.call o in
+    let call = o.asks ∙ c.in-Some.is in
+    let fit = conv_known acts (l.NoAnswer c.args.conv.now) c.args.conv.now refl there
+    ∙ (fits acts (a.Unanswered c.args.conv.now (call_now acts c.args.conv.now)) (miss_fits acts c.args.conv.now (call_now acts c.args.conv.now) c.in-Some.call call)
+    ∙ ap (λ number. Ok (a.Unanswered c.args.conv.now number)) (ap call_or call)) in
+    done_as left acts _ _ c.in_ok-turned.turned.steps.items _ is
+    (miss_done before left acts c.args.conv.now c.in_ok-found.found.node c.in_ok-found.found.fid c.in-Some.call c.in_ok-found.found.call c.args.self.now c.in_ok-turned.turned c.take.new.nodes c.set_call.new.self
+    (ap (judged acts) is ∙ fit) o h ((rw c.as_slice-node.ensures at c.in_ok-turned.ensures) (nodes_by acts) h.nodes o.made) c.set_call.ensures)

@@ -1,0 +1,5 @@
+pub mod Looking
+pub mod Playing
+pub mod Runs
+pub mod Serving
+pub mod Standing
