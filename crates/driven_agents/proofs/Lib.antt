@@ -1,0 +1,11 @@
+pub mod KeyFits
+pub mod EditGrows
+pub mod KeyLaws
+pub mod ToldLaws
+pub mod TakeLaws
+pub mod FrameKinds
+pub mod StillLaws
+pub mod QuietLaws
+pub mod WriteLaws
+pub mod NamesLaws
+pub mod AskLaws
