@@ -1,0 +1,13 @@
+pub mod NumberLaws
+pub mod StepLemmas
+pub mod PlayLaws
+pub mod DomainLaws
+pub mod SessionLaws
+pub mod SaidLemmas
+pub mod NamedStarts
+pub mod LeaveLemmas
+pub mod TurnLaws
+pub mod PlaceLemmas
+pub mod WordLaws
+pub mod ConversationLaws
+pub mod Legality

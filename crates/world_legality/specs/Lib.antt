@@ -1,0 +1,4 @@
+pub mod Conditions
+pub mod Settings
+pub mod Agents
+pub mod Statements

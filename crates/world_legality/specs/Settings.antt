@@ -1,0 +1,52 @@
+-- The setting of the record of a network: how each of its conversations started and what met its needs, read off the history
+-- of its agent, and what the lines of the authentication server's tables say.
+use Rattle.std.specs.Prelude.{ℕ, List, [], ◌∷◌, map, Option, Some, None, option_map, if◌then◌else◌}
+use Rattle.std.specs.Str.{bytes_eq}
+use Rattle.auth_tables.specs.Lines.{counted}
+use Rattle.auth_tables.specs.Keys.{keys_in}
+use Rattle.auth_tables.specs.Speaks.{SpeakLine, names_in, speaks_in}
+use Rattle.auth_server.specs.Standing.{Server}
+use Rattle.talks.specs.Standings.{Begun, Standing}
+use Rattle.agent_history.specs.Conversations.{opened_talks, standing_of}
+use Rattle.agent_history.specs.Histories.{deeds}
+use Rattle.wire_histories.specs.Conversations.{met_in}
+use Rattle.wire_histories.specs.Legal.{Setting, Spoken}
+use Rattle.world_history.specs.Acts.{Act, Opened, domain, key_lines, speak_lines}
+use Rattle.world_history.specs.Worlds.{history}
+
+-- ---- the authentication server
+
+-- each host of some lines, with all the names that they give it
+abbrev pub merged : List SpeakLine → List SpeakLine
+merged lines = map (λ line. (line.0, names_in lines line.0)) lines
+
+abbrev pub server_of : List Act → Server
+server_of acts = record { dom = domain acts; keys = keys_in (counted (key_lines acts)); speaks = merged (speaks_in (counted (speak_lines acts))) }
+
+-- ---- conversations
+
+-- the node of a conversation, and its number there
+pub record Place : Type 0 where
+  pub node : List ℕ
+  pub number : ℕ
+
+-- of a conversation of a name, closed or not
+abbrev pub place_of : List Act → List ℕ → Option Place
+place_of [] conv = None
+place_of (Opened node name ∷ before) conv = if bytes_eq name conv then Some (record { node = node; number = opened_talks (deeds (history before node)) }) else place_of before conv
+place_of (act ∷ before) conv = place_of before conv
+
+-- how it stands
+abbrev pub standing_at : List Act → Place → Standing
+standing_at acts place = standing_of (deeds (history acts place.node)) place.number
+
+-- what it was started with, and what met its needs
+abbrev pub spoken_by : List ℕ → Begun → Spoken
+spoken_by node b = record { node = node; start = b.start; met = met_in b.start b.moves }
+
+abbrev pub spoken_at : List Act → Option Place → Option Spoken
+spoken_at acts None = None
+spoken_at acts (Some place) = option_map (spoken_by place.node) (standing_at acts place).begun
+
+abbrev pub setting : List Act → Setting
+setting acts = record { spoken = λ name. spoken_at acts (place_of acts name); server = server_of acts }

@@ -1,0 +1,33 @@
+// Laws of every script, each the contract of a function that does nothing.
+ghost use Rattle.clean_runs.specs.Statements.{IsBridged, IsSecret};
+ghost use Rattle.clean_agreement.specs.Statements.{ClientsAreAnswered, ClientsAreHosts, ClientsMatch, EachByATicket, OneByAMatch, OneByAText, OneByATicket, OneUnderAGrant, ServersAgree};
+ghost use Rattle.world_promises.specs.Statements.{OfEveryCleanScript};
+
+/// Where the record of a script is clean it is a symbolic run, and each message that it gives is spelled by its label.
+pub fn scripts_are_symbolic_runs()
+    ensures { OfEveryCleanScript IsBridged }
+{}
+
+/// No uncompromised secret derives from what the network saw of it, at any place.
+pub fn scripts_keep_their_secrets()
+    ensures { OfEveryCleanScript IsSecret }
+{}
+
+/// A server whose holder isn't compromised accepts on the authentication server's word; where also none of the names that
+/// may speak for the user is compromised, a conversation of the user's client matches. A client accepts on a server's.
+pub fn servers_accept_by_grants()
+    ensures agree { OfEveryCleanScript (λ history z atoms l. ServersAgree history z l) }
+    ensures matched { OfEveryCleanScript (λ history z atoms l. ClientsMatch history z l) }
+    ensures answered { OfEveryCleanScript (λ history z atoms l. ClientsAreAnswered history z l) }
+    ensures hosted { OfEveryCleanScript (λ history z atoms l. ClientsAreHosts history z l) }
+{}
+
+/// Two acceptances by servers are by different tickets, under one key by different bytes; where their holders aren't
+/// compromised they are under different grants, and no conversation matches both.
+pub fn tickets_serve_once()
+    ensures by_a_ticket { OfEveryCleanScript (λ history z atoms l. EachByATicket history l) }
+    ensures by_one_ticket { OfEveryCleanScript (λ history z atoms l. OneByATicket history l) }
+    ensures by_one_text { OfEveryCleanScript (λ history z atoms l. OneByAText history atoms l) }
+    ensures under_one_grant { OfEveryCleanScript (λ history z atoms l. OneUnderAGrant history z l) }
+    ensures matched_by_one { OfEveryCleanScript (λ history z atoms l. OneByAMatch history z l) }
+{}
