@@ -27,7 +27,7 @@ number_of_gift atoms own role before choosing act label ms number k t (takes_non
 number_of_gift atoms own role before choosing act label ms number k t (asks_it b u row spells) is = absurd (cc)
 number_of_gift atoms own role before choosing act label ms number k t (hears_it b row) is = absurd (cc)
 number_of_gift atoms own role before choosing act label ms number k t hears_none is = absurd (cc)
-number_of_gift atoms own role before choosing act label ms number k t (accepts_it cuid suid field row) is = absurd (cc)
+number_of_gift atoms own role before choosing act label ms number k t (accepts_it cuid suid field says row) is = absurd (cc)
 number_of_gift atoms own role before choosing act label ms number k t (fails_so cause) is = absurd (cc)
 
 served_none : (session k : ℕ) (ds : List Deed) (t : Tree) → map (serves session) ds ≡ moves k (gives t) ∷ [] → ⊥

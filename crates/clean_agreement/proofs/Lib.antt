@@ -6,3 +6,4 @@ pub mod Agreeing
 pub mod Apart
 pub mod Clients
 pub mod Texts
+pub mod Users

@@ -58,7 +58,7 @@ act_holds atoms own role before choosing act label ms number (takes_none b) hold
 act_holds atoms own role before choosing act label ms number (asks_it b t row spells) holds = (tt, tt)
 act_holds atoms own role before choosing act label ms number (hears_it b row) holds = (holds b refl, tt)
 act_holds atoms own role before choosing act label ms number hears_none holds = tt
-act_holds atoms own role before choosing act label ms number (accepts_it cuid suid field row) holds = (tt, tt)
+act_holds atoms own role before choosing act label ms number (accepts_it cuid suid field says row) holds = (tt, tt)
 act_holds atoms own role before choosing act label ms number (fails_so cause) holds = (tt, tt)
 
 step_holds : (c : Case) (later past : History) (step : Step) → Kind step → c.history ≡ later ++ step ∷ past → AllHold (events_of (setting c) c.l past step)

@@ -1,5 +1,6 @@
 -- What the laws of agreement say of a labelled history of real bytes, each under a name.
 use Rattle.std.specs.Prelude.{◌≡◌, ℕ, List, Contains, false, Ok}
+use Rattle.symbolic_runs.specs.Forms.{name_text}
 use Rattle.term_trees.specs.Trees.{Tree, long_key}
 use Rattle.term_trees.specs.Spellings.{Atoms, bytes_of, spelling}
 use Rattle.symbolic_runs.specs.Secrets.{is_compromised, is_exposed}
@@ -16,6 +17,10 @@ IsTrue history z l name = is_compromised (setting_of z l history) name ≡ false
 -- the holder of a server that accepts isn't compromised
 abbrev pub IsTrueServer : (history : History) → Setting → Labelling → Acceptance history → Type 0
 IsTrueServer history z l a = IsTrue history z l (l.holder a.conv)
+
+-- what the step of an acceptance tells is the user whose field the server accepted
+abbrev pub ServersNameTheUser : History → Labelling → Type 0
+ServersNameTheUser history l = (a : Acceptance history) → name_text (user_of l a) ≡ a.suid
 
 -- none of the names that may speak for a user is compromised
 abbrev pub SpeakersAreTrue : History → Setting → Labelling → List ℕ → Type 0

@@ -1,12 +1,17 @@
 // Laws of clean histories, each the contract of a function that does nothing. specs/Statements.antt has what they say.
 ghost use Rattle.clean_runs.specs.Statements.{OfEveryCleanHistory};
-ghost use Rattle.clean_agreement.specs.Statements.{ClientsAreAnswered, ClientsAreHosts, ClientsMatch, EachByATicket, OneByAMatch, OneByAText, OneByATicket, OneUnderAGrant, ServersAgree};
+ghost use Rattle.clean_agreement.specs.Statements.{ClientsAreAnswered, ClientsAreHosts, ClientsMatch, EachByATicket, OneByAMatch, OneByAText, OneByATicket, OneUnderAGrant, ServersAgree, ServersNameTheUser};
 
 /// Server agreement: a server whose holder isn't compromised accepts on the authentication server's word alone. The grant
 /// was made before, for a request that named the holder; its ticket was sealed for this server, for the user accepted and
 /// for this conversation's own word.
 pub fn server_agreement()
     ensures { OfEveryCleanHistory (λ history z atoms l. ServersAgree history z l) }
+{}
+
+/// The step by which a server accepts tells the user whose name stands in the field that it accepted, whoever is compromised.
+pub fn acceptances_name_the_user()
+    ensures { OfEveryCleanHistory (λ history z atoms l. ServersNameTheUser history l) }
 {}
 
 /// The matching conversation: where also none of the names that may speak for the user is compromised, a conversation of

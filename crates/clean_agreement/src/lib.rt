@@ -4,5 +4,6 @@
 mod laws;
 
 pub use laws::{
-    client_agreement, different_grants, different_tickets, matching_conversation, server_agreement,
+    acceptances_name_the_user, client_agreement, different_grants, different_tickets,
+    matching_conversation, server_agreement,
 };

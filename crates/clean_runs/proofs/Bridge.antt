@@ -256,7 +256,7 @@ few_events atoms own role before choosing act label ms number (takes_none b) = o
 few_events atoms own role before choosing act label ms number (asks_it b t row spells) = omega arith
 few_events atoms own role before choosing act label ms number (hears_it b row) = omega arith
 few_events atoms own role before choosing act label ms number hears_none = omega arith
-few_events atoms own role before choosing act label ms number (accepts_it cuid suid field row) = omega arith
+few_events atoms own role before choosing act label ms number (accepts_it cuid suid field says row) = omega arith
 few_events atoms own role before choosing act label ms number (fails_so cause) = omega arith
 
 act_goes : (c : Case) (later past : History) (step : Step) (conv : List ℕ) (act : Act) → Does conv act step → c.history ≡ later ++ step ∷ past → GoesWell c past step

@@ -4,6 +4,8 @@ use Rattle.std.proofs.Common.{◌≡◌, ℕ, ◌<◌, List, [], ◌∷◌, ◌+
 use Rattle.term_trees.specs.Trees.{Tree, plain, nonce, long_key, password}
 use Rattle.term_trees.specs.Derivations.{Derives}
 use Rattle.term_trees.specs.Spellings.{Atoms, spelling}
+use Rattle.symbolic_agreement.specs.Agreement.{is_server}
+use Rattle.symbolic_runs.specs.Forms.{name_text}
 use Rattle.symbolic_runs.specs.Moves.{Role, Move, takes, hears, gives, asks, accepts, fails, Own, Row, breaks}
 use Rattle.symbolic_runs.specs.Runs.{Setting as Symbolic, Event, Run, moves, IsRun, then_talks, then_moves, known, moves_of, own_of, started as started_run, given as labels_given}
 use Rattle.wire_histories.specs.Histories.{Act, started, gave, took, asked, answered, unanswered, accepted, failed}
@@ -26,8 +28,24 @@ pub data Follows (atoms : Atoms) (own : Own) (role : Role) (before : List Move) 
   asks_it : {choosing : Bool} {label : Tree} (b : List ℕ) (t : Tree) → Row own role before (asks t) → spelling atoms t ≡ Ok b → Follows atoms own role before choosing (asked b) label (asks t ∷ [])
   hears_it : {choosing : Bool} {label : Tree} (b : List ℕ) → Row own role before (hears label) → Follows atoms own role before choosing (answered b) label (hears label ∷ [])
   hears_none : {choosing : Bool} {label : Tree} → Follows atoms own role before choosing unanswered label []
-  accepts_it : {choosing : Bool} {label : Tree} (cuid suid field : List ℕ) → Row own role before (accepts field) → Follows atoms own role before choosing (accepted cuid suid) label (accepts field ∷ [])
+  accepts_it : {choosing : Bool} {label : Tree} (cuid suid field : List ℕ) → (is_server role ≡ true → name_text field ≡ suid) → Row own role before (accepts field) → Follows atoms own role before choosing (accepted cuid suid) label (accepts field ∷ [])
   fails_so : {choosing : Bool} {label : Tree} (cause : List ℕ) → Follows atoms own role before choosing (failed cause) label (fails ∷ [])
+
+-- a server that accepts names the user whose field it accepts
+abbrev pub NamesUser : Role → Act → List Move → Type 0
+NamesUser role (accepted cuid suid) (accepts field ∷ []) = is_server role ≡ true → name_text field ≡ suid
+NamesUser role act ms = Unit {0}
+
+pub names_user : (atoms : Atoms) (own : Own) (role : Role) (before : List Move) (choosing : Bool) (act : Act) (label : Tree) (ms : List Move) → Follows atoms own role before choosing act label ms → NamesUser role act ms
+names_user atoms own role before choosing act label ms (chooses b none) = tt
+names_user atoms own role before choosing act label ms (gives_it b t row spells) = tt
+names_user atoms own role before choosing act label ms (takes_it b row) = tt
+names_user atoms own role before choosing act label ms (takes_none b) = tt
+names_user atoms own role before choosing act label ms (asks_it b t row spells) = tt
+names_user atoms own role before choosing act label ms (hears_it b row) = tt
+names_user atoms own role before choosing act label ms hears_none = tt
+names_user atoms own role before choosing act label ms (accepts_it cuid suid field says row) = says
+names_user atoms own role before choosing act label ms (fails_so cause) = tt
 
 -- the events of these moves
 abbrev pub events_with : ℕ → Bool → Act → List Move → List Event
@@ -42,7 +60,7 @@ run_on s atoms number run before choosing act label ms (takes_none b) is far don
 run_on s atoms number run before choosing act label ms (asks_it b t row spells) is far done derives = then_moves is far (subst (λ m. Row (own_of s number) (s.role number) m (asks t)) (sym done) row) tt
 run_on s atoms number run before choosing act label ms (hears_it b row) is far done derives = then_moves is far (subst (λ m. Row (own_of s number) (s.role number) m (hears label)) (sym done) row) (derives b refl)
 run_on s atoms number run before choosing act label ms hears_none is far done derives = is
-run_on s atoms number run before choosing act label ms (accepts_it cuid suid field row) is far done derives = then_moves is far (subst (λ m. Row (own_of s number) (s.role number) m (accepts field)) (sym done) row) tt
+run_on s atoms number run before choosing act label ms (accepts_it cuid suid field says row) is far done derives = then_moves is far (subst (λ m. Row (own_of s number) (s.role number) m (accepts field)) (sym done) row) tt
 run_on s atoms number run before choosing act label ms (fails_so cause) is far done derives = then_moves is far breaks tt
 
 -- what is given is spelled by its one label
@@ -54,7 +72,7 @@ spelled_on s atoms own role number before choosing act label ms (takes_none b) =
 spelled_on s atoms own role number before choosing act label ms (asks_it b t row spells) = record { label = t; one = refl; spells = spells }
 spelled_on s atoms own role number before choosing act label ms (hears_it b row) = tt
 spelled_on s atoms own role number before choosing act label ms hears_none = tt
-spelled_on s atoms own role number before choosing act label ms (accepts_it cuid suid field row) = tt
+spelled_on s atoms own role number before choosing act label ms (accepts_it cuid suid field says row) = tt
 spelled_on s atoms own role number before choosing act label ms (fails_so cause) = tt
 
 -- ---- one conversation

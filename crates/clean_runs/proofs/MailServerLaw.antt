@@ -620,8 +620,9 @@ followed_in start met act acts (it_accepts key secret a u r v t has vouched) ato
     let names = vouch_names atoms read.bytes number holder start.word key s.vouched u v t read.word read.eight of_key form s.holds s.shown vouched in
     let user = plain_bytes atoms s.user u s.form s.spells in
     let field = bytes (piece_of (opened s.vouched) 3) in
+    let suid : name_text field ≡ t.suid = ap (λ m. name_text (bytes (piece_of (opened m) 3))) form.is ∙ (names.1 ∙ sym vouched.suid) in
     as_follows atoms own (mail_server kind) before x (hears s.vouched ∷ questioned own kind q text s.answer s.user s.digits) false (accepted t.cuid t.suid) (accepts field ∷ []) s.moves s.choosing act_is refl
-    (accepts_it t.cuid t.suid field (accepts_row own kind (first_label own kind q) s.answer (piece_of s.answer 1) s.user s.digits s.vouched text s.form form (names.0 ∙ user) (names.1 ∙ user)))
+    (accepts_it t.cuid t.suid field (λ serves. suid) (accepts_row own kind (first_label own kind q) s.answer (piece_of s.answer 1) s.user s.digits s.vouched text s.form form (names.0 ∙ user) (names.1 ∙ user)))
 followed_in start met act acts (it_is_told key a u r v t more rest) atoms number holder read before x act_is acts_are clean no_start =
     let own = own_by number holder in
     let kind = kind_of (proto_of start.template) in

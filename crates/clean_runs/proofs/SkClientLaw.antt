@@ -581,7 +581,7 @@ followed_in outer ground g start met act acts (it_accepts r q key b t m cuid sui
     let Q = question start key q in
     let p = at_proven atoms start outer ground g own r q key b t m before acts_are clean.1 in
     let is : p.m ≡ server_message (piece_of (opened p.u) 4) own.word = subst (IsFormed atoms own client) p.moves (clean.0.formed (ap goes_on act_is)) in
-    as_follows atoms own client before a (takes p.m ∷ gives (handed_label p.u) ∷ hears p.u ∷ asks (question_of own p.t Q) ∷ takes p.t ∷ gives own.word ∷ []) false (accepted cuid suid) (accepts (bytes (piece_of (opened p.u) 3)) ∷ []) p.moves p.choosing act_is refl (accepts_it cuid suid (bytes (piece_of (opened p.u) 3)) (accepts_row atoms own p.t p.u p.m Q p.form is))
+    as_follows atoms own client before a (takes p.m ∷ gives (handed_label p.u) ∷ hears p.u ∷ asks (question_of own p.t Q) ∷ takes p.t ∷ gives own.word ∷ []) false (accepted cuid suid) (accepts (bytes (piece_of (opened p.u) 3)) ∷ []) p.moves p.choosing act_is refl (accepts_it cuid suid (bytes (piece_of (opened p.u) 3)) (λ serves. absurd (cc)) (accepts_row atoms own p.t p.u p.m Q p.form is))
 followed_in outer ground g start met act acts (it_is_told r q key b t m more rest) atoms number holder read before a act_is acts_are clean no_start =
     let own = own_by number holder in
     let p = ended_in atoms start outer ground g own r q key b t m acts rest before acts_are clean.1 in

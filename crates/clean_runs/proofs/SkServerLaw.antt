@@ -26,7 +26,7 @@ use Rattle.conv_set.specs.Protocols.{P9sk1, protocol_of}
 use Rattle.talks.specs.Lines.{cause_text}
 use Rattle.wire_model.specs.declared.step.Protocol.TheVariants as protocol
 use Rattle.wire_model.specs.declared.step.Role.TheVariants as part
-use Rattle.symbolic_runs.specs.Forms.{Fields, by_client, by_server, for_server, ticket_request, authenticator, pair, request, server_message, ticket}
+use Rattle.symbolic_runs.specs.Forms.{Fields, by_client, by_server, for_server, ticket_request, authenticator, name_text, pair, request, server_message, ticket}
 use Rattle.symbolic_runs.specs.Gifts.{bytes, next_gift, part as piece_of, shown as shown_in}
 use Rattle.symbolic_runs.specs.Moves.{Role, server, Move, takes, gives, accepts, fails, Own, Row, server_accepts, server_challenge, server_proof, server_request as server_request_row, server_ticket}
 use Rattle.symbolic_runs.proofs.GiftLaws.{computed}
@@ -38,7 +38,7 @@ use Rattle.clean_runs.specs.Runs.{acts_in, if_some, is_choosing, moves_by, moves
 use Rattle.clean_runs.specs.Forms.{IsFormed, IsShown}
 use Rattle.clean_runs.specs.Clean.{GivesBytes, HoldsBytes, ReadsMet, ReadsWord}
 use Rattle.clean_runs.proofs.Begun.{BeginsWith}
-use Rattle.clean_runs.proofs.Bytes.{authenticator_is, authenticator_spells, opened_key, proof_with, request_is_spelled, ticket_long, ticket_spells, ticket_with, tree_bytes}
+use Rattle.clean_runs.proofs.Bytes.{authenticator_is, authenticator_spells, opened_key, opened_names, proof_with, request_is_spelled, ticket_long, ticket_spells, ticket_with, tree_bytes}
 use Rattle.clean_runs.proofs.Follows.{CleanActs, Follows, IsFollowed, IsLawful, IsOrderlyTalk, accepts_it, as_follows, fails_so, gives_it, known_act, moves_next, own_by, role_in, takes_it, takes_none}
 use Rattle.clean_runs.proofs.Grounds.{Each, Found, Ground, begins_more, each_behind, sk_ground, told_begins, told_on, told_quiet}
 use Rattle.clean_runs.proofs.LeftLemmas.{above_all, acts_above, at}
@@ -63,7 +63,7 @@ pub data Next (start : Start) (ground : List Act) (met : List Call) : Act → Li
   it_asks : (key : SkKey) (theirs : List ℕ) → Found met key → Next start ground met (gave (server_request start key)) (took theirs ∷ ground)
   it_is_shown : (key : SkKey) (theirs b : List ℕ) → Next start ground met (took b) (asked_acts start ground key theirs)
   it_breaks : (key : SkKey) (theirs b cause : List ℕ) → Next start ground met (failed cause) (took b ∷ asked_acts start ground key theirs)
-  it_accepts : (key : SkKey) (theirs b cuid suid : List ℕ) → Next start ground met (accepted cuid suid) (took b ∷ asked_acts start ground key theirs)
+  it_accepts : (key : SkKey) (theirs b : List ℕ) (t : Ticket) → Found met key → ticket_under key (ticket_part b) ≡ Ok t → Next start ground met (accepted t.cuid t.suid) (took b ∷ asked_acts start ground key theirs)
   it_proves : (key : SkKey) (theirs b : List ℕ) (t : Ticket) → length theirs ≡ 8 → Found met key → ticket_under key (ticket_part b) ≡ Ok t → Next start ground met (gave (proof theirs t)) (accepted_acts start ground key theirs b t)
   it_is_told : {acts : List Act} (key : SkKey) (theirs b : List ℕ) (t : Ticket) (more : List ℕ) → Told (gave (proof theirs t) ∷ accepted_acts start ground key theirs b t) acts → Next start ground met (took more) acts
 
@@ -75,7 +75,7 @@ asked_next : (start : Start) (ground : List Act) (met : List Call) (Before : Act
 asked_next start ground met Before key theirs has stand = (inl (it_asks key theirs has), (inl (it_takes theirs), stand))
 
 told_next : (start : Start) (ground : List Act) (met : List Call) (Before : Act → List Act → Type 0) (key : SkKey) (theirs b : List ℕ) (t : Ticket) (acts : List Act) → length theirs ≡ 8 → Found met key → ticket_under key (ticket_part b) ≡ Ok t → Each (Comes start ground met Before) ground → Told (gave (proof theirs t) ∷ accepted_acts start ground key theirs b t) acts → Each (Comes start ground met Before) acts
-told_next start ground met Before key theirs b t acts eight has opens stand at_once = (inl (it_proves key theirs b t eight has opens), (inl (it_accepts key theirs b t.cuid t.suid), (inl (it_is_shown key theirs b), asked_next start ground met Before key theirs has stand)))
+told_next start ground met Before key theirs b t acts eight has opens stand at_once = (inl (it_proves key theirs b t eight has opens), (inl (it_accepts key theirs b t has opens), (inl (it_is_shown key theirs b), asked_next start ground met Before key theirs has stand)))
 told_next start ground met Before key theirs b t acts eight has opens stand (told {acts = earlier} more rest) = (inl (it_is_told key theirs b t more rest), told_next start ground met Before key theirs b t earlier eight has opens stand rest)
 
 abbrev Acts : Start → Act → List Call → List Act
@@ -94,7 +94,7 @@ all_next start first base met more Before talk stand met_is (keyed key secret he
 all_next start first base met more Before talk stand met_is (greeted key secret theirs eight here stood has) = subst (λ xs. Each (Comes start (first ∷ base) met Before) (xs ++ base)) (sym stood) (inl (it_takes theirs), stand)
 all_next start first base met more Before talk stand met_is (asking key secret theirs eight here stood has) = subst (λ xs. Each (Comes start (first ∷ base) met Before) (xs ++ base)) (sym stood) (asked_next start (first ∷ base) met Before key theirs (found_last start talk met more key secret met_is has) stand)
 all_next start first base met more Before talk stand met_is (broken key secret theirs b cause here stood has) = subst (λ xs. Each (Comes start (first ∷ base) met Before) (xs ++ base)) (sym stood) (inl (it_breaks key theirs b (cause_text cause)), (inl (it_is_shown key theirs b), asked_next start (first ∷ base) met Before key theirs (found_last start talk met more key secret met_is has) stand))
-all_next start first base met more Before talk stand met_is (accepting key secret theirs b t eight opens size here stood has) = subst (λ xs. Each (Comes start (first ∷ base) met Before) (xs ++ base)) (sym stood) (inl (it_accepts key theirs b t.cuid t.suid), (inl (it_is_shown key theirs b), asked_next start (first ∷ base) met Before key theirs (found_last start talk met more key secret met_is has) stand))
+all_next start first base met more Before talk stand met_is (accepting key secret theirs b t eight opens size here stood has) = subst (λ xs. Each (Comes start (first ∷ base) met Before) (xs ++ base)) (sym stood) (inl (it_accepts key theirs b t (found_last start talk met more key secret met_is has) opens), (inl (it_is_shown key theirs b), asked_next start (first ∷ base) met Before key theirs (found_last start talk met more key secret met_is has) stand))
 all_next start first base met more Before talk stand met_is (done key secret theirs b t eight opens size here stood has) = told_next start (first ∷ base) met Before key theirs b t (Acts start first talk ++ base) eight (found_last start talk met more key secret met_is has) opens stand (told_on base (gave (proof theirs t) ∷ accepted_acts start (first ∷ []) key theirs b t) (Acts start first talk) stood)
 
 -- ---- they begin with the start
@@ -107,7 +107,7 @@ begins_with outer start ground met act acts begun (it_takes theirs) = begins_mor
 begins_with outer start ground met act acts begun (it_asks key theirs has) = asked_begins outer start ground key theirs begun
 begins_with outer start ground met act acts begun (it_is_shown key theirs b) = (refl, asked_begins outer start ground key theirs begun)
 begins_with outer start ground met act acts begun (it_breaks key theirs b cause) = (refl, (refl, asked_begins outer start ground key theirs begun))
-begins_with outer start ground met act acts begun (it_accepts key theirs b cuid suid) = (refl, (refl, asked_begins outer start ground key theirs begun))
+begins_with outer start ground met act acts begun (it_accepts key theirs b t has opens) = (refl, (refl, asked_begins outer start ground key theirs begun))
 begins_with outer start ground met act acts begun (it_proves key theirs b t eight has opens) = (refl, (refl, (refl, asked_begins outer start ground key theirs begun)))
 begins_with outer start ground met act acts begun (it_is_told key theirs b t more rest) = begins_more outer (took more) acts refl (told_begins outer (gave (proof theirs t) ∷ accepted_acts start ground key theirs b t) acts (refl, (refl, (refl, asked_begins outer start ground key theirs begun))) rest)
 
@@ -264,6 +264,7 @@ pub record TicketKey (atoms : Atoms) (own : Own) (m : Tree) (form : IsShown own 
   pub spells : spelling atoms form.key ≡ Ok key
   pub seven : length key ≡ 7
   pub same : t.key.0 ≡ key
+  pub suid : name_text form.suid ≡ t.suid
 
 ticket_key_of : (atoms : Atoms) → GivesBytes atoms → (number : ℕ) (holder : List ℕ) (word : List ℕ) (key : SkKey) (m : Tree) (b : List ℕ) (t : Ticket) → bytes_of atoms (nonce number) ≡ Some word → length word ≡ 8 → bytes_of atoms (long_key holder) ≡ Some key.des.0 → (form : IsShown (own_by number holder) m) → HoldsBytes m → spelling atoms m ≡ Ok b → ticket_under key (ticket_part b) ≡ Ok t → TicketKey atoms (own_by number holder) m form t
 ticket_key_of atoms reads number holder word key m b t of_word eight of_key form holds spells opens =
@@ -293,6 +294,7 @@ ticket_key_of atoms reads number holder word key m b t of_word eight of_key form
       spells = s2.key_is;
       seven = s2.seven;
       same = opened_key 64 word form.cuid form.suid s2.key t eight form.names.client_whole form.names.server_whole s2.seven (ap ticket_of (sym undone) ∙ opens);
+      suid = (opened_names 64 word form.cuid form.suid s2.key t eight form.names.client_whole form.names.server_whole (ap ticket_of (sym undone) ∙ opens)).1;
     }
 
 proof_spells : (atoms : Atoms) → GivesBytes atoms → (number : ℕ) (holder : List ℕ) (word : List ℕ) (key : SkKey) (m y : Tree) (b theirs : List ℕ) (t : Ticket) → bytes_of atoms (nonce number) ≡ Some word → length word ≡ 8 → bytes_of atoms (long_key holder) ≡ Some key.des.0 → IsShown (own_by number holder) m → HoldsBytes m → spelling atoms m ≡ Ok b → ticket_under key (ticket_part b) ≡ Ok t → spelling atoms y ≡ Ok theirs → length theirs ≡ 8 → spelling atoms (server_message (piece_of (shown_in m) 4) y) ≡ Ok (proof theirs t)
@@ -336,12 +338,16 @@ followed_in outer ground g start met act acts (it_breaks key theirs b cause) ato
     let own = own_by number holder in
     let q = at_shown atoms start outer ground g own key theirs b before acts_are clean.1 in
     as_follows atoms own server before a (takes q.m ∷ gives (asked_label own (server_request start key)) ∷ takes q.t ∷ []) false (failed cause) (fails ∷ []) q.moves q.choosing act_is refl (fails_so cause)
-followed_in outer ground g start met act acts (it_accepts key theirs b cuid suid) atoms number holder read before a act_is acts_are clean no_start =
+followed_in outer ground g start met act acts (it_accepts key theirs b t has opens) atoms number holder read before a act_is acts_are clean no_start =
     let own = own_by number holder in
     let r = server_request start key in
     let q = at_shown atoms start outer ground g own key theirs b before acts_are clean.1 in
     let form : IsShown own q.m = subst (IsFormed atoms own server) q.moves (clean.0.formed (ap goes_on act_is)) in
-    as_follows atoms own server before a (takes q.m ∷ gives (asked_label own r) ∷ takes q.t ∷ []) false (accepted cuid suid) (accepts (bytes (piece_of (shown_in q.m) 3)) ∷ []) q.moves q.choosing act_is refl (accepts_it cuid suid (bytes (piece_of (shown_in q.m) 3)) (accepts_row own r q.t q.m form))
+    let of_key : ReadsMet atoms server holder (found key has.secret ∷ has.more) = subst (ReadsMet atoms server holder) has.is read.key in
+    let k = ticket_key_of atoms read.bytes number holder start.word key q.m b t read.word read.eight of_key form q.holds q.shown opens in
+    let field = bytes (piece_of (shown_in q.m) 3) in
+    let names : name_text field ≡ t.suid = ap (λ m. name_text (bytes (piece_of (shown_in m) 3))) form.is ∙ k.suid in
+    as_follows atoms own server before a (takes q.m ∷ gives (asked_label own r) ∷ takes q.t ∷ []) false (accepted t.cuid t.suid) (accepts field ∷ []) q.moves q.choosing act_is refl (accepts_it t.cuid t.suid field (λ serves. names) (accepts_row own r q.t q.m form))
 followed_in outer ground g start met act acts (it_proves key theirs b t eight has opens) atoms number holder read before a act_is acts_are clean no_start =
     let own = own_by number holder in
     let r = server_request start key in
