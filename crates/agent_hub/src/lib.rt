@@ -2,7 +2,7 @@
 //! connection's requests, its replies, and the questions for the authentication server. All that callers do is one history.
 #![tactic(auto)]
 
-mod bells;
+mod hub_bells;
 mod held;
 mod hub;
 mod laws;
