@@ -2,8 +2,8 @@
 ghost use Rattle.agent_core.specs.Events.{IsEvent};
 ghost use Rattle.agent_hub.specs.EventOnce.{event_once};
 
-use crate::hub_bells::HubBells;
 use crate::held::Held;
+use crate::hub_bells::HubBells;
 use agent_core::{Agent, Event, NO_NEWS, News, StepAnswer};
 use std::alloc::Global;
 use std::sync::Wait;

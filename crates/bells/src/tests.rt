@@ -6,7 +6,7 @@ use std::test::Fail;
 #[test]
 fn numbers_have_bells(rt: HostRuntime) -> Result<(), Fail> {
     let Some(bells) = Bells::new(rt.alloc(), 3) else {
-        return Err(Fail::new());
+        panic!(rt; "memory is short")
     };
     bells.of(5).ring();
     assert_eq!(rt; bells.of(1).count(), 1);
@@ -21,7 +21,7 @@ fn numbers_have_bells(rt: HostRuntime) -> Result<(), Fail> {
 #[test]
 fn nobody_sleeps_behind_a_ring(rt: HostRuntime) -> Result<(), Fail> {
     let Some(bells) = Bells::new(rt.alloc(), 0) else {
-        return Err(Fail::new());
+        panic!(rt; "memory is short")
     };
     let count = bells.of(0).count();
     bells.of(17).ring();
