@@ -1,6 +1,6 @@
 # make alone lists what can be made.
 .POSIX:
-.PHONY: help build demo test bench soak install uninstall clean
+.PHONY: help build demo attacks test bench soak install uninstall clean
 
 PREFIX = /usr/local
 DESTDIR =
@@ -8,6 +8,7 @@ DESTDIR =
 help:
 	@echo 'make build   proves the programs and leaves them as bin/factotum, bin/authd and bin/nine_show'
 	@echo 'make demo    runs a conversation and logins between two agents, without proofs, and shows each request and reply'
+	@echo 'make attacks plays the attacks of docs/WEAKNESSES.md, without proofs, and says what happened'
 	@echo 'make test    runs the gate: every proof, wrong body, test and program'
 	@echo 'make bench   measures it and its codec beside plain C programs, the server and the ciphers beside OpenSSL'
 	@echo 'make soak    ten minutes of mixed load on two agents: no wrong reply, no growth, no thread left'
@@ -30,6 +31,11 @@ demo:
 	@echo 'The programs are built without their proofs for this demonstration, about a minute each; make build proves them.'
 	@scripts/demo --unproved
 	@if command -v python3 >/dev/null 2>&1; then scripts/login --unproved; fi
+
+attacks:
+	@scripts/need rt
+	@echo 'The program is built without its proof for this, about two minutes; make build proves it.'
+	@scripts/attacks --unproved
 
 test:
 	@scripts/need rt git bash awk

@@ -11,7 +11,7 @@ from pathlib import Path
 from passwords import pass_to_key
 from sealing import seal
 
-ANN, BOB, SRV = (pass_to_key(password) for password in (b"annpass", b"bobpass", b"srvpass"))
+ANN, BOB, SRV, OTH = (pass_to_key(password) for password in (b"annpass", b"bobpass", b"srvpass", b"othpass"))
 TREQ, OK, COUNTED, APOP = 1, 4, 9, 7
 TO_SERVER, TO_CLIENT, BY_SERVER, BY_CLIENT = 64, 65, 66, 67
 NO_WORD = bytes(8)
@@ -21,8 +21,8 @@ def field(name: bytes, size: int) -> bytes:
     return name.ljust(size, b"\0")
 
 
-def request(kind: int, chal: bytes, host: bytes = b"", user: bytes = b"") -> bytes:
-    return bytes([kind]) + field(b"srv", 28) + field(b"x", 48) + chal + field(host, 28) + field(user, 28)
+def request(kind: int, chal: bytes, host: bytes = b"", user: bytes = b"", server: bytes = b"srv", dom: bytes = b"x") -> bytes:
+    return bytes([kind]) + field(server, 28) + field(dom, 48) + chal + field(host, 28) + field(user, 28)
 
 
 def ticket(key: bytes, kind: int, chal: bytes, user: bytes, shared: bytes) -> bytes:
@@ -48,15 +48,21 @@ class Record:
         self.messages += 1
         return message
 
-    def login(self, client: str, server: str, words: tuple[bytes, bytes], drawn: list[bytes]) -> None:
-        """p9sk1 from its first message to both acceptances, of ann at srv."""
+    def login(self, client: str, server: str, words: tuple[bytes, bytes], drawn: list[bytes], dom: bytes = b"x") -> None:
+        """p9sk1 from its first message to both acceptances, of ann at srv in a domain."""
         mine, theirs = words
-        shared = drawn[0][:7]
         self.put("in", server, self.give("out", client, mine))
-        self.put("in", client, self.give("out", server, request(TREQ, theirs)))
-        asked = self.give("ask", client, request(TREQ, theirs, b"ann", b"ann"))
+        self.put("in", client, self.give("out", server, request(TREQ, theirs, dom=dom)))
+        self.granted(client, server, words, drawn, (b"srv", SRV), dom)
+
+    def granted(self, client: str, server: str, words: tuple[bytes, bytes], drawn: list[bytes], at: tuple[bytes, bytes], dom: bytes = b"x") -> None:
+        """The same from the client's question on, at a server of a name and a key."""
+        mine, theirs = words
+        name, key = at
+        shared = drawn[0][:7]
+        asked = self.give("ask", client, request(TREQ, theirs, b"ann", b"ann", name, dom))
         self.put("asgot", "r", asked, *drawn)
-        grant = bytes([OK]) + ticket(ANN, TO_CLIENT, theirs, b"ann", shared) + ticket(SRV, TO_SERVER, theirs, b"ann", shared)
+        grant = bytes([OK]) + ticket(ANN, TO_CLIENT, theirs, b"ann", shared) + ticket(key, TO_SERVER, theirs, b"ann", shared)
         self.put("heard", client, self.give("asgave", "r", grant))
         self.put("in", server, self.give("out", client, grant[73:] + proof(BY_CLIENT, theirs, shared)))
         self.put("accept", server, "ann", "ann")
@@ -144,11 +150,51 @@ def mail_login_for_another() -> Record:
     return record
 
 
+def turned_client() -> Record:
+    record = Record()
+    mine, theirs, others = words(1, 3)
+    record.put("start", "c", "p9sk1", "client", mine)
+    record.put("start", "s", "p9sk1", "server", theirs)
+    record.put("start", "o", "p9sk1", "server", others)
+    record.put("in", "s", record.give("out", "c", mine))
+    record.give("out", "s", request(TREQ, theirs))
+    record.put("in", "o", mine)
+    record.put("in", "c", record.give("out", "o", request(TREQ, others, server=b"oth")))
+    record.granted("c", "o", (mine, others), words(4, 3), (b"oth", OTH))
+    record.put("reply", "s", "phase awaits write")
+    return record
+
+
+def offer_taken_away() -> Record:
+    record = Record()
+    mine, theirs = words(1, 2)
+    record.put("start", "c", "p9any", "client", mine)
+    record.put("start", "s", "p9any", "server", theirs)
+    record.give("out", "s", b"p9sk1@x p9sk1@y\0")
+    record.put("in", "c", b"p9sk1@y\0")
+    record.put("in", "s", record.give("out", "c", b"p9sk1 y\0"))
+    record.login("c", "s", (mine, theirs), words(4, 3), b"y")
+    return record
+
+
+def guessed_password() -> Record:
+    record = Record()
+    chal, = words(2, 1)
+    drawn = words(4, 3)
+    shared = drawn[0][:7]
+    record.put("asgot", "r", request(TREQ, chal, b"ann", b"ann"), *drawn)
+    record.give("asgave", "r", bytes([OK]) + ticket(ANN, TO_CLIENT, chal, b"ann", shared) + ticket(SRV, TO_SERVER, chal, b"ann", shared))
+    return record
+
+
 RECORDS = {
     "mail_client": mail_client,
     "negotiated_login": negotiated_login,
     "one_ticket_for_two": one_ticket_for_two,
     "mail_login_for_another": mail_login_for_another,
+    "turned_client": turned_client,
+    "offer_taken_away": offer_taken_away,
+    "guessed_password": guessed_password,
 }
 
 

@@ -48,7 +48,7 @@ digit_small i = elim (cases_Bool (nat_lt i 16)) [
         let parts = and_parts (nat_lt b 256) (list_all (λ b. nat_lt b 256) text) is in
         All-cons (λ n. n < 256) b text (ltb-true b 256 parts.0) (small text parts.1)
 
-digits_small : (b : List ℕ) → AreBytes (encode_with lower_digits b)
+pub digits_small : (b : List ℕ) → AreBytes (encode_with lower_digits b)
 unfolding encode_with
 digits_small [] = All-nil (λ n. n < 256)
 digits_small (b ∷ rest) = All-cons (λ n. n < 256) (slice_index lower_digits (b / 16)) (slice_index lower_digits (b % 16) ∷ encode_with lower_digits rest) (digit_small (b / 16)) (All-cons (λ n. n < 256) (slice_index lower_digits (b % 16)) (encode_with lower_digits rest) (digit_small (b % 16)) (digits_small rest))

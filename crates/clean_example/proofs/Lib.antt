@@ -1,0 +1,6 @@
+mod Readings
+mod Places
+mod Taken
+mod Forms
+mod LoginLaw
+mod WordLaw
