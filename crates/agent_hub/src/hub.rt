@@ -2,8 +2,8 @@
 ghost use Rattle.agent_core.specs.Events.{IsEvent};
 ghost use Rattle.agent_hub.specs.EventOnce.{event_once};
 
-use crate::bells::Bells;
 use crate::held::Held;
+use crate::hub_bells::HubBells;
 use agent_core::{Agent, Event, NO_NEWS, News, StepAnswer};
 use std::alloc::Global;
 use std::sync::Wait;
@@ -50,7 +50,7 @@ impl<'a> TurnCall<Held> for Submit<'a> {
 #[derive(Drop)]
 pub struct Hub {
     lock: TurnLock<Held>,
-    pub(crate) bells: Bells,
+    pub(crate) bells: HubBells,
 }
 
 impl Hub {
@@ -67,7 +67,7 @@ impl Hub {
         ensures front { IfOk result (λ made. front made.1 ≡ []) }
         ensures number { IfOk result (λ made. numbers made.1 ≡ 0 ∷ []) }
     {
-        let bells = Bells::new(alloc)?;
+        let bells = HubBells::new(alloc)?;
         match TurnLock::new(alloc, Held { agent }) {
             Ok((lock, seat)) => {
                 let hub = Hub { lock, bells };

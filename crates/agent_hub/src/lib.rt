@@ -2,9 +2,9 @@
 //! connection's requests, its replies, and the questions for the authentication server. All that callers do is one history.
 #![tactic(auto)]
 
-mod bells;
 mod held;
 mod hub;
+mod hub_bells;
 mod laws;
 mod questions;
 mod replies;

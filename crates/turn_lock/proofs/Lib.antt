@@ -2,4 +2,5 @@ mod FrontLaws
 mod Changes
 mod RuleKept
 mod SeatFacts
+mod CountFacts
 mod RuleTells

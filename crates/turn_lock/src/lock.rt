@@ -4,6 +4,7 @@ ghost use Rattle.std.specs.Prelude.{◌≡◌};
 use crate::logged::Logged;
 use crate::views::{Turns, View};
 use atomic_table::Table;
+use bells::Bells;
 use std::alloc::Global;
 
 /// A caller's place at a lock. It has no bytes. Contracts see in it the front of the history that the caller has seen,
@@ -15,6 +16,9 @@ pub(crate) const DRAWN: usize = 0;
 
 pub(crate) const GIVEN: usize = 1;
 
+// How many bells there are besides the first, by which those that wait for their turn are woken.
+pub(crate) const MORE_BELLS: u32 = 63;
+
 // The one slot, with the value.
 pub(crate) const VALUE: usize = 0;
 
@@ -22,5 +26,7 @@ pub(crate) const VALUE: usize = 0;
 #[derive(Drop)]
 pub struct TurnLock<S: Logged> {
     pub(crate) table: Table<Option<S>, View<S::Event>, (), Turns<S>, Global>,
+    // The holder of a ticket sleeps by the bell of its number.
+    pub(crate) bells: Bells,
     ghost sized: { (table.shared.table_id.words ≡ 2) × (table.shared.table_id.slots ≡ 1) },
 }

@@ -2,10 +2,11 @@
 ghost use Rattle.std.specs.Prelude.{◌≡◌, [], ◌∷◌, IfOk, IfErr};
 ghost use Rattle.turn_lock.specs.Seats.{front, numbers, IsSeatOf, Parted, Joined};
 
-use crate::lock::{DRAWN, Seat, TurnLock};
+use crate::lock::{DRAWN, MORE_BELLS, Seat, TurnLock};
 use crate::logged::Logged;
 use crate::plays::{Cut, Enter, Settle, Tell, Weigh};
 use atomic_table::{Refused, Table};
+use bells::Bells;
 use std::alloc::{AllocFailed, Global};
 
 impl<S: Logged> TurnLock<S> {
@@ -17,13 +18,16 @@ impl<S: Logged> TurnLock<S> {
         ensures number { IfOk result (λ made. numbers made.1 ≡ 0 ∷ []) }
         ensures err { IfErr result (λ back. back ≡ state) }
     {
+        let Some(bells) = Bells::new(alloc, MORE_BELLS) else {
+            return Err(state);
+        };
         let mut slots = Vec::new(alloc);
         if let Err(AllocFailed { value }) = slots.push(Some(state)) {
             slots.destroy_empty();
             return Err(value.unwrap());
         }
         match Table::new(alloc, &[0, 0], slots, &()) {
-            Ok((table, seat)) => Ok((TurnLock { table }, seat)),
+            Ok((table, seat)) => Ok((TurnLock { table, bells }, seat)),
             Err(Refused { mut slots }) => {
                 let state = slots.pop().unwrap().unwrap();
                 slots.destroy_empty();

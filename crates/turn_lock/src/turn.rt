@@ -42,14 +42,14 @@ impl<S: Logged> TurnLock<S> {
         ensures same { IsSame seat.old seat.new }
         ensures took { Took S.stands ticket seat.old.me seat.new.me }
     {
+        let bell = self.bells.of(ticket);
         for _ in rt.forever() {
+            let count = bell.count();
             let given = self.table.shared.load::<Look>(seat, GIVEN);
             if given == ticket {
                 return;
             }
-            self.table
-                .shared
-                .park(rt, GIVEN, (given % (1 << 32)) as u32);
+            bell.sleep(rt, count);
         }
         unreachable!()
     }
@@ -71,12 +71,9 @@ impl<S: Logged> TurnLock<S> {
         reply
     }
 
-    // Gives the turn back, with the entry of the event that the call made, and wakes those that wait, if there may be
-    // any: each waits for another number.
-    //
-    // Nobody is woken where no later ticket is seen drawn. All steps on both words stand in one order. Who draws behind
-    // that look looks for his turn behind his draw, and so behind the step that gave this one back: where he finds
-    // another number he parks only while that still stands, and it changes by the turns of those before him.
+    // Gives the turn back, with the entry of the event that the call made, and wakes the one whose ticket is served now, if
+    // he sleeps. He who looks for his turn before it is given back has read his bell before that, and doesn't sleep once it
+    // was rung.
     fn give_back<N: Made<S::Event>, C: TurnCall<S>>(
         &self,
         seat: &mut Seat<S>,
@@ -93,9 +90,7 @@ impl<S: Logged> TurnLock<S> {
             ≡ (after_turn seat.old.me.0 (C.entry _before.now.value _reply.now), []) }
     {
         let given = self.table.shared.fetch_add::<Give<N>>(seat, GIVEN, 1);
-        if self.table.shared.peek(DRAWN) != given.wrapping_add(1) {
-            self.table.shared.wake_all(GIVEN);
-        }
+        self.bells.of(given.wrapping_add(1)).ring();
     }
 
     /// One turn: waits until the seat's ticket is served, and then runs the call on the value. May wait for ever.

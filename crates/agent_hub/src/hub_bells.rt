@@ -1,0 +1,52 @@
+// What wakes the loops that wait. Bells carry no claim: a loop looks at the agent for itself once it is awake.
+use agent_core::{Event, News, SettledFor};
+use bells::{Bell, Bells};
+use std::alloc::Global;
+use wire_base::NoMemory;
+
+/// How many bells there are besides the first for the replies of connections.
+const MORE_BELLS: u32 = 255;
+
+/// The bells of a hub.
+#[derive(Drop)]
+pub(crate) struct HubBells {
+    // Each is rung when there may be new replies on a connection of its number, or the end of one.
+    replies: Bells,
+    /// It is rung when there may be something new to ask the authentication server, or to give up there.
+    pub(crate) questions: Bell,
+}
+
+impl HubBells {
+    pub(crate) fn new(alloc: Global) -> Result<HubBells, NoMemory> {
+        let Some(replies) = Bells::new(alloc, MORE_BELLS) else {
+            return Err(NoMemory);
+        };
+        Ok(HubBells {
+            replies,
+            questions: Bell::new(),
+        })
+    }
+
+    /// The bell of a connection.
+    pub(crate) fn of(&self, conn: u64) -> &Bell {
+        self.replies.of(conn)
+    }
+
+    /// Rings for an event that was submitted, and for what is new behind it: on the connection whose event it was, on those
+    /// whose reads were settled, on all where the agent stopped, and for what is due to be asked.
+    pub(crate) fn ring_for(&self, event: &Event, news: News) {
+        match event {
+            Event::Request { conn, .. } => self.of(*conn).ring(),
+            Event::Hang { conn } => self.of(*conn).ring(),
+            _ => {}
+        }
+        match news.settled {
+            SettledFor::Nobody => {}
+            SettledFor::One(conn) => self.of(conn).ring(),
+            SettledFor::Several => self.replies.ring_all(),
+        }
+        if news.asks {
+            self.questions.ring();
+        }
+    }
+}
