@@ -6,3 +6,5 @@ pub mod HandedLaws
 pub mod IdleLaws
 pub mod StillLaws
 pub mod LeftLaws
+pub mod AlikeLaws
+pub mod WritesLaws
