@@ -8,3 +8,7 @@ pub mod StillLaws
 pub mod LeftLaws
 pub mod AlikeLaws
 pub mod WritesLaws
+pub mod FoundLemmas
+pub mod SeatLaws
+pub mod UnsettledLaws
+pub mod ExactLaws

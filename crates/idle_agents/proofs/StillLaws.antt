@@ -40,7 +40,7 @@ settled_all p same tag body (w ∷ ws) = by_tag (eqb w.tag tag) (settled_all p s
     by_tag true more = ap (λ b. b && list_all p ws) (same body w)
     by_tag false more = ap (λ b. p w && b) more
 
-pub kept_all : (p keep : Wait → Bool) (ws : List Wait) → list_all p ws ≡ true → list_all p (filter keep ws) ≡ true
+pub kept_all : {X : Type 0} (p keep : X → Bool) (ws : List X) → list_all p ws ≡ true → list_all p (filter keep ws) ≡ true
 kept_all p keep [] all = refl
 kept_all p keep (w ∷ ws) all = let parts = and_parts (p w) (list_all p ws) all in by_kept (keep w) parts.0 (kept_all p keep ws parts.1)
   where
