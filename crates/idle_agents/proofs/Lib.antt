@@ -12,3 +12,5 @@ pub mod FoundLemmas
 pub mod SeatLaws
 pub mod UnsettledLaws
 pub mod ExactLaws
+pub mod ClunkLaws
+pub mod ClosesLaws
