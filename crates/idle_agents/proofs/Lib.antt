@@ -14,3 +14,4 @@ pub mod UnsettledLaws
 pub mod ExactLaws
 pub mod ClunkLaws
 pub mod ClosesLaws
+pub mod GrantLaws
