@@ -15,3 +15,6 @@ pub mod ExactLaws
 pub mod ClunkLaws
 pub mod ClosesLaws
 pub mod GrantLaws
+pub mod WalkLaws
+pub mod OpensLaws
+pub mod NewLaws
