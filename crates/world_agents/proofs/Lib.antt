@@ -2,4 +2,5 @@ pub mod RunLemmas
 pub mod FidLemmas
 pub mod TalkLemmas
 pub mod TurnFacts
+pub mod KnownLaws
 pub mod StepLaws
