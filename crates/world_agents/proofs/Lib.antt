@@ -4,3 +4,6 @@ pub mod TalkLemmas
 pub mod TurnFacts
 pub mod KnownLaws
 pub mod StepLaws
+pub mod OpenedLaws
+pub mod MadeLaws
+pub mod ActLaws
