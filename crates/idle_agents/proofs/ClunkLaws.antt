@@ -25,11 +25,11 @@ use Rattle.idle_agents.proofs.UnsettledLaws.{given_up_bare, none_given, none_set
 
 -- ---- questions to users
 
-withdrawn_keeps : (P : List Deed → Type 0) → ((kind : PromptKind) (conv : ℕ) (done : List Deed) → P done → P (OfPrompts kind (side.Withdrawn conv) ∷ done)) → (convs : List ℕ) (done : List Deed) → P done → P (all_withdrawn convs done)
+pub withdrawn_keeps : (P : List Deed → Type 0) → ((kind : PromptKind) (conv : ℕ) (done : List Deed) → P done → P (OfPrompts kind (side.Withdrawn conv) ∷ done)) → (convs : List ℕ) (done : List Deed) → P done → P (all_withdrawn convs done)
 withdrawn_keeps P keep [] done p = p
 withdrawn_keeps P keep (conv ∷ convs) done p = withdrawn_keeps P keep convs (OfPrompts k.Needkey (side.Withdrawn conv) ∷ OfPrompts k.Confirm (side.Withdrawn conv) ∷ done) (keep k.Needkey conv (OfPrompts k.Confirm (side.Withdrawn conv) ∷ done) (keep k.Confirm conv done p))
 
-abbrev NobodyAsked : List Deed → Type 0
+abbrev pub NobodyAsked : List Deed → Type 0
 NobodyAsked done = (kind : PromptKind) → NoneAsked (prompt_calls done kind)
 
 closed_none : (kind : PromptKind) (done : List Deed) → askers done kind ≡ [] → closed kind done ≡ done
@@ -43,7 +43,7 @@ closed_none kind done none = ap (λ convs. cond (is_some (holder_of done (file_o
 abbrev pub gone_by : ℕ → List Deed → List Deed
 gone_by fid done = all_withdrawn (ended_by (OfFids 0 (Clunked fid)) done) done
 
-clunk_is : (call : Call) (fid : ℕ) (done : List Deed) → call.conn ≡ 0 → NobodyAsked done → after done call (t.Clunk fid) ≡ OfFids 0 (Clunked fid) ∷ gone_by fid done
+pub clunk_is : (call : Call) (fid : ℕ) (done : List Deed) → call.conn ≡ 0 → NobodyAsked done → after done call (t.Clunk fid) ≡ OfFids 0 (Clunked fid) ∷ gone_by fid done
 unfolding after
 clunk_is call fid done on quiet =
     let deed = OfFids 0 (Clunked fid) in

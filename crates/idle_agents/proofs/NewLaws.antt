@@ -55,10 +55,10 @@ granted_is done call asked tag fits within is =
 
 -- ---- the version
 
-abbrev version_asked : TMsg
+abbrev pub version_asked : TMsg
 version_asked = record { tag = 65535; body = t.Version 8216 (codes "9P2000") }
 
-abbrev first_deeds : List Deed
+abbrev pub first_deeds : List Deed
 first_deeds = OfFids 0 (Versioned (Some 8216)) ∷ OfConnection 0 Entered ∷ []
 
 agrees_does : after_frame (OfConnection 0 Entered ∷ []) (call_of 0 (t_frame version_asked) no_word) (t_frame version_asked) ≡ first_deeds
@@ -97,12 +97,18 @@ fresh_replied : (call : Call) (o : Option RBody) → IsFresh (swept (replied cal
 fresh_replied call None = first_fresh
 fresh_replied call (Some body) = record { names = refl; entered = refl; there = refl; msize = refl; nobody = refl; free = refl; held = refl; waiting = refl; settled = refl; talks = λ conv. refl }
 
+abbrev pub version_call : Call
+version_call = call_of 0 (t_frame version_asked) no_word
+
+-- its reply, which isn't looked at
+abbrev pub version_reply : Option RBody
+version_reply = body_to (OfConnection 0 Entered ∷ []) version_call (t_frame version_asked)
+
+pub agreed_deeds : Runs (agrees ∷ []) → deeds (agrees ∷ []) ≡ swept (replied version_call version_reply first_deeds)
+agreed_deeds runs = (going agrees [] runs).now ∙ ap (λ d. swept (replied version_call version_reply d)) agrees_does
+
 agreed_fresh : Runs (agrees ∷ []) → IsFresh (deeds (agrees ∷ []))
-agreed_fresh runs =
-    let frame = t_frame version_asked in
-    let call = call_of 0 frame no_word in
-    let before = OfConnection 0 Entered ∷ [] in
-    subst IsFresh (sym ((going agrees [] runs).now ∙ ap (λ d. swept (replied call (body_to before call frame) d)) agrees_does)) (fresh_replied call (body_to before call frame))
+agreed_fresh runs = subst IsFresh (sym (agreed_deeds runs)) (fresh_replied version_call version_reply)
 
 -- ---- the root
 

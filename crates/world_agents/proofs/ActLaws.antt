@@ -1,15 +1,14 @@
 -- Each act does to the conversations of its node what a turn does, and keeps what is known of all of them.
-use Rattle.std.proofs.Common.{◌≡◌, ℕ, ◌≤◌, List, [], ◌∷◌, length, Bool, true, false, cond, eqb, not, ◌||◌, Option, Some, None, refl, sym, ap, subst, ◌∙◌}
+use Rattle.std.proofs.Common.{◌≡◌, ℕ, ◌≤◌, List, [], ◌∷◌, Bool, true, false, cond, eqb, not, ◌||◌, Option, Some, None, refl, sym, ap, subst, ◌∙◌}
 use Rattle.std.specs.Prelude.{is_some}
 use Rattle.std.specs.Str.{bytes_eq}
 use Rattle.std.proofs.lemmas.Bool.{or_parts}
-use Rattle.ticket_codec.specs.Fitting.{IsBlock}
 use Rattle.talks.specs.Standings.{Begun}
 use Rattle.agent_history.specs.Conversations.{asker, conv_of}
 use Rattle.agent_history.specs.Histories.{History, deeds}
 use Rattle.world_history.specs.Acts.{Act, Talk, Domain, KeyLine, SpeakLine, Made, Told, Opened, Started, Got, Given, Answered, Unanswered, Asked, Closed, talk_of}
 use Rattle.world_history.specs.Scripts.{call_now, call_or, is_unfit}
-use Rattle.world_history.specs.Talking.{Asks, gets, gives, starts, word_of}
+use Rattle.world_history.specs.Talking.{Asks, gets, gives, starts}
 use Rattle.world_history.specs.Turns.{Turn, after, asks, closes, hears, misses}
 use Rattle.world_history.specs.Worlds.{done_by, history, history_by, on_talk, outstanding}
 use Rattle.recorded_talks.specs.Begun.{BegunWith}
@@ -76,10 +75,10 @@ worded : (begun : Option Begun) → BegunWith Word begun → BegunWith IsWorded 
 worded None so = tt
 worded (Some b) so = so.whole
 
-asked_driven : Driven → (before : List Act) (act : Act) (conv : List ℕ) (what : Asks) → length (word_of what) ≡ 8 → AreDone before → AgentsDo before → IsDriven before act conv (λ fid. asks conv fid what) no_fid no_fid
-asked_driven d before act conv what short done does t place o idle seat runs =
+asked_driven : Driven → (before : List Act) (act : Act) (conv : List ℕ) (what : Asks) → AreDone before → AgentsDo before → IsDriven before act conv (λ fid. asks conv fid what) no_fid no_fid
+asked_driven d before act conv what done does t place o idle seat runs =
     let begun = worded (begun_in (history before t.node) place.number) (subst (λ n. BegunWith Word (begun_in (history before n) place.number)) o.node (words_so before done does conv place o.at)) in
-    request_so d conv what t.fid place.number (history before t.node) short begun idle seat runs
+    request_so d conv what t.fid place.number (history before t.node) begun idle seat runs
 
 -- ---- answers
 
@@ -126,15 +125,15 @@ act_goes d before (Opened node conv) done run k does = record { known = opened_k
 act_goes d before (Started conv word tuple) done run k does =
     goes_on before (Started conv word tuple) conv (λ fid. asks conv fid (starts word tuple)) no_fid no_fid
     (record { does = refl; goes = λ n. refl; calls = λ n. refl; stands = λ n. refl; nodes = λ n. refl; of_conv = λ f. refl; talks = λ n t is. is; stays = λ t is. refl; ends_own = λ n m apart. refl; gone_own = λ f g apart. refl })
-    done.1 run k (asked_driven d before (Started conv word tuple) conv (starts word tuple) done.0.spelled.whole done.1 does)
+    done.1 run k (asked_driven d before (Started conv word tuple) conv (starts word tuple) done.1 does)
 act_goes d before (Got conv) done run k does =
     goes_on before (Got conv) conv (λ fid. asks conv fid gets) no_fid no_fid
     (record { does = refl; goes = λ n. refl; calls = λ n. refl; stands = λ n. refl; nodes = λ n. refl; of_conv = λ f. refl; talks = λ n t is. is; stays = λ t is. refl; ends_own = λ n m apart. refl; gone_own = λ f g apart. refl })
-    done.1 run k (asked_driven d before (Got conv) conv gets refl done.1 does)
+    done.1 run k (asked_driven d before (Got conv) conv gets done.1 does)
 act_goes d before (Given conv bytes) done run k does =
     goes_on before (Given conv bytes) conv (λ fid. asks conv fid (gives bytes)) no_fid no_fid
     (record { does = refl; goes = λ n. refl; calls = λ n. refl; stands = λ n. refl; nodes = λ n. refl; of_conv = λ f. refl; talks = λ n t is. is; stays = λ t is. refl; ends_own = λ n m apart. refl; gone_own = λ f g apart. refl })
-    done.1 run k (asked_driven d before (Given conv bytes) conv (gives bytes) refl done.1 does)
+    done.1 run k (asked_driven d before (Given conv bytes) conv (gives bytes) done.1 does)
 act_goes d before (Answered conv bytes call) done run k does =
     goes_on before (Answered conv bytes call) conv (λ fid. hears conv fid call bytes) its_own no_fid
     (record { does = refl; goes = λ n. refl; calls = λ n. refl; stands = λ n. refl; nodes = λ n. refl; of_conv = λ f. refl; talks = λ n t is. is; stays = λ t is. refl; ends_own = λ n m apart. apart; gone_own = λ f g apart. refl })

@@ -90,13 +90,11 @@ filter_few p (s ∷ ss) = by_test (p s) (filter_few p ss)
     by_test false more = omega arith
 
 -- a deed of a fid may give up one of each conversation
-pub fid_adds : (n at : ℕ) (deed : FidDeed) (done : List Deed) → NamesNoLines (OfFids at deed ∷ done) → length (speakers done) ≤ 256 → AtMost n done → AtMost (n + 256) (OfFids at deed ∷ done)
-fid_adds n at deed done named few a =
+pub fid_adds : (n at : ℕ) (deed : FidDeed) (done : List Deed) → length (speakers done) ≤ 256 → left_to_hand done ≤ n → left_to_hand (OfFids at deed ∷ done) ≤ n + 256
+fid_adds n at deed done few left =
     let ss = filter (λ s. gives_up (OfFids at deed) done s.conv) (speakers done) in
-    record {
-      names = named;
-      few = omega (arith, a.few, kept_few (λ q. list_any (λ s. eqb s.conv q.conv) (speakers (OfFids at deed ∷ done))) (questions done), length-append (drops done) (given_up (OfFids at deed) done (speakers done)), length-map ss (λ s. drop_of done s.conv), filter_few (λ s. gives_up (OfFids at deed) done s.conv) (speakers done), few);
-    }
+    let kept = kept_few (λ q. list_any (λ s. eqb s.conv q.conv) (speakers (OfFids at deed ∷ done))) (questions done) in
+    omega (arith, left, kept, length-append (drops done) (given_up (OfFids at deed) done (speakers done)), length-map ss (λ s. drop_of done s.conv), filter_few (λ s. gives_up (OfFids at deed) done s.conv) (speakers done), few)
 
 -- ---- what follows on what a conversation met
 

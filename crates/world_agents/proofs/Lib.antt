@@ -10,3 +10,4 @@ pub mod ActLaws
 pub mod ShortLaws
 pub mod WaitCounts
 pub mod HandCounts
+pub mod LittleLaws

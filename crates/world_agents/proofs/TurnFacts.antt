@@ -1,7 +1,7 @@
 -- What a turn does to an agent of a network: what of its conversations and their questions stays, and what the turn's own
 -- conversation does.
 use Rattle.std.proofs.Common.{◌≡◌, ℕ, List, [], ◌∷◌, Bool, true, false, cond, eqb, ◌&&◌, not, Option, Some, None, refl, sym, ap, subst, ◌∙◌}
-use Rattle.std.specs.Prelude.{find, length, option_map}
+use Rattle.std.specs.Prelude.{find, option_map}
 use Rattle.std.proofs.lemmas.Bool.{eq-eqb}
 use Rattle.std.specs.Str.{bytes_eq}
 use Rattle.nine_messages.specs.declared.message.RMsg.{RMsg}
@@ -16,7 +16,7 @@ use Rattle.agent_history.specs.Histories.{History, deeds}
 use Rattle.agent_laws.specs.Laws.{gives_content}
 use Rattle.world_history.specs.declared.question.Question.{Question}
 use Rattle.world_history.specs.Driving.{clunks, drive, questions_to, replies_to, told, writes}
-use Rattle.world_history.specs.Talking.{Asks, request_questions, requested, word_of}
+use Rattle.world_history.specs.Talking.{Asks, request_questions, requested}
 use Rattle.world_history.specs.Turns.{Turn, after, asks, closes, hears, misses, tells, turn_questions}
 use Rattle.world_history.specs.Worlds.{call_behind, last_call}
 use Rattle.recorded_talks.specs.Begun.{BegunWith}
@@ -76,10 +76,10 @@ told_behind line h idle runs =
 
 -- ---- a request
 
-pub request_so : Driven → (conv : List ℕ) (what : Asks) (fid number : ℕ) (h : History) → length (word_of what) ≡ 8 → BegunWith IsWorded (begun_in h number) → IsIdle h → conv_of (deeds h) 0 fid ≡ Some number → Runs (after (asks conv fid what) h) → TurnSo conv (asks conv fid what) fid number none_of none_of h
+pub request_so : Driven → (conv : List ℕ) (what : Asks) (fid number : ℕ) (h : History) → BegunWith IsWorded (begun_in h number) → IsIdle h → conv_of (deeds h) 0 fid ≡ Some number → Runs (after (asks conv fid what) h) → TurnSo conv (asks conv fid what) fid number none_of none_of h
 unfolding after turn_questions
-request_so d conv what fid number h short begun idle seat runs =
-    let r = d.requests number fid what h short begun idle seat runs in
+request_so d conv what fid number h begun idle seat runs =
+    let r = d.requests number fid what h begun idle seat runs in
     let later = requested fid what h in
     record {
       behind = record { idle = r.idle; opened = r.seats.opened; others = λ f _. same_seats h later r.seats f; askers = λ call n is _. r.keeps call n is refl };
