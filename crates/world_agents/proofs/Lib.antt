@@ -11,3 +11,4 @@ pub mod ShortLaws
 pub mod WaitCounts
 pub mod HandCounts
 pub mod LittleLaws
+pub mod LengthLaws

@@ -57,7 +57,7 @@ pub record IsTaken (h : History) : Type 0 where
   pub taken : untaken (deeds h) 0 ≡ []
   pub left : left_to_hand (deeds h) ≤ 0
 
-left_none : (done : List Deed) → drops done ≡ [] → next_question done ≡ None → left_to_hand done ≤ 0
+pub left_none : (done : List Deed) → drops done ≡ [] → next_question done ≡ None → left_to_hand done ≤ 0
 left_none done dropped none = omega (arith, ap length dropped, ap length (none_unhanded (questions done) none))
 
 pub taken_idle : (h : History) → IsIdle h → IsTaken h
