@@ -42,7 +42,7 @@ found_is_for (Offers template) role said asks list is = refl
 found_is_for (Pick templates) role said asks list is = refl
 found_is_for (Exchange request shape) role said asks list is = absurd cc
 
-finds_for : (s : Standing) (asks : Asking) (list : KeyList) → is_sought (need_in s.begun) ≡ true → is_for (need_in s.begun) (finds s asks list) ≡ true
+pub finds_for : (s : Standing) (asks : Asking) (list : KeyList) → is_sought (need_in s.begun) ≡ true → is_for (need_in s.begun) (finds s asks list) ≡ true
 unfolding finds
 finds_for s asks list is = found_is_for (need_in s.begun) (role_name s.begun) s.said asks list is
 
@@ -109,7 +109,7 @@ abbrev pub Rests : ℕ → KeyList → Asking → Standing → Type 0
 Rests zero list asks s = s.phase ≡ Seeking → ⊥
 Rests (suc n) list asks s = s.phase ≡ Seeking → Rests n list asks (sought s (finds s asks list))
 
-rests_so : (n : ℕ) (list : KeyList) (asks : Asking) (s : Standing) → (s.phase ≡ Seeking → ⊥) → Rests n list asks s
+pub rests_so : (n : ℕ) (list : KeyList) (asks : Asking) (s : Standing) → (s.phase ≡ Seeking → ⊥) → Rests n list asks s
 rests_so zero list asks s none = none
 rests_so (suc n) list asks s none = λ e. absurd (none e)
 

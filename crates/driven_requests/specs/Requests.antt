@@ -1,5 +1,5 @@
 -- What a request that a network makes of a conversation does to an agent of which all was taken. It serves proofs alone.
-use Rattle.std.specs.Prelude.{◌≡◌, ◌<◌, ◌≤◌, ℕ, List, length, ◌==◌, true, false, Some}
+use Rattle.std.specs.Prelude.{◌≡◌, ℕ, List, length, ◌==◌, true, false, Some}
 use Rattle.roles.specs.Starts.{Start}
 use Rattle.agent_history.specs.Conversations.{conv_of}
 use Rattle.agent_history.specs.Histories.{History, deeds}
@@ -16,18 +16,14 @@ pub record Requested (number fid : ℕ) (what : Asks) (h : History) : Type 0 whe
   pub keeps : KeepsAskers (λ n. true) h (requested fid what h)
   pub raises : AreOf number (request_questions fid what h) (requested fid what h)
 
--- a fid whose read has it for a tag, which is of two bytes
-abbrev pub IsTag : ℕ → Type 0
-IsTag fid = fid < 65536
-
--- a start whose random word is no longer than one is, so that an answer has room for it
-abbrev pub IsShort : Start → Type 0
-IsShort start = length start.word ≤ 8
+-- a start whose random word is of eight bytes, as each one is that a network draws, so that an answer has room for it
+abbrev pub IsWorded : Start → Type 0
+IsWorded start = length start.word ≡ 8
 
 -- the conversation that a fid has open does what is asked of it
 abbrev pub RequestsDo : Type 0
-RequestsDo = (number fid : ℕ) (what : Asks) (h : History) → IsTag fid → length (word_of what) ≤ 8 → BegunWith IsShort (begun_in h number) → IsIdle h → conv_of (deeds h) 0 fid ≡ Some number → Runs (requested fid what h) → Requested number fid what h
+RequestsDo = (number fid : ℕ) (what : Asks) (h : History) → length (word_of what) ≡ 8 → BegunWith IsWorded (begun_in h number) → IsIdle h → conv_of (deeds h) 0 fid ≡ Some number → Runs (requested fid what h) → Requested number fid what h
 
 -- and any other one stays as it is
 abbrev pub RequestsLeave : Type 0
-RequestsLeave = (other number fid : ℕ) (conv : List ℕ) (what : Asks) (h : History) → IsTag fid → IsIdle h → conv_of (deeds h) 0 fid ≡ Some number → (other == number) ≡ false → Runs (requested fid what h) → EventsLeave other (asks conv fid what) h
+RequestsLeave = (other number fid : ℕ) (conv : List ℕ) (what : Asks) (h : History) → IsIdle h → conv_of (deeds h) 0 fid ≡ Some number → (other == number) ≡ false → Runs (requested fid what h) → EventsLeave other (asks conv fid what) h

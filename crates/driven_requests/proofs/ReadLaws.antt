@@ -1,0 +1,107 @@
+-- What a read of a conversation that has a request leaves: the agent idle, the same conversations, their questions, and every other
+-- conversation as it was; and what it comes to.
+use Rattle.std.proofs.Common.{◌≡◌, ℕ, ◌+◌, ◌<◌, ◌≤◌, List, [], ◌∷◌, ◌++◌, map, Bool, true, false, cond, eqb, leb, ltb, ◌&&◌, not, Option, Some, None, length, codes, refl, sym, ap, subst, ◌∙◌, arith, inl, inr}
+use Rattle.std.specs.Prelude.{◌⊎◌, filter, find, option_map}
+use Rattle.std.specs.List.{list_all}
+use Rattle.std.proofs.lemmas.Bool.{le-leb, ltb-true, ne_eqb}
+use Rattle.nine_messages.specs.declared.message.RMsg.{RMsg}
+use Rattle.nine_messages.specs.declared.message.RBody.{RBody}
+use Rattle.nine_messages.specs.declared.message.RBody.TheVariants as r
+use Rattle.roles.specs.declared.need.Need.{Need}
+use Rattle.roles.specs.declared.need.Need.TheVariants.{Nothing, Key, Offers, Pick, Exchange}
+use Rattle.rpc_file.specs.Answers.{answer_text}
+use Rattle.rpc_file.specs.declared.answer.RpcAnswer.{RpcAnswer}
+use Rattle.talks.specs.declared.said.Said.{Said}
+use Rattle.talks.specs.Calls as calls
+use Rattle.talks.specs.Standings.{Begun, Phase, Resting, Waiting, OnServer, Kept, Standing, in_phase, need_in, outcome_of, standing, then_stands}
+use Rattle.agent_history.specs.Deeds.{Deed, OfReplies, OfTalk, Awaited}
+use Rattle.agent_history.specs.Conversations.{Question, asker, conv_of, fits, next_question, outcome_at, outcome_in, questions, raised, standing_of, talk}
+use Rattle.agent_history.specs.Histories.{History, deeds}
+use Rattle.agent_laws.proofs.ConversationLaws.{Rise, questions_rise, rise_parts}
+use Rattle.agent_laws.proofs.KindLaws.{same_number}
+use Rattle.world_history.specs.declared.question.Question.{Question as Put}
+use Rattle.world_history.specs.Driving.{drive, questions_to, reads, replies_to}
+use Rattle.world_history.specs.Talking.{Asks, came, is_taken, leaves_untaken, word_of}
+use Rattle.wire_histories.specs.Conversations.{is_asked}
+use Rattle.recorded_talks.specs.Begun.{BegunWith}
+use Rattle.recorded_talks.specs.Telling.{answer_acts, idle, is_taken_in}
+use Rattle.world_legality.specs.Agents.{Comes, IsCarried, IsUnread, answers_in, asked_as, asked_in, begun_in, bodies, question_in, questions_in, reads_all, reads_none}
+use Rattle.idle_agents.specs.Idle.{AreOf, IsIdle, KeepsAskers, Runs, SameSeats}
+use Rattle.idle_agents.proofs.HandedLaws.{bytes_of, none_unhanded, put_by, to_put, unhanded}
+use Rattle.idle_agents.proofs.LeftLaws.{own_reply}
+use Rattle.driven_requests.specs.Requests.{IsWorded}
+use Rattle.driven_requests.proofs.AnswerFits.{IsUntaken, PhaseTells, Tells, carried_tells, searched_tells}
+use Rattle.driven_requests.proofs.EventDeeds.{CameOf, Does, came_of, read_call}
+use Rattle.driven_requests.proofs.MetDeeds.{MetSo, asked_then, next_asked}
+use Rattle.driven_requests.proofs.OfferedLaws.{moves_fit}
+use Rattle.driven_requests.proofs.ReadCases.{ReadCase, is_awaited, is_refused, is_told, isnt_told, read_case}
+use Rattle.driven_requests.proofs.RestLaws.{server_need}
+use Rattle.driven_requests.proofs.TalkSides.{Going, stands_here}
+
+-- ---- what is left
+
+pub record ReadLeft (number fid : ℕ) (word : List ℕ) (h : History) : Type 0 where
+  pub idle : IsIdle (drive (reads fid word) h)
+  pub seats : SameSeats h (drive (reads fid word) h)
+  pub keeps : KeepsAskers (λ n. true) h (drive (reads fid word) h)
+  pub raises : AreOf number (questions_to (reads fid word) h) (drive (reads fid word) h)
+  pub others : (other : ℕ) → eqb number other ≡ false → begun_in (reads fid word ∷ h) other ≡ begun_in h other
+
+-- nothing is handed out of an agent of which all was
+none_put : (done now : List Deed) → next_question done ≡ None → questions now ≡ questions done → to_put now ≡ []
+none_put done now none same = ap (λ qs. map (put_by now) (unhanded qs)) same ∙ ap (map (put_by now)) (none_unhanded (questions done) none)
+
+-- what asks nothing new
+quiet_left : (number fid : ℕ) (word : List ℕ) (h : History) (now : List Deed) (o : Option RBody) → IsIdle h → CameOf fid word h now o → Going number (deeds h) now → questions now ≡ questions (deeds h) → ReadLeft number fid word h
+quiet_left number fid word h now o idle_ c g same = record {
+  idle = c.idle;
+  seats = record { speakers = c.seated ∙ ap (λ s. s.seated) g.side; opened = c.opened ∙ ap (λ s. s.numbered) g.side };
+  keeps = λ call n e _. c.askers call ∙ (ap (λ qs. option_map (λ q. q.conv) (find (λ q. eqb q.call call) qs)) same ∙ e);
+  raises = subst (λ qs. AreOf number qs (drive (reads fid word) h)) (sym (c.questions ∙ none_put (deeds h) now idle_.handed same)) tt;
+  others = λ other off. ap (λ s. s.begun) (c.stands other ∙ ap standing (g.others other off));
+}
+
+-- ---- a question more
+
+more_behind : (p : Question → Bool) (qs : List Question) (q : Question) (n : ℕ) → option_map (λ x. x.conv) (find p qs) ≡ Some n → option_map (λ x. x.conv) (find p (qs ++ q ∷ [])) ≡ Some n
+more_behind p [] q n e = absurd cc
+more_behind p (x ∷ qs) q n e = by_test (p x) e (more_behind p qs q n)
+  where
+    by_test : (b : Bool) → option_map (λ y. y.conv) (cond b (Some x) (find p qs)) ≡ Some n → (option_map (λ y. y.conv) (find p qs) ≡ Some n → option_map (λ y. y.conv) (find p (qs ++ q ∷ [])) ≡ Some n) → option_map (λ y. y.conv) (cond b (Some x) (find p (qs ++ q ∷ []))) ≡ Some n
+    by_test true e more = e
+    by_test false e more = more e
+
+abbrev calls_of : List Question → List ℕ
+calls_of qs = map (λ q. q.call) qs
+
+last_found : (top : ℕ) (qs : List Question) (q : Question) → Rise top (calls_of qs) → q.call ≡ top → option_map (λ x. x.conv) (find (λ x. eqb x.call top) (qs ++ q ∷ [])) ≡ Some q.conv
+last_found top [] q rise e = ap (λ b. option_map (λ (x : Question). x.conv) (cond b (Some q) None)) (ap (λ n. eqb n top) e ∙ same_number top)
+last_found top (x ∷ qs) q rise e =
+    let parts = rise_parts top x.call (calls_of qs) rise in
+    let apart = ne_eqb x.call top (λ same. omega (arith, same, ltb-true x.call top parts.below)) in
+    ap (λ b. option_map (λ (y : Question). y.conv) (cond b (Some x) (find (λ y. eqb y.call top) (qs ++ q ∷ [])))) apart ∙ last_found top qs q parts.rest e
+
+unhanded_more : (qs : List Question) (q : Question) → unhanded qs ≡ [] → q.handed ≡ false → unhanded (qs ++ q ∷ []) ≡ q ∷ []
+unhanded_more [] q none new = ap (λ b. cond (not b) (q ∷ []) []) new
+unhanded_more (x ∷ qs) q none new = by_handed (not x.handed) none (unhanded_more qs q)
+  where
+    by_handed : (b : Bool) → cond b (x ∷ unhanded qs) (unhanded qs) ≡ [] → (unhanded qs ≡ [] → q.handed ≡ false → unhanded (qs ++ q ∷ []) ≡ q ∷ []) → cond b (x ∷ unhanded (qs ++ q ∷ [])) (unhanded (qs ++ q ∷ [])) ≡ q ∷ []
+    by_handed true none more = absurd cc
+    by_handed false none more = more none new
+
+-- what is put out of it
+one_put : (number : ℕ) (done now : List Deed) → next_question done ≡ None → questions now ≡ questions done ++ next_asked number done ∷ [] → to_put now ≡ put_by now (next_asked number done) ∷ []
+one_put number done now none same = ap (λ qs. map (put_by now) (unhanded qs)) same ∙ ap (map (put_by now)) (unhanded_more (questions done) (next_asked number done) (none_unhanded (questions done) none) refl)
+
+asked_left : (number fid : ℕ) (word : List ℕ) (h : History) (now : List Deed) (o : Option RBody) → IsIdle h → CameOf fid word h now o → Going number (deeds h) now → questions now ≡ questions (deeds h) ++ next_asked number (deeds h) ∷ [] → ReadLeft number fid word h
+asked_left number fid word h now o idle_ c g same = record {
+  idle = c.idle;
+  seats = record { speakers = c.seated ∙ ap (λ s. s.seated) g.side; opened = c.opened ∙ ap (λ s. s.numbered) g.side };
+  keeps = λ call n e _. c.askers call ∙ (ap (λ qs. option_map (λ q. q.conv) (find (λ q. eqb q.call call) qs)) same ∙ more_behind (λ q. eqb q.call call) (questions (deeds h)) (next_asked number (deeds h)) n e);
+  raises =
+      let top = raised (deeds h) + 1 in
+      let there : asker (deeds (drive (reads fid word) h)) top ≡ Some number =
+          c.askers top ∙ (ap (λ qs. option_map (λ q. q.conv) (find (λ q. eqb q.call top) qs)) same ∙ last_found top (questions (deeds h)) (next_asked number (deeds h)) (questions_rise h) refl) in
+      subst (λ qs. AreOf number qs (drive (reads fid word) h)) (sym (c.questions ∙ one_put number (deeds h) now idle_.handed same)) (there, tt);
+  others = λ other off. ap (λ s. s.begun) (c.stands other ∙ ap standing (g.others other off));
+}
