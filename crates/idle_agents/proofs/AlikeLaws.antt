@@ -23,7 +23,7 @@ pub record Alike (done later : List Deed) : Type 0 where
   pub entered : was_opened later 0 ≡ was_opened done 0
   pub there : was_hung later 0 ≡ was_hung done 0
   pub msize : msize_of later 0 ≡ msize_of done 0
-  pub fids : (fid : ℕ) → fid_of later 0 fid ≡ fid_of done 0 fid
+  pub root : fid_of later 0 0 ≡ fid_of done 0 0
   pub speaking : speakers later ≡ speakers done
   pub opened : opened_talks later ≡ opened_talks done
   pub waiting : waits later 0 ≡ waits done 0
@@ -33,7 +33,7 @@ pub record Alike (done later : List Deed) : Type 0 where
   pub phases : (conv : ℕ) → (standing_of later conv).phase ≡ OnServer → (standing_of done conv).phase ≡ OnServer
 
 pub alike_itself : (done : List Deed) → NamesNoLines done → Alike done done
-alike_itself done names = record { names = names; entered = refl; there = refl; msize = refl; fids = λ fid. refl; speaking = refl; opened = refl; waiting = refl; settled = refl; asked = refl; phases = λ conv is. is }
+alike_itself done names = record { names = names; entered = refl; there = refl; msize = refl; root = refl; speaking = refl; opened = refl; waiting = refl; settled = refl; asked = refl; phases = λ conv is. is }
 
 read_alike : (done later : List Deed) → Alike done later → (ss : List Speaker) → AreRead done ss → AreRead later ss
 read_alike done later a [] read = tt
@@ -47,7 +47,7 @@ alike_calm done later a c = record {
   there = a.there ∙ c.there;
   msize = a.msize ∙ c.msize;
   alone = ap (list_all (λ s. eqb s.conn 0)) a.speaking ∙ c.alone;
-  root = a.fids 0 ∙ c.root;
+  root = a.root ∙ c.root;
   small = ap (list_all (λ s. ltb s.fid 65535)) a.speaking ∙ c.small;
   tagged = ap (list_all (λ w. eqb w.tag w.fid)) a.waiting ∙ c.tagged;
   counted = ap (list_all (λ w. eqb w.count 8192)) a.waiting ∙ c.counted;

@@ -8,3 +8,13 @@ pub mod StillLaws
 pub mod LeftLaws
 pub mod AlikeLaws
 pub mod WritesLaws
+pub mod FoundLemmas
+pub mod SeatLaws
+pub mod UnsettledLaws
+pub mod ExactLaws
+pub mod ClunkLaws
+pub mod ClosesLaws
+pub mod GrantLaws
+pub mod WalkLaws
+pub mod OpensLaws
+pub mod NewLaws

@@ -52,14 +52,14 @@ stored_alike : (o : Option ℕ) (came : Result RpcRequest RpcFault) (done : List
 stored_alike None came done names = alike_itself done names
 stored_alike (Some at) (Err fault) done names = alike_itself done names
 stored_alike (Some at) (Ok request) done names = record {
-  names = names; entered = refl; there = refl; msize = refl; fids = λ fid. refl; speaking = refl; opened = refl; waiting = refl; settled = refl; asked = refl;
+  names = names; entered = refl; there = refl; msize = refl; root = refl; speaking = refl; opened = refl; waiting = refl; settled = refl; asked = refl;
   phases = λ conv on. one_stored (eqb at conv) request (talk done conv) on;
 }
 
 lines_alike : (conn : ℕ) (said : List CtlLine) (first done : List Deed) → Alike first done → Alike first (lines_done conn said done)
 lines_alike conn [] first done a = a
 lines_alike conn (line ∷ said) first done a = lines_alike conn said first (OfKeys conn (line_deed line) ∷ done) (record {
-  names = a.names; entered = a.entered; there = a.there; msize = a.msize; fids = a.fids; speaking = a.speaking; opened = a.opened; waiting = a.waiting; settled = a.settled; asked = a.asked; phases = a.phases;
+  names = a.names; entered = a.entered; there = a.there; msize = a.msize; root = a.root; speaking = a.speaking; opened = a.opened; waiting = a.waiting; settled = a.settled; asked = a.asked; phases = a.phases;
 })
 
 no_kind_alike : (o : Option PromptKind) (done one other : List Deed) → o ≡ None → Alike done other → Alike done (cond (is_some o) one other)
