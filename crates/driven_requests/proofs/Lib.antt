@@ -22,4 +22,5 @@ pub mod StoredLaws
 pub mod CarriedLaws
 pub mod ReadCases
 pub mod ReadLaws
+pub mod ReadComes
 pub mod RequestsLaws

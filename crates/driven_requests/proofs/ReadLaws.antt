@@ -15,7 +15,7 @@ use Rattle.talks.specs.declared.said.Said.{Said}
 use Rattle.talks.specs.Calls as calls
 use Rattle.talks.specs.Standings.{Begun, Phase, Resting, Waiting, OnServer, Kept, Standing, in_phase, need_in, outcome_of, standing, then_stands}
 use Rattle.agent_history.specs.Deeds.{Deed, OfReplies, OfTalk, Awaited}
-use Rattle.agent_history.specs.Conversations.{Question, asker, conv_of, fits, next_question, outcome_at, outcome_in, questions, raised, standing_of, talk}
+use Rattle.agent_history.specs.Conversations.{Question, asker, conv_of, fits, next_question, opened_talks, questions, raised, speakers, standing_of, talk}
 use Rattle.agent_history.specs.Histories.{History, deeds}
 use Rattle.agent_laws.proofs.ConversationLaws.{Rise, questions_rise, rise_parts}
 use Rattle.agent_laws.proofs.KindLaws.{same_number}
@@ -47,15 +47,24 @@ pub record ReadLeft (number fid : ℕ) (word : List ℕ) (h : History) : Type 0 
   pub raises : AreOf number (questions_to (reads fid word) h) (drive (reads fid word) h)
   pub others : (other : ℕ) → eqb number other ≡ false → begun_in (reads fid word ∷ h) other ≡ begun_in h other
 
+-- the conversations that stand, and the talks of the others
+pub record Rest (number : ℕ) (from done : List Deed) : Type 0 where
+  pub seated : speakers done ≡ speakers from
+  pub numbered : opened_talks done ≡ opened_talks from
+  pub others : (other : ℕ) → eqb number other ≡ false → talk done other ≡ talk from other
+
+pub rest_of : (number : ℕ) (from done : List Deed) → Going number from done → Rest number from done
+rest_of number from done g = record { seated = ap (λ s. s.seated) g.side; numbered = ap (λ s. s.numbered) g.side; others = g.others }
+
 -- nothing is handed out of an agent of which all was
-none_put : (done now : List Deed) → next_question done ≡ None → questions now ≡ questions done → to_put now ≡ []
+pub none_put : (done now : List Deed) → next_question done ≡ None → questions now ≡ questions done → to_put now ≡ []
 none_put done now none same = ap (λ qs. map (put_by now) (unhanded qs)) same ∙ ap (map (put_by now)) (none_unhanded (questions done) none)
 
 -- what asks nothing new
-quiet_left : (number fid : ℕ) (word : List ℕ) (h : History) (now : List Deed) (o : Option RBody) → IsIdle h → CameOf fid word h now o → Going number (deeds h) now → questions now ≡ questions (deeds h) → ReadLeft number fid word h
+pub quiet_left : (number fid : ℕ) (word : List ℕ) (h : History) (now : List Deed) (o : Option RBody) → IsIdle h → CameOf fid word h now o → Rest number (deeds h) now → questions now ≡ questions (deeds h) → ReadLeft number fid word h
 quiet_left number fid word h now o idle_ c g same = record {
   idle = c.idle;
-  seats = record { speakers = c.seated ∙ ap (λ s. s.seated) g.side; opened = c.opened ∙ ap (λ s. s.numbered) g.side };
+  seats = record { speakers = c.seated ∙ g.seated; opened = c.opened ∙ g.numbered };
   keeps = λ call n e _. c.askers call ∙ (ap (λ qs. option_map (λ q. q.conv) (find (λ q. eqb q.call call) qs)) same ∙ e);
   raises = subst (λ qs. AreOf number qs (drive (reads fid word) h)) (sym (c.questions ∙ none_put (deeds h) now idle_.handed same)) tt;
   others = λ other off. ap (λ s. s.begun) (c.stands other ∙ ap standing (g.others other off));
@@ -90,13 +99,13 @@ unhanded_more (x ∷ qs) q none new = by_handed (not x.handed) none (unhanded_mo
     by_handed false none more = more none new
 
 -- what is put out of it
-one_put : (number : ℕ) (done now : List Deed) → next_question done ≡ None → questions now ≡ questions done ++ next_asked number done ∷ [] → to_put now ≡ put_by now (next_asked number done) ∷ []
+pub one_put : (number : ℕ) (done now : List Deed) → next_question done ≡ None → questions now ≡ questions done ++ next_asked number done ∷ [] → to_put now ≡ put_by now (next_asked number done) ∷ []
 one_put number done now none same = ap (λ qs. map (put_by now) (unhanded qs)) same ∙ ap (map (put_by now)) (unhanded_more (questions done) (next_asked number done) (none_unhanded (questions done) none) refl)
 
-asked_left : (number fid : ℕ) (word : List ℕ) (h : History) (now : List Deed) (o : Option RBody) → IsIdle h → CameOf fid word h now o → Going number (deeds h) now → questions now ≡ questions (deeds h) ++ next_asked number (deeds h) ∷ [] → ReadLeft number fid word h
+pub asked_left : (number fid : ℕ) (word : List ℕ) (h : History) (now : List Deed) (o : Option RBody) → IsIdle h → CameOf fid word h now o → Rest number (deeds h) now → questions now ≡ questions (deeds h) ++ next_asked number (deeds h) ∷ [] → ReadLeft number fid word h
 asked_left number fid word h now o idle_ c g same = record {
   idle = c.idle;
-  seats = record { speakers = c.seated ∙ ap (λ s. s.seated) g.side; opened = c.opened ∙ ap (λ s. s.numbered) g.side };
+  seats = record { speakers = c.seated ∙ g.seated; opened = c.opened ∙ g.numbered };
   keeps = λ call n e _. c.askers call ∙ (ap (λ qs. option_map (λ q. q.conv) (find (λ q. eqb q.call call) qs)) same ∙ more_behind (λ q. eqb q.call call) (questions (deeds h)) (next_asked number (deeds h)) n e);
   raises =
       let top = raised (deeds h) + 1 in

@@ -3,7 +3,7 @@ use Rattle.std.specs.Prelude.{◌≡◌, ℕ, List, length, ◌==◌, true, fals
 use Rattle.roles.specs.Starts.{Start}
 use Rattle.agent_history.specs.Conversations.{conv_of}
 use Rattle.agent_history.specs.Histories.{History, deeds}
-use Rattle.world_history.specs.Talking.{Asks, request_questions, requested, word_of}
+use Rattle.world_history.specs.Talking.{Asks, request_questions, requested}
 use Rattle.world_history.specs.Turns.{asks}
 use Rattle.recorded_talks.specs.Begun.{BegunWith}
 use Rattle.world_legality.specs.Agents.{EventsLeave, RequestDoes, begun_in}
@@ -22,7 +22,7 @@ IsWorded start = length start.word ≡ 8
 
 -- the conversation that a fid has open does what is asked of it
 abbrev pub RequestsDo : Type 0
-RequestsDo = (number fid : ℕ) (what : Asks) (h : History) → length (word_of what) ≡ 8 → BegunWith IsWorded (begun_in h number) → IsIdle h → conv_of (deeds h) 0 fid ≡ Some number → Runs (requested fid what h) → Requested number fid what h
+RequestsDo = (number fid : ℕ) (what : Asks) (h : History) → BegunWith IsWorded (begun_in h number) → IsIdle h → conv_of (deeds h) 0 fid ≡ Some number → Runs (requested fid what h) → Requested number fid what h
 
 -- and any other one stays as it is
 abbrev pub RequestsLeave : Type 0
