@@ -1,5 +1,5 @@
 -- What the texts of requests are read as.
-use Rattle.std.proofs.Common.{◌≡◌, ℕ, List, Bool, true, false, cond, ltb, length, Result, Ok, Err, refl, ap, ◌∙◌, sym}
+use Rattle.std.proofs.Common.{◌≡◌, Bool, true, false, cond, ltb, length, Result, Ok, Err, refl, ap, ◌∙◌, sym}
 use Rattle.rpc_file.specs.Requests.{RpcRequest}
 use Rattle.rpc_file.specs.Requests as rpc
 use Rattle.rpc_file.specs.declared.request.RpcFault.{RpcFault}

@@ -1,20 +1,18 @@
 -- What a read that is granted does to a calm agent: the request of its conversation is carried out, and its answer is read, told to
 -- be too long, or waited for.
-use Rattle.std.proofs.Common.{◌≡◌, ℕ, ◌<◌, ◌+◌, List, [], ◌∷◌, ◌++◌, Bool, true, false, cond, eqb, ◌&&◌, ◌||◌, not, Option, Some, None, refl, sym, ap, subst, ◌∙◌}
-use Rattle.std.specs.Prelude.{find, option_map}
+use Rattle.std.proofs.Common.{◌≡◌, ℕ, List, [], ◌∷◌, ◌++◌, Bool, true, false, cond, eqb, ◌&&◌, ◌||◌, Some, None, refl, sym, ap, subst, ◌∙◌}
+use Rattle.std.specs.Prelude.{find}
 use Rattle.std.specs.List.{list_any}
-use Rattle.std.proofs.lemmas.Bool.{eq-eqb, eqb-true}
-use Rattle.rpc_file.specs.declared.answer.RpcAnswer.{RpcAnswer}
-use Rattle.talks.specs.Calls as calls
-use Rattle.talks.specs.Standings.{Phase, Kept, OnServer, Resting, Standing, standing, then_stands}
-use Rattle.agent_history.specs.Deeds.{Deed, OfReplies, OfTalk, Awaited}
-use Rattle.agent_history.specs.Replies.{Wait, has_settled, is_unsettled, reader, waits, waits_for}
+use Rattle.std.proofs.lemmas.Bool.{eqb-true}
+use Rattle.talks.specs.Standings.{Phase, OnServer, standing}
+use Rattle.agent_history.specs.Deeds.{Deed, OfReplies, Awaited}
+use Rattle.agent_history.specs.Replies.{Wait, is_unsettled, waits, waits_for}
 use Rattle.agent_history.specs.Conversations.{Speaker, speakers, standing_of, talk}
 use Rattle.agent_laws.proofs.KindLaws.{same_number}
 use Rattle.idle_agents.specs.Idle.{AreRead, IsCalm, IsRead, read_of}
 use Rattle.idle_agents.proofs.StillLaws.{IsStill, calm_of, still_awaited}
 use Rattle.driven_requests.proofs.SeatLaws.{AreMine}
-use Rattle.driven_requests.proofs.TalkSides.{Going, stands_here, talk_going}
+use Rattle.driven_requests.proofs.TalkSides.{Going}
 
 -- ---- the reads of the conversations that ask
 

@@ -1,5 +1,5 @@
 -- Behind a request that is carried out, and its searches, an answer is there, or the authentication server is asked.
-use Rattle.std.proofs.Common.{◌≡◌, ℕ, List, [], ◌∷◌, Bool, true, false, Option, Some, None, refl}
+use Rattle.std.proofs.Common.{◌≡◌, ℕ, List, [], ◌∷◌, true, Option, Some, None}
 use Rattle.attr_tuples.specs.declared.attr.Attr.{Attr}
 use Rattle.key_lists.specs.Lists.{KeyEntry}
 use Rattle.key_lists.specs.CtlLines.{few_of}
@@ -14,7 +14,7 @@ use Rattle.rpc_file.specs.declared.answer.RpcAnswer.TheVariants as a
 use Rattle.conv_set.specs.Protocols.{answers, needs, puts, refuses}
 use Rattle.talks.specs.Answers.{attributes, move_answer}
 use Rattle.talks.specs.Calls.{Found, Chosen, AsksConsent, AsksKey, Denied, NoneServes, Offered, Picked}
-use Rattle.talks.specs.Standings.{Begun, Phase, Resting, Waiting, Seeking, OnConfirm, OnNeedkey, OnServer, Kept, Standing, answered, begin, begin_once, carried_out, if_begun, made, make_move, phase_after, sought, start_by, started, told_of_key, with_key}
+use Rattle.talks.specs.Standings.{Begun, Phase, Seeking, OnServer, Kept, Standing, answered, begin, begin_once, carried_out, if_begun, made, make_move, phase_after, sought, start_by, started, told_of_key, with_key}
 use Rattle.recorded_talks.specs.Telling.{Searches, asks_nobody, finds, rests}
 
 abbrev pub IsUp : Phase → Type 0

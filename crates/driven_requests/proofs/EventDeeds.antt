@@ -1,11 +1,11 @@
 -- What comes of a read, by what it does and what is replied to it.
-use Rattle.std.proofs.Common.{◌≡◌, ℕ, List, [], ◌∷◌, ◌++◌, Bool, true, false, cond, Option, Some, None, Result, Ok, Err, refl, sym, ap, subst, ◌∙◌, append-nil}
+use Rattle.std.proofs.Common.{◌≡◌, ℕ, List, [], ◌∷◌, ◌++◌, cond, Option, Result, refl, sym, ap, subst, ◌∙◌, append-nil}
 use Rattle.std.specs.List.{filter_map}
 use Rattle.nine_messages.specs.declared.message.TBody.{TBody}
 use Rattle.nine_messages.specs.declared.message.RBody.{RBody}
 use Rattle.nine_messages.specs.Messages.{t_frame}
 use Rattle.agent_history.specs.Deeds.{Deed}
-use Rattle.agent_history.specs.Replies.{has_settled, reply_in, swept, untaken, waits}
+use Rattle.agent_history.specs.Replies.{reply_in, swept, waits}
 use Rattle.agent_history.specs.Requests.{Call, after_frame, after_granted, answered, body_for, body_to, call_of, granted, replied}
 use Rattle.agent_history.specs.Conversations.{asker, opened_talks, speakers, standing_of}
 use Rattle.agent_history.specs.Histories.{History, deeds}

@@ -1,7 +1,10 @@
 pub mod VerdictForms
+pub mod SkMoves
 pub mod SkSizes
 pub mod MailSizes
+pub mod AnyMoves
 pub mod AnySizes
+pub mod OfferedFound
 pub mod OfferedLaws
 pub mod AnswerFits
 pub mod RoomlessLaws

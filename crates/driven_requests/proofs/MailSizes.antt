@@ -1,6 +1,6 @@
 -- The roles of APOP and CRAM call no key bad but where the authentication server answers, and give no more than an answer has room
 -- for.
-use Rattle.std.proofs.Common.{◌≡◌, ℕ, ◌+◌, ◌<◌, ◌≤◌, List, [], ◌∷◌, Bool, true, false, eqb, leb, ◌&&◌, Option, Some, None, length, drop, refl, arith, length-drop}
+use Rattle.std.proofs.Common.{◌≡◌, ℕ, ◌+◌, ◌≤◌, List, [], ◌∷◌, true, false, eqb, leb, Option, Some, None, length, drop, arith, length-drop}
 use Rattle.std.specs.Prelude.{slice_index}
 use Rattle.std.proofs.lemmas.Bool.{and_parts, eqb-true, leb-true}
 use Rattle.complete_logins.proofs.DigitLemmas.{length_digits}
@@ -9,9 +9,9 @@ use Rattle.roles.specs.declared.answer.Cause.TheVariants.{BadKey}
 use Rattle.roles.specs.declared.answer.Gave.TheVariants as g
 use Rattle.roles.specs.declared.key.SkKey.{SkKey}
 use Rattle.roles.specs.Clients.{is_refusal}
-use Rattle.roles.specs.Courses.{answer_of, bytes_of, then_course, unless_broken}
+use Rattle.roles.specs.Courses.{unless_broken}
 use Rattle.roles.specs.Starts.{Start}
-use Rattle.roles.specs.Talks.{Call, Progress, Verdict, breaks, found, get, give, goes, heard, offered, picked, roomless, stays, undone, unheard}
+use Rattle.roles.specs.Talks.{Call, Verdict, found, get, give, goes, heard, offered, picked, roomless, undone, unheard}
 use Rattle.roles.specs.Tickets.{proof_under, rest_part, ticket_part, ticket_under}
 use Rattle.conv_challenge.specs.declared.stage.Stage.{Stage}
 use Rattle.conv_challenge.specs.declared.stage.Stage.TheVariants.{ClientFirst, ClientKey, ClientSecond, ClientDone, ServerKey, ServerAsk, ServerFirst, ServerSecond, ServerThird, ServerVouch, ServerDone}
@@ -19,10 +19,10 @@ use Rattle.conv_challenge.specs.declared.stage.Side.{Side}
 use Rattle.conv_challenge.specs.declared.stage.Side.TheVariants as side
 use Rattle.conv_challenge.specs.declared.stage.TheConstants.{MOST_CHALLENGE}
 use Rattle.conv_challenge.specs.Courses.{answer_after, course, first_stage, move, puts_after, verdict}
-use Rattle.conv_challenge.specs.Servers.{challenge_came, grants_challenge, grants_vouch, has_length, length_in, user_tests, vouch_came, vouch_opened, vouch_tests}
+use Rattle.conv_challenge.specs.Servers.{challenge_came, grants_challenge, grants_vouch, has_length, length_in, user_tests, vouch_came, vouch_tests}
 use Rattle.conv_challenge.specs.Starts.{proto_of, side_of}
 use Rattle.lawful_roles.proofs.RoleForms.{bounded_by}
-use Rattle.driven_requests.proofs.VerdictForms.{FitMoves, FitsMove, Good, either_so, is_bad, is_heard, refusal_bad, sized_so, tested_heard, tested_so, ticket_so}
+use Rattle.driven_requests.proofs.VerdictForms.{Good, answer_so, bytes_so, either_so, goes_on, is_bad, is_heard, sized_so, tested_heard, tested_so, ticket_so}
 
 -- a challenge is short
 abbrev pub Stood : Stage → Type 0
@@ -163,11 +163,6 @@ by_broken : (F : Type 0) (start : Start) (stage : Stage) (broken : Option Cause)
 by_broken F start stage None call so = move_good F start stage call so
 by_broken F start stage (Some cause) call so = λ e. cc e
 
-goes_on : (F : Type 0) (call : Call) (p : Progress Stage) (v : Verdict Stage) → Stood p.stage → Moves F call v → Stood (then_course p v).stage
-goes_on F call p (goes next answer bytes) so good = good.0
-goes_on F call p (stays answer) so good = so
-goes_on F call p (breaks cause) so good = so
-
 begins : (side : Side) → Stood (first_stage side)
 begins side.Client = tt
 begins side.Server = tt
@@ -178,20 +173,10 @@ stood_so start [] = begins (side_of start.template)
 stood_so start (call ∷ talk) =
     let p = course start talk in
     let so = stood_so start talk in
-    goes_on ⊥ call p (verdict start p call) so (by_broken ⊥ start p.stage p.broken call so)
-
-answer_so : (F : Type 0) (call : Call) (v : Verdict Stage) → Moves F call v → is_heard call ≡ false → is_bad (answer_of v) ≡ true → ⊥
-answer_so F call (goes next answer bytes) good off e = good.1 off e
-answer_so F call (stays answer) good off e = good e
-answer_so F call (breaks cause) good off e = good off (refusal_bad cause e)
-
-bytes_so : (F : Type 0) (call : Call) (v : Verdict Stage) → Moves F call v → F → length (bytes_of v) ≤ 2048
-bytes_so F call (goes next answer bytes) good f = good.2 f
-bytes_so F call (stays answer) good f = omega arith
-bytes_so F call (breaks cause) good f = omega arith
+    goes_on Stood ⊥ call p (verdict start p call) so (by_broken ⊥ start p.stage p.broken call so)
 
 pub mail_good : (start : Start) (talk : List Call) (call : Call) → is_heard call ≡ false → is_bad (answer_after start talk call) ≡ true → ⊥
-mail_good start talk call off = let p = course start talk in answer_so ⊥ call (verdict start p call) (by_broken ⊥ start p.stage p.broken call (stood_so start talk)) off
+mail_good start talk call off = let p = course start talk in answer_so Stood ⊥ call (verdict start p call) (by_broken ⊥ start p.stage p.broken call (stood_so start talk)) off
 
 pub mail_small : (start : Start) (talk : List Call) (call : Call) → length (puts_after start talk call) ≤ 2048
-mail_small start talk call = let p = course start talk in bytes_so (Unit {0}) call (verdict start p call) (by_broken (Unit {0}) start p.stage p.broken call (stood_so start talk)) tt
+mail_small start talk call = let p = course start talk in bytes_so Stood (Unit {0}) call (verdict start p call) (by_broken (Unit {0}) start p.stage p.broken call (stood_so start talk)) tt

@@ -1,18 +1,18 @@
 -- What a request that is carried out does where nobody can be asked: the searches, the question that is raised, and the log.
-use Rattle.std.proofs.Common.{◌≡◌, ℕ, ◌+◌, List, [], ◌∷◌, ◌++◌, Bool, true, false, cond, eqb, Option, Some, None, refl, sym, ap, subst, ◌∙◌}
+use Rattle.std.proofs.Common.{◌≡◌, ℕ, ◌+◌, List, [], ◌∷◌, ◌++◌, Bool, true, false, refl, sym, ap, subst, ◌∙◌}
 use Rattle.file_tree.specs.declared.tree.Node.TheVariants.{Confirm, Needkey, Log}
 use Rattle.rpc_file.specs.Requests.{RpcRequest}
 use Rattle.talks.specs.Calls as calls
 use Rattle.talks.specs.Lines.{log_lines}
 use Rattle.talks.specs.Standings.{Phase, Resting, Waiting, Seeking, OnConfirm, OnNeedkey, OnServer, Kept, Standing, carried_out, standing, then_stands}
-use Rattle.agent_history.specs.Deeds.{Deed, OfTalk, Raised, holder_of, is_debug, keys_of}
+use Rattle.agent_history.specs.Deeds.{Deed, OfTalk, is_debug, keys_of}
 use Rattle.agent_history.specs.SideFiles.{all_served}
-use Rattle.agent_history.specs.Conversations.{Question, asking, logged, met, questions, raised, raising, seeking_all, standing_of, talk, then_logged, then_raised, then_sought}
+use Rattle.agent_history.specs.Conversations.{Question, asking, met, questions, raised, raising, seeking_all, standing_of, talk, then_logged, then_raised, then_sought}
 use Rattle.driven_agents.specs.Quiet.{NamesNoLines}
 use Rattle.driven_agents.proofs.QuietLaws.{holder_none}
 use Rattle.recorded_talks.specs.Telling.{Searches}
 use Rattle.driven_requests.proofs.SearchDeeds.{IsShut, Rests, SearchedOn, searched_on, times}
-use Rattle.driven_requests.proofs.TalkSides.{Going, Logged, all_logged_on, line_going, none_served, raised_going, same_going, stands_here, talk_going}
+use Rattle.driven_requests.proofs.TalkSides.{Going, all_logged_on, none_served, raised_going, same_going, stands_here, talk_going}
 
 -- so many searches may follow
 abbrev pub most_searches : Bool → ℕ
@@ -66,8 +66,8 @@ met_so conv word request s done names stood waits r =
     let rests : Rests n (keys_of one) (asking one) (standing_of one conv) = subst (λ x. Rests (most_searches x.starting) (keys_of done) (asking done) x) (sym begins) r in
     let two = then_sought conv one in
     let found : SearchedOn conv done two (standing_of one conv) =
-        subst (λ d. SearchedOn conv done d (standing_of one conv)) (sym (seeking_times (standing_of one conv).starting conv one))
-        (searched_on n conv done one (shut_of done names) (talk_going conv done done (calls.CarriedOut word) (same_going conv done)) refl refl rests) in
+    subst (λ d. SearchedOn conv done d (standing_of one conv)) (sym (seeking_times (standing_of one conv).starting conv one))
+    (searched_on n conv done one (shut_of done names) (talk_going conv done done (calls.CarriedOut word) (same_going conv done)) refl refl rests) in
     let three = then_raised conv two in
     let rise = raised_by conv done two (standing_of two conv).phase found.going found.asked found.risen in
     let four = then_logged conv (standing_of done conv) three in

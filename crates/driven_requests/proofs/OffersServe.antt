@@ -1,20 +1,19 @@
 -- Where the keys of a ring that serve offer nothing, none serves: each of p9sk1 names a domain.
-use Rattle.std.proofs.Common.{◌≡◌, ℕ, suc, ◌+◌, ◌≤◌, ◌<◌, List, [], ◌∷◌, ◌++◌, length, map, Bool, true, false, cond, ltb, leb, codes, Option, Some, None, refl, sym, ap, subst, ◌∙◌, arith}
+use Rattle.std.proofs.Common.{◌≡◌, ℕ, suc, ◌+◌, ◌≤◌, List, [], ◌∷◌, length, map, Bool, true, false, cond, ltb, leb, codes, Option, Some, None, refl, sym, ap, subst, ◌∙◌, arith}
 use Rattle.std.specs.Prelude.{filter, is_some}
-use Rattle.std.specs.List.{cons_option, filter_map, join_with_byte, list_all}
-use Rattle.std.specs.Str.{bytes_eq}
+use Rattle.std.specs.List.{cons_option, join_with_byte, list_all}
 use Rattle.std.proofs.lemmas.Bool.{and_parts, leb-true, lt-ltb}
 use Rattle.attr_tuples.specs.declared.attr.Attr.{Attr}
 use Rattle.attr_tuples.specs.Forms.{is_dom, is_dom_byte}
 use Rattle.attr_tuples.specs.Matching.{holds, matches, meets, value_of}
 use Rattle.attr_tuples.proofs.FormLaws.{given_is_held}
-use Rattle.key_lists.specs.KeyFaults.{is_p9sk1, key_fault}
+use Rattle.key_lists.specs.KeyFaults.{is_p9sk1}
 use Rattle.key_lists.specs.Lists.{KeyEntry, KeyList, serves}
-use Rattle.key_lists.specs.Listing.{dom_of, doms_of, each_once, fitting, most_offered, offer_of, offers, offers_text}
+use Rattle.key_lists.specs.Listing.{doms_of, each_once, fitting, most_offered, offer_of, offers, offers_text}
 use Rattle.key_ring.proofs.KeyLemmas.{good_dom, has_dom}
 use Rattle.roles.specs.Templates.{given_as}
 use Rattle.talks.specs.Searches.{offered_by, serving}
-use Rattle.driven_agents.specs.Keys.{AreKeys, IsKey}
+use Rattle.driven_agents.specs.Keys.{AreKeys}
 
 -- a template that asks for a key of p9sk1
 abbrev pub for_p9sk1 : List Attr → List Attr

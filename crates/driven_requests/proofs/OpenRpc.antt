@@ -1,10 +1,8 @@
 -- A fid that has a conversation open names rpc; what a read and a write of it that are granted pass, and what they do.
-use Rattle.std.proofs.Common.{◌≡◌, ℕ, ◌<◌, List, [], ◌∷◌, Bool, true, false, cond, eqb, ◌&&◌, not, Option, Some, None, Result, Ok, Err, refl, sym, ap, subst, ◌∙◌}
+use Rattle.std.proofs.Common.{◌≡◌, ℕ, List, ◌∷◌, Bool, true, false, cond, eqb, ◌&&◌, not, Option, Some, None, Ok, refl, sym, ap, ◌∙◌}
 use Rattle.std.specs.Prelude.{is_some}
 use Rattle.std.proofs.lemmas.Bool.{and_parts}
 use Rattle.nine_messages.specs.declared.message.TBody.TheVariants as t
-use Rattle.nine_messages.specs.declared.message.RBody.{RBody}
-use Rattle.nine_messages.specs.declared.message.RBody.TheVariants as r
 use Rattle.file_tree.specs.declared.tree.Node.{Node}
 use Rattle.file_tree.specs.declared.tree.Node.TheVariants.{Root, Factotum, Rpc, Ctl, Confirm, Needkey, Proto, Log}
 use Rattle.file_tree.specs.declared.tree.FidState.{FidState}
@@ -19,10 +17,9 @@ use Rattle.agent_history.specs.Replies.{waits_for, waits_under}
 use Rattle.agent_history.specs.Conversations.{conv_of, met, standing_of}
 use Rattle.agent_history.specs.Requests.{Call, after, answer_read, carrying_out, effective, has_answer, is_resting, is_rpc, is_too_long, lets_write, phase_in, phase_of, read_reply, reading_answer, reading_file, reading_talk, refusal, reply_of, stored, talk_read}
 use Rattle.agent_history.specs.Histories.{History, deeds}
-use Rattle.agent_laws.specs.Laws.{has_open}
 use Rattle.agent_laws.proofs.ConversationLaws.{openers_speak}
 use Rattle.agent_laws.proofs.MetLaws.{choice_none, or_none}
-use Rattle.agent_laws.proofs.GrowLaws.{not_false, not_first, read_waits, where_true}
+use Rattle.agent_laws.proofs.GrowLaws.{not_false, read_waits, where_true}
 
 -- ---- rpc
 

@@ -1,9 +1,8 @@
 -- What a read of a conversation that has a request does: it is refused, or the request is carried out, and its answer is told, or is
 -- told to be too long, or is waited for.
-use Rattle.std.proofs.Common.{◌≡◌, ℕ, ◌<◌, List, [], ◌∷◌, Bool, true, false, cond, Option, Some, None, Result, Ok, Err, refl, sym, ap, subst, ◌∙◌}
+use Rattle.std.proofs.Common.{◌≡◌, ℕ, ◌<◌, List, ◌∷◌, Bool, true, false, cond, Option, Some, None, Result, Ok, Err, refl, ap, ◌∙◌}
 use Rattle.nine_messages.specs.declared.message.TBody.{TBody}
 use Rattle.nine_messages.specs.declared.message.TBody.TheVariants as t
-use Rattle.nine_messages.specs.declared.message.RBody.{RBody}
 use Rattle.nine_messages.specs.declared.message.RBody.TheVariants as r
 use Rattle.nine_messages.specs.Messages.{t_fields}
 use Rattle.roles.specs.declared.need.Need.TheVariants.{Nothing}
@@ -13,10 +12,10 @@ use Rattle.rpc_file.specs.declared.answer.RpcAnswer.{RpcAnswer}
 use Rattle.talks.specs.declared.said.Said.{Said}
 use Rattle.talks.specs.Calls as calls
 use Rattle.talks.specs.Standings.{Begun, Phase, Resting, Waiting, Seeking, OnConfirm, OnNeedkey, OnServer, Kept, Standing, carried_out, need_in, then_stands}
-use Rattle.agent_history.specs.Deeds.{Deed, OfReplies, OfTalk, Awaited, fid_of, keys_of}
+use Rattle.agent_history.specs.Deeds.{Deed, OfReplies, OfTalk, Awaited, keys_of}
 use Rattle.agent_history.specs.Replies.{too_small, waits_for, waits_under}
-use Rattle.agent_history.specs.Conversations.{asking, conv_of, fits, opened_talks, speakers, standing_of, then_took, told}
-use Rattle.agent_history.specs.Requests.{Call, after, after_frame, answer_read, body_to, granted, reading_answer, reply_of}
+use Rattle.agent_history.specs.Conversations.{asking, conv_of, fits, opened_talks, speakers, standing_of}
+use Rattle.agent_history.specs.Requests.{Call, after_frame, answer_read, body_to, granted, reading_answer}
 use Rattle.agent_history.specs.Histories.{History, deeds}
 use Rattle.agent_laws.proofs.ConversationLaws.{speakers_rise}
 use Rattle.agent_laws.proofs.GrowLaws.{met_any, none_refuses, not_first}

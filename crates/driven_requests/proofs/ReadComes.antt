@@ -1,5 +1,5 @@
 -- What a read of a conversation that has a request comes to: it is refused, or the request is carried out.
-use Rattle.std.proofs.Common.{◌≡◌, ℕ, ◌<◌, ◌≤◌, List, [], ◌∷◌, ◌++◌, ◌&&◌, map, Bool, true, false, cond, eqb, leb, not, Option, Some, None, length, codes, refl, sym, ap, subst, ◌∙◌, inl, inr}
+use Rattle.std.proofs.Common.{◌≡◌, ℕ, List, [], ◌∷◌, ◌&&◌, map, true, false, eqb, not, Option, Some, None, length, codes, refl, sym, ap, subst, ◌∙◌, inl, inr}
 use Rattle.std.specs.Prelude.{◌⊎◌, find, option_map}
 use Rattle.std.proofs.lemmas.Bool.{le-leb}
 use Rattle.nine_messages.specs.declared.message.RBody.{RBody}
@@ -10,24 +10,23 @@ use Rattle.rpc_file.specs.Answers.{answer_text}
 use Rattle.rpc_file.specs.declared.answer.RpcAnswer.{RpcAnswer}
 use Rattle.talks.specs.declared.said.Said.{Said}
 use Rattle.talks.specs.Calls as calls
-use Rattle.talks.specs.Standings.{Begun, Phase, Resting, Waiting, OnServer, Kept, Standing, carried_out, in_phase, need_in, outcome_of, standing, then_stands}
+use Rattle.talks.specs.Standings.{Begun, Phase, Resting, Waiting, Kept, Standing, carried_out, in_phase, need_in, outcome_of, then_stands}
 use Rattle.agent_history.specs.Deeds.{Deed, OfReplies, OfTalk, Awaited}
 use Rattle.agent_history.specs.Replies.{too_small}
 use Rattle.agent_history.specs.Conversations.{conv_of, fits, outcome_at, outcome_in, questions, speakers, standing_of, talk}
 use Rattle.agent_history.specs.Histories.{History, deeds}
-use Rattle.world_history.specs.Driving.{drive, questions_to, reads, replies_to}
-use Rattle.world_history.specs.Talking.{Asks, came, gets, gives, starts, is_taken, leaves_untaken, word_of}
+use Rattle.world_history.specs.Driving.{drive, reads, replies_to}
+use Rattle.world_history.specs.Talking.{Asks, came, gets, gives, starts, is_taken, word_of}
 use Rattle.wire_histories.specs.Conversations.{is_asked}
 use Rattle.recorded_talks.specs.Begun.{BegunWith}
 use Rattle.recorded_talks.specs.Telling.{answer_acts, idle, is_driven, is_taken_in}
-use Rattle.world_legality.specs.Agents.{Answers, Comes, IsCarried, IsUnread, answers_in, asked_as, asked_in, begun_in, bodies, question_in, questions_in, reads_all, reads_none}
+use Rattle.world_legality.specs.Agents.{Answers, IsCarried, IsUnread, answers_in, asked_as, asked_in, begun_in, bodies, question_in, questions_in, reads_all, reads_none}
 use Rattle.idle_agents.specs.Idle.{IsIdle, Runs}
-use Rattle.idle_agents.proofs.HandedLaws.{bytes_of, put_by}
-use Rattle.idle_agents.proofs.LeftLaws.{own_reply}
+use Rattle.idle_agents.proofs.HandedLaws.{bytes_of}
 use Rattle.driven_requests.specs.Requests.{IsWorded}
 use Rattle.driven_requests.proofs.AnswerFits.{MovesFit, PhaseTells, Tells, carried_tells, searched_tells}
-use Rattle.driven_requests.proofs.EventDeeds.{CameOf, came_of, read_call}
-use Rattle.driven_requests.proofs.MetDeeds.{MetSo, asked_then, next_asked}
+use Rattle.driven_requests.proofs.EventDeeds.{CameOf, came_of}
+use Rattle.driven_requests.proofs.MetDeeds.{MetSo, asked_then}
 use Rattle.driven_requests.proofs.OfferedLaws.{moves_fit}
 use Rattle.driven_requests.proofs.ReadCases.{ReadCase, is_awaited, is_refused, is_told, isnt_told}
 use Rattle.driven_requests.proofs.ReadLaws.{ReadLeft, asked_left, none_put, one_put, quiet_left, rest_of}

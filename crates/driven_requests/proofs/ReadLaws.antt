@@ -1,42 +1,22 @@
 -- What a read of a conversation that has a request leaves: the agent idle, the same conversations, their questions, and every other
 -- conversation as it was; and what it comes to.
-use Rattle.std.proofs.Common.{◌≡◌, ℕ, ◌+◌, ◌<◌, ◌≤◌, List, [], ◌∷◌, ◌++◌, map, Bool, true, false, cond, eqb, leb, ltb, ◌&&◌, not, Option, Some, None, length, codes, refl, sym, ap, subst, ◌∙◌, arith, inl, inr}
-use Rattle.std.specs.Prelude.{◌⊎◌, filter, find, option_map}
-use Rattle.std.specs.List.{list_all}
-use Rattle.std.proofs.lemmas.Bool.{le-leb, ltb-true, ne_eqb}
-use Rattle.nine_messages.specs.declared.message.RMsg.{RMsg}
+use Rattle.std.proofs.Common.{◌≡◌, ℕ, ◌+◌, List, [], ◌∷◌, ◌++◌, map, Bool, true, false, cond, eqb, not, Option, Some, None, refl, sym, ap, subst, ◌∙◌, arith}
+use Rattle.std.specs.Prelude.{find, option_map}
+use Rattle.std.proofs.lemmas.Bool.{ltb-true, ne_eqb}
 use Rattle.nine_messages.specs.declared.message.RBody.{RBody}
-use Rattle.nine_messages.specs.declared.message.RBody.TheVariants as r
-use Rattle.roles.specs.declared.need.Need.{Need}
-use Rattle.roles.specs.declared.need.Need.TheVariants.{Nothing, Key, Offers, Pick, Exchange}
-use Rattle.rpc_file.specs.Answers.{answer_text}
-use Rattle.rpc_file.specs.declared.answer.RpcAnswer.{RpcAnswer}
-use Rattle.talks.specs.declared.said.Said.{Said}
-use Rattle.talks.specs.Calls as calls
-use Rattle.talks.specs.Standings.{Begun, Phase, Resting, Waiting, OnServer, Kept, Standing, in_phase, need_in, outcome_of, standing, then_stands}
-use Rattle.agent_history.specs.Deeds.{Deed, OfReplies, OfTalk, Awaited}
-use Rattle.agent_history.specs.Conversations.{Question, asker, conv_of, fits, next_question, opened_talks, questions, raised, speakers, standing_of, talk}
+use Rattle.talks.specs.Standings.{standing}
+use Rattle.agent_history.specs.Deeds.{Deed}
+use Rattle.agent_history.specs.Conversations.{Question, asker, next_question, opened_talks, questions, raised, speakers, talk}
 use Rattle.agent_history.specs.Histories.{History, deeds}
 use Rattle.agent_laws.proofs.ConversationLaws.{Rise, questions_rise, rise_parts}
 use Rattle.agent_laws.proofs.KindLaws.{same_number}
-use Rattle.world_history.specs.declared.question.Question.{Question as Put}
-use Rattle.world_history.specs.Driving.{drive, questions_to, reads, replies_to}
-use Rattle.world_history.specs.Talking.{Asks, came, is_taken, leaves_untaken, word_of}
-use Rattle.wire_histories.specs.Conversations.{is_asked}
-use Rattle.recorded_talks.specs.Begun.{BegunWith}
-use Rattle.recorded_talks.specs.Telling.{answer_acts, idle, is_taken_in}
-use Rattle.world_legality.specs.Agents.{Comes, IsCarried, IsUnread, answers_in, asked_as, asked_in, begun_in, bodies, question_in, questions_in, reads_all, reads_none}
-use Rattle.idle_agents.specs.Idle.{AreOf, IsIdle, KeepsAskers, Runs, SameSeats}
-use Rattle.idle_agents.proofs.HandedLaws.{bytes_of, none_unhanded, put_by, to_put, unhanded}
-use Rattle.idle_agents.proofs.LeftLaws.{own_reply}
-use Rattle.driven_requests.specs.Requests.{IsWorded}
-use Rattle.driven_requests.proofs.AnswerFits.{IsUntaken, PhaseTells, Tells, carried_tells, searched_tells}
-use Rattle.driven_requests.proofs.EventDeeds.{CameOf, Does, came_of, read_call}
-use Rattle.driven_requests.proofs.MetDeeds.{MetSo, asked_then, next_asked}
-use Rattle.driven_requests.proofs.OfferedLaws.{moves_fit}
-use Rattle.driven_requests.proofs.ReadCases.{ReadCase, is_awaited, is_refused, is_told, isnt_told, read_case}
-use Rattle.driven_requests.proofs.RestLaws.{server_need}
-use Rattle.driven_requests.proofs.TalkSides.{Going, stands_here}
+use Rattle.world_history.specs.Driving.{drive, questions_to, reads}
+use Rattle.world_legality.specs.Agents.{begun_in}
+use Rattle.idle_agents.specs.Idle.{AreOf, IsIdle, KeepsAskers, SameSeats}
+use Rattle.idle_agents.proofs.HandedLaws.{none_unhanded, put_by, to_put, unhanded}
+use Rattle.driven_requests.proofs.EventDeeds.{CameOf}
+use Rattle.driven_requests.proofs.MetDeeds.{next_asked}
+use Rattle.driven_requests.proofs.TalkSides.{Going}
 
 -- ---- what is left
 
@@ -110,7 +90,7 @@ asked_left number fid word h now o idle_ c g same = record {
   raises =
       let top = raised (deeds h) + 1 in
       let there : asker (deeds (drive (reads fid word) h)) top ≡ Some number =
-          c.askers top ∙ (ap (λ qs. option_map (λ q. q.conv) (find (λ q. eqb q.call top) qs)) same ∙ last_found top (questions (deeds h)) (next_asked number (deeds h)) (questions_rise h) refl) in
+      c.askers top ∙ (ap (λ qs. option_map (λ q. q.conv) (find (λ q. eqb q.call top) qs)) same ∙ last_found top (questions (deeds h)) (next_asked number (deeds h)) (questions_rise h) refl) in
       subst (λ qs. AreOf number qs (drive (reads fid word) h)) (sym (c.questions ∙ one_put number (deeds h) now idle_.handed same)) (there, tt);
   others = λ other off. ap (λ s. s.begun) (c.stands other ∙ ap standing (g.others other off));
 }

@@ -1,11 +1,11 @@
 -- A request that a network makes of a conversation does what is said of it, and leaves the others.
-use Rattle.std.proofs.Common.{◌≡◌, ℕ, ◌<◌, List, [], ◌∷◌, Bool, true, false, cond, eqb, Option, Some, None, length, refl, sym, ap, subst, ◌∙◌, inl, inr}
+use Rattle.std.proofs.Common.{◌≡◌, ℕ, List, [], ◌∷◌, Bool, true, false, cond, Some, refl, sym, ap, subst, ◌∙◌, inl, inr}
 use Rattle.std.specs.Prelude.{◌⊎◌}
 use Rattle.nine_messages.specs.declared.message.RMsg.{RMsg}
 use Rattle.nine_messages.specs.declared.message.RBody.{RBody}
 use Rattle.nine_messages.specs.declared.message.RBody.TheVariants as r
 use Rattle.attr_tuples.proofs.EqualityLemmas.{eqb_swap}
-use Rattle.talks.specs.Standings.{Waiting, nothing_said}
+use Rattle.talks.specs.Standings.{nothing_said}
 use Rattle.agent_history.specs.Conversations.{asker, conv_of, speakers}
 use Rattle.agent_history.specs.Histories.{History, deeds}
 use Rattle.agent_laws.specs.Laws.{gives_content}
@@ -21,7 +21,7 @@ use Rattle.driven_requests.specs.Requests.{IsWorded, Requested, RequestsDo, Requ
 use Rattle.driven_requests.proofs.ReadCases.{read_case}
 use Rattle.driven_requests.proofs.ReadComes.{ReadSo, comes_so, driven_so, still_there}
 use Rattle.driven_requests.proofs.SeatLaws.{seat_small}
-use Rattle.driven_requests.proofs.StoredLaws.{IsStored, stored_so}
+use Rattle.driven_requests.proofs.StoredLaws.{stored_so}
 
 -- ---- a write that is refused
 

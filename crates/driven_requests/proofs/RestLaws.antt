@@ -8,7 +8,6 @@ use Rattle.roles.specs.declared.answer.StartFault.{StartFault}
 use Rattle.roles.specs.declared.need.Need.{Need}
 use Rattle.roles.specs.declared.need.Need.TheVariants.{Nothing, Key, Offers, Pick, Exchange}
 use Rattle.roles.specs.Answers.{is_sought}
-use Rattle.roles.specs.Starts.{Start}
 use Rattle.roles.specs.Talks.{Call as Move, get, give, heard, offered, picked, roomless, undone, unheard}
 use Rattle.rpc_file.specs.Requests.{RpcRequest}
 use Rattle.rpc_file.specs.Requests as rpc
@@ -60,10 +59,6 @@ fit_by (Exchange request shape) starting b answer e more = ap is_asked e
 
 moved_fit : (s : Standing) (b : Begun) (answer : RpcAnswer) → (is_sought (needs b.start b.moves) ≡ true → Behind s.starting (Some b)) → Fits (moved s b answer)
 moved_fit s b answer more = fit_by (needs b.start b.moves) s.starting b answer refl more
-
--- a move behind which nothing is searched for
-rested_fit : (s : Standing) (b : Begun) (answer : RpcAnswer) → is_sought (needs b.start b.moves) ≡ false → Fits (moved s b answer)
-rested_fit s b answer none = moved_fit s b answer (λ is. absurd (let no_way : true ≡ false = sym is ∙ none in cc))
 
 given_behind : (starting : Bool) (b : Begun) (bytes : List ℕ) → needs b.start b.moves ≡ Nothing → Behind starting (Some (with_move b (give bytes)))
 given_behind true b bytes none = tt

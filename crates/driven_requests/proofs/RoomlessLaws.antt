@@ -1,5 +1,5 @@
 -- Where there was no memory for an answer of the authentication server, nothing is needed any more.
-use Rattle.std.proofs.Common.{◌≡◌, ℕ, List, ◌∷◌, true, false, Option, Some, None, Result, Ok, Err, refl, sym, ◌∙◌}
+use Rattle.std.proofs.Common.{◌≡◌, List, ◌∷◌, true, false, Option, Some, None, Result, Ok, Err, refl, sym, ◌∙◌}
 use Rattle.ticket_codec.specs.Request.{request_of}
 use Rattle.ticket_codec.specs.declared.fault.FieldFault.{FieldFault}
 use Rattle.ticket_codec.specs.declared.request.TicketReq.{TicketReq}

@@ -1,5 +1,5 @@
 -- The searches that follow on what a conversation meets, where nobody can be asked: each finds what is needed.
-use Rattle.std.proofs.Common.{◌≡◌, ℕ, zero, suc, List, [], ◌∷◌, Bool, true, false, cond, Option, Some, None, refl, sym, ap, subst, ◌∙◌}
+use Rattle.std.proofs.Common.{◌≡◌, ℕ, zero, suc, List, ◌∷◌, Bool, true, false, cond, Option, Some, None, refl, sym, ap, subst, ◌∙◌}
 use Rattle.attr_tuples.specs.declared.attr.Attr.{Attr}
 use Rattle.file_tree.specs.declared.tree.Node.TheVariants.{Confirm, Needkey}
 use Rattle.key_lists.specs.Lists.{KeyEntry, KeyList}
@@ -11,7 +11,7 @@ use Rattle.talks.specs.declared.said.Asking.{Asking}
 use Rattle.talks.specs.Calls as calls
 use Rattle.talks.specs.Calls.{Found, Chosen, AsksConsent, AsksKey, Denied, NoneServes, Offered, Picked}
 use Rattle.talks.specs.Searches.{first_left, found_at, found_by, is_denied, serving}
-use Rattle.talks.specs.Standings.{Phase, Resting, Waiting, Seeking, OnConfirm, OnNeedkey, OnServer, Kept, Standing, finds, found_for, is_for, need_in, role_name, sought, sought_if, standing, then_stands}
+use Rattle.talks.specs.Standings.{Phase, Resting, Waiting, Seeking, OnConfirm, OnNeedkey, OnServer, Kept, Standing, finds, found_for, is_for, need_in, role_name, sought, sought_if, then_stands}
 use Rattle.agent_history.specs.Deeds.{Deed, OfTalk, holder_of, keys_of}
 use Rattle.agent_history.specs.Conversations.{asking, questions, raised, seeking, sought_once, standing_of, talk}
 use Rattle.agent_history.specs.Conversations as deed

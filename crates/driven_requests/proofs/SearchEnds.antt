@@ -9,7 +9,7 @@ use Rattle.roles.specs.declared.need.Need.{Need}
 use Rattle.roles.specs.declared.need.Need.TheVariants.{Nothing, Key, Offers, Pick, Exchange}
 use Rattle.roles.specs.Answers.{is_sought}
 use Rattle.roles.specs.Starts.{Start, start_with}
-use Rattle.roles.specs.Talks.{Call as Move, get, give, offered, picked}
+use Rattle.roles.specs.Talks.{get, give, offered, picked}
 use Rattle.rpc_file.specs.Requests.{RpcRequest}
 use Rattle.rpc_file.specs.Requests as rpc
 use Rattle.rpc_file.specs.declared.answer.RpcAnswer.{RpcAnswer}
@@ -20,8 +20,7 @@ use Rattle.talks.specs.declared.said.Said.{Said}
 use Rattle.talks.specs.declared.said.Asking.{Asking}
 use Rattle.talks.specs.Calls.{Found, Chosen, AsksConsent, AsksKey, Denied, NoneServes, Offered, Picked}
 use Rattle.talks.specs.Searches.{found_among, found_by, is_denied, offered_by, serving}
-use Rattle.talks.specs.Standings.{Begun, Phase, Waiting, Seeking, Kept, Standing, begin, begin_once, carried_out, chosen_for, finds, found_for, if_begun, is_for, make_move, need_in, phase_after, role_in, role_name, sought, start_by, started, told_of_key, with_move}
-use Rattle.wire_histories.specs.Conversations.{meets}
+use Rattle.talks.specs.Standings.{Begun, Phase, Seeking, Kept, Standing, carried_out, finds, found_for, is_for, need_in, phase_after, role_in, role_name, sought, start_by, started, told_of_key, with_move}
 use Rattle.lawful_roles.proofs.AllRoles.{all_roles}
 use Rattle.recorded_talks.specs.Telling.{idle, is_driven}
 use Rattle.recorded_talks.proofs.SearchSteps.{chosen_meets, offers_meet, pick_meets}

@@ -1,5 +1,5 @@
 -- What a start needs: nothing that is searched for twice; or, for a server of p9any, a list of offers, and a key where it is empty.
-use Rattle.std.proofs.Common.{◌≡◌, ℕ, List, [], ◌∷◌, Bool, true, false, Option, Some, None, refl, sym, ap, ◌∙◌, codes, inl, inr}
+use Rattle.std.proofs.Common.{◌≡◌, ℕ, List, [], ◌∷◌, true, false, Option, None, refl, sym, ap, ◌∙◌, codes, inl, inr}
 use Rattle.std.specs.Prelude.{◌⊎◌}
 use Rattle.attr_tuples.specs.declared.attr.Attr.{Attr}
 use Rattle.attr_tuples.specs.Matching.{value_of}
@@ -11,7 +11,7 @@ use Rattle.roles.specs.Answers.{is_sought}
 use Rattle.roles.specs.Starts.{Start, role_of}
 use Rattle.roles.specs.Courses.{need_unless, then_course}
 use Rattle.roles.specs.Talks.{Call, Progress, found, get, give, heard, offered, picked, roomless, undone, unheard}
-use Rattle.roles.specs.Templates.{asked, given_as}
+use Rattle.roles.specs.Templates.{asked}
 use Rattle.conv_p9any.specs.Courses as any
 use Rattle.conv_p9any.specs.Talks.{Standing, choosing}
 use Rattle.conv_challenge.specs.declared.stage.Stage.{Stage as Post}

@@ -1,16 +1,14 @@
 -- A request that is written, and isn't refused, waits in its conversation, which needs nothing.
-use Rattle.std.proofs.Common.{◌≡◌, ℕ, ◌<◌, List, [], ◌∷◌, ◌++◌, Bool, true, false, Option, Some, None, Result, Ok, Err, refl, sym, ap, subst, ◌∙◌}
+use Rattle.std.proofs.Common.{◌≡◌, ℕ, ◌<◌, List, ◌∷◌, ◌++◌, false, Some, Result, Ok, Err, refl, sym, ap, ◌∙◌}
 use Rattle.nine_messages.specs.declared.message.RBody.TheVariants as r
 use Rattle.nine_messages.specs.declared.message.TBody.{TBody}
 use Rattle.nine_messages.specs.declared.message.TBody.TheVariants as t
 use Rattle.roles.specs.declared.need.Need.TheVariants.{Nothing}
-use Rattle.rpc_file.specs.Requests as rpc
 use Rattle.talks.specs.Calls as calls
-use Rattle.talks.specs.Standings.{Begun, Resting, Waiting, Standing, need_in, nothing_said, standing, stored, then_stands}
-use Rattle.agent_history.specs.Deeds.{Deed, OfTalk, fid_of}
-use Rattle.agent_history.specs.Replies.{waits_under}
+use Rattle.talks.specs.Standings.{Resting, Waiting, Standing, need_in, nothing_said, then_stands}
+use Rattle.agent_history.specs.Deeds.{Deed, OfTalk}
 use Rattle.agent_history.specs.Conversations.{conv_of, standing_of, talk}
-use Rattle.agent_history.specs.Requests.{Call, after_frame, answered, body_for, body_to, granted}
+use Rattle.agent_history.specs.Requests.{Call, after_frame, answered, body_for, granted}
 use Rattle.agent_history.specs.Histories.{History, deeds}
 use Rattle.agent_laws.proofs.GrowLaws.{none_refuses}
 use Rattle.driven_agents.proofs.TakeLaws.{takes_change_none}
@@ -73,7 +71,7 @@ stored_so number fid what h small idle_ there runs taken = by_grant (granted don
         let tests = write_passes done call fid text passed.none is in
         let at_rest : (standing_of done number).phase ≡ Resting = sym (phase_there done fid number there) ∙ tests.0 in
         let does : after_frame done call frame ≡ OfTalk number (calls.Stored (asked_as what)) ∷ done =
-            frame_by done call frame (Ok (t.Write fid 0 text)) e' ∙ write_does done call fid number text (asked_as what) is there (asked_text what tests.1) in
+        frame_by done call frame (Ok (t.Write fid 0 text)) e' ∙ write_does done call fid number text (asked_as what) is there (asked_text what tests.1) in
         record {
           stood = takes_change_none (writes fid text) h number
               ∙ (write_same (λ d. standing_of d number) (λ at tag body d. refl) (λ d. refl) fid text h idle_.calm once

@@ -1,5 +1,5 @@
 -- The forms of verdicts by which no key is called bad, and no more is got than an answer has room for.
-use Rattle.std.proofs.Common.{◌≡◌, ℕ, ◌+◌, ◌<◌, ◌≤◌, List, [], ◌∷◌, Bool, true, false, cond, Option, Some, None, Result, Ok, Err, length, ltb, refl, sym, ap, ◌∙◌, arith}
+use Rattle.std.proofs.Common.{◌≡◌, ℕ, ◌≤◌, List, [], ◌∷◌, Bool, true, false, cond, Option, Some, None, Result, Ok, Err, length, ltb, refl, ◌∙◌, arith}
 use Rattle.std.proofs.lemmas.Bool.{ltb-false}
 use Rattle.wire_base.specs.Names.{IsName}
 use Rattle.wire_base.specs.Rules.{Rule, first_told}
@@ -11,8 +11,8 @@ use Rattle.roles.specs.declared.answer.Cause.TheVariants as c
 use Rattle.roles.specs.declared.answer.Gave.{Gave}
 use Rattle.roles.specs.declared.answer.Gave.TheVariants as g
 use Rattle.roles.specs.declared.key.SkKey.{SkKey}
-use Rattle.roles.specs.Courses.{refusal}
-use Rattle.roles.specs.Talks.{Call, Verdict, breaks, found, goes, heard, offered, sized, stays, tested, unless_told}
+use Rattle.roles.specs.Courses.{answer_of, bytes_of, refusal, then_course}
+use Rattle.roles.specs.Talks.{Call, Progress, Verdict, breaks, found, goes, heard, offered, sized, stays, tested, unless_told}
 use Rattle.roles.specs.Tickets.{with_request, with_ticket}
 
 -- ---- what is met
@@ -51,7 +51,7 @@ Good G F call (goes next answer bytes) = G next × (is_heard call ≡ false → 
 Good G F call (stays answer) = is_bad answer ≡ true → ⊥
 Good G F call (breaks cause) = is_heard call ≡ false → cause ≡ c.BadKey → ⊥
 
-pub refusal_bad : (cause : Cause) → is_bad (refusal cause) ≡ true → cause ≡ c.BadKey
+refusal_bad : (cause : Cause) → is_bad (refusal cause) ≡ true → cause ≡ c.BadKey
 refusal_bad c.BadKey e = refl
 refusal_bad c.WrongKind e = absurd cc
 refusal_bad c.WrongChallenge e = absurd cc
@@ -108,3 +108,21 @@ ticket_so P cause (Err fault) next broken so = broken
 pub request_so : {S : Type 0} (P : Verdict S → Type 0) (cause : Cause) (request : Result TicketReq FieldFault) (next : TicketReq → Verdict S) → P (breaks cause) → ((r : TicketReq) → P (next r)) → P (with_request cause request next)
 request_so P cause (Ok request) next broken so = so request
 request_so P cause (Err fault) next broken so = broken
+
+-- ---- what follows on a verdict
+
+pub goes_on : {S : Type 0} (G : S → Type 0) (F : Type 0) (call : Call) (p : Progress S) (v : Verdict S) → G p.stage → Good G F call v → G (then_course p v).stage
+goes_on G F call p (goes next answer bytes) so good = good.0
+goes_on G F call p (stays answer) so good = so
+goes_on G F call p (breaks cause) so good = so
+
+-- what is answered, and what is got
+pub answer_so : {S : Type 0} (G : S → Type 0) (F : Type 0) (call : Call) (v : Verdict S) → Good G F call v → is_heard call ≡ false → is_bad (answer_of v) ≡ true → ⊥
+answer_so G F call (goes next answer bytes) good off e = good.1 off e
+answer_so G F call (stays answer) good off e = good e
+answer_so G F call (breaks cause) good off e = good off (refusal_bad cause e)
+
+pub bytes_so : {S : Type 0} (G : S → Type 0) (F : Type 0) (call : Call) (v : Verdict S) → Good G F call v → F → length (bytes_of v) ≤ 2048
+bytes_so G F call (goes next answer bytes) good f = good.2 f
+bytes_so G F call (stays answer) good f = omega arith
+bytes_so G F call (breaks cause) good f = omega arith
