@@ -7,3 +7,6 @@ pub mod StepLaws
 pub mod OpenedLaws
 pub mod MadeLaws
 pub mod ActLaws
+pub mod ShortLaws
+pub mod WaitCounts
+pub mod HandCounts
