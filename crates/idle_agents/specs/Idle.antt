@@ -1,10 +1,11 @@
 -- How an agent stands between what a network does to it: all that it put out was taken, and each conversation that asked the
 -- authentication server is read by the request that waits for its answer. It serves proofs alone.
-use Rattle.std.specs.Prelude.{◌≡◌, ℕ, List, [], ◌∷◌, Bool, true, false, ◌==◌, Option, Some, None}
+use Rattle.std.specs.Prelude.{◌≡◌, ℕ, List, [], ◌∷◌, Bool, true, false, ◌==◌, nat_lt, Option, Some, None}
 use Rattle.std.specs.List.{list_all}
+use Rattle.file_tree.specs.Calls.{attached}
 use Rattle.talks.specs.Standings.{OnServer}
 use Rattle.agent_history.specs.declared.event.Event.{Event}
-use Rattle.agent_history.specs.Deeds.{Deed, msize_of, was_hung, was_opened}
+use Rattle.agent_history.specs.Deeds.{Deed, fid_of, msize_of, was_hung, was_opened}
 use Rattle.agent_history.specs.Replies.{Wait, has_settled, reader, untaken, waits}
 use Rattle.agent_history.specs.Conversations.{Speaker, asker, drops, next_question, opened_talks, speakers, standing_of}
 use Rattle.agent_history.specs.Histories.{History, deeds, has_stopped}
@@ -38,6 +39,9 @@ pub record IsCalm (done : List Deed) : Type 0 where
   pub msize : msize_of done 0 ≡ Some 8216
   -- it is the only one
   pub alone : list_all (λ s. s.conn == 0) (speakers done) ≡ true
+  -- its fid 0 names the root, and a fid that has rpc open is the tag of its read, which has 16 bits
+  pub root : fid_of done 0 0 ≡ attached
+  pub small : list_all (λ s. nat_lt s.fid 65535) (speakers done) ≡ true
   -- each read that waits has its fid for a tag, and is one of a network's; whom it waits for is read
   pub tagged : list_all (λ w. w.tag == w.fid) (waits done 0) ≡ true
   pub counted : list_all (λ w. w.count == 8192) (waits done 0) ≡ true

@@ -1,0 +1,6 @@
+pub mod RunLaws
+pub mod KeptLaws
+pub mod TakenLaws
+pub mod AskedLemmas
+pub mod HandedLaws
+pub mod IdleLaws
