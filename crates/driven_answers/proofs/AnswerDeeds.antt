@@ -1,12 +1,11 @@
 -- The deeds of an answer of the authentication server, or of its absence: its conversation meets it, lines are logged, and the
 -- read that waits for it is told what the role answers.
-use Rattle.std.proofs.Common.{◌≡◌, ℕ, List, [], ◌∷◌, Bool, true, false, cond, eqb, ◌&&◌, ◌||◌, not, Option, Some, None, refl, sym, ap, subst, ◌∙◌, inl, inr, filter}
+use Rattle.std.proofs.Common.{◌≡◌, ℕ, List, [], ◌∷◌, Bool, true, false, cond, eqb, ◌&&◌, ◌||◌, not, Option, Some, refl, ap, ◌∙◌, inl, inr, filter}
 use Rattle.std.specs.Prelude.{find}
 use Rattle.std.specs.List.{list_all, list_any}
 use Rattle.std.proofs.lemmas.Bool.{cases_Bool, eq-eqb}
 use Rattle.file_tree.specs.declared.tree.Node.{Node}
 use Rattle.file_tree.specs.declared.tree.Node.TheVariants.{Confirm, Needkey, Log}
-use Rattle.roles.specs.declared.need.Need.{Need}
 use Rattle.roles.specs.declared.need.Need.TheVariants.{Nothing}
 use Rattle.roles.specs.Starts.{Start}
 use Rattle.roles.specs.Talks.{Call as Move, heard, unheard}
@@ -19,10 +18,10 @@ use Rattle.talks.specs.Answers.{move_answer}
 use Rattle.talks.specs.Calls.{Call, Heard, Unheard, Took}
 use Rattle.talks.specs.Lines.{log_lines}
 use Rattle.talks.specs.Standings.{Begun, Phase, OnServer, Kept, Standing, made, phase_after, standing, then_stands, with_move}
-use Rattle.agent_history.specs.Deeds.{Deed, OfLog, OfReplies, OfTalk, Settled, Swept, holder_of, is_debug}
+use Rattle.agent_history.specs.Deeds.{Deed, OfLog, OfReplies, OfTalk, Settled, Swept, is_debug}
 use Rattle.agent_history.specs.Replies.{Wait, has_settled, is_unsettled, reader, swept, waits}
 use Rattle.agent_history.specs.SideFiles.{all_served, is_line_file, served, served_to}
-use Rattle.agent_history.specs.Conversations.{Speaker, deliver_to, delivered, fits, give_to, logged, met, questions, raising, resumed, seeking, seeking_all, sought_once, speaker_of, speakers, standing_of, talk, then_logged, then_raised, then_sought, then_took, told}
+use Rattle.agent_history.specs.Conversations.{Speaker, deliver_to, delivered, fits, give_to, logged, met, questions, raising, resumed, seeking, seeking_all, sought_once, speaker_of, standing_of, talk, then_logged, then_raised, then_sought, then_took, told}
 use Rattle.lawful_roles.proofs.AllRoles.{all_roles}
 use Rattle.wire_histories.specs.Conversations.{is_asked}
 use Rattle.recorded_talks.specs.Telling.{on_server}
@@ -146,7 +145,7 @@ swept_so : (done : List Deed) → has_settled done ≡ true → swept done ≡ S
 swept_so done e = ap (λ b. cond b (Swept ∷ done) done) e
 
 -- told to which read, which waits then
-took_same : {X : Type 0} (f : List Deed → X) (number : ℕ) (answer : RpcAnswer) (done : List Deed) → ((d : List Deed) → f (OfTalk number Took ∷ d) ≡ f d) → f (then_took number 8192 answer done) ≡ f done
+pub took_same : {X : Type 0} (f : List Deed → X) (number : ℕ) (answer : RpcAnswer) (done : List Deed) → ((d : List Deed) → f (OfTalk number Took ∷ d) ≡ f d) → f (then_took number 8192 answer done) ≡ f done
 took_same f number answer done same = by_test (fits 8192 answer)
   where
     by_test : (b : Bool) → f (cond b (OfTalk number Took ∷ done) done) ≡ f done

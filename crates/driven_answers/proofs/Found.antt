@@ -1,5 +1,5 @@
 -- Who is found in a list.
-use Rattle.std.proofs.Common.{◌≡◌, ℕ, List, [], ◌∷◌, Bool, true, false, cond, ◌&&◌, ◌||◌, not, Option, Some, None, refl, sym, ap, ◌∙◌, inl, inr, map}
+use Rattle.std.proofs.Common.{◌≡◌, ℕ, List, [], ◌∷◌, Bool, true, false, cond, ◌&&◌, Option, Some, None, refl, sym, ap, ◌∙◌, inl, inr, map}
 use Rattle.std.specs.Prelude.{find, option_map}
 use Rattle.std.specs.List.{filter, list_all}
 use Rattle.std.proofs.lemmas.Bool.{and_from, and_parts, cases_Bool}
@@ -17,14 +17,23 @@ pub later_found : {X : Type 0} (p : X → Bool) (x : X) (xs : List X) → p x �
 later_found p x xs off = ap (λ b. cond b (Some x) (find p xs)) off
 
 -- the number of what is found passes what all numbers pass
-pub found_passes : {X : Type 0} (f : X → ℕ) (p : X → Bool) (test : ℕ → Bool) (xs : List X) (n : ℕ) → option_map f (find p xs) ≡ Some n → list_all test (map f xs) ≡ true → test n ≡ true
+pub found_passes : {X : Type 0} (f : X → ℕ) (p : X → Bool) (test : ℕ → Bool) (xs : List X) (n : ℕ) → option_map f (find p xs) ≡ Some n → list_all (λ x. test (f x)) xs ≡ true → test n ≡ true
 found_passes f p test [] n e all = absurd cc
 found_passes f p test (x ∷ xs) n e all =
-    let parts = and_parts (test (f x)) (list_all test (map f xs)) all in
+    let parts = and_parts (test (f x)) (list_all (λ y. test (f y)) xs) all in
     elim (cases_Bool (p x)) [
       | inl on ↦ let there : Some (f x) ≡ Some n = sym (ap (option_map f) (first_found p x xs on)) ∙ e in let same : f x ≡ n = cc in ap test (sym same) ∙ parts.0
       | inr off ↦ found_passes f p test xs n (sym (ap (option_map f) (later_found p x xs off)) ∙ e) parts.1
     ]
+
+pub all_numbers : {X : Type 0} (f : X → ℕ) (test : ℕ → Bool) (xs : List X) → list_all (λ x. test (f x)) xs ≡ list_all test (map f xs)
+all_numbers f test [] = refl
+all_numbers f test (x ∷ xs) = ap (λ b. test (f x) && b) (all_numbers f test xs)
+
+-- what is found, by its number
+pub found_with : {X : Type 0} (f : X → ℕ) (o : Option X) (n : ℕ) → option_map f o ≡ Some n → (x : X) × (o ≡ Some x) × (f x ≡ n)
+found_with f None n e = absurd cc
+found_with f (Some x) n e = (x, refl, let same : f x ≡ n = cc in same)
 
 -- of those that are kept all pass what all passed
 pub all_kept : {X : Type 0} (p keep : X → Bool) (xs : List X) → list_all p xs ≡ true → list_all p (filter keep xs) ≡ true

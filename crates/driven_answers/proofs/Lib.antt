@@ -5,3 +5,7 @@ pub mod SeatLaws
 pub mod UnsettledReads
 pub mod ToldReads
 pub mod AnswerDeeds
+pub mod AnsweredCalm
+pub mod AnsweredReplies
+pub mod AnsweredQuestions
+pub mod AnswerLaws

@@ -7,14 +7,14 @@ use Rattle.rpc_file.specs.declared.answer.RpcAnswer.{RpcAnswer}
 use Rattle.side_files.specs.Calls as side
 use Rattle.side_files.specs.Lines.{Found as Line, Nothing, TooLong, First, found}
 use Rattle.talks.specs.Calls.{Call, Found, AsksConsent, AsksKey, Sought, Heard, Unheard, Took}
-use Rattle.talks.specs.Standings.{Phase, Seeking, OnServer, Kept, Standing, finds, standing}
+use Rattle.talks.specs.Standings.{Phase, Seeking, OnServer, Kept, finds, standing}
 use Rattle.talks.specs.Lines.{log_lines}
 use Rattle.agent_history.specs.declared.event.Event.TheVariants.{Answer, NoAnswer}
-use Rattle.agent_history.specs.Deeds.{Deed, OfTalk, OfLog, OfReplies, Settled, Swept, holder_of, is_debug, keys_of}
+use Rattle.agent_history.specs.Deeds.{Deed, OfTalk, OfLog, Swept, holder_of, is_debug, keys_of}
 use Rattle.agent_history.specs.Replies.{Wait, has_settled, reader, swept, waits}
 use Rattle.agent_history.specs.SideFiles.{all_served, line_read, lines_in, serve_first, serve_read, serve_reads, served, served_to}
-use Rattle.agent_history.specs.Conversations.{Speaker, asker, asking, deliver_to, delivered, fits, give_to, logged, met, prompting, raising, reader_of, resumed, seeking, seeking_all, sought, sought_once, speaker_of, standing_of, talk, then_logged, then_raised, then_sought, then_took, told}
-use Rattle.agent_history.specs.Histories.{History, deeds}
+use Rattle.agent_history.specs.Conversations.{Speaker, asking, deliver_to, delivered, fits, give_to, logged, met, prompting, raising, reader_of, resumed, seeking, seeking_all, sought_once, speaker_of, standing_of, talk, then_logged, then_raised, then_sought}
+use Rattle.agent_history.specs.Histories.{deeds}
 use Rattle.agent_laws.proofs.GrowLaws.{last_or_not}
 use Rattle.driven_agents.proofs.EditGrows.{where_so}
 use Rattle.driven_answers.specs.Answers.{AbsencesLeave, AnswersLeave}

@@ -1,14 +1,13 @@
 -- The conversation that a fid has open on the only connection: it is found by its number, and no other one has the fid open.
-use Rattle.std.proofs.Common.{◌≡◌, ℕ, List, [], ◌∷◌, Bool, true, false, cond, eqb, ltb, ◌&&◌, ◌||◌, not, Option, Some, None, refl, sym, ap, ◌∙◌, inl, inr, map, arith}
+use Rattle.std.proofs.Common.{◌≡◌, ℕ, List, [], ◌∷◌, Bool, true, false, eqb, ltb, ◌&&◌, ◌||◌, not, Some, refl, sym, ap, ◌∙◌, inl, inr, map, arith}
 use Rattle.std.specs.Prelude.{find, option_map}
 use Rattle.std.specs.List.{list_all, AllByRecursion, IsDistinct}
 use Rattle.std.proofs.lemmas.Bool.{and_from, and_parts, cases_Bool, eq-eqb, eqb-true, ltb-true}
-use Rattle.agent_history.specs.Deeds.{Deed}
 use Rattle.agent_history.specs.Conversations.{Speaker, conv_of, opened_talks, speaker_of, speakers}
 use Rattle.agent_history.specs.Histories.{History, deeds}
 use Rattle.agent_laws.specs.Laws.{is_same_place}
 use Rattle.agent_laws.proofs.ConversationLaws.{Rise, number, rise_parts, speak_once, speakers_rise}
-use Rattle.driven_answers.proofs.Found.{first_found, found_passes, later_found}
+use Rattle.driven_answers.proofs.Found.{all_numbers, first_found, found_passes, later_found}
 use Rattle.driven_answers.proofs.OtherTalks.{apart}
 
 abbrev pub at_fid : ℕ → Speaker → Bool
@@ -48,7 +47,7 @@ by_number top fid conv (s ∷ ss) rise e =
       | inl on ↦ let is = first_number (at_fid fid) s ss conv on e in first_found (λ t. eqb t.conv conv) s ss (eq-eqb s.conv conv is) ∙ ap Some (is_seat s conv fid on is)
       | inr off ↦
         let rest = later_number (at_fid fid) s ss conv off e in
-        later_found (λ t. eqb t.conv conv) s ss (below_apart s.conv conv (found_passes number (at_fid fid) (ltb s.conv) ss conv rest parts.above))
+        later_found (λ t. eqb t.conv conv) s ss (below_apart s.conv conv (found_passes number (at_fid fid) (ltb s.conv) ss conv rest (all_numbers number (ltb s.conv) ss ∙ parts.above)))
         ∙ by_number top fid conv ss parts.rest rest
     ]
 
