@@ -4,3 +4,5 @@ pub mod TakenLaws
 pub mod AskedLemmas
 pub mod HandedLaws
 pub mod IdleLaws
+pub mod StillLaws
+pub mod LeftLaws
