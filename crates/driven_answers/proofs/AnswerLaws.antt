@@ -85,18 +85,18 @@ answered_so number fid question event call move h is does_so idle opened asked r
     let now = kept move begun s.starting s.said in
     let all = answered_by number fid call answer done in
     let there : deeds (event ∷ h) ≡ all =
-      (going event h (event_runs event h runs)).now ∙ does_so done ∙ event_so number fid call answer done (asker done question) asked (ap (λ x. x.phase) before.stands) idle.calm.names before.speaks before.reads in
+    (going event h (event_runs event h runs)).now ∙ does_so done ∙ event_so number fid call answer done (asker done question) asked (ap (λ x. x.phase) before.stands) idle.calm.names before.speaks before.reads in
     let stands = stands_told number fid call done move begun s.starting s.said before.stands in
     let makes : made (on_server begun s.starting s.said) move (Some begun) ≡ now = makes_kept call move is begun s.starting s.said before.on.asked in
     let calm : IsCalm (deeds (event ∷ h)) = subst IsCalm (sym there) (answered_calm number fid call done move begun s.starting s.said before.stands idle.calm (others_apart h fid number idle.calm.alone opened)) in
     let next : next_question (deeds (event ∷ h)) ≡ None = ap next_question there ∙ none_next number fid call move is answer done idle.handed in
     let none : questions_to event h ≡ [] = questions_so event h runs calm.entered ∙ ap (map (put_by (deeds (event ∷ h)))) (none_unhanded (questions (deeds (event ∷ h))) next) in
     let replies : replies_to event h ≡ record { tag = fid; body = told 8192 answer } ∷ [] =
-      replies_so event h calm.there runs ∙ ap (λ d. untaken d 0) there ∙ answered_untaken number fid call answer done idle.calm before.reads idle.taken in
+    replies_so event h calm.there runs ∙ ap (λ d. untaken d 0) there ∙ answered_untaken number fid call answer done idle.calm before.reads idle.taken in
     let seats = seats_behind event h runs calm.entered in
     let speaking : speakers (deeds (drive event h)) ≡ speakers done = seats.speakers ∙ ap speakers there ∙ same_speakers number fid call answer done in
     let opened_then : opened_talks (deeds (drive event h)) ≡ opened_talks done =
-      seats.opened ∙ ap opened_talks there ∙ untold_same opened_talks number call answer done (λ line d. refl) (λ c d. refl) in
+    seats.opened ∙ ap opened_talks there ∙ untold_same opened_talks number call answer done (λ line d. refl) (λ c d. refl) in
     let stands_then : standing_of (deeds (drive event h)) number ≡ told_stands (fits 8192 answer) now = takes_change_none event h number ∙ ap (λ d. standing_of d number) there ∙ stands in
     let still_open : conv_of (deeds (drive event h)) 0 fid ≡ Some number = ap (λ ss. option_map (λ t. t.conv) (find (λ t. eqb t.conn 0 && eqb t.fid fid) ss)) speaking ∙ opened in
     record {

@@ -71,9 +71,9 @@ one_read number fid call answer done calm rests s away read waits_now =
     elim (cases_Bool (eqb s.conv number)) [
       | inl same ↦ absurd (rests (ap (λ n. (standing_of all n).phase) (sym (eqb-true s.conv number same)) ∙ waits_now))
       | inr off ↦
-        let still = read (ap (λ x. x.phase) (sym (others_stand number fid call answer done s.conv off)) ∙ waits_now) in
-        ap (λ ws. find (waits_at s.fid) ws) (left_waits number fid call answer done)
-        ∙ other_left fid s.fid (told 8192 answer) (waits done 0) (read_of s.fid) (apart_fid (eqb s.conv number) (eqb s.fid fid) off away) calm.tagged still
+          let still = read (ap (λ x. x.phase) (sym (others_stand number fid call answer done s.conv off)) ∙ waits_now) in
+          ap (λ ws. find (waits_at s.fid) ws) (left_waits number fid call answer done)
+          ∙ other_left fid s.fid (told 8192 answer) (waits done 0) (read_of s.fid) (apart_fid (eqb s.conv number) (eqb s.fid fid) off away) calm.tagged still
     ]
 
 all_read : (number fid : ℕ) (call : Call) (answer : RpcAnswer) (done : List Deed) → IsCalm done → ((standing_of (answered_by number fid call answer done) number).phase ≡ OnServer → ⊥)

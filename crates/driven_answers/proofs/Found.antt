@@ -26,6 +26,7 @@ found_passes f p test (x ∷ xs) n e all =
       | inr off ↦ found_passes f p test xs n (sym (ap (option_map f) (later_found p x xs off)) ∙ e) parts.1
     ]
 
+-- a test of the numbers
 pub all_numbers : {X : Type 0} (f : X → ℕ) (test : ℕ → Bool) (xs : List X) → list_all (λ x. test (f x)) xs ≡ list_all test (map f xs)
 all_numbers f test [] = refl
 all_numbers f test (x ∷ xs) = ap (λ b. test (f x) && b) (all_numbers f test xs)

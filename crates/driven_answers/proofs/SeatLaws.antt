@@ -46,9 +46,9 @@ by_number top fid conv (s ∷ ss) rise e =
     elim (cases_Bool (at_fid fid s)) [
       | inl on ↦ let is = first_number (at_fid fid) s ss conv on e in first_found (λ t. eqb t.conv conv) s ss (eq-eqb s.conv conv is) ∙ ap Some (is_seat s conv fid on is)
       | inr off ↦
-        let rest = later_number (at_fid fid) s ss conv off e in
-        later_found (λ t. eqb t.conv conv) s ss (below_apart s.conv conv (found_passes number (at_fid fid) (ltb s.conv) ss conv rest (all_numbers number (ltb s.conv) ss ∙ parts.above)))
-        ∙ by_number top fid conv ss parts.rest rest
+          let rest = later_number (at_fid fid) s ss conv off e in
+          later_found (λ t. eqb t.conv conv) s ss (below_apart s.conv conv (found_passes number (at_fid fid) (ltb s.conv) ss conv rest (all_numbers number (ltb s.conv) ss ∙ parts.above)))
+          ∙ by_number top fid conv ss parts.rest rest
     ]
 
 pub speaker_found : (h : History) (fid conv : ℕ) → conv_of (deeds h) 0 fid ≡ Some conv → speaker_of (deeds h) conv ≡ Some (seat conv fid)
@@ -92,8 +92,8 @@ all_apart conv fid (s ∷ ss) alone once e =
     elim (cases_Bool (at_fid fid s)) [
       | inl on ↦ and_from (is_apart conv fid s) (list_all (is_apart conv fid) ss) (first_apart (eqb s.conv conv) _ (eq-eqb s.conv conv (first_number (at_fid fid) s ss conv on e))) (rest_apart conv fid s ss on parts.1 once.0)
       | inr off ↦
-        and_from (is_apart conv fid s) (list_all (is_apart conv fid) ss) (apart_by (eqb s.conv conv) (eqb s.fid fid) (sym (ap (λ b. b && eqb s.fid fid) parts.0) ∙ off))
-        (all_apart conv fid ss parts.1 once.1 (later_number (at_fid fid) s ss conv off e))
+          and_from (is_apart conv fid s) (list_all (is_apart conv fid) ss) (apart_by (eqb s.conv conv) (eqb s.fid fid) (sym (ap (λ b. b && eqb s.fid fid) parts.0) ∙ off))
+          (all_apart conv fid ss parts.1 once.1 (later_number (at_fid fid) s ss conv off e))
     ]
 
 pub others_apart : (h : History) (fid conv : ℕ) → AreAlone (speakers (deeds h)) → conv_of (deeds h) 0 fid ≡ Some conv → AreApart conv fid (speakers (deeds h))

@@ -61,13 +61,13 @@ one_replied fid body (w ∷ ws) all tagged e =
     let tags = and_parts (eqb w.tag w.fid) (list_all (λ v. eqb v.tag v.fid) ws) tagged in
     elim (cases_Bool (eqb w.fid fid)) [
       | inl on ↦
-        let is = found_first (waits_at fid) w (read_of fid) ws (and_from (eqb w.fid fid) (is_unsettled w) on unsettled.0) e in
-        ap (λ v. filter_map reply_in (settle_tag fid body (v ∷ ws))) is
-        ∙ ap (λ b. filter_map reply_in (cond b (settled_by body (read_of fid) ∷ ws) (read_of fid ∷ settle_tag fid body ws))) (self_same fid)
-        ∙ ap (λ rs. record { tag = fid; body = body } ∷ rs) (none_replied ws unsettled.1)
+          let is = found_first (waits_at fid) w (read_of fid) ws (and_from (eqb w.fid fid) (is_unsettled w) on unsettled.0) e in
+          ap (λ v. filter_map reply_in (settle_tag fid body (v ∷ ws))) is
+          ∙ ap (λ b. filter_map reply_in (cond b (settled_by body (read_of fid) ∷ ws) (read_of fid ∷ settle_tag fid body ws))) (self_same fid)
+          ∙ ap (λ rs. record { tag = fid; body = body } ∷ rs) (none_replied ws unsettled.1)
       | inr off ↦
-        let other : eqb w.tag fid ≡ false = ap (λ n. eqb n fid) (eqb-true w.tag w.fid tags.0) ∙ off in
-        rw other (rw (unsettled_none w unsettled.0) (one_replied fid body ws unsettled.1 tags.1 (found_later (waits_at fid) w (read_of fid) ws (ap (λ b. b && is_unsettled w) off) e)))
+          let other : eqb w.tag fid ≡ false = ap (λ n. eqb n fid) (eqb-true w.tag w.fid tags.0) ∙ off in
+          rw other (rw (unsettled_none w unsettled.0) (one_replied fid body ws unsettled.1 tags.1 (found_later (waits_at fid) w (read_of fid) ws (ap (λ b. b && is_unsettled w) off) e)))
     ]
   where
     self_same : (n : ℕ) → eqb n n ≡ true
@@ -85,17 +85,17 @@ other_left fid other body (w ∷ ws) x off tagged e =
     let tags = and_parts (eqb w.tag w.fid) (list_all (λ v. eqb v.tag v.fid) ws) tagged in
     elim (cases_Bool (eqb w.tag fid)) [
       | inl on ↦
-        let same : w.fid ≡ fid = sym (eqb-true w.tag w.fid tags.0) ∙ eqb-true w.tag fid on in
-        let elsewhere : eqb w.fid other ≡ false = ap (λ n. eqb n other) same ∙ apart other fid off in
-        rw on (rw (now_settled body w) (kept_found ws (found_later (waits_at other) w x ws (ap (λ b. b && is_unsettled w) elsewhere) e)))
+          let same : w.fid ≡ fid = sym (eqb-true w.tag w.fid tags.0) ∙ eqb-true w.tag fid on in
+          let elsewhere : eqb w.fid other ≡ false = ap (λ n. eqb n other) same ∙ apart other fid off in
+          rw on (rw (now_settled body w) (kept_found ws (found_later (waits_at other) w x ws (ap (λ b. b && is_unsettled w) elsewhere) e)))
       | inr not_on ↦ rw not_on (elim (cases_Bool (is_unsettled w)) [
         | inl unsettled ↦ rw unsettled (elim (cases_Bool (eqb w.fid other)) [
           | inl here ↦
-            let at = and_from (eqb w.fid other) (is_unsettled w) here unsettled in
-            first_found (waits_at other) w (left_by fid body ws) at ∙ ap Some (found_first (waits_at other) w x ws at e)
+              let at = and_from (eqb w.fid other) (is_unsettled w) here unsettled in
+              first_found (waits_at other) w (left_by fid body ws) at ∙ ap Some (found_first (waits_at other) w x ws at e)
           | inr there ↦
-            let past : waits_at other w ≡ false = ap (λ b. b && is_unsettled w) there in
-            later_found (waits_at other) w (left_by fid body ws) past ∙ other_left fid other body ws x off tags.1 (found_later (waits_at other) w x ws past e)
+              let past : waits_at other w ≡ false = ap (λ b. b && is_unsettled w) there in
+              later_found (waits_at other) w (left_by fid body ws) past ∙ other_left fid other body ws x off tags.1 (found_later (waits_at other) w x ws past e)
         ])
         | inr settled ↦ rw settled (other_left fid other body ws x off tags.1 (found_later (waits_at other) w x ws (and_off (eqb w.fid other) (is_unsettled w) settled) e))
       ])
