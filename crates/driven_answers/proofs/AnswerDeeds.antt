@@ -28,7 +28,7 @@ use Rattle.recorded_talks.specs.Telling.{on_server}
 use Rattle.driven_agents.specs.Quiet.{NamesNoLines, leads_away}
 use Rattle.driven_agents.proofs.QuietLaws.{holder_none}
 use Rattle.idle_agents.specs.Idle.{read_of}
-use Rattle.driven_answers.proofs.Found.{found_first, found_later}
+use Rattle.driven_answers.proofs.FoundLemmas.{found_first, found_later}
 use Rattle.driven_answers.proofs.OtherTalks.{logged_same}
 
 -- what a conversation meets by an answer or by its absence, the move that its role makes by it, and what becomes of its questions
@@ -144,7 +144,7 @@ found_under fid (w ∷ ws) e = elim (cases_Bool (eqb w.fid fid && is_unsettled w
 swept_so : (done : List Deed) → has_settled done ≡ true → swept done ≡ Swept ∷ done
 swept_so done e = ap (λ b. cond b (Swept ∷ done) done) e
 
--- told to which read, which waits then
+-- that its answer was read changes nothing that no call of its talk changes
 pub took_same : {X : Type 0} (f : List Deed → X) (number : ℕ) (answer : RpcAnswer) (done : List Deed) → ((d : List Deed) → f (OfTalk number Took ∷ d) ≡ f d) → f (then_took number 8192 answer done) ≡ f done
 took_same f number answer done same = by_test (fits 8192 answer)
   where

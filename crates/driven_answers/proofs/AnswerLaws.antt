@@ -32,7 +32,7 @@ use Rattle.driven_answers.proofs.AnsweredCalm.{answered_calm, same_speakers, sta
 use Rattle.driven_answers.proofs.AnsweredQuestions.{asker_left, none_next}
 use Rattle.driven_answers.proofs.AnsweredReplies.{answered_untaken}
 use Rattle.driven_answers.proofs.AskedLaws.{IsOnServer, asker_waits}
-use Rattle.driven_answers.proofs.Found.{found_first, found_later}
+use Rattle.driven_answers.proofs.FoundLemmas.{found_first, found_later}
 use Rattle.driven_answers.proofs.SeatLaws.{others_apart, seat, speaker_found}
 use Rattle.driven_answers.proofs.ToldReads.{waits_at}
 

@@ -7,7 +7,7 @@ use Rattle.talks.specs.Calls.{Call}
 use Rattle.agent_history.specs.Deeds.{Deed, OfTalk}
 use Rattle.agent_history.specs.Conversations.{Question, asker, next_question, questions}
 use Rattle.driven_answers.proofs.AnswerDeeds.{IsAnswer, answered_by, lines_by, met_by, took_same}
-use Rattle.driven_answers.proofs.Found.{found_with, none_kept, still_found}
+use Rattle.driven_answers.proofs.FoundLemmas.{found_with, none_kept, still_found}
 use Rattle.driven_answers.proofs.OtherTalks.{logged_same}
 
 abbrev pub others_of : ℕ → List Question → List Question

@@ -15,7 +15,7 @@ use Rattle.wire_histories.specs.Conversations.{is_asked}
 use Rattle.recorded_talks.specs.Telling.{on_server}
 use Rattle.idle_agents.proofs.AskedLemmas.{needs_exchange}
 use Rattle.idle_agents.proofs.HandedLaws.{on_server as waits_there}
-use Rattle.driven_answers.proofs.Found.{found_passes}
+use Rattle.driven_answers.proofs.FoundLemmas.{found_passes}
 
 exchange_asked : (need : Need) → IsExchange need → is_asked need ≡ true
 exchange_asked (Exchange request shape) is = refl

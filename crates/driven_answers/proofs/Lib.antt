@@ -1,4 +1,4 @@
-pub mod Found
+pub mod FoundLemmas
 pub mod AskedLaws
 pub mod OtherTalks
 pub mod SeatLaws

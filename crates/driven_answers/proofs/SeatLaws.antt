@@ -7,7 +7,7 @@ use Rattle.agent_history.specs.Conversations.{Speaker, conv_of, opened_talks, sp
 use Rattle.agent_history.specs.Histories.{History, deeds}
 use Rattle.agent_laws.specs.Laws.{is_same_place}
 use Rattle.agent_laws.proofs.ConversationLaws.{Rise, number, rise_parts, speak_once, speakers_rise}
-use Rattle.driven_answers.proofs.Found.{all_numbers, first_found, found_passes, later_found}
+use Rattle.driven_answers.proofs.FoundLemmas.{all_numbers, first_found, found_passes, later_found}
 use Rattle.driven_answers.proofs.OtherTalks.{apart}
 
 abbrev pub at_fid : ℕ → Speaker → Bool

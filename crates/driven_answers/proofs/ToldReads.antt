@@ -7,7 +7,7 @@ use Rattle.nine_messages.specs.declared.message.RBody.{RBody}
 use Rattle.nine_messages.specs.declared.message.RMsg.{RMsg}
 use Rattle.agent_history.specs.Replies.{Wait, first_of, is_unsettled, reply_in, settle_tag, settled_by}
 use Rattle.idle_agents.specs.Idle.{read_of}
-use Rattle.driven_answers.proofs.Found.{all_kept, first_found, found_first, found_later, later_found, still_found}
+use Rattle.driven_answers.proofs.FoundLemmas.{all_kept, first_found, found_first, found_later, later_found, still_found}
 use Rattle.driven_answers.proofs.OtherTalks.{apart}
 use Rattle.driven_answers.proofs.UnsettledReads.{AreUnsettled}
 

@@ -5,7 +5,7 @@ use Rattle.std.proofs.lemmas.Bool.{and_from, and_parts, cases_Bool, eqb-true}
 use Rattle.nine_messages.specs.declared.message.RBody.{RBody}
 use Rattle.agent_history.specs.Deeds.{Deed, OfFids, OfKeys, OfReplies, OfConnection, OfTalk, Raised, HandedOut, OfPrompts, OfLog, DropTaken, Swept, Halted, Versioned, Attached, Walked, Opened, Listed, Browsed, Clunked, Answered, Awaited, Settled, Flushed, Taken, Entered, Hung}
 use Rattle.agent_history.specs.Replies.{Wait, fid_given_up, has_settled, is_unsettled, settle_fid, settle_tag, waits, waits_for, waits_under}
-use Rattle.driven_answers.proofs.Found.{all_kept}
+use Rattle.driven_answers.proofs.FoundLemmas.{all_kept}
 
 abbrev pub AreUnsettled : List Wait → Type 0
 AreUnsettled ws = list_all is_unsettled ws ≡ true
