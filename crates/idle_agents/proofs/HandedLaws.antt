@@ -95,7 +95,7 @@ found_step : (test : Question → Bool) (p : Question → Bool) (b : Bool) (q wh
 found_step test p true q which qs found is more = let same : q ≡ which = cc in ap test (sym same) ∙ is
 found_step test p false q which qs found is more = more found
 
-found_so : (test p : Question → Bool) (qs : List Question) (which : Question) → find p qs ≡ Some which → list_all test qs ≡ true → test which ≡ true
+pub found_so : (test p : Question → Bool) (qs : List Question) (which : Question) → find p qs ≡ Some which → list_all test qs ≡ true → test which ≡ true
 found_so test p [] which found all = absurd cc
 found_so test p (q ∷ qs) which found all =
     let parts = and_parts (test q) (list_all test qs) all in

@@ -6,3 +6,15 @@ pub mod HandedLaws
 pub mod IdleLaws
 pub mod StillLaws
 pub mod LeftLaws
+pub mod AlikeLaws
+pub mod WritesLaws
+pub mod FoundLemmas
+pub mod SeatLaws
+pub mod UnsettledLaws
+pub mod ExactLaws
+pub mod ClunkLaws
+pub mod ClosesLaws
+pub mod GrantLaws
+pub mod WalkLaws
+pub mod OpensLaws
+pub mod NewLaws

@@ -2,14 +2,14 @@
 use Rattle.std.proofs.Common.{◌≡◌, ℕ, List, [], ◌∷◌, ◌++◌, Bool, true, false, cond, eqb, ltb, ◌&&◌, not, Option, Some, None, refl, sym, ap, ◌∙◌}
 use Rattle.std.specs.Prelude.{filter}
 use Rattle.std.specs.List.{list_all}
-use Rattle.std.proofs.lemmas.Bool.{and_from, and_parts, eq-eqb}
+use Rattle.std.proofs.lemmas.Bool.{and_from, and_parts}
 use Rattle.nine_messages.specs.declared.message.RBody.{RBody}
 use Rattle.file_tree.specs.Calls.{attached}
 use Rattle.agent_history.specs.Deeds.{Deed, OfFids, OfKeys, OfReplies, OfConnection, OfTalk, OfPrompts, OfLog, Raised, HandedOut, DropTaken, Swept, Halted, Answered, Awaited, Settled, Flushed, Taken, fid_of, msize_of, was_hung, was_opened}
 use Rattle.agent_history.specs.Replies.{Wait, has_settled, is_unsettled, settle_tag, settled_by, swept, waits}
 use Rattle.agent_history.specs.Conversations.{speakers}
 use Rattle.agent_laws.proofs.GrowLaws.{KeepsAny}
-use Rattle.agent_laws.proofs.KindLaws.{is_met}
+use Rattle.agent_laws.proofs.KindLaws.{is_met, same_number}
 use Rattle.driven_agents.specs.Quiet.{NamesNoLines}
 use Rattle.idle_agents.specs.Idle.{AreRead, IsCalm}
 
@@ -40,7 +40,7 @@ settled_all p same tag body (w ∷ ws) = by_tag (eqb w.tag tag) (settled_all p s
     by_tag true more = ap (λ b. b && list_all p ws) (same body w)
     by_tag false more = ap (λ b. p w && b) more
 
-pub kept_all : (p keep : Wait → Bool) (ws : List Wait) → list_all p ws ≡ true → list_all p (filter keep ws) ≡ true
+pub kept_all : {X : Type 0} (p keep : X → Bool) (ws : List X) → list_all p ws ≡ true → list_all p (filter keep ws) ≡ true
 kept_all p keep [] all = refl
 kept_all p keep (w ∷ ws) all = let parts = and_parts (p w) (list_all p ws) all in by_kept (keep w) parts.0 (kept_all p keep ws parts.1)
   where
@@ -115,13 +115,10 @@ swept_still done s = by_settled (has_settled done)
     by_settled false = s
 
 -- a read of a network's that waits
-same_eqb : (n : ℕ) → eqb n n ≡ true
-same_eqb n = eq-eqb n n refl
-
 pub still_awaited : (fid : ℕ) (done : List Deed) → IsStill done → IsStill (OfReplies 0 (Awaited fid fid 8192) ∷ done)
 still_awaited fid done s =
     with_waits done (OfReplies 0 (Awaited fid fid 8192)) s s.names refl refl refl refl refl
-    (all_behind (λ w. eqb w.tag w.fid) (waits done 0) (record { tag = fid; fid = fid; count = 8192; reply = None }) s.tagged (same_eqb fid))
+    (all_behind (λ w. eqb w.tag w.fid) (waits done 0) (record { tag = fid; fid = fid; count = 8192; reply = None }) s.tagged (same_number fid))
     (all_behind (λ w. eqb w.count 8192) (waits done 0) (record { tag = fid; fid = fid; count = 8192; reply = None }) s.counted refl)
 
 -- ---- behind a sweep nothing is left to be swept

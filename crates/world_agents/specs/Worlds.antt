@@ -1,5 +1,5 @@
 -- What is so of the agents of a network behind some acts. It serves proofs alone.
-use Rattle.std.specs.Prelude.{◌≡◌, ℕ, List, true, Some, ◌×◌}
+use Rattle.std.specs.Prelude.{◌≡◌, ℕ, List, true, Some}
 use Rattle.agent_history.specs.Conversations.{asker, conv_of}
 use Rattle.agent_history.specs.Histories.{deeds}
 use Rattle.world_history.specs.Acts.{Act, Talk, is_node, talk_of}
@@ -16,7 +16,7 @@ AllRun acts = (node : List ℕ) → Runs (history acts node)
 -- the fid of a conversation has it open
 pub record IsSeated (acts : List Act) (conv : List ℕ) (t : Talk) (place : Place) : Type 0 where
   pub node : t.node ≡ place.node
-  pub open : conv_of (deeds (history acts t.node)) 0 t.fid ≡ Some place.number
+  pub seat : conv_of (deeds (history acts t.node)) 0 t.fid ≡ Some place.number
   -- its question that is outstanding is one of the agent's
   pub asks : (call : ℕ) → outstanding acts conv ≡ Some call → asker (deeds (history acts t.node)) call ≡ Some place.number
 
