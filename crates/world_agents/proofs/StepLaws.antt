@@ -1,13 +1,12 @@
--- What is known of the conversations of a network behind some acts, and that an act of an open conversation keeps it.
+-- An act of a conversation keeps what is known of all of them; and it does to those of its node what a turn does.
 use Rattle.std.proofs.Common.{◌≡◌, ℕ, ◌+◌, ◌≤◌, ◌<◌, List, [], ◌∷◌, Bool, true, false, cond, eqb, Option, Some, None, refl, sym, ap, subst, ◌∙◌, ◌⊎◌, inl, inr, arith}
 use Rattle.std.specs.Str.{bytes_eq}
 use Rattle.std.proofs.lemmas.Bool.{cases_Bool, eqb-true, eq-eqb}
 use Rattle.agent_history.specs.Conversations.{asker, conv_of, opened_talks}
 use Rattle.agent_history.specs.Histories.{History, deeds}
 use Rattle.world_history.specs.Acts.{Act, Talk, is_node, talk_of}
-use Rattle.world_history.specs.Turns.{Turn, after, asks, closes, hears, lets_open, misses, tells, turn_questions}
-use Rattle.world_history.specs.Worlds.{Done, call_behind, call_by, done_by, history, history_by, last_call, on_talk, outstanding}
-use Rattle.world_history.specs.declared.question.Question.{Question}
+use Rattle.world_history.specs.Turns.{Turn, after, turn_questions}
+use Rattle.world_history.specs.Worlds.{Done, call_behind, call_by, done_by, history, history_by, on_talk, outstanding}
 use Rattle.driven_agents.proofs.NamesLaws.{names_no_lines}
 use Rattle.world_legality.specs.Agents.{AgentDoes, DoesTo, EventsLeave, begun_in, conv_in}
 use Rattle.world_legality.specs.Conditions.{AreDone}
@@ -15,45 +14,10 @@ use Rattle.world_legality.specs.Settings.{Place, place_of}
 use Rattle.world_legality.proofs.LeaveLemmas.{events_leave}
 use Rattle.world_legality.proofs.PlaceLemmas.{placed}
 use Rattle.idle_agents.specs.Idle.{IsIdle}
-use Rattle.world_agents.specs.Worlds.{AreSeated, IsSeated}
+use Rattle.world_agents.specs.Worlds.{IsSeated}
+use Rattle.world_agents.proofs.KnownLaws.{IsSame, Known, none_some, not_both, other_call, same_known, same_some, unequal}
 use Rattle.world_agents.proofs.RunLemmas.{itself, same_name}
-use Rattle.world_agents.proofs.TurnFacts.{Behind, TurnSo}
-
-pub record Known (acts : List Act) : Type 0 where
-  pub seated : AreSeated acts
-  -- the numbers of conversations are below the next one, and no two of a node are the same
-  pub below : (conv : List ℕ) (place : Place) → place_of acts conv ≡ Some place → place.number < opened_talks (deeds (history acts place.node))
-  pub apart : (one other : List ℕ) (p q : Place) → place_of acts one ≡ Some p → place_of acts other ≡ Some q → bytes_eq one other ≡ false → p.node ≡ q.node → eqb p.number q.number ≡ false
-  -- the next ones have met nothing
-  pub new : (node : List ℕ) (n : ℕ) → opened_talks (deeds (history acts node)) ≤ n → begun_in (history acts node) n ≡ None
-  -- who wasn't opened asks nothing
-  pub silent : (conv : List ℕ) → place_of acts conv ≡ None → outstanding acts conv ≡ None
-
--- ---- small steps
-
-pub same_some : {X : Type 0} (a b : X) → Some a ≡ Some b → a ≡ b
-same_some a b is = cc
-
-pub none_some : {X : Type 0} (o : Option X) (x : X) → o ≡ None → o ≡ Some x → ⊥
-none_some o x none some = let no_way : None ≡ Some x = sym none ∙ some in cc
-
-not_both : (b : Bool) → b ≡ true → b ≡ false → ⊥
-not_both b on off = let no_way : true ≡ false = sym on ∙ off in cc
-
-pub unequal : (a b : ℕ) → a < b → eqb b a ≡ false
-unequal a b below = elim (cases_Bool (eqb b a)) [
-  | inl same ↦ absurd (let is = eqb-true b a same in let no_way : a < a = omega arith in omega arith)
-  | inr other ↦ other
-]
-
--- the questions of another conversation's turn
-pub other_call : (conv : List ℕ) (turn : Turn) (raised : List Question) (call : Option ℕ) → bytes_eq (conv_in turn) conv ≡ false → call_behind conv turn raised call ≡ call
-other_call conv (tells node line) raised call apart = refl
-other_call conv (lets_open fid) raised call apart = refl
-other_call conv (closes name fid) raised call apart = refl
-other_call conv (asks name fid what) raised call apart = ap (λ b. cond b (last_call raised call) call) apart
-other_call conv (hears name fid number bytes) raised call apart = ap (λ b. cond b (last_call raised None) call) apart
-other_call conv (misses name fid number) raised call apart = ap (λ b. cond b (last_call raised None) call) apart
+use Rattle.world_agents.proofs.TurnFacts.{TurnSo}
 
 -- ---- an act of a conversation
 
@@ -73,31 +37,17 @@ pub record OnTalk (before : List Act) (act : Act) (conv : List ℕ) (turn : ℕ 
 
 -- ---- where it isn't open
 
-module _ (before : List Act) (act : Act) (conv : List ℕ) (turn : ℕ → Turn) (ends gone : ℕ → ℕ → Bool) (on : OnTalk before act conv turn ends gone) (k : Known before) where
-  closed_goes : talk_of before conv ≡ None → (node : List ℕ) → history (act ∷ before) node ≡ history before node
-  closed_goes none node = on.goes node ∙ ap (λ o. history_by (on_talk o turn) node (history before node)) none
+is_same : (before : List Act) (act : Act) (conv : List ℕ) (turn : ℕ → Turn) (ends gone : ℕ → ℕ → Bool) → OnTalk before act conv turn ends gone → talk_of before conv ≡ None → IsSame before act
+is_same before act conv turn ends gone on none = record {
+  goes = λ node. on.goes node ∙ ap (λ o. history_by (on_talk o turn) node (history before node)) none;
+  calls = λ name. on.calls name ∙ ap (λ o. call_by before name (on_talk o turn) (outstanding before name)) none;
+  stands = on.stands;
+  nodes = on.nodes;
+  talks = on.talks;
+}
 
-  closed_calls : talk_of before conv ≡ None → (name : List ℕ) → outstanding (act ∷ before) name ≡ outstanding before name
-  closed_calls none name = on.calls name ∙ ap (λ o. call_by before name (on_talk o turn) (outstanding before name)) none
-
-  closed_seat : talk_of before conv ≡ None → (name : List ℕ) (t : Talk) (place : Place) → talk_of (act ∷ before) name ≡ Some t → place_of (act ∷ before) name ≡ Some place → IsSeated (act ∷ before) name t place
-  closed_seat none name t place is at =
-      let s = k.seated.seats name t place (on.talks name t is) (sym (on.stands name) ∙ at) in
-      let same = closed_goes none t.node in
-      record {
-        node = s.node;
-        seat = ap (λ h. conv_of (deeds h) 0 t.fid) same ∙ s.seat;
-        asks = λ call now. ap (λ h. asker (deeds h) call) same ∙ s.asks call (sym (closed_calls none name) ∙ now);
-      }
-
-  pub closed_known : talk_of before conv ≡ None → Known (act ∷ before)
-  closed_known none = record {
-    seated = record { idle = λ node is. subst IsIdle (sym (closed_goes none node)) (k.seated.idle node (sym (on.nodes node) ∙ is)); seats = closed_seat none };
-    below = λ name place at. subst (λ h. place.number < opened_talks (deeds h)) (sym (closed_goes none place.node)) (k.below name place (sym (on.stands name) ∙ at));
-    apart = λ one other p q at there names same. k.apart one other p q (sym (on.stands one) ∙ at) (sym (on.stands other) ∙ there) names same;
-    new = λ node n next. subst (λ h. begun_in h n ≡ None) (sym (closed_goes none node)) (k.new node n (subst (λ h. opened_talks (deeds h) ≤ n) (closed_goes none node) next));
-    silent = λ name none_there. closed_calls none name ∙ k.silent name (sym (on.stands name) ∙ none_there);
-  }
+pub closed_known : (before : List Act) (act : Act) (conv : List ℕ) (turn : ℕ → Turn) (ends gone : ℕ → ℕ → Bool) → OnTalk before act conv turn ends gone → Known before → talk_of before conv ≡ None → Known (act ∷ before)
+closed_known before act conv turn ends gone on k none = same_known before act (is_same before act conv turn ends gone on none) k
 
 -- ---- where it is
 

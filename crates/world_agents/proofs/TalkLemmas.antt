@@ -1,13 +1,13 @@
 -- The conversations that are open: each is found by its name, and which of them are open behind an act.
-use Rattle.std.proofs.Common.{◌≡◌, ℕ, List, [], ◌∷◌, ◌++◌, Bool, true, false, cond, eqb, ◌||◌, not, map, Option, Some, None, refl, sym, ap, subst, ◌∙◌}
+use Rattle.std.proofs.Common.{◌≡◌, ℕ, List, [], ◌∷◌, ◌++◌, Bool, true, false, cond, eqb, ◌||◌, not, map, Option, Some, None, refl, sym, ap, subst, ◌∙◌, ◌⊎◌, inl, inr}
 use Rattle.std.specs.Prelude.{filter, find}
 use Rattle.std.specs.Str.{bytes_eq}
-use Rattle.std.proofs.lemmas.Bool.{eqb-true, eq-eqb, or_parts}
+use Rattle.std.proofs.lemmas.Bool.{cases_Bool, eqb-true, eq-eqb, or_parts}
 use Rattle.world_history.specs.Acts.{Act, Talk, Domain, KeyLine, SpeakLine, Made, Told, Opened, Started, Got, Given, Answered, Unanswered, Asked, Closed, fids_on, has_name, is_held, least_fid, opened_names, talk_of, talks}
 use Rattle.world_history.specs.Scripts.{is_unfit}
 use Rattle.world_legality.specs.Conditions.{AreDone}
 use Rattle.world_legality.proofs.PlaceLemmas.{placed, was_opened}
-use Rattle.idle_agents.proofs.FoundLemmas.{found_last, found_stays}
+use Rattle.idle_agents.proofs.FoundLemmas.{found_kept, found_last, found_stays}
 use Rattle.world_agents.proofs.RunLemmas.{itself, same_name}
 
 -- ---- all of a list
@@ -45,11 +45,11 @@ found_front p (x ∷ ts) more t is = by_first (p x) is (found_front p ts more t)
     by_first true is so = is
     by_first false is so = so is
 
-new_name : (acts : List Act) (node conv : List ℕ) → is_unfit acts (Opened node conv) ≡ false → has_name conv (opened_names acts) ≡ false
+pub new_name : (acts : List Act) (node conv : List ℕ) → is_unfit acts (Opened node conv) ≡ false → has_name conv (opened_names acts) ≡ false
 unfolding is_unfit
 new_name acts node conv fits = (or_parts (has_name conv (opened_names acts)) _ fits).0
 
-none_named : (acts : List Act) → AreDone acts → (conv : List ℕ) (o : Option Talk) → talk_of acts conv ≡ o → has_name conv (opened_names acts) ≡ false → o ≡ None
+pub none_named : (acts : List Act) → AreDone acts → (conv : List ℕ) (o : Option Talk) → talk_of acts conv ≡ o → has_name conv (opened_names acts) ≡ false → o ≡ None
 none_named acts done conv None is off = refl
 none_named acts done conv (Some t) is off =
     let p = placed acts done conv t is in
@@ -111,3 +111,46 @@ held_by_talk node P k (x ∷ ts) all is = by_node (bytes_eq x.node node) refl is
         by_fid : (c : Bool) → eqb x.fid k ≡ c → (c || is_held k (fids_on node ts)) ≡ true → (is_held k (fids_on node ts) ≡ true → (t : Talk) × P t × (bytes_eq t.node node ≡ true) × (t.fid ≡ k)) → (t : Talk) × P t × (bytes_eq t.node node ≡ true) × (t.fid ≡ k)
         by_fid true same is more = (x, all.0, on, eqb-true x.fid k same)
         by_fid false other is more = more is
+
+-- ---- behind an act
+
+-- the one that is opened, or one of before
+opened_step : (p : Talk → Bool) (ts : List Talk) (new t : Talk) → find p (ts ++ new ∷ []) ≡ Some t → (find p ts ≡ Some t) ⊎ ((p new ≡ true) × (new ≡ t))
+opened_step p [] new t is = last (p new) refl is
+  where
+    last : (b : Bool) → p new ≡ b → cond b (Some new) None ≡ Some t → (◌≡◌ {A = Option Talk} None (Some t)) ⊎ ((p new ≡ true) × (new ≡ t))
+    last true on is = let same : new ≡ t = cc in inr (on, same)
+    last false on is = inl is
+opened_step p (x ∷ ts) new t is = by_first (p x) is (opened_step p ts new t)
+  where
+    by_first : (b : Bool) → cond b (Some x) (find p (ts ++ new ∷ [])) ≡ Some t → (find p (ts ++ new ∷ []) ≡ Some t → (find p ts ≡ Some t) ⊎ ((p new ≡ true) × (new ≡ t))) → (cond b (Some x) (find p ts) ≡ Some t) ⊎ ((p new ≡ true) × (new ≡ t))
+    by_first true is so = inl is
+    by_first false is so = so is
+
+abbrev pub new_talk : List Act → List ℕ → List ℕ → Talk
+new_talk before node conv = record { conv = conv; node = node; fid = least_fid (fids_on node (talks before)) }
+
+pub opened_talk : (before : List Act) (node conv name : List ℕ) (t : Talk) → talk_of (Opened node conv ∷ before) name ≡ Some t → (talk_of before name ≡ Some t) ⊎ ((bytes_eq conv name ≡ true) × (new_talk before node conv ≡ t))
+opened_talk before node conv name t is = opened_step (λ x. bytes_eq x.conv name) (talks before) (record { conv = conv; node = node; fid = least_fid (fids_on node (talks before)) }) t is
+
+-- one that is closed isn't open, and any other one is as it was
+none_step : (p keep : Talk → Bool) (x : Talk) (ts : List Talk) (a b : Bool) → p x ≡ a → keep x ≡ b → (a ≡ true → b ≡ false) → find p (filter keep ts) ≡ None → find p (cond b (x ∷ filter keep ts) (filter keep ts)) ≡ None
+none_step p keep x ts a false is kept all none = none
+none_step p keep x ts false true is kept all none = ap (λ b. cond b (Some x) (find p (filter keep ts))) is ∙ none
+none_step p keep x ts true true is kept all none = absurd (let no_way : true ≡ false = all refl in cc)
+
+found_none : (p keep : Talk → Bool) (ts : List Talk) → ((t : Talk) → p t ≡ true → keep t ≡ false) → find p (filter keep ts) ≡ None
+found_none p keep [] all = refl
+found_none p keep (x ∷ ts) all = none_step p keep x ts (p x) (keep x) refl refl (all x) (found_none p keep ts all)
+
+pub closed_talk : (before : List Act) (conv name : List ℕ) (t : Talk) → talk_of (Closed conv ∷ before) name ≡ Some t → (talk_of before name ≡ Some t) × (bytes_eq conv name ≡ false)
+closed_talk before conv name t is = elim (cases_Bool (bytes_eq conv name)) [
+  | inl same ↦ absurd (
+      let none = found_none (λ x. bytes_eq x.conv name) (λ x. not (bytes_eq x.conv conv)) (talks before) (λ x at. ap not (ap (λ n. bytes_eq n conv) (same_name x.conv name at ∙ sym (same_name conv name same)) ∙ itself conv)) in
+      let no_way : None ≡ Some t = sym none ∙ is in cc)
+  | inr other ↦ (sym (found_kept (λ x. bytes_eq x.conv name) (λ x. not (bytes_eq x.conv conv)) (talks before) (λ x at. ap not (apart x (same_name x.conv name at) (bytes_eq x.conv conv) refl other))) ∙ is, other)
+]
+  where
+    apart : (x : Talk) → x.conv ≡ name → (b : Bool) → bytes_eq x.conv conv ≡ b → bytes_eq conv name ≡ false → b ≡ false
+    apart x named false is off = refl
+    apart x named true is off = absurd (let on : bytes_eq conv name ≡ true = ap (bytes_eq conv) (sym named ∙ same_name x.conv conv is) ∙ itself conv in let no_way : true ≡ false = sym on ∙ off in cc)
