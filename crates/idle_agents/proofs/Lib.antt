@@ -18,3 +18,4 @@ pub mod GrantLaws
 pub mod WalkLaws
 pub mod OpensLaws
 pub mod NewLaws
+pub mod KeepLaws

@@ -31,7 +31,7 @@ use Rattle.driven_agents.proofs.EditGrows.{granted_so, where_so}
 use Rattle.driven_agents.proofs.FrameKinds.{frame_read, write_so}
 use Rattle.driven_agents.proofs.QuietLaws.{fid_plain, no_kind}
 use Rattle.driven_agents.specs.Quiet.{NamesNoLines}
-use Rattle.idle_agents.specs.Idle.{IsCalm, IsIdle, KeepsIdle, Runs, SameSeats}
+use Rattle.idle_agents.specs.Idle.{IsCalm, IsIdle, Runs, SameSeats}
 use Rattle.idle_agents.proofs.AlikeLaws.{Alike, GivesNone, IsBare, alike_calm, alike_itself, answered_same, body_bare, calm_answered, calm_replied, granted_keeps, none_swept, own_gives_none}
 use Rattle.idle_agents.proofs.IdleLaws.{asker_behind, idle_behind, seats_behind}
 use Rattle.idle_agents.proofs.LeftLaws.{request_deeds, request_left, swept_replies}
@@ -164,6 +164,3 @@ write_is fid bytes h idle runs =
       replies = subst GivesNone (sym (replies_so (writes fid bytes) h now.there runs ∙ request_left frame no_word h once calm.entered calm.there idle.taken))
           (own_gives_none call (body_to done call frame) (swept_replies (answered done call frame)) (frame_bare fid bytes done) (none_swept (answered done call frame) (calm_replied call (body_to done call frame) (after_frame done call frame) (alike_calm done (after_frame done call frame) a calm)).settled));
     }
-
-pub writes_keep_idle : (fid : ℕ) (bytes : List ℕ) (h : History) → KeepsIdle (writes fid bytes) h
-writes_keep_idle fid bytes h idle runs = (write_is fid bytes h idle runs).idle

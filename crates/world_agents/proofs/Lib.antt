@@ -12,3 +12,4 @@ pub mod WaitCounts
 pub mod HandCounts
 pub mod LittleLaws
 pub mod LengthLaws
+pub mod ScriptLaws
