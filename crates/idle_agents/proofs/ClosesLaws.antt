@@ -1,12 +1,10 @@
 -- A fid that has rpc open is given up: the agent is idle again, other conversations and their questions stay, and no reply gives
 -- what was read.
-use Rattle.std.proofs.Common.{◌≡◌, ℕ, ◌<◌, ◌^◌, List, [], ◌∷◌, ◌++◌, Bool, true, false, cond, eqb, ◌&&◌, Option, Some, None, refl, sym, ap, subst, ◌∙◌, arith}
+use Rattle.std.proofs.Common.{◌≡◌, ℕ, ◌<◌, ◌^◌, List, [], ◌∷◌, Bool, true, false, cond, eqb, ◌&&◌, Option, Some, None, refl, sym, ap, subst, ◌∙◌, arith}
 use Rattle.std.specs.Prelude.{filter, find, option_map}
 use Rattle.std.specs.List.{filter_map}
 use Rattle.nine_messages.specs.declared.message.TMsg.{TMsg}
-use Rattle.nine_messages.specs.declared.message.TBody.{TBody}
 use Rattle.nine_messages.specs.declared.message.TBody.TheVariants as t
-use Rattle.nine_messages.specs.declared.message.RMsg.{RMsg}
 use Rattle.nine_messages.specs.declared.message.RBody.{RBody}
 use Rattle.nine_messages.specs.Messages.{t_frame}
 use Rattle.agent_history.specs.Deeds.{Answered, Deed, OfReplies, Swept}
@@ -21,7 +19,7 @@ use Rattle.idle_agents.proofs.ClunkLaws.{EndsSo, clunk_ends, ends_not}
 use Rattle.idle_agents.proofs.ExactLaws.{granted_only}
 use Rattle.idle_agents.proofs.FoundLemmas.{found_kept}
 use Rattle.idle_agents.proofs.IdleLaws.{asker_behind, idle_behind, seats_behind}
-use Rattle.idle_agents.proofs.LeftLaws.{own_reply, request_deeds, request_left, swept_replies}
+use Rattle.idle_agents.proofs.LeftLaws.{request_deeds, request_left, swept_replies}
 use Rattle.idle_agents.proofs.RunLaws.{event_runs}
 use Rattle.idle_agents.proofs.SeatLaws.{seat_off, seat_small}
 use Rattle.idle_agents.proofs.StillLaws.{IsStill, calm_of, still_answered, swept_settled, swept_still}

@@ -1,15 +1,14 @@
 -- A fid that opens a file leaves the agent idle; where rpc is opened by a fid that comes to it, a conversation stands that is
 -- the next, and others stay.
-use Rattle.std.proofs.Common.{◌≡◌, ℕ, ◌+◌, ◌<◌, ◌^◌, List, [], ◌∷◌, ◌++◌, Bool, true, false, cond, eqb, ltb, ◌&&◌, ◌||◌, not, codes, Option, Some, None, refl, sym, ap, subst, ◌∙◌, arith}
-use Rattle.std.specs.Prelude.{filter, find, option_map}
-use Rattle.std.specs.List.{list_all, list_any}
+use Rattle.std.proofs.Common.{◌≡◌, ℕ, ◌+◌, ◌<◌, List, [], ◌∷◌, ◌++◌, Bool, true, false, cond, eqb, ltb, ◌||◌, codes, Some, None, refl, sym, ap, subst, ◌∙◌, arith}
+use Rattle.std.specs.Prelude.{find, option_map}
+use Rattle.std.specs.List.{list_all}
 use Rattle.std.proofs.lemmas.Bool.{and_from, and_parts, lt-ltb}
 use Rattle.nine_messages.specs.declared.message.TMsg.{TMsg}
 use Rattle.nine_messages.specs.declared.message.TBody.TheVariants as t
 use Rattle.nine_messages.specs.Messages.{t_frame}
 use Rattle.file_tree.specs.declared.tree.Node.{Node}
 use Rattle.file_tree.specs.declared.tree.Node.TheVariants.{Root, Factotum, Rpc, Ctl, Confirm, Needkey, Proto, Log}
-use Rattle.file_tree.specs.declared.tree.FidState.{FidState}
 use Rattle.file_tree.specs.Tree.{lead_to, step}
 use Rattle.file_tree.specs.Calls.{at_rest, opened}
 use Rattle.roles.specs.Answers.{IsExchange}
@@ -145,7 +144,7 @@ open_is fid h idle small off new runs =
     let call = open_call fid in
     let frame = open_frame fid in
     let a : OpenedSo done (after_frame done call frame) = granted_keeps (OpenedSo done) done call (granted done call frame) (record { calm = c; asked = refl; talks = λ conv. refl })
-        (granted_only (λ body. OpenedSo done (after done call body)) done call (open_asked fid) (omega arith) (omega arith, omega arith) (opens_so call fid h refl c small off new)) in
+    (granted_only (λ body. OpenedSo done (after done call body)) done call (open_asked fid) (omega arith) (omega arith, omega arith) (opens_so call fid h refl c small off new)) in
     let now = calm_event frame no_word h c (event_runs (opens fid) h runs) a.calm in
     record {
       calm = now;
@@ -195,7 +194,7 @@ seat_is fid h idle small off new runs none =
     let is = granted_after (open_asked fid) no_word on g in
     let seated = rpc_opened (open_call fid) fid done refl at.rests in
     let ss : speakers (deeds (driving.opened fid h)) ≡ speakers (deeds h) ++ seat_of fid (deeds h) ∷ []
-        = speakers_then frame no_word on w.idle.calm runs o.calm ∙ (ap speakers is ∙ (seated.0 ∙ (ap (λ ss. ss ++ seat_of fid done ∷ []) w.seats.speakers ∙ ap (λ n. speakers (deeds h) ++ record { conv = n; conn = 0; fid = fid } ∷ []) w.seats.opened))) in
+    = speakers_then frame no_word on w.idle.calm runs o.calm ∙ (ap speakers is ∙ (seated.0 ∙ (ap (λ ss. ss ++ seat_of fid done ∷ []) w.seats.speakers ∙ ap (λ n. speakers (deeds h) ++ record { conv = n; conn = 0; fid = fid } ∷ []) w.seats.opened))) in
     let free = none_by (λ s. s.conv) (find (is_at fid) (speakers (deeds h))) at.free in
     record {
       idle = o.idle;
