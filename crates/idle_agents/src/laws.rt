@@ -1,0 +1,27 @@
+// Laws of an agent that a network drives, each the contract of a function that does nothing.
+ghost use Rattle.idle_agents.specs.Idle.{ClosingsKeepIdle, NewNodesAreIdle, OpeningsKeepIdle, TakesLeaveNothing, WritesKeepIdle};
+
+/// The takes that follow an event leave no reply, no question and no connection to give up, and nothing else changes by them.
+pub fn takes_leave_nothing()
+    ensures { TakesLeaveNothing }
+{}
+
+/// A write keeps an agent idle, whatever is written, and to whatever fid.
+pub fn a_write_keeps_an_agent_idle()
+    ensures { WritesKeepIdle }
+{}
+
+/// So does a fid that is given up which had rpc open.
+pub fn a_closing_keeps_an_agent_idle()
+    ensures { ClosingsKeepIdle }
+{}
+
+/// A fid that comes to rpc and opens it has the next conversation open, and the agent is idle again.
+pub fn an_opening_keeps_an_agent_idle()
+    ensures { OpeningsKeepIdle }
+{}
+
+/// A new node is idle.
+pub fn a_new_node_is_idle()
+    ensures { NewNodesAreIdle }
+{}
