@@ -1,30 +1,24 @@
 -- How much is to be handed out behind an event of which nothing was left: few questions, and few connections that are given up.
-use Rattle.std.proofs.Common.{◌≡◌, ℕ, ◌+◌, ◌≤◌, ◌<◌, List, [], ◌∷◌, ◌++◌, length, map, Bool, true, false, cond, eqb, not, Option, Some, None, refl, sym, ap, subst, ◌∙◌, arith, length-append}
-use Rattle.std.specs.Prelude.{Result, Ok, Err, filter, is_some}
+use Rattle.std.proofs.Common.{◌≡◌, ℕ, ◌+◌, ◌≤◌, List, [], ◌∷◌, ◌++◌, length, Bool, true, false, cond, eqb, not, Option, Some, None, refl, sym, ap, subst, ◌∙◌, arith, length-append}
+use Rattle.std.specs.Prelude.{Result, Ok, filter}
 use Rattle.std.specs.List.{list_any}
 use Rattle.std.proofs.lemmas.List.{length-map}
-use Rattle.nine_messages.specs.declared.message.TBody.{TBody}
-use Rattle.nine_messages.specs.declared.message.TBody.TheVariants as t
 use Rattle.nine_messages.specs.declared.message.RBody.{RBody}
 use Rattle.file_tree.specs.declared.tree.Node.{Node}
-use Rattle.file_tree.specs.declared.tree.Node.TheVariants.{Root, Factotum, Rpc, Ctl, Confirm, Needkey, Proto, Log}
-use Rattle.file_tree.specs.Calls.{node_of}
-use Rattle.key_lists.specs.CtlLines.{CtlLine, carried_out, lines_of}
+use Rattle.file_tree.specs.declared.tree.Node.TheVariants.{Confirm, Needkey, Log}
+use Rattle.key_lists.specs.CtlLines.{CtlLine}
 use Rattle.rpc_file.specs.Requests.{RpcRequest}
-use Rattle.rpc_file.specs.Requests as rpc
 use Rattle.rpc_file.specs.declared.request.RpcFault.{RpcFault}
 use Rattle.rpc_file.specs.declared.answer.RpcAnswer.{RpcAnswer}
-use Rattle.side_files.specs.declared.line.PromptKind.{PromptKind}
 use Rattle.side_files.specs.Calls as side
 use Rattle.talks.specs.Calls as calls
 use Rattle.talks.specs.Lines.{log_lines}
-use Rattle.talks.specs.Standings.{Phase, Resting, Waiting, Seeking, OnConfirm, OnNeedkey, OnServer, Kept, Standing, finds}
-use Rattle.agent_history.specs.Deeds.{Deed, FidDeed, OfFids, OfKeys, OfReplies, OfTalk, OfPrompts, OfLog, Raised, Answered, Awaited, Settled, Swept, fid_of, holder_of, is_debug, keys_of}
+use Rattle.talks.specs.Standings.{Phase, Waiting, Seeking, OnServer, Kept, finds}
+use Rattle.agent_history.specs.Deeds.{Deed, FidDeed, OfFids, OfKeys, OfTalk, OfLog, Raised, Swept, holder_of, is_debug, keys_of}
 use Rattle.agent_history.specs.Replies.{Wait, has_settled, swept}
 use Rattle.agent_history.specs.SideFiles.{all_served, is_line_file, served_to}
-use Rattle.agent_history.specs.Conversations.{Drop, Question, Speaker, asking, deliver_to, delivered, drop_of, drops, fits, give_to, given_up, gives_up, logged, met, prompting, questions, raised, raising, reader_of, resumed, seeking, seeking_all, sought_once, speaker_of, speakers, standing_of, then_logged, then_raised, then_sought, then_took, told}
-use Rattle.agent_history.specs.Requests.{Call, carried, carrying_out, line_deed, lines_done, replied, stored}
-use Rattle.agent_history.specs.Histories.{History, deeds}
+use Rattle.agent_history.specs.Conversations.{Drop, Question, Speaker, asking, deliver_to, delivered, drop_of, drops, fits, give_to, given_up, gives_up, logged, met, prompting, questions, raised, raising, reader_of, resumed, seeking, seeking_all, sought_once, speaker_of, speakers, standing_of, then_logged, then_raised, then_sought, then_took}
+use Rattle.agent_history.specs.Requests.{Call, carrying_out, line_deed, lines_done, replied, stored}
 use Rattle.world_history.specs.Driving.{left_to_hand}
 use Rattle.driven_agents.specs.Quiet.{NamesNoLines}
 use Rattle.driven_agents.proofs.QuietLaws.{holder_none}

@@ -1,20 +1,19 @@
 -- The histories of the agents of a network are short where few acts are done, so that none of them stops.
-use Rattle.std.proofs.Common.{◌≡◌, ℕ, ◌+◌, ◌*◌, ◌≤◌, ◌<◌, List, [], ◌∷◌, length, reverse, suc, Bool, true, false, cond, codes, eqb, Option, Some, None, refl, sym, ap, subst, ◌∙◌, inl, inr, arith}
+use Rattle.std.proofs.Common.{◌≡◌, ℕ, ◌+◌, ◌*◌, ◌≤◌, ◌<◌, List, [], ◌∷◌, length, reverse, suc, Bool, true, false, cond, codes, eqb, Option, Some, None, refl, sym, ap, subst, ◌∙◌, arith}
 use Rattle.std.specs.List.{list_all}
 use Rattle.std.specs.Str.{bytes_eq}
-use Rattle.std.proofs.lemmas.Bool.{cases_Bool}
 use Rattle.agent_history.specs.declared.event.Event.{Event}
 use Rattle.agent_history.specs.declared.event.Event.TheVariants.{NoAnswer}
 use Rattle.agent_history.specs.declared.event.Event.TheVariants as events
 use Rattle.nine_messages.specs.declared.message.RMsg.{RMsg}
 use Rattle.nine_messages.specs.declared.message.RBody.{RBody}
 use Rattle.agent_history.specs.Deeds.{Deed, was_hung, was_opened}
-use Rattle.agent_history.specs.Replies.{swept, untaken}
+use Rattle.agent_history.specs.Replies.{swept}
 use Rattle.agent_history.specs.Requests.{Call, replied}
 use Rattle.agent_history.specs.Histories.{History, deeds, most_events}
 use Rattle.world_history.specs.Acts.{Act, Talk, Domain, KeyLine, SpeakLine, Made, Told, Opened, Started, Got, Given, Answered, Unanswered, Asked, Closed, is_node, talk_of}
-use Rattle.world_history.specs.Driving.{agrees, attaches, clunks, drive, is_refused, left_to_hand, new_node, opens, reads, replies_to, walks, writes}
-use Rattle.world_history.specs.Talking.{Asks, gets, gives, request_text, starts, word_of}
+use Rattle.world_history.specs.Driving.{agrees, attaches, clunks, drive, is_refused, new_node, opens, reads, replies_to, walks, writes}
+use Rattle.world_history.specs.Talking.{gets, gives, request_text, starts, word_of}
 use Rattle.world_history.specs.Turns.{Turn, after, asks, closes, hears, lets_open, misses, tells}
 use Rattle.world_history.specs.Worlds.{Done, done_by, fid_for, history, history_by, on_talk}
 use Rattle.world_legality.specs.Conditions.{AreDone}

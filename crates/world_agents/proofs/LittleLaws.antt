@@ -1,33 +1,30 @@
 -- Little comes of what a network does to an agent of which all was taken.
-use Rattle.std.proofs.Common.{◌≡◌, ℕ, ◌+◌, ◌≤◌, List, [], ◌∷◌, length, Bool, true, false, cond, eqb, codes, Option, Some, None, refl, sym, ap, subst, ◌∙◌, arith}
-use Rattle.std.specs.Prelude.{Result, Ok, Err, filter, is_some}
+use Rattle.std.proofs.Common.{◌≡◌, ℕ, ◌+◌, ◌≤◌, List, [], ◌∷◌, length, Bool, true, false, cond, eqb, codes, Option, Some, None, refl, sym, ap, subst, arith}
+use Rattle.std.specs.Prelude.{is_some}
 use Rattle.nine_messages.specs.declared.message.TMsg.{TMsg}
-use Rattle.nine_messages.specs.declared.message.TBody.{TBody}
 use Rattle.nine_messages.specs.declared.message.TBody.TheVariants as t
 use Rattle.nine_messages.specs.declared.message.RBody.{RBody}
 use Rattle.nine_messages.specs.Messages.{t_frame}
 use Rattle.nine_messages.specs.Decoding.{request_of}
 use Rattle.file_tree.specs.declared.tree.Node.{Node}
-use Rattle.file_tree.specs.declared.tree.Node.TheVariants.{Root, Factotum, Rpc, Ctl, Confirm, Needkey, Proto, Log}
+use Rattle.file_tree.specs.declared.tree.Node.TheVariants.{Root, Factotum, Ctl}
 use Rattle.file_tree.specs.Tree.{lead_to}
 use Rattle.file_tree.specs.Directories.{dir_end}
 use Rattle.file_tree.specs.Calls.{node_of}
 use Rattle.key_lists.specs.CtlLines.{carried_out, lines_of}
 use Rattle.rpc_file.specs.Requests as rpc
 use Rattle.side_files.specs.declared.line.PromptKind.{PromptKind}
-use Rattle.side_files.specs.Calls as side
 use Rattle.side_files.specs.Lines.{found}
 use Rattle.side_files.specs.Replies as prompt
 use Rattle.talks.specs.Calls as calls
 use Rattle.talks.specs.Standings.{Phase, Kept}
-use Rattle.agent_history.specs.declared.event.Event.{Event}
 use Rattle.agent_history.specs.declared.event.Event.TheVariants.{Request, NoAnswer}
 use Rattle.agent_history.specs.declared.event.Event.TheVariants as events
-use Rattle.agent_history.specs.Deeds.{Deed, OfFids, OfConnection, OfReplies, Attached, Awaited, Browsed, Clunked, Entered, Halted, Hung, Listed, Opened, Swept, Walked, fid_of, keys_of, msize_of, was_hung, was_opened}
-use Rattle.agent_history.specs.Replies.{has_settled, swept, untaken, waits}
+use Rattle.agent_history.specs.Deeds.{Deed, OfFids, OfConnection, Attached, Browsed, Clunked, Entered, Hung, Listed, Opened, Swept, Walked, fid_of, keys_of, msize_of, was_hung, was_opened}
+use Rattle.agent_history.specs.Replies.{has_settled, swept, untaken}
 use Rattle.agent_history.specs.SideFiles.{is_line_file, kind_at, lines_in}
-use Rattle.agent_history.specs.Conversations.{Question, asker, conv_of, drops, ended_by, next_question, questions, resumed, speakers, standing_of, then_took}
-use Rattle.agent_history.specs.Requests.{Call, after, after_frame, answered, body_to, call_of, carried, effective, granted, is_rpc, lines_done, reading, reading_answer, reading_line, reading_talk, replied, replying, stored, walking}
+use Rattle.agent_history.specs.Conversations.{asker, conv_of, drops, ended_by, next_question, questions, resumed, speakers, standing_of}
+use Rattle.agent_history.specs.Requests.{Call, after, after_frame, answered, body_to, call_of, carried, effective, granted, is_rpc, lines_done, reading, reading_answer, reading_line, reading_talk, replied, replying, walking}
 use Rattle.agent_history.specs.Histories.{History, deeds}
 use Rattle.agent_laws.proofs.ConversationLaws.{few_speak}
 use Rattle.agent_laws.proofs.GrowLaws.{KeepsAny, frame_grows, resumed_any}
@@ -46,7 +43,7 @@ use Rattle.idle_agents.proofs.LeftLaws.{absence_deeds, answer_deeds, request_dee
 use Rattle.idle_agents.proofs.RunLaws.{event_runs}
 use Rattle.idle_agents.proofs.KeptLaws.{behind_takes}
 use Rattle.idle_agents.proofs.TakenLaws.{none_left}
-use Rattle.world_agents.proofs.HandCounts.{AtMost, carried_adds, fid_adds, lines_add, more_room, replied_adds, resumed_adds, stored_adds, swept_adds, took_adds}
+use Rattle.world_agents.proofs.HandCounts.{AtMost, carried_adds, fid_adds, lines_add, more_room, resumed_adds, stored_adds, swept_adds, took_adds}
 use Rattle.world_agents.proofs.ShortLaws.{IsLittle}
 use Rattle.world_agents.proofs.WaitCounts.{request_few, resumed_few}
 
