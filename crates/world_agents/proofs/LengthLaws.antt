@@ -26,7 +26,8 @@ use Rattle.idle_agents.proofs.TakenLaws.{none_left}
 use Rattle.idle_agents.proofs.WritesLaws.{write_is}
 use Rattle.world_agents.specs.Worlds.{AllRun}
 use Rattle.world_agents.proofs.ActLaws.{all_go}
-use Rattle.world_agents.proofs.LittleLaws.{IsTaken, absence_little, answer_little, attach_little, clunk_little, left_none, open_little, read_little, request_taken, taken_idle, walk_little, write_little}
+use Rattle.world_agents.proofs.EventCounts.{IsTaken, left_none, request_taken, taken_idle}
+use Rattle.world_agents.proofs.LittleLaws.{absence_little, answer_little, attach_little, clunk_little, open_little, read_little, walk_little, write_little}
 use Rattle.world_agents.proofs.RunLemmas.{same_name, talk_node}
 use Rattle.world_agents.proofs.ShortLaws.{IsLittle, IsShort, is_driven, runs_short, short_so}
 use Rattle.world_agents.proofs.TurnFacts.{Driven}
