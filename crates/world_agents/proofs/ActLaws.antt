@@ -114,7 +114,7 @@ absent_driven d before conv call done k t place o idle seat runs =
 same_goes : (before : List Act) (act : Act) → IsSame before act → done_by before act ≡ None → Known before → Goes before act
 same_goes before act same none k = record { known = same_known before act same k; does = does_nothing before act k none }
 
-pub act_goes : Driven → (before : List Act) (act : Act) → AreDone (act ∷ before) → AllRun (act ∷ before) → Known before → AgentsDo before → Goes before act
+act_goes : Driven → (before : List Act) (act : Act) → AreDone (act ∷ before) → AllRun (act ∷ before) → Known before → AgentsDo before → Goes before act
 act_goes d before (Domain dom) done run k does = same_goes before (Domain dom) (record { goes = λ n. refl; calls = λ n. refl; stands = λ n. refl; nodes = λ n. refl; talks = λ n t is. is }) refl k
 act_goes d before (KeyLine tuple) done run k does = same_goes before (KeyLine tuple) (record { goes = λ n. refl; calls = λ n. refl; stands = λ n. refl; nodes = λ n. refl; talks = λ n t is. is }) refl k
 act_goes d before (SpeakLine tuple) done run k does = same_goes before (SpeakLine tuple) (record { goes = λ n. refl; calls = λ n. refl; stands = λ n. refl; nodes = λ n. refl; talks = λ n t is. is }) refl k

@@ -59,7 +59,7 @@ all_from (suc n) fid held k from below = by_held (is_held fid held) refl below (
         at true same = ap (λ n. is_held n held) (sym (eqb-true fid k same)) ∙ is
         at false other = more (beyond fid k other from) below
 
-pub below_least : (held : List ℕ) (k : ℕ) → 2 ≤ k → k < least_fid held → is_held k held ≡ true
+below_least : (held : List ℕ) (k : ℕ) → 2 ≤ k → k < least_fid held → is_held k held ≡ true
 below_least held k from below = all_from (highest held) 2 held k from below
 
 -- ---- so few are held

@@ -54,7 +54,7 @@ one_dropped false ds x = omega arith
 talk_few : (n conv : ℕ) (call : calls.Call) (done : List Deed) → AtMost n done → length (unhanded (questions (OfTalk conv call ∷ done))) ≤ length (unhanded (questions done)) → AtMost (n + 1) (OfTalk conv call ∷ done)
 talk_few n conv call done a qs = record { names = a.names; few = omega (arith, a.few, qs, one_dropped (gives_up (OfTalk conv call) done conv) (drops done) (drop_of done conv)) }
 
-pub talk_adds : (n conv : ℕ) (call : calls.Call) (done : List Deed) → AtMost n done → AtMost (n + 1) (OfTalk conv call ∷ done)
+talk_adds : (n conv : ℕ) (call : calls.Call) (done : List Deed) → AtMost n done → AtMost (n + 1) (OfTalk conv call ∷ done)
 talk_adds n conv (calls.Heard bytes) done a = talk_few n conv (calls.Heard bytes) done a (kept_few (λ q. not (eqb q.conv conv)) (questions done))
 talk_adds n conv calls.Unheard done a = talk_few n conv calls.Unheard done a (kept_few (λ q. not (eqb q.conv conv)) (questions done))
 talk_adds n conv calls.Roomless done a = talk_few n conv calls.Roomless done a (kept_few (λ q. not (eqb q.conv conv)) (questions done))
@@ -72,7 +72,7 @@ last_unhanded (x ∷ qs) q = by_handed x.handed (last_unhanded qs q)
     by_handed true more = more
     by_handed false more = omega arith
 
-pub raised_adds : (n conv : ℕ) (done : List Deed) → AtMost n done → AtMost (n + 1) (Raised conv ∷ done)
+raised_adds : (n conv : ℕ) (done : List Deed) → AtMost n done → AtMost (n + 1) (Raised conv ∷ done)
 raised_adds n conv done a = record { names = a.names; few = omega (arith, a.few, last_unhanded (questions done) (record { call = raised done + 1; conv = conv; handed = false })) }
 
 filter_few : (p : Speaker → Bool) (ss : List Speaker) → length (filter p ss) ≤ length ss
@@ -134,7 +134,7 @@ nobody_served done named =
     ap (λ d. served_to Log (holder_of (served_to Needkey (holder_of d Needkey) d) Log) (served_to Needkey (holder_of d Needkey) d)) (none_served Confirm done refl named)
     ∙ (ap (λ d. served_to Log (holder_of d Log) d) (none_served Needkey done refl named) ∙ none_served Log done refl named)
 
-pub met_adds : (n conv : ℕ) (call : calls.Call) (done : List Deed) → AtMost n done → AtMost (n + 5) (met conv call done)
+met_adds : (n conv : ℕ) (call : calls.Call) (done : List Deed) → AtMost n done → AtMost (n + 5) (met conv call done)
 met_adds n conv call done a =
     let first = OfTalk conv call ∷ done in
     let sought = then_sought conv first in
@@ -182,11 +182,7 @@ pub lines_add : (n conn : ℕ) (said : List CtlLine) (done : List Deed) → AtMo
 lines_add n conn [] done a = a
 lines_add n conn (line ∷ said) done a = lines_add n conn said (OfKeys conn (line_deed line) ∷ done) (record { names = a.names; few = a.few })
 
--- a reply and a sweep change nothing of it
-pub replied_adds : (n : ℕ) (call : Call) (o : Option RBody) (done : List Deed) → AtMost n done → AtMost n (replied call o done)
-replied_adds n call None done a = a
-replied_adds n call (Some body) done a = record { names = a.names; few = a.few }
-
+-- a sweep changes nothing of it
 pub swept_adds : (n : ℕ) (done : List Deed) → AtMost n done → AtMost n (swept done)
 swept_adds n done a = by_settled (has_settled done)
   where

@@ -109,7 +109,7 @@ first_replied call (Some body) = record { little = record { entered = refl; repl
 agreed_first : Runs (agrees ∷ []) → IsFirst (deeds (agrees ∷ []))
 agreed_first runs = subst IsFirst (sym (agreed_deeds runs)) (first_replied version_call version_reply)
 
-pub new_roomy : IsRoomy 2048 new_node
+new_roomy : IsRoomy 2048 new_node
 new_roomy =
     let a = grown 0 agrees [] refl (record { driven = refl; size = omega arith }) (omega arith) (λ runs. (agreed_first runs).little) in
     let one = drive agrees [] in
@@ -174,7 +174,7 @@ act_roomy before (Asked session request words) done idle r room node = roomy (20
 roomy_runs : (acts : List Act) → AreRoomy acts → 2048 * length acts < most_events → AllRun acts
 roomy_runs acts r few node = runs_short (history acts node) (r node).driven (omega (arith, (r node).size))
 
-pub all_roomy : Driven → (acts : List Act) → AreDone acts → length acts ≤ 4194305 → AreRoomy acts
+all_roomy : Driven → (acts : List Act) → AreDone acts → length acts ≤ 4194305 → AreRoomy acts
 all_roomy d [] done few = λ node. record { driven = refl; size = omega arith }
 all_roomy d (act ∷ before) done few =
     let r = all_roomy d before done.1 (omega arith) in

@@ -85,9 +85,6 @@ module _ (before : List Act) (node conv : List ℕ) (done : AreDone (Opened node
 
   -- ---- places
 
-  new_place : Place
-  new_place = record { node = node; number = opened_talks (deeds (history before node)) }
-
   -- a place is the new one, or one of before
   old_or_new : (name : List ℕ) (p : Place) → place_of (Opened node conv ∷ before) name ≡ Some p → ((bytes_eq conv name ≡ true) × (record { node = node; number = opened_talks (deeds (history before node)) } ≡ p)) ⊎ ((bytes_eq conv name ≡ false) × (place_of before name ≡ Some p))
   old_or_new name p at = by_name (bytes_eq conv name) refl at

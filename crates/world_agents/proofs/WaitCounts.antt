@@ -56,7 +56,7 @@ few_more conn done Swept fits few = omega (arith, filter_few is_unsettled (waits
 few_more conn done Halted fits few = omega arith
 few_more conn done deed fits few = few
 
-pub few_wait : (h : History) (conn : ℕ) → FewWait conn (deeds h)
+few_wait : (h : History) (conn : ℕ) → FewWait conn (deeds h)
 few_wait h conn = history_grows (FewWait conn) (λ c done deed kind fits few. few_more conn done deed fits few) (omega arith) h
 
 frame_few : (h : History) (call : Call) (frame : List ℕ) → FewWait 0 (after_frame (deeds h) call frame)
