@@ -3,7 +3,6 @@ use Rattle.std.proofs.Common.{◌≡◌, ℕ, ◌+◌, ◌≤◌, List, [], ◌�
 use Rattle.std.specs.Prelude.{Result, Ok, filter}
 use Rattle.std.specs.List.{list_any}
 use Rattle.std.proofs.lemmas.List.{length-map}
-use Rattle.nine_messages.specs.declared.message.RBody.{RBody}
 use Rattle.file_tree.specs.declared.tree.Node.{Node}
 use Rattle.file_tree.specs.declared.tree.Node.TheVariants.{Confirm, Needkey, Log}
 use Rattle.key_lists.specs.CtlLines.{CtlLine}
@@ -18,7 +17,7 @@ use Rattle.agent_history.specs.Deeds.{Deed, FidDeed, OfFids, OfKeys, OfTalk, OfL
 use Rattle.agent_history.specs.Replies.{Wait, has_settled, swept}
 use Rattle.agent_history.specs.SideFiles.{all_served, is_line_file, served_to}
 use Rattle.agent_history.specs.Conversations.{Drop, Question, Speaker, asking, deliver_to, delivered, drop_of, drops, fits, give_to, given_up, gives_up, logged, met, prompting, questions, raised, raising, reader_of, resumed, seeking, seeking_all, sought_once, speaker_of, speakers, standing_of, then_logged, then_raised, then_sought, then_took}
-use Rattle.agent_history.specs.Requests.{Call, carrying_out, line_deed, lines_done, replied, stored}
+use Rattle.agent_history.specs.Requests.{carrying_out, line_deed, lines_done, stored}
 use Rattle.world_history.specs.Driving.{left_to_hand}
 use Rattle.driven_agents.specs.Quiet.{NamesNoLines}
 use Rattle.driven_agents.proofs.QuietLaws.{holder_none}
