@@ -57,7 +57,7 @@ alike_calm done later a c = record {
 
 -- ---- a reply, and a sweep that finds nothing
 
-read_answered : (at tag : ℕ) (body : RBody) (done : List Deed) (ss : List Speaker) → AreRead done ss → AreRead (OfReplies at (Answered tag body) ∷ done) ss
+pub read_answered : (at tag : ℕ) (body : RBody) (done : List Deed) (ss : List Speaker) → AreRead done ss → AreRead (OfReplies at (Answered tag body) ∷ done) ss
 read_answered at tag body done [] read = tt
 read_answered at tag body done (s ∷ ss) read = (read.0, read_answered at tag body done ss read.1)
 

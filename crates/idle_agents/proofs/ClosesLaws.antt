@@ -7,14 +7,14 @@ use Rattle.nine_messages.specs.declared.message.TMsg.{TMsg}
 use Rattle.nine_messages.specs.declared.message.TBody.TheVariants as t
 use Rattle.nine_messages.specs.declared.message.RBody.{RBody}
 use Rattle.nine_messages.specs.Messages.{t_frame}
-use Rattle.agent_history.specs.Deeds.{Answered, Deed, OfReplies, Swept}
+use Rattle.agent_history.specs.Deeds.{Deed, Swept}
 use Rattle.agent_history.specs.Replies.{Wait, has_settled, is_unsettled, reply_in, swept, waits}
 use Rattle.agent_history.specs.Conversations.{Speaker, asker, conv_of, opened_talks, speakers}
 use Rattle.agent_history.specs.Requests.{Call, after, after_frame, answered, body_to, call_of, granted, replied, reply_of}
 use Rattle.agent_history.specs.Histories.{History, deeds}
 use Rattle.world_history.specs.Driving.{clunks, drive, no_word, replies_to}
 use Rattle.idle_agents.specs.Idle.{AreRead, IsCalm, IsIdle, Runs}
-use Rattle.idle_agents.proofs.AlikeLaws.{GivesNone, IsBare, body_bare, granted_keeps, own_gives_none}
+use Rattle.idle_agents.proofs.AlikeLaws.{GivesNone, IsBare, body_bare, granted_keeps, own_gives_none, read_answered}
 use Rattle.idle_agents.proofs.ClunkLaws.{EndsSo, clunk_ends, ends_not}
 use Rattle.idle_agents.proofs.ExactLaws.{granted_only}
 use Rattle.idle_agents.proofs.FoundLemmas.{found_kept}
@@ -28,10 +28,6 @@ use Rattle.idle_agents.proofs.UnsettledLaws.{waits_at}
 
 -- ---- its reply, and a sweep
 
-read_answered : (at tag : ℕ) (body : RBody) (done : List Deed) (ss : List Speaker) → AreRead done ss → AreRead (OfReplies at (Answered tag body) ∷ done) ss
-read_answered at tag body done [] read = tt
-read_answered at tag body done (s ∷ ss) read = (read.0, read_answered at tag body done ss read.1)
-
 ends_answered : (fid number : ℕ) (call : Call) (o : Option RBody) (done later : List Deed) → EndsSo fid number done later → EndsSo fid number done (replied call o later)
 ends_answered fid number call None done later e = e
 ends_answered fid number call (Some body) done later e = record {
@@ -44,18 +40,18 @@ ends_answered fid number call (Some body) done later e = record {
 }
 
 -- a read that waits is found behind a sweep
-pub swept_reader : (fid : ℕ) (ws : List Wait) → find (waits_at fid) (filter is_unsettled ws) ≡ find (waits_at fid) ws
+swept_reader : (fid : ℕ) (ws : List Wait) → find (waits_at fid) (filter is_unsettled ws) ≡ find (waits_at fid) ws
 swept_reader fid ws = found_kept (waits_at fid) is_unsettled ws (λ w at. unsettled (eqb w.fid fid) (is_unsettled w) at)
   where
     unsettled : (a b : Bool) → (a && b) ≡ true → b ≡ true
     unsettled true b at = at
     unsettled false b at = absurd cc
 
-pub read_swept : (done : List Deed) (ss : List Speaker) → AreRead done ss → AreRead (Swept ∷ done) ss
+read_swept : (done : List Deed) (ss : List Speaker) → AreRead done ss → AreRead (Swept ∷ done) ss
 read_swept done [] read = tt
 read_swept done (s ∷ ss) read = (λ on. swept_reader s.fid (waits done 0) ∙ read.0 on, read_swept done ss read.1)
 
-pub swept_read : (done : List Deed) → AreRead done (speakers done) → AreRead (swept done) (speakers (swept done))
+swept_read : (done : List Deed) → AreRead done (speakers done) → AreRead (swept done) (speakers (swept done))
 swept_read done read = by_settled (has_settled done)
   where
     by_settled : (b : Bool) → AreRead (cond b (Swept ∷ done) done) (speakers (cond b (Swept ∷ done) done))
@@ -63,7 +59,7 @@ swept_read done read = by_settled (has_settled done)
     by_settled false = read
 
 -- so it is calm
-pub calm_swept : (done : List Deed) → IsStill done → AreRead done (speakers done) → IsCalm (swept done)
+calm_swept : (done : List Deed) → IsStill done → AreRead done (speakers done) → IsCalm (swept done)
 calm_swept done still read = calm_of (swept done) (swept_still done still) (swept_settled done) (swept_read done read)
 
 told_swept : (b : Bool) (done : List Deed) → GivesNone (filter_map reply_in (waits done 0)) → GivesNone (cond b (filter_map reply_in (waits done 0)) [])

@@ -72,7 +72,7 @@ pub record Untold {X : Type 0} (f : List Deed → X) : Type 0 where
   pub answered : (at tag : ℕ) (body : RBody) (done : List Deed) → f (OfReplies at (Answered tag body) ∷ done) ≡ f done
   pub sweeps : (done : List Deed) → f (Swept ∷ done) ≡ f done
 
-pub event_same : {X : Type 0} (f : List Deed → X) → Untold f → (frame word : List ℕ) (h : History) → IsCalm (deeds h) → Runs (Request 0 frame word ∷ h) → f (deeds (Request 0 frame word ∷ h)) ≡ f (after_frame (deeds h) (call_of 0 frame word) frame)
+event_same : {X : Type 0} (f : List Deed → X) → Untold f → (frame word : List ℕ) (h : History) → IsCalm (deeds h) → Runs (Request 0 frame word ∷ h) → f (deeds (Request 0 frame word ∷ h)) ≡ f (after_frame (deeds h) (call_of 0 frame word) frame)
 event_same f u frame word h c runs =
     let done = deeds h in
     let call = call_of 0 frame word in

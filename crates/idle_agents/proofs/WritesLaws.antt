@@ -121,7 +121,7 @@ write_call fid bytes = call_of 0 (write_frame fid bytes) no_word
 any_write : (P : TBody → Type 0) → ((fid offset : ℕ) (content : List ℕ) → P (t.Write fid offset content)) → (fid : ℕ) (bytes : List ℕ) (m : TMsg) → request_of (write_frame fid bytes) ≡ Some m → P m.body
 any_write P each fid bytes m is = write_so P each (write_frame fid bytes) m.body (frame_read (write_asked fid bytes) m is)
 
-pub frame_alike : (fid : ℕ) (bytes : List ℕ) (done : List Deed) → NamesNoLines done → Alike done (after_frame done (write_call fid bytes) (write_frame fid bytes))
+frame_alike : (fid : ℕ) (bytes : List ℕ) (done : List Deed) → NamesNoLines done → Alike done (after_frame done (write_call fid bytes) (write_frame fid bytes))
 unfolding after_frame
 frame_alike fid bytes done names =
     let call = write_call fid bytes in
@@ -137,7 +137,7 @@ frame_bare fid bytes done =
     body_bare done call (granted done call frame)
     (granted_so (λ body. IsBare (reply_of done call body)) done call frame (λ m is. any_write (λ body. IsBare (reply_of done call body)) (λ f o c. write_bare done call f o c) fid bytes m is))
 
-pub write_deeds : (fid : ℕ) (bytes : List ℕ) (h : History) → IsCalm (deeds h) → Runs (writes fid bytes ∷ h) → deeds (writes fid bytes ∷ h) ≡ swept (answered (deeds h) (write_call fid bytes) (write_frame fid bytes))
+write_deeds : (fid : ℕ) (bytes : List ℕ) (h : History) → IsCalm (deeds h) → Runs (writes fid bytes ∷ h) → deeds (writes fid bytes ∷ h) ≡ swept (answered (deeds h) (write_call fid bytes) (write_frame fid bytes))
 write_deeds fid bytes h calm runs = request_deeds (write_frame fid bytes) no_word h runs calm.entered calm.there
 
 pub write_calm : (fid : ℕ) (bytes : List ℕ) (h : History) → IsCalm (deeds h) → Runs (writes fid bytes ∷ h) → IsCalm (deeds (writes fid bytes ∷ h))

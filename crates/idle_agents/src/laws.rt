@@ -1,7 +1,8 @@
 // Laws of an agent that a network drives, each the contract of a function that does nothing.
 ghost use Rattle.idle_agents.specs.Idle.{ClosingsKeepIdle, NewNodesAreIdle, OpeningsKeepIdle, TakesLeaveNothing, WritesKeepIdle};
 
-/// The takes that follow an event leave no reply, no question and no connection to give up, and nothing else changes by them.
+/// The takes that follow an event leave no reply, no question and no connection to give up, where the event left the agent calm,
+/// and it is calm behind them.
 pub fn takes_leave_nothing()
     ensures { TakesLeaveNothing }
 {}

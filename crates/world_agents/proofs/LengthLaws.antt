@@ -1,20 +1,19 @@
 -- The histories of the agents of a network are short where few acts are done, so that none of them stops.
-use Rattle.std.proofs.Common.{◌≡◌, ℕ, ◌+◌, ◌*◌, ◌≤◌, ◌<◌, List, [], ◌∷◌, length, reverse, suc, Bool, true, false, cond, codes, eqb, Option, Some, None, refl, sym, ap, subst, ◌∙◌, inl, inr, arith}
+use Rattle.std.proofs.Common.{◌≡◌, ℕ, ◌+◌, ◌*◌, ◌≤◌, ◌<◌, List, [], ◌∷◌, length, reverse, suc, Bool, true, false, cond, codes, eqb, Option, Some, None, refl, sym, ap, subst, ◌∙◌, arith}
 use Rattle.std.specs.List.{list_all}
 use Rattle.std.specs.Str.{bytes_eq}
-use Rattle.std.proofs.lemmas.Bool.{cases_Bool}
 use Rattle.agent_history.specs.declared.event.Event.{Event}
 use Rattle.agent_history.specs.declared.event.Event.TheVariants.{NoAnswer}
 use Rattle.agent_history.specs.declared.event.Event.TheVariants as events
 use Rattle.nine_messages.specs.declared.message.RMsg.{RMsg}
 use Rattle.nine_messages.specs.declared.message.RBody.{RBody}
 use Rattle.agent_history.specs.Deeds.{Deed, was_hung, was_opened}
-use Rattle.agent_history.specs.Replies.{swept, untaken}
+use Rattle.agent_history.specs.Replies.{swept}
 use Rattle.agent_history.specs.Requests.{Call, replied}
 use Rattle.agent_history.specs.Histories.{History, deeds, most_events}
 use Rattle.world_history.specs.Acts.{Act, Talk, Domain, KeyLine, SpeakLine, Made, Told, Opened, Started, Got, Given, Answered, Unanswered, Asked, Closed, is_node, talk_of}
-use Rattle.world_history.specs.Driving.{agrees, attaches, clunks, drive, is_refused, left_to_hand, new_node, opens, reads, replies_to, walks, writes}
-use Rattle.world_history.specs.Talking.{Asks, gets, gives, request_text, starts, word_of}
+use Rattle.world_history.specs.Driving.{agrees, attaches, clunks, drive, is_refused, new_node, opens, reads, replies_to, walks, writes}
+use Rattle.world_history.specs.Talking.{gets, gives, request_text, starts, word_of}
 use Rattle.world_history.specs.Turns.{Turn, after, asks, closes, hears, lets_open, misses, tells}
 use Rattle.world_history.specs.Worlds.{Done, done_by, fid_for, history, history_by, on_talk}
 use Rattle.world_legality.specs.Conditions.{AreDone}
@@ -27,7 +26,8 @@ use Rattle.idle_agents.proofs.TakenLaws.{none_left}
 use Rattle.idle_agents.proofs.WritesLaws.{write_is}
 use Rattle.world_agents.specs.Worlds.{AllRun}
 use Rattle.world_agents.proofs.ActLaws.{all_go}
-use Rattle.world_agents.proofs.LittleLaws.{IsTaken, absence_little, answer_little, attach_little, clunk_little, left_none, open_little, read_little, request_taken, taken_idle, walk_little, write_little}
+use Rattle.world_agents.proofs.EventCounts.{IsTaken, left_none, request_taken, taken_idle}
+use Rattle.world_agents.proofs.LittleLaws.{absence_little, answer_little, attach_little, clunk_little, open_little, read_little, walk_little, write_little}
 use Rattle.world_agents.proofs.RunLemmas.{same_name, talk_node}
 use Rattle.world_agents.proofs.ShortLaws.{IsLittle, IsShort, is_driven, runs_short, short_so}
 use Rattle.world_agents.proofs.TurnFacts.{Driven}
@@ -109,7 +109,7 @@ first_replied call (Some body) = record { little = record { entered = refl; repl
 agreed_first : Runs (agrees ∷ []) → IsFirst (deeds (agrees ∷ []))
 agreed_first runs = subst IsFirst (sym (agreed_deeds runs)) (first_replied version_call version_reply)
 
-pub new_roomy : IsRoomy 2048 new_node
+new_roomy : IsRoomy 2048 new_node
 new_roomy =
     let a = grown 0 agrees [] refl (record { driven = refl; size = omega arith }) (omega arith) (λ runs. (agreed_first runs).little) in
     let one = drive agrees [] in
@@ -174,7 +174,7 @@ act_roomy before (Asked session request words) done idle r room node = roomy (20
 roomy_runs : (acts : List Act) → AreRoomy acts → 2048 * length acts < most_events → AllRun acts
 roomy_runs acts r few node = runs_short (history acts node) (r node).driven (omega (arith, (r node).size))
 
-pub all_roomy : Driven → (acts : List Act) → AreDone acts → length acts ≤ 4194305 → AreRoomy acts
+all_roomy : Driven → (acts : List Act) → AreDone acts → length acts ≤ 4194305 → AreRoomy acts
 all_roomy d [] done few = λ node. record { driven = refl; size = omega arith }
 all_roomy d (act ∷ before) done few =
     let r = all_roomy d before done.1 (omega arith) in

@@ -1,4 +1,4 @@
--- What is so of the agents of a network behind some acts. It serves proofs alone.
+-- What is so of the agents of a network behind some acts, and what it comes to for scripts.
 use Rattle.std.specs.Prelude.{◌≡◌, ◌≤◌, ℕ, List, length, reverse, true, Some}
 use Rattle.agent_history.specs.Conversations.{asker, conv_of}
 use Rattle.agent_history.specs.Histories.{deeds}
