@@ -1,5 +1,5 @@
 -- What an answer of the authentication server, or its absence, does to an agent of which all was taken. It serves proofs alone.
-use Rattle.std.specs.Prelude.{◌≡◌, ℕ, List, ◌==◌, Bool, true, false, not, Some}
+use Rattle.std.specs.Prelude.{◌≡◌, ℕ, List, ◌==◌, false, not, Some}
 use Rattle.roles.specs.Talks.{Call as Move, heard, unheard}
 use Rattle.agent_history.specs.declared.event.Event.{Event}
 use Rattle.agent_history.specs.declared.event.Event.TheVariants.{Answer, NoAnswer}
