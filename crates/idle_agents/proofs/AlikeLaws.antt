@@ -1,5 +1,5 @@
 -- What leaves an agent calm by changing nothing of what calm means, and a request that does no more.
-use Rattle.std.proofs.Common.{◌≡◌, ℕ, List, [], ◌∷◌, ◌++◌, Bool, true, false, cond, eqb, ltb, ◌&&◌, not, Option, Some, None, refl, sym, ap, subst, ◌∙◌}
+use Rattle.std.proofs.Common.{◌≡◌, ℕ, List, [], ◌∷◌, ◌++◌, Bool, true, false, cond, eqb, ltb, ◌&&◌, Option, Some, None, refl, sym, ap, subst, ◌∙◌}
 use Rattle.std.specs.Prelude.{Result, Ok, Err, find}
 use Rattle.std.specs.List.{filter_map, list_all}
 use Rattle.nine_messages.specs.declared.message.RMsg.{RMsg}
@@ -8,14 +8,14 @@ use Rattle.nine_messages.specs.declared.message.TBody.{TBody}
 use Rattle.talks.specs.Standings.{OnServer}
 use Rattle.agent_history.specs.Deeds.{Deed, Answered, OfReplies, Swept, fid_of, msize_of, was_hung, was_opened}
 use Rattle.agent_history.specs.Replies.{has_settled, is_unsettled, reply_in, swept, waits}
-use Rattle.agent_history.specs.Conversations.{Question, Speaker, asker, opened_talks, questions, speakers, standing_of}
-use Rattle.agent_history.specs.Requests.{Call, after, after_granted, answered, body_for, replied, reply_of}
+use Rattle.agent_history.specs.Conversations.{Speaker, opened_talks, questions, speakers, standing_of}
+use Rattle.agent_history.specs.Requests.{Call, after, after_granted, body_for, replied, reply_of}
 use Rattle.agent_laws.specs.Laws.{gives_content}
 use Rattle.driven_agents.specs.Quiet.{NamesNoLines}
 use Rattle.driven_agents.proofs.EditGrows.{OkIs}
 use Rattle.idle_agents.specs.Idle.{AreRead, IsCalm}
 use Rattle.idle_agents.proofs.LeftLaws.{own_reply, swept_replies}
-use Rattle.idle_agents.proofs.StillLaws.{IsStill, calm_of, still_answered, still_of}
+use Rattle.idle_agents.proofs.StillLaws.{calm_of, still_answered, still_of}
 
 -- the same of both
 pub record Alike (done later : List Deed) : Type 0 where
@@ -57,7 +57,7 @@ alike_calm done later a c = record {
 
 -- ---- a reply, and a sweep that finds nothing
 
-read_answered : (at tag : ℕ) (body : RBody) (done : List Deed) (ss : List Speaker) → AreRead done ss → AreRead (OfReplies at (Answered tag body) ∷ done) ss
+pub read_answered : (at tag : ℕ) (body : RBody) (done : List Deed) (ss : List Speaker) → AreRead done ss → AreRead (OfReplies at (Answered tag body) ∷ done) ss
 read_answered at tag body done [] read = tt
 read_answered at tag body done (s ∷ ss) read = (read.0, read_answered at tag body done ss read.1)
 

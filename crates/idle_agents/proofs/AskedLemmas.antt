@@ -1,5 +1,5 @@
 -- A conversation that is on the authentication server needs an exchange with it, whatever its talk was.
-use Rattle.std.proofs.Common.{◌≡◌, List, [], ◌∷◌, Bool, true, false, Option, Some, None, sym, subst, ℕ}
+use Rattle.std.proofs.Common.{◌≡◌, List, [], ◌∷◌, Bool, true, false, Option, Some, None, subst, ℕ}
 use Rattle.attr_tuples.specs.declared.attr.Attr.{Attr}
 use Rattle.key_lists.specs.Lists.{KeyEntry}
 use Rattle.key_lists.specs.CtlLines.{few_of}

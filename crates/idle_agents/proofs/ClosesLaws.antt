@@ -1,27 +1,25 @@
 -- A fid that has rpc open is given up: the agent is idle again, other conversations and their questions stay, and no reply gives
 -- what was read.
-use Rattle.std.proofs.Common.{◌≡◌, ℕ, ◌<◌, ◌^◌, List, [], ◌∷◌, ◌++◌, Bool, true, false, cond, eqb, ◌&&◌, Option, Some, None, refl, sym, ap, subst, ◌∙◌, arith}
+use Rattle.std.proofs.Common.{◌≡◌, ℕ, ◌<◌, ◌^◌, List, [], ◌∷◌, Bool, true, false, cond, eqb, ◌&&◌, Option, Some, None, refl, sym, ap, subst, ◌∙◌, arith}
 use Rattle.std.specs.Prelude.{filter, find, option_map}
 use Rattle.std.specs.List.{filter_map}
 use Rattle.nine_messages.specs.declared.message.TMsg.{TMsg}
-use Rattle.nine_messages.specs.declared.message.TBody.{TBody}
 use Rattle.nine_messages.specs.declared.message.TBody.TheVariants as t
-use Rattle.nine_messages.specs.declared.message.RMsg.{RMsg}
 use Rattle.nine_messages.specs.declared.message.RBody.{RBody}
 use Rattle.nine_messages.specs.Messages.{t_frame}
-use Rattle.agent_history.specs.Deeds.{Answered, Deed, OfReplies, Swept}
+use Rattle.agent_history.specs.Deeds.{Deed, Swept}
 use Rattle.agent_history.specs.Replies.{Wait, has_settled, is_unsettled, reply_in, swept, waits}
 use Rattle.agent_history.specs.Conversations.{Speaker, asker, conv_of, opened_talks, speakers}
 use Rattle.agent_history.specs.Requests.{Call, after, after_frame, answered, body_to, call_of, granted, replied, reply_of}
 use Rattle.agent_history.specs.Histories.{History, deeds}
 use Rattle.world_history.specs.Driving.{clunks, drive, no_word, replies_to}
 use Rattle.idle_agents.specs.Idle.{AreRead, IsCalm, IsIdle, Runs}
-use Rattle.idle_agents.proofs.AlikeLaws.{GivesNone, IsBare, body_bare, granted_keeps, own_gives_none}
+use Rattle.idle_agents.proofs.AlikeLaws.{GivesNone, IsBare, body_bare, granted_keeps, own_gives_none, read_answered}
 use Rattle.idle_agents.proofs.ClunkLaws.{EndsSo, clunk_ends, ends_not}
 use Rattle.idle_agents.proofs.ExactLaws.{granted_only}
 use Rattle.idle_agents.proofs.FoundLemmas.{found_kept}
 use Rattle.idle_agents.proofs.IdleLaws.{asker_behind, idle_behind, seats_behind}
-use Rattle.idle_agents.proofs.LeftLaws.{own_reply, request_deeds, request_left, swept_replies}
+use Rattle.idle_agents.proofs.LeftLaws.{request_deeds, request_left, swept_replies}
 use Rattle.idle_agents.proofs.RunLaws.{event_runs}
 use Rattle.idle_agents.proofs.SeatLaws.{seat_off, seat_small}
 use Rattle.idle_agents.proofs.StillLaws.{IsStill, calm_of, still_answered, swept_settled, swept_still}
@@ -29,10 +27,6 @@ use Rattle.idle_agents.proofs.TakenLaws.{replies_so}
 use Rattle.idle_agents.proofs.UnsettledLaws.{waits_at}
 
 -- ---- its reply, and a sweep
-
-read_answered : (at tag : ℕ) (body : RBody) (done : List Deed) (ss : List Speaker) → AreRead done ss → AreRead (OfReplies at (Answered tag body) ∷ done) ss
-read_answered at tag body done [] read = tt
-read_answered at tag body done (s ∷ ss) read = (read.0, read_answered at tag body done ss read.1)
 
 ends_answered : (fid number : ℕ) (call : Call) (o : Option RBody) (done later : List Deed) → EndsSo fid number done later → EndsSo fid number done (replied call o later)
 ends_answered fid number call None done later e = e

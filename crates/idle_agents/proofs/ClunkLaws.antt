@@ -1,8 +1,8 @@
 -- What a fid that is given up leaves of a calm agent of which nobody asked a user anything.
-use Rattle.std.proofs.Common.{◌≡◌, ℕ, List, [], ◌∷◌, Bool, true, false, cond, eqb, ltb, ◌&&◌, ◌||◌, not, map, Option, Some, None, refl, sym, ap, subst, ◌∙◌, inl, inr}
+use Rattle.std.proofs.Common.{◌≡◌, ℕ, List, [], ◌∷◌, Bool, true, false, cond, eqb, ltb, ◌&&◌, not, map, Some, None, refl, sym, ap, subst, ◌∙◌}
 use Rattle.std.specs.Prelude.{filter, find, is_some, option_map}
-use Rattle.std.specs.List.{filter_map, list_all, list_any}
-use Rattle.std.proofs.lemmas.Bool.{and_from, and_parts, cases_Bool, eqb-true}
+use Rattle.std.specs.List.{filter_map, list_all}
+use Rattle.std.proofs.lemmas.Bool.{and_parts, eqb-true}
 use Rattle.nine_messages.specs.declared.message.TBody.TheVariants as t
 use Rattle.side_files.specs.declared.line.PromptKind.{PromptKind}
 use Rattle.side_files.specs.declared.line.PromptKind.TheVariants as k
@@ -10,18 +10,18 @@ use Rattle.side_files.specs.Calls as side
 use Rattle.agent_history.specs.Deeds.{Clunked, Deed, OfFids, OfPrompts, fid_of, holder_of}
 use Rattle.agent_history.specs.Replies.{Wait, fid_given_up, reply_in, settle_fid, settled_by, waits}
 use Rattle.agent_history.specs.SideFiles.{askers, file_of, is_of, prompt_calls}
-use Rattle.agent_history.specs.Conversations.{Question, Speaker, all_shut, all_withdrawn, asker, closed, conv_of, ended_by, given_up_by, opened_talks, questions, speakers}
+use Rattle.agent_history.specs.Conversations.{Speaker, all_shut, all_withdrawn, asker, closed, conv_of, ended_by, given_up_by, opened_talks, questions, speakers}
 use Rattle.agent_history.specs.Requests.{Call, after}
 use Rattle.agent_history.specs.Histories.{History, deeds}
 use Rattle.agent_laws.proofs.ConversationLaws.{speak_once}
 use Rattle.driven_agents.proofs.QuietLaws.{NoneAsked, nobody_waits, one_call}
-use Rattle.driven_agents.proofs.WriteLaws.{IsQuiet, quiet_deeds}
+use Rattle.driven_agents.proofs.WriteLaws.{quiet_deeds}
 use Rattle.idle_agents.specs.Idle.{AreRead, IsCalm}
 use Rattle.idle_agents.proofs.AlikeLaws.{Alike, GivesNone, alike_calm, alike_itself}
 use Rattle.idle_agents.proofs.FoundLemmas.{found_by, found_kept, found_passes, found_stays}
 use Rattle.idle_agents.proofs.SeatLaws.{all_seated, has_seat, is_at, others_stand, stays}
 use Rattle.idle_agents.proofs.StillLaws.{IsStill, kept_all, still_of}
-use Rattle.idle_agents.proofs.UnsettledLaws.{given_up_bare, none_given, none_settled, other_reader, waits_at}
+use Rattle.idle_agents.proofs.UnsettledLaws.{given_up_bare, none_given, none_settled, other_reader}
 
 -- ---- questions to users
 

@@ -1,18 +1,14 @@
 -- A request that a calm agent doesn't refuse was granted; and what one that settles no read leaves behind its takes.
-use Rattle.std.proofs.Common.{◌≡◌, ℕ, ◌<◌, ◌^◌, List, [], ◌∷◌, ◌++◌, Bool, true, false, Option, Some, None, refl, sym, ap, subst, ◌∙◌}
+use Rattle.std.proofs.Common.{◌≡◌, ℕ, ◌<◌, ◌^◌, List, ◌∷◌, ◌++◌, false, None, refl, sym, ap, subst, ◌∙◌}
 use Rattle.std.specs.Prelude.{Result, Ok, Err}
 use Rattle.nine_messages.specs.declared.message.TMsg.{TMsg}
 use Rattle.nine_messages.specs.declared.message.TBody.{TBody}
 use Rattle.nine_messages.specs.declared.message.RMsg.{RMsg}
 use Rattle.nine_messages.specs.declared.message.RBody.{RBody}
 use Rattle.nine_messages.specs.Messages.{t_fits, t_frame}
-use Rattle.talks.specs.Calls as calls
-use Rattle.agent_history.specs.declared.event.Event.{Event}
 use Rattle.agent_history.specs.declared.event.Event.TheVariants.{Request}
 use Rattle.agent_history.specs.Deeds.{Answered, Deed, OfReplies, Swept, fid_of}
-use Rattle.file_tree.specs.declared.tree.FidState.{FidState}
-use Rattle.agent_history.specs.Replies.{swept}
-use Rattle.agent_history.specs.Conversations.{Speaker, asker, opened_talks, speakers, talk}
+use Rattle.agent_history.specs.Conversations.{asker, opened_talks, speakers, talk}
 use Rattle.agent_history.specs.Requests.{Call, after, after_frame, after_granted, answered, body_for, body_to, call_of, granted, refusal}
 use Rattle.agent_history.specs.Histories.{History, deeds}
 use Rattle.agent_laws.proofs.GrowLaws.{none_refuses}
@@ -20,7 +16,7 @@ use Rattle.world_history.specs.Driving.{drive, is_refused, replies_to}
 use Rattle.idle_agents.specs.Idle.{IsCalm, IsIdle, Runs}
 use Rattle.idle_agents.proofs.AlikeLaws.{answered_same, calm_answered}
 use Rattle.idle_agents.proofs.ExactLaws.{granted_only}
-use Rattle.idle_agents.proofs.IdleLaws.{asker_behind, idle_behind}
+use Rattle.idle_agents.proofs.IdleLaws.{asker_behind}
 use Rattle.idle_agents.proofs.KeptLaws.{behind_takes}
 use Rattle.idle_agents.proofs.LeftLaws.{own_reply, request_deeds, request_left, swept_replies}
 use Rattle.idle_agents.proofs.RunLaws.{event_runs}

@@ -1,6 +1,6 @@
 -- The questions that come of an event are those that weren't handed out behind it, in their order, each with the bytes that
 -- its conversation needs; a connection that is given up on the way is none; and nothing is left to be handed out.
-use Rattle.std.proofs.Common.{◌≡◌, ℕ, zero, suc, ◌+◌, ◌<◌, List, [], ◌∷◌, ◌++◌, length, drop, map, Bool, true, false, cond, ltb, ◌&&◌, not, Option, Some, None, ◌⊎◌, inl, inr, refl, sym, ap, subst, ◌∙◌, arith}
+use Rattle.std.proofs.Common.{◌≡◌, ℕ, zero, suc, ◌<◌, List, [], ◌∷◌, ◌++◌, length, drop, map, Bool, true, false, cond, ltb, ◌&&◌, not, Option, Some, None, ◌⊎◌, inl, inr, refl, sym, ap, subst, ◌∙◌, arith}
 use Rattle.std.specs.Prelude.{filter, find}
 use Rattle.std.specs.List.{list_all}
 use Rattle.std.proofs.lemmas.Bool.{and_parts}
@@ -11,7 +11,7 @@ use Rattle.roles.specs.Answers.{IsExchange}
 use Rattle.talks.specs.Standings.{Phase, Resting, Waiting, Seeking, OnConfirm, OnNeedkey, OnServer, Kept, question_of}
 use Rattle.agent_history.specs.declared.event.Event.{Event}
 use Rattle.agent_history.specs.declared.event.Event.TheVariants.{TakeAsk}
-use Rattle.agent_history.specs.declared.event.StepAnswer.TheVariants.{Ask, DropCall, NoAsk, Stopped}
+use Rattle.agent_history.specs.declared.event.StepAnswer.TheVariants.{Ask, Stopped}
 use Rattle.agent_history.specs.Deeds.{Deed, DropTaken, HandedOut, was_opened}
 use Rattle.agent_history.specs.Conversations.{Drop, Due, DropDue, NoneDue, Question, QuestionDue, drops, due, due_of, hand_first, next_question, questions, standing_of, stands, talk}
 use Rattle.agent_history.specs.Histories.{Answer, History, answer, asks, deeds, handing, put_out}
@@ -22,7 +22,7 @@ use Rattle.world_history.specs.Driving.{all_taken, ask_up, asked_up, asks_of, dr
 use Rattle.idle_agents.specs.Idle.{Runs}
 use Rattle.idle_agents.proofs.AskedLemmas.{needs_exchange}
 use Rattle.idle_agents.proofs.KeptLaws.{KeepsTakes, behind_replies}
-use Rattle.idle_agents.proofs.RunLaws.{ask_runs, going, runs_before, taken_runs}
+use Rattle.idle_agents.proofs.RunLaws.{ask_runs, going, runs_before}
 
 -- the bytes of an exchange
 abbrev pub bytes_of : Need → List ℕ

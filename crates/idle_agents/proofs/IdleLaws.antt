@@ -1,14 +1,14 @@
 -- An agent that is calm behind an event is idle behind the takes that follow it; and what takes leave as it was.
-use Rattle.std.proofs.Common.{◌≡◌, ℕ, List, [], ◌∷◌, Bool, true, false, cond, eqb, Option, Some, None, refl, ap, ◌∙◌}
+use Rattle.std.proofs.Common.{◌≡◌, ℕ, List, [], ◌∷◌, Bool, true, false, cond, eqb, Option, Some, refl, ◌∙◌}
 use Rattle.std.specs.Prelude.{find, option_map}
 use Rattle.agent_history.specs.declared.event.Event.{Event}
 use Rattle.agent_history.specs.Deeds.{Deed, DropTaken, HandedOut, OfReplies, Taken, was_opened}
 use Rattle.agent_history.specs.Conversations.{Question, Speaker, asker, hand_first, opened_talks, questions, speakers}
 use Rattle.agent_history.specs.Histories.{History, deeds}
 use Rattle.world_history.specs.Driving.{drive}
-use Rattle.idle_agents.specs.Idle.{AreRead, IsCalm, IsIdle, KeepsAskers, Runs, SameSeats}
+use Rattle.idle_agents.specs.Idle.{AreRead, IsCalm, IsIdle, Runs, SameSeats}
 use Rattle.idle_agents.proofs.HandedLaws.{none_dropped, none_handed}
-use Rattle.idle_agents.proofs.KeptLaws.{KeepsAsks, KeepsTaken, KeepsTakes, behind_takes}
+use Rattle.idle_agents.proofs.KeptLaws.{KeepsTaken, behind_takes}
 use Rattle.idle_agents.proofs.TakenLaws.{none_left}
 
 -- ---- calm

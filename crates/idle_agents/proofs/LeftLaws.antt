@@ -1,5 +1,5 @@
 -- What is left to take behind an event of which nothing was left: the reply to a request, and those to the reads that it settled.
-use Rattle.std.proofs.Common.{◌≡◌, ℕ, ◌+◌, ◌≤◌, List, [], ◌∷◌, ◌++◌, length, drop, reverse, Bool, true, false, cond, eqb, ltb, ◌&&◌, Option, Some, None, inl, inr, refl, sym, ap, subst, ◌∙◌, arith, length-append}
+use Rattle.std.proofs.Common.{◌≡◌, ℕ, ◌≤◌, List, [], ◌∷◌, ◌++◌, length, drop, reverse, Bool, true, false, cond, eqb, ltb, ◌&&◌, Option, Some, None, inl, inr, refl, sym, ap, ◌∙◌, arith, length-append}
 use Rattle.std.specs.List.{filter_map}
 use Rattle.std.proofs.lemmas.Bool.{and_parts, cases_Bool, ltb-true}
 use Rattle.std.proofs.lemmas.List.{append_assoc, drop_at, length-drop, length-reverse, reverse-append, reverse-reverse}
@@ -8,7 +8,7 @@ use Rattle.nine_messages.specs.declared.message.RBody.{RBody}
 use Rattle.talks.specs.Calls as calls
 use Rattle.agent_history.specs.declared.event.Event.TheVariants.{Request, NoAnswer}
 use Rattle.agent_history.specs.declared.event.Event.TheVariants as events
-use Rattle.agent_history.specs.Deeds.{Deed, Entered, OfFids, OfKeys, OfReplies, OfConnection, OfTalk, OfPrompts, OfLog, Raised, HandedOut, DropTaken, Swept, Halted, Answered, Awaited, Settled, Flushed, Taken, was_hung, was_opened}
+use Rattle.agent_history.specs.Deeds.{Deed, Entered, OfReplies, OfConnection, Swept, Answered, Taken, was_hung, was_opened}
 use Rattle.agent_history.specs.Replies.{has_settled, replies, reply_in, swept, taken, untaken, waits}
 use Rattle.agent_history.specs.Conversations.{asker, resumed}
 use Rattle.agent_history.specs.Requests.{Call, after_frame, answered, body_to, call_of, replied}

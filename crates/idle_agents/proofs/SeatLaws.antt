@@ -1,16 +1,15 @@
 -- The fids of a calm agent that have rpc open, and the questions of their conversations.
-use Rattle.std.proofs.Common.{◌≡◌, ℕ, ◌<◌, List, [], ◌∷◌, ◌++◌, Bool, true, false, cond, eqb, ltb, ◌&&◌, ◌||◌, not, Option, Some, None, refl, sym, ap, subst, ◌∙◌, inl, inr}
+use Rattle.std.proofs.Common.{◌≡◌, ℕ, ◌<◌, List, [], ◌∷◌, Bool, true, false, cond, eqb, ltb, ◌&&◌, ◌||◌, not, Option, Some, refl, sym, ap, subst, ◌∙◌, inl, inr}
 use Rattle.std.specs.Prelude.{filter, find, is_some, option_map}
 use Rattle.std.specs.List.{AllByRecursion, IsDistinct, list_all, list_any}
 use Rattle.std.proofs.lemmas.Bool.{and_from, and_parts, cases_Bool, eqb-true, eq-eqb, ltb-true}
 use Rattle.attr_tuples.proofs.EqualityLemmas.{eqb_swap}
 use Rattle.file_tree.specs.declared.tree.Node.TheVariants.{Rpc}
-use Rattle.file_tree.specs.declared.tree.FidState.{FidState}
-use Rattle.file_tree.specs.Calls.{attached, is_open}
-use Rattle.agent_history.specs.Deeds.{Deed, fid_of, names}
-use Rattle.agent_history.specs.Conversations.{Question, Speaker, asker, conv_of, of_speakers, questions, speakers, stands}
+use Rattle.file_tree.specs.Calls.{is_open}
+use Rattle.agent_history.specs.Deeds.{Deed, names}
+use Rattle.agent_history.specs.Conversations.{Question, Speaker, conv_of, questions, speakers}
 use Rattle.agent_history.specs.Histories.{History, deeds}
-use Rattle.agent_laws.specs.Laws.{asks_server, has_open, is_same_place}
+use Rattle.agent_laws.specs.Laws.{asks_server, is_same_place}
 use Rattle.agent_laws.proofs.ConversationLaws.{openers_speak}
 use Rattle.agent_laws.proofs.GrowLaws.{all_are_asked}
 use Rattle.idle_agents.specs.Idle.{IsCalm}

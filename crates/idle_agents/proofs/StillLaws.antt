@@ -1,5 +1,5 @@
 -- What is so of a calm agent whatever its conversations met: all of it but that each of them which asks is read.
-use Rattle.std.proofs.Common.{◌≡◌, ℕ, List, [], ◌∷◌, ◌++◌, Bool, true, false, cond, eqb, ltb, ◌&&◌, not, Option, Some, None, refl, sym, ap, ◌∙◌}
+use Rattle.std.proofs.Common.{◌≡◌, ℕ, List, [], ◌∷◌, ◌++◌, Bool, true, false, cond, eqb, ltb, ◌&&◌, Some, None, refl, ap, ◌∙◌}
 use Rattle.std.specs.Prelude.{filter}
 use Rattle.std.specs.List.{list_all}
 use Rattle.std.proofs.lemmas.Bool.{and_from, and_parts}
@@ -32,7 +32,7 @@ calm_of done s settled read = record { names = s.names; entered = s.entered; the
 
 -- ---- reads that wait
 
-settled_all : (p : Wait → Bool) → ((body : RBody) (w : Wait) → p (settled_by body w) ≡ p w) → (tag : ℕ) (body : RBody) (ws : List Wait) → list_all p (settle_tag tag body ws) ≡ list_all p ws
+pub settled_all : (p : Wait → Bool) → ((body : RBody) (w : Wait) → p (settled_by body w) ≡ p w) → (tag : ℕ) (body : RBody) (ws : List Wait) → list_all p (settle_tag tag body ws) ≡ list_all p ws
 settled_all p same tag body [] = refl
 settled_all p same tag body (w ∷ ws) = by_tag (eqb w.tag tag) (settled_all p same tag body ws)
   where

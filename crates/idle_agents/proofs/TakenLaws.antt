@@ -1,12 +1,12 @@
 -- The replies that come of an event are those that weren't taken behind it, and none is left behind its takes.
-use Rattle.std.proofs.Common.{◌≡◌, ℕ, zero, suc, ◌+◌, ◌<◌, List, [], ◌∷◌, ◌++◌, length, drop, reverse, Bool, true, false, cond, ltb, ◌||◌, refl, sym, ap, subst, ◌∙◌, arith}
+use Rattle.std.proofs.Common.{◌≡◌, ℕ, zero, suc, ◌+◌, ◌<◌, List, [], ◌∷◌, ◌++◌, length, drop, reverse, Bool, true, false, cond, ltb, ◌||◌, refl, sym, ap, ◌∙◌, arith}
 use Rattle.std.proofs.lemmas.Bool.{lt-ltb}
 use Rattle.std.proofs.lemmas.List.{drop-drop, length-drop, length-reverse}
 use Rattle.nine_messages.specs.declared.message.RMsg.{RMsg}
 use Rattle.agent_history.specs.declared.event.Event.{Event}
 use Rattle.agent_history.specs.declared.event.Event.TheVariants.{Take}
 use Rattle.agent_history.specs.declared.event.StepAnswer.TheVariants.{Gone}
-use Rattle.agent_history.specs.Deeds.{Deed, Entered, OfConnection, OfReplies, Taken, is_halted, was_hung, was_opened}
+use Rattle.agent_history.specs.Deeds.{Deed, Entered, OfConnection, was_hung, was_opened}
 use Rattle.agent_history.specs.Replies.{replies, taken, untaken}
 use Rattle.agent_history.specs.Histories.{History, answer, deeds, entered, first_reply, is_reply, taking}
 use Rattle.world_history.specs.Driving.{drive, first_left, replies_to, take_up, taken_up, takes_of}

@@ -1,14 +1,13 @@
 -- A fid that comes to a file of the agent leaves it idle; where that isn't refused, it is at rest on rpc.
-use Rattle.std.proofs.Common.{◌≡◌, ℕ, ◌<◌, ◌^◌, List, [], ◌∷◌, Bool, true, false, cond, eqb, ◌&&◌, not, codes, Option, Some, None, refl, sym, ap, subst, ◌∙◌, arith}
-use Rattle.std.specs.Prelude.{filter, find, is_some, option_map}
+use Rattle.std.proofs.Common.{◌≡◌, ℕ, ◌<◌, List, [], ◌∷◌, Bool, true, false, cond, eqb, ◌&&◌, not, codes, Option, Some, None, refl, sym, ap, subst, ◌∙◌, arith}
+use Rattle.std.specs.Prelude.{find, is_some, option_map}
 use Rattle.std.specs.List.{list_all}
 use Rattle.std.specs.Str.{is_utf8, chars}
 use lib.Utf8.{encode}
 use Rattle.std.proofs.lemmas.Bool.{and_from, eqb-true}
-use Rattle.wire_base.specs.Readers.{FitsList, IsString}
+use Rattle.wire_base.specs.Readers.{IsString}
 use Rattle.wire_base.specs.Texts.{is_text}
 use Rattle.nine_messages.specs.declared.message.TMsg.{TMsg}
-use Rattle.nine_messages.specs.declared.message.TBody.{TBody}
 use Rattle.nine_messages.specs.declared.message.TBody.TheVariants as t
 use Rattle.nine_messages.specs.Messages.{t_fits, t_frame}
 use Rattle.file_tree.specs.declared.tree.Node.{Node}
@@ -16,9 +15,9 @@ use Rattle.file_tree.specs.declared.tree.Node.TheVariants.{Rpc}
 use Rattle.file_tree.specs.declared.tree.FidState.{FidState}
 use Rattle.file_tree.specs.Tree.{lead_to, step}
 use Rattle.file_tree.specs.Calls.{at_rest, attached, is_open, node_of}
-use Rattle.agent_history.specs.Deeds.{Deed, OfFids, Walked, fid_of, names}
+use Rattle.agent_history.specs.Deeds.{Deed, fid_of, names}
 use Rattle.agent_history.specs.SideFiles.{is_line_file}
-use Rattle.agent_history.specs.Conversations.{Speaker, asker, conv_of, opened_talks, speakers, talk}
+use Rattle.agent_history.specs.Conversations.{asker, conv_of, speakers, talk}
 use Rattle.agent_history.specs.Requests.{Call, after, after_frame, call_of, granted, refusal, walking}
 use Rattle.agent_history.specs.Histories.{History, deeds}
 use Rattle.agent_laws.proofs.ConversationLaws.{openers_speak}
@@ -29,7 +28,7 @@ use Rattle.driven_agents.specs.Quiet.{NamesNoLines, leads_away}
 use Rattle.idle_agents.specs.Idle.{IsCalm, IsIdle, Runs, SameSeats}
 use Rattle.idle_agents.proofs.AlikeLaws.{Alike, alike_calm, alike_itself, granted_keeps}
 use Rattle.idle_agents.proofs.ExactLaws.{granted_only}
-use Rattle.idle_agents.proofs.FoundLemmas.{all_pass, none_by}
+use Rattle.idle_agents.proofs.FoundLemmas.{all_pass}
 use Rattle.idle_agents.proofs.GrantLaws.{asker_then, calm_event, fid_then, granted_after, granted_so, opened_then, speakers_then, talk_then}
 use Rattle.idle_agents.proofs.IdleLaws.{idle_behind}
 use Rattle.idle_agents.proofs.RunLaws.{event_runs}

@@ -1,6 +1,6 @@
 -- A write leaves an agent idle, whatever is written and to whatever fid; it changes no conversation's fid and no question, and
 -- its reply gives nothing that was read.
-use Rattle.std.proofs.Common.{◌≡◌, ℕ, List, [], ◌∷◌, ◌++◌, length, Bool, true, false, cond, eqb, ◌||◌, Option, Some, None, refl, sym, ap, subst, ◌∙◌}
+use Rattle.std.proofs.Common.{◌≡◌, ℕ, List, [], ◌∷◌, length, Bool, true, false, cond, eqb, ◌||◌, Option, Some, None, refl, sym, ap, subst, ◌∙◌}
 use Rattle.std.specs.Prelude.{Result, Ok, Err, find, is_some, option_map}
 use Rattle.nine_messages.specs.declared.message.TMsg.{TMsg}
 use Rattle.nine_messages.specs.declared.message.TBody.{TBody}
@@ -9,7 +9,6 @@ use Rattle.nine_messages.specs.declared.message.RBody.{RBody}
 use Rattle.nine_messages.specs.declared.message.RBody.TheVariants as r
 use Rattle.nine_messages.specs.Messages.{t_frame}
 use Rattle.nine_messages.specs.Decoding.{request_of}
-use Rattle.file_tree.specs.declared.tree.Node.{Node}
 use Rattle.file_tree.specs.Calls.{node_of}
 use Rattle.key_lists.specs.CtlLines.{CtlLine, carried_out, lines_fault, lines_of}
 use Rattle.rpc_file.specs.Requests.{RpcRequest}
@@ -18,12 +17,12 @@ use Rattle.rpc_file.specs.declared.request.RpcFault.{RpcFault}
 use Rattle.side_files.specs.declared.line.PromptKind.{PromptKind}
 use Rattle.side_files.specs.Replies as prompt
 use Rattle.talks.specs.Calls as calls
-use Rattle.talks.specs.Standings.{Phase, Resting, Waiting, Seeking, OnConfirm, OnNeedkey, OnServer, Kept, Standing, standing, then_stands}
-use Rattle.agent_history.specs.Deeds.{Answered, Deed, OfKeys, OfReplies, OfTalk, Swept, fid_of, keys_of}
+use Rattle.talks.specs.Standings.{Phase, Resting, OnServer, Standing, standing, then_stands}
+use Rattle.agent_history.specs.Deeds.{Answered, Deed, OfKeys, OfReplies, Swept, fid_of, keys_of}
 use Rattle.agent_history.specs.Replies.{swept}
 use Rattle.agent_history.specs.SideFiles.{kind_at}
-use Rattle.agent_history.specs.Conversations.{asker, conv_of, opened_talks, questions, speakers, talk}
-use Rattle.agent_history.specs.Requests.{Call, after, after_frame, answered, body_to, call_of, granted, is_rpc, line_deed, lines_done, replying, reply_of, stored, write_reply, written}
+use Rattle.agent_history.specs.Conversations.{asker, conv_of, opened_talks, speakers, talk}
+use Rattle.agent_history.specs.Requests.{Call, after, after_frame, answered, body_to, call_of, granted, is_rpc, line_deed, lines_done, replying, reply_of, stored, written}
 use Rattle.agent_history.specs.Histories.{History, deeds}
 use Rattle.agent_laws.specs.Laws.{gives_content}
 use Rattle.world_history.specs.Driving.{drive, no_word, replies_to, writes}

@@ -1,6 +1,6 @@
 -- How an agent stands between what a network does to it: all that it put out was taken, and each conversation that asked the
 -- authentication server is read by the request that waits for its answer. It serves proofs alone.
-use Rattle.std.specs.Prelude.{◌≡◌, ℕ, List, [], ◌∷◌, Bool, true, false, ◌==◌, nat_lt, Option, Some, None}
+use Rattle.std.specs.Prelude.{◌≡◌, ℕ, List, [], ◌∷◌, Bool, true, false, ◌==◌, nat_lt, Some, None}
 use Rattle.std.specs.List.{list_all}
 use Rattle.file_tree.specs.Calls.{attached}
 use Rattle.talks.specs.Standings.{OnServer}
