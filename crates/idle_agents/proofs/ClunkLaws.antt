@@ -56,7 +56,17 @@ clunk_is call fid done on quiet =
 -- they change nothing of what calm means
 gone_alike : (fid : ℕ) (done : List Deed) → Alike done done → Alike done (gone_by fid done)
 gone_alike fid done a = withdrawn_keeps (Alike done) (λ kind conv d a. record {
-  names = a.names; entered = a.entered; there = a.there; msize = a.msize; root = a.root; speaking = a.speaking; opened = a.opened; waiting = a.waiting; settled = a.settled; asked = a.asked; phases = a.phases;
+  names = a.names;
+  entered = a.entered;
+  there = a.there;
+  msize = a.msize;
+  root = a.root;
+  speaking = a.speaking;
+  opened = a.opened;
+  waiting = a.waiting;
+  settled = a.settled;
+  asked = a.asked;
+  phases = a.phases;
 }) (ended_by (OfFids 0 (Clunked fid)) done) done a
 
 -- ---- the fid's own deed

@@ -143,7 +143,7 @@ open_is fid h idle small off new runs =
     let call = open_call fid in
     let frame = open_frame fid in
     let a : OpenedSo done (after_frame done call frame) = granted_keeps (OpenedSo done) done call (granted done call frame) (record { calm = c; asked = refl; talks = λ conv. refl })
-        (granted_only (λ body. OpenedSo done (after done call body)) done call (open_asked fid) (omega arith) (omega arith, omega arith) (opens_so call fid h refl c small off new)) in
+    (granted_only (λ body. OpenedSo done (after done call body)) done call (open_asked fid) (omega arith) (omega arith, omega arith) (opens_so call fid h refl c small off new)) in
     let now = calm_event frame no_word h c (event_runs (opens fid) h runs) a.calm in
     record {
       calm = now;
@@ -182,7 +182,7 @@ seat_is fid h idle small off new runs none =
     let is = granted_after (open_asked fid) no_word on g in
     let seated = rpc_opened (open_call fid) fid done refl at.rests in
     let ss : speakers (deeds (driving.opened fid h)) ≡ speakers (deeds h) ++ seat_of fid (deeds h) ∷ []
-        = speakers_then frame no_word on w.idle.calm runs o.calm ∙ (ap speakers is ∙ (seated.0 ∙ (ap (λ ss. ss ++ seat_of fid done ∷ []) w.seats.speakers ∙ ap (λ n. speakers (deeds h) ++ record { conv = n; conn = 0; fid = fid } ∷ []) w.seats.opened))) in
+    = speakers_then frame no_word on w.idle.calm runs o.calm ∙ (ap speakers is ∙ (seated.0 ∙ (ap (λ ss. ss ++ seat_of fid done ∷ []) w.seats.speakers ∙ ap (λ n. speakers (deeds h) ++ record { conv = n; conn = 0; fid = fid } ∷ []) w.seats.opened))) in
     let free = none_by (λ s. s.conv) (find (is_at fid) (speakers (deeds h))) at.free in
     record {
       idle = o.idle;

@@ -122,9 +122,9 @@ walk_is fid file h idle small off is ends runs =
     let fits = walk_fits fid file small is in
     let g = granted done call frame in
     let a : Alike done (after_frame done call frame) = granted_keeps (Alike done) done call g (alike_itself done c.names)
-        (granted_only (λ body. Alike done (after done call body)) done call (walk_asked fid file) (omega arith) fits (walk_alike call fid file h refl off ends c.names)) in
+    (granted_only (λ body. Alike done (after done call body)) done call (walk_asked fid file) (omega arith) fits (walk_alike call fid file h refl off ends c.names)) in
     let told : (conv : ℕ) → talk (after_frame done call frame) conv ≡ talk done conv = λ conv. granted_keeps (λ d. talk d conv ≡ talk done conv) done call g refl
-        (granted_only (λ body. talk (after done call body) conv ≡ talk done conv) done call (walk_asked fid file) (omega arith) fits (walk_talk call fid file done conv)) in
+    (granted_only (λ body. talk (after done call body) conv ≡ talk done conv) done call (walk_asked fid file) (omega arith) fits (walk_talk call fid file done conv)) in
     let now = calm_event frame no_word h c (event_runs (walks fid file) h runs) (alike_calm done (after_frame done call frame) a c) in
     record {
       calm = now;

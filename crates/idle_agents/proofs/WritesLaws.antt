@@ -30,7 +30,7 @@ use Rattle.driven_agents.proofs.EditGrows.{granted_so, where_so}
 use Rattle.driven_agents.proofs.FrameKinds.{frame_read, write_so}
 use Rattle.driven_agents.proofs.QuietLaws.{fid_plain, no_kind}
 use Rattle.driven_agents.specs.Quiet.{NamesNoLines}
-use Rattle.idle_agents.specs.Idle.{IsCalm, IsIdle, KeepsIdle, Runs, SameSeats}
+use Rattle.idle_agents.specs.Idle.{IsCalm, IsIdle, Runs, SameSeats}
 use Rattle.idle_agents.proofs.AlikeLaws.{Alike, GivesNone, IsBare, alike_calm, alike_itself, answered_same, body_bare, calm_answered, calm_replied, granted_keeps, none_swept, own_gives_none}
 use Rattle.idle_agents.proofs.IdleLaws.{asker_behind, idle_behind, seats_behind}
 use Rattle.idle_agents.proofs.LeftLaws.{request_deeds, request_left, swept_replies}
@@ -51,14 +51,33 @@ stored_alike : (o : Option ℕ) (came : Result RpcRequest RpcFault) (done : List
 stored_alike None came done names = alike_itself done names
 stored_alike (Some at) (Err fault) done names = alike_itself done names
 stored_alike (Some at) (Ok request) done names = record {
-  names = names; entered = refl; there = refl; msize = refl; root = refl; speaking = refl; opened = refl; waiting = refl; settled = refl; asked = refl;
+  names = names;
+  entered = refl;
+  there = refl;
+  msize = refl;
+  root = refl;
+  speaking = refl;
+  opened = refl;
+  waiting = refl;
+  settled = refl;
+  asked = refl;
   phases = λ conv on. one_stored (eqb at conv) request (talk done conv) on;
 }
 
 lines_alike : (conn : ℕ) (said : List CtlLine) (first done : List Deed) → Alike first done → Alike first (lines_done conn said done)
 lines_alike conn [] first done a = a
 lines_alike conn (line ∷ said) first done a = lines_alike conn said first (OfKeys conn (line_deed line) ∷ done) (record {
-  names = a.names; entered = a.entered; there = a.there; msize = a.msize; root = a.root; speaking = a.speaking; opened = a.opened; waiting = a.waiting; settled = a.settled; asked = a.asked; phases = a.phases;
+  names = a.names;
+  entered = a.entered;
+  there = a.there;
+  msize = a.msize;
+  root = a.root;
+  speaking = a.speaking;
+  opened = a.opened;
+  waiting = a.waiting;
+  settled = a.settled;
+  asked = a.asked;
+  phases = a.phases;
 })
 
 no_kind_alike : (o : Option PromptKind) (done one other : List Deed) → o ≡ None → Alike done other → Alike done (cond (is_some o) one other)
@@ -163,6 +182,3 @@ write_is fid bytes h idle runs =
       replies = subst GivesNone (sym (replies_so (writes fid bytes) h now.there runs ∙ request_left frame no_word h once calm.entered calm.there idle.taken))
           (own_gives_none call (body_to done call frame) (swept_replies (answered done call frame)) (frame_bare fid bytes done) (none_swept (answered done call frame) (calm_replied call (body_to done call frame) (after_frame done call frame) (alike_calm done (after_frame done call frame) a calm)).settled));
     }
-
-pub writes_keep_idle : (fid : ℕ) (bytes : List ℕ) (h : History) → KeepsIdle (writes fid bytes) h
-writes_keep_idle fid bytes h idle runs = (write_is fid bytes h idle runs).idle
