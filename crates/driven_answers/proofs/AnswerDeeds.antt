@@ -3,9 +3,7 @@
 use Rattle.std.proofs.Common.{◌≡◌, ℕ, List, [], ◌∷◌, Bool, true, false, cond, eqb, ◌&&◌, ◌||◌, not, Option, Some, refl, ap, ◌∙◌, inl, inr, filter}
 use Rattle.std.specs.Prelude.{find}
 use Rattle.std.specs.List.{list_all, list_any}
-use Rattle.std.proofs.lemmas.Bool.{cases_Bool, eq-eqb}
-use Rattle.file_tree.specs.declared.tree.Node.{Node}
-use Rattle.file_tree.specs.declared.tree.Node.TheVariants.{Confirm, Needkey, Log}
+use Rattle.std.proofs.lemmas.Bool.{cases_Bool}
 use Rattle.roles.specs.declared.need.Need.TheVariants.{Nothing}
 use Rattle.roles.specs.Starts.{Start}
 use Rattle.roles.specs.Talks.{Call as Move, heard, unheard}
@@ -20,13 +18,12 @@ use Rattle.talks.specs.Lines.{log_lines}
 use Rattle.talks.specs.Standings.{Begun, Phase, OnServer, Kept, Standing, made, phase_after, standing, then_stands, with_move}
 use Rattle.agent_history.specs.Deeds.{Deed, OfLog, OfReplies, OfTalk, Settled, Swept, is_debug}
 use Rattle.agent_history.specs.Replies.{Wait, has_settled, is_unsettled, reader, swept, waits}
-use Rattle.agent_history.specs.SideFiles.{all_served, is_line_file, served, served_to}
+use Rattle.agent_history.specs.SideFiles.{all_served}
 use Rattle.agent_history.specs.Conversations.{Speaker, deliver_to, delivered, fits, give_to, logged, met, questions, raising, resumed, seeking, seeking_all, sought_once, speaker_of, standing_of, talk, then_logged, then_raised, then_sought, then_took, told}
 use Rattle.lawful_roles.proofs.AllRoles.{all_roles}
 use Rattle.wire_histories.specs.Conversations.{is_asked}
 use Rattle.recorded_talks.specs.Telling.{on_server}
 use Rattle.driven_agents.specs.Quiet.{NamesNoLines, leads_away}
-use Rattle.driven_agents.proofs.QuietLaws.{holder_none}
 use Rattle.idle_agents.specs.Idle.{read_of}
 use Rattle.idle_agents.proofs.CallLemmas.{logged_same, nobody_served, own_talk}
 use Rattle.agent_laws.proofs.KindLaws.{same_number}

@@ -1,8 +1,8 @@
 -- Who is found in a list.
-use Rattle.std.proofs.Common.{◌≡◌, ℕ, List, [], ◌∷◌, Bool, true, false, cond, ◌&&◌, Option, Some, None, refl, sym, ap, ◌∙◌, inl, inr, map}
+use Rattle.std.proofs.Common.{◌≡◌, ℕ, List, [], ◌∷◌, Bool, true, false, cond, ◌&&◌, Some, None, refl, sym, ap, ◌∙◌, inl, inr, map}
 use Rattle.std.specs.Prelude.{find, option_map}
 use Rattle.std.specs.List.{filter, list_all}
-use Rattle.std.proofs.lemmas.Bool.{and_from, and_parts, cases_Bool}
+use Rattle.std.proofs.lemmas.Bool.{and_parts, cases_Bool}
 
 pub found_first : {X : Type 0} (p : X → Bool) (x y : X) (xs : List X) → p x ≡ true → find p (x ∷ xs) ≡ Some y → x ≡ y
 found_first p x y xs on e = let there : Some x ≡ Some y = sym (ap (λ b. cond b (Some x) (find p xs)) on) ∙ e in cc

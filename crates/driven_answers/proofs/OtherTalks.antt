@@ -1,19 +1,18 @@
 -- What a conversation meets by an answer of the authentication server changes no other one.
-use Rattle.std.proofs.Common.{◌≡◌, ℕ, zero, suc, List, [], ◌∷◌, length, Bool, true, false, cond, eqb, Option, Some, None, refl, sym, ap, subst, ◌∙◌, inl, inr}
+use Rattle.std.proofs.Common.{◌≡◌, ℕ, zero, suc, List, ◌∷◌, length, Bool, true, false, eqb, Option, Some, None, refl, sym, ap, subst, ◌∙◌, inl, inr}
 use Rattle.std.proofs.lemmas.Bool.{cases_Bool, eq-eqb, eqb-true}
 use Rattle.file_tree.specs.declared.tree.Node.{Node}
 use Rattle.file_tree.specs.declared.tree.Node.TheVariants.{Confirm, Needkey, Log}
 use Rattle.rpc_file.specs.declared.answer.RpcAnswer.{RpcAnswer}
-use Rattle.side_files.specs.Calls as side
 use Rattle.side_files.specs.Lines.{Found as Line, Nothing, TooLong, First, found}
 use Rattle.talks.specs.Calls.{Call, Found, AsksConsent, AsksKey, Sought, Heard, Unheard, Took}
 use Rattle.talks.specs.Standings.{Phase, Seeking, OnServer, Kept, finds, standing}
 use Rattle.talks.specs.Lines.{log_lines}
 use Rattle.agent_history.specs.declared.event.Event.TheVariants.{Answer, NoAnswer}
-use Rattle.agent_history.specs.Deeds.{Deed, OfTalk, OfLog, Swept, holder_of, is_debug, keys_of}
+use Rattle.agent_history.specs.Deeds.{Deed, OfTalk, Swept, holder_of, is_debug, keys_of}
 use Rattle.agent_history.specs.Replies.{Wait, has_settled, reader, swept, waits}
 use Rattle.agent_history.specs.SideFiles.{all_served, line_read, lines_in, serve_first, serve_read, serve_reads, served, served_to}
-use Rattle.agent_history.specs.Conversations.{Speaker, asking, deliver_to, delivered, fits, give_to, logged, met, prompting, raising, reader_of, resumed, seeking, seeking_all, sought_once, speaker_of, standing_of, talk, then_logged, then_raised, then_sought}
+use Rattle.agent_history.specs.Conversations.{Speaker, asking, deliver_to, delivered, fits, give_to, met, prompting, raising, reader_of, resumed, seeking, seeking_all, sought_once, speaker_of, standing_of, talk, then_logged, then_raised, then_sought}
 use Rattle.agent_history.specs.Histories.{deeds}
 use Rattle.agent_laws.proofs.GrowLaws.{last_or_not}
 use Rattle.driven_agents.proofs.EditGrows.{where_so}

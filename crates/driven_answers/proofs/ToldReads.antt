@@ -1,10 +1,9 @@
 -- A read that is told is swept with its reply; those that wait for others stay.
 use Rattle.std.proofs.Common.{◌≡◌, ℕ, List, [], ◌∷◌, Bool, true, false, cond, eqb, ◌&&◌, not, Option, Some, None, refl, sym, ap, ◌∙◌, inl, inr}
-use Rattle.std.specs.Prelude.{find, is_some, option_map}
+use Rattle.std.specs.Prelude.{find, is_some}
 use Rattle.std.specs.List.{filter, filter_map, list_all}
-use Rattle.std.proofs.lemmas.Bool.{and_from, and_parts, cases_Bool, eq-eqb, eqb-true}
+use Rattle.std.proofs.lemmas.Bool.{and_from, and_parts, cases_Bool, eqb-true}
 use Rattle.nine_messages.specs.declared.message.RBody.{RBody}
-use Rattle.nine_messages.specs.declared.message.RMsg.{RMsg}
 use Rattle.agent_history.specs.Replies.{Wait, first_of, is_unsettled, reply_in, settle_tag, settled_by}
 use Rattle.idle_agents.specs.Idle.{read_of}
 use Rattle.idle_agents.proofs.UnsettledLaws.{AreUnsettled, none_given, unsettled_none, waits_at}

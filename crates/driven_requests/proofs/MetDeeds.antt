@@ -1,6 +1,6 @@
 -- What a request that is carried out does where nobody can be asked: the searches, the question that is raised, and the log.
 use Rattle.std.proofs.Common.{◌≡◌, ℕ, ◌+◌, List, [], ◌∷◌, ◌++◌, Bool, true, false, refl, sym, ap, subst, ◌∙◌}
-use Rattle.file_tree.specs.declared.tree.Node.TheVariants.{Confirm, Needkey, Log}
+use Rattle.file_tree.specs.declared.tree.Node.TheVariants.{Confirm, Needkey}
 use Rattle.rpc_file.specs.Requests.{RpcRequest}
 use Rattle.talks.specs.Calls as calls
 use Rattle.talks.specs.Lines.{log_lines}

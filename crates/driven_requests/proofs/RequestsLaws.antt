@@ -6,7 +6,7 @@ use Rattle.nine_messages.specs.declared.message.RBody.{RBody}
 use Rattle.nine_messages.specs.declared.message.RBody.TheVariants as r
 use Rattle.attr_tuples.proofs.EqualityLemmas.{eqb_swap}
 use Rattle.talks.specs.Standings.{nothing_said}
-use Rattle.agent_history.specs.Conversations.{asker, conv_of, speakers}
+use Rattle.agent_history.specs.Conversations.{asker, conv_of}
 use Rattle.agent_history.specs.Histories.{History, deeds}
 use Rattle.agent_laws.specs.Laws.{gives_content}
 use Rattle.world_history.specs.Driving.{drive, is_refused, questions_to, reads, replies_to}

@@ -1,17 +1,13 @@
 -- What a conversation meets, and the lines of the log, leave of an agent: its connections, its reads and its replies.
-use Rattle.std.proofs.Common.{◌≡◌, ℕ, List, [], ◌∷◌, Bool, false, cond, eqb, Option, None, refl, ap, ◌∙◌}
+use Rattle.std.proofs.Common.{◌≡◌, ℕ, List, ◌∷◌, Bool, false, eqb, Option, refl, ap, ◌∙◌}
 use Rattle.std.specs.List.{list_all}
 use Rattle.nine_messages.specs.declared.message.RMsg.{RMsg}
-use Rattle.file_tree.specs.declared.tree.Node.TheVariants.{Confirm, Needkey, Log}
-use Rattle.side_files.specs.Calls as side
 use Rattle.talks.specs.Calls as calls
 use Rattle.talks.specs.Standings.{Standing, standing, then_stands}
-use Rattle.agent_history.specs.Deeds.{Deed, OfTalk, OfLog, Raised, holder_of, is_halted, keys_of, msize_of, was_hung, was_opened}
+use Rattle.agent_history.specs.Deeds.{Deed, OfTalk, Raised, is_halted, keys_of, msize_of, was_hung, was_opened}
 use Rattle.agent_history.specs.Replies.{Wait, has_settled, replies, taken, waits}
-use Rattle.agent_history.specs.SideFiles.{all_served, served, served_to}
 use Rattle.agent_history.specs.Conversations.{Speaker, logged, opened_talks, questions, raised, speakers, standing_of, talk}
 use Rattle.driven_agents.specs.Quiet.{leads_away}
-use Rattle.agent_laws.proofs.KindLaws.{same_number}
 use Rattle.idle_agents.proofs.CallLemmas.{logged_same, other_talk, own_talk}
 
 -- what is looked at of deeds
