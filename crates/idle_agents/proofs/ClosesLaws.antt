@@ -40,18 +40,18 @@ ends_answered fid number call (Some body) done later e = record {
 }
 
 -- a read that waits is found behind a sweep
-pub swept_reader : (fid : ℕ) (ws : List Wait) → find (waits_at fid) (filter is_unsettled ws) ≡ find (waits_at fid) ws
+swept_reader : (fid : ℕ) (ws : List Wait) → find (waits_at fid) (filter is_unsettled ws) ≡ find (waits_at fid) ws
 swept_reader fid ws = found_kept (waits_at fid) is_unsettled ws (λ w at. unsettled (eqb w.fid fid) (is_unsettled w) at)
   where
     unsettled : (a b : Bool) → (a && b) ≡ true → b ≡ true
     unsettled true b at = at
     unsettled false b at = absurd cc
 
-pub read_swept : (done : List Deed) (ss : List Speaker) → AreRead done ss → AreRead (Swept ∷ done) ss
+read_swept : (done : List Deed) (ss : List Speaker) → AreRead done ss → AreRead (Swept ∷ done) ss
 read_swept done [] read = tt
 read_swept done (s ∷ ss) read = (λ on. swept_reader s.fid (waits done 0) ∙ read.0 on, read_swept done ss read.1)
 
-pub swept_read : (done : List Deed) → AreRead done (speakers done) → AreRead (swept done) (speakers (swept done))
+swept_read : (done : List Deed) → AreRead done (speakers done) → AreRead (swept done) (speakers (swept done))
 swept_read done read = by_settled (has_settled done)
   where
     by_settled : (b : Bool) → AreRead (cond b (Swept ∷ done) done) (speakers (cond b (Swept ∷ done) done))
@@ -59,7 +59,7 @@ swept_read done read = by_settled (has_settled done)
     by_settled false = read
 
 -- so it is calm
-pub calm_swept : (done : List Deed) → IsStill done → AreRead done (speakers done) → IsCalm (swept done)
+calm_swept : (done : List Deed) → IsStill done → AreRead done (speakers done) → IsCalm (swept done)
 calm_swept done still read = calm_of (swept done) (swept_still done still) (swept_settled done) (swept_read done read)
 
 told_swept : (b : Bool) (done : List Deed) → GivesNone (filter_map reply_in (waits done 0)) → GivesNone (cond b (filter_map reply_in (waits done 0)) [])

@@ -144,7 +144,7 @@ ended_asker fid number call n h seat is apart =
     let on = others_stand fid number f.which.conv (speakers done) (speak_once h) seat (ap (λ n. eqb n number) f.gives ∙ apart) seated in
     ap (option_map (λ q. q.conv)) (found_stays (λ q. eqb q.call call) (has_seat (filter (stays fid) (speakers done))) (questions done) f.which f.found on) ∙ ap (λ n. Some n) f.gives
 
-pub ends_so : (fid number : ℕ) (h : History) → IsCalm (deeds h) → eqb fid 0 ≡ false → conv_of (deeds h) 0 fid ≡ Some number → EndsSo fid number (deeds h) (OfFids 0 (Clunked fid) ∷ gone_by fid (deeds h))
+ends_so : (fid number : ℕ) (h : History) → IsCalm (deeds h) → eqb fid 0 ≡ false → conv_of (deeds h) 0 fid ≡ Some number → EndsSo fid number (deeds h) (OfFids 0 (Clunked fid) ∷ gone_by fid (deeds h))
 ends_so fid number h c off seat =
     let done = deeds h in
     let gone = gone_by fid done in

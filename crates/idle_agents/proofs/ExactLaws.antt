@@ -18,7 +18,7 @@ read_again asked small fits = as_read (t_reading (t_frame asked)) asked (request
     as_read (Ok other) m e = let same : other ≡ m = cc in ap (λ m. Some m) same
     as_read (Err at) m e = absurd cc
 
-pub read_only : (asked m : TMsg) → asked.tag < 2 ^ 16 → t_fits asked.body → request_of (t_frame asked) ≡ Some m → m.body ≡ asked.body
+read_only : (asked m : TMsg) → asked.tag < 2 ^ 16 → t_fits asked.body → request_of (t_frame asked) ≡ Some m → m.body ≡ asked.body
 read_only asked m small fits is = let same : m ≡ asked = cc (sym is ∙ read_again asked small fits) in ap (λ m. m.body) same
 
 -- what holds of it holds of what is granted

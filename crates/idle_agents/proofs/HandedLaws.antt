@@ -2,7 +2,6 @@
 -- its conversation needs; a connection that is given up on the way is none; and nothing is left to be handed out.
 use Rattle.std.proofs.Common.{◌≡◌, ℕ, zero, suc, ◌<◌, List, [], ◌∷◌, ◌++◌, length, drop, map, Bool, true, false, cond, ltb, ◌&&◌, not, Option, Some, None, ◌⊎◌, inl, inr, refl, sym, ap, subst, ◌∙◌, arith}
 use Rattle.std.specs.Prelude.{filter, find}
-use Rattle.std.specs.List.{list_all}
 use Rattle.std.proofs.lemmas.Bool.{and_parts}
 use Rattle.wire_base.specs.declared.shape.Shape.{Shape}
 use Rattle.roles.specs.declared.need.Need.{Need}
@@ -21,6 +20,7 @@ use Rattle.world_history.specs.declared.question.Question.{Question as Put}
 use Rattle.world_history.specs.Driving.{all_taken, ask_up, asked_up, asks_of, drive, hands_out, left_to_hand, question_in, questions_to}
 use Rattle.idle_agents.specs.Idle.{Runs}
 use Rattle.idle_agents.proofs.AskedLemmas.{needs_exchange}
+use Rattle.idle_agents.proofs.FoundLemmas.{found_passes}
 use Rattle.idle_agents.proofs.KeptLaws.{KeepsTakes, behind_replies}
 use Rattle.idle_agents.proofs.RunLaws.{ask_runs, going, runs_before}
 
@@ -77,7 +77,7 @@ first_step false q next qs is found more =
     ∙ (ap (λ x. x ∷ unhanded qs) same
     ∙ ap (λ b. next ∷ unhanded (cond b (q ∷ hand_first qs) (record { call = q.call; conv = q.conv; handed = true } ∷ qs))) (sym is))
 
-pub first_unhanded : (qs : List Question) (next : Question) → find (λ q. not q.handed) qs ≡ Some next → unhanded qs ≡ next ∷ unhanded (hand_first qs)
+first_unhanded : (qs : List Question) (next : Question) → find (λ q. not q.handed) qs ≡ Some next → unhanded qs ≡ next ∷ unhanded (hand_first qs)
 first_unhanded [] next found = absurd cc
 first_unhanded (q ∷ qs) next found = first_step q.handed q next qs refl found (first_unhanded qs next)
 
@@ -90,16 +90,6 @@ none_unhanded [] none = refl
 none_unhanded (q ∷ qs) none = none_step q.handed q qs refl none (none_unhanded qs)
 
 -- ---- a question that is due is put out
-
-found_step : (test : Question → Bool) (p : Question → Bool) (b : Bool) (q which : Question) (qs : List Question) → cond b (Some q) (find p qs) ≡ Some which → test q ≡ true → (find p qs ≡ Some which → test which ≡ true) → test which ≡ true
-found_step test p true q which qs found is more = let same : q ≡ which = cc in ap test (sym same) ∙ is
-found_step test p false q which qs found is more = more found
-
-pub found_so : (test p : Question → Bool) (qs : List Question) (which : Question) → find p qs ≡ Some which → list_all test qs ≡ true → test which ≡ true
-found_so test p [] which found all = absurd cc
-found_so test p (q ∷ qs) which found all =
-    let parts = and_parts (test q) (list_all test qs) all in
-    found_step test p (p q) q which qs found parts.0 (λ f. found_so test p qs which f parts.1)
 
 pub on_server : (phase : Phase) → is_on_server phase ≡ true → phase ≡ OnServer
 on_server OnServer is = refl
@@ -120,7 +110,7 @@ put_so q Nothing is = absurd is
 next_put : (h : History) (q : Question) → next_question (deeds h) ≡ Some q → (shape : Shape) × (asks q (question_of (standing_of (deeds h) q.conv)) ≡ (Ask q.call q.conv shape, bytes_of (question_of (standing_of (deeds h) q.conv))))
 next_put h q is =
     let done = deeds h in
-    let there = found_so (λ x. stands done x.conv && asks_server done x.conv) (λ x. not x.handed) (questions done) q is (all_are_asked h) in
+    let there = (found_passes (λ x. stands done x.conv && asks_server done x.conv) (λ x. not x.handed) (questions done) q is (all_are_asked h)).0 in
     put_so q (question_of (standing_of done q.conv)) (needs_exchange (talk done q.conv) (on_server (standing_of done q.conv).phase (and_parts (stands done q.conv) (asks_server done q.conv) there).1))
 
 -- ---- takes
@@ -182,7 +172,7 @@ step_so n h runs few later = elim (due_is (drops (deeds h)) (next_question (deed
   ]
 ]
 
-pub asks_all : (n : ℕ) (h : History) → Runs (ask_up n h) → left_to_hand (deeds h) < n → AskedSo n h (to_put (deeds h))
+asks_all : (n : ℕ) (h : History) → Runs (ask_up n h) → left_to_hand (deeds h) < n → AskedSo n h (to_put (deeds h))
 asks_all zero h runs few = absurd (omega arith)
 asks_all (suc n) h runs few =
     let so = step_so n h (ask_runs n h runs) few (λ r f. asks_all n (TakeAsk ∷ h) r f) runs in

@@ -34,7 +34,7 @@ calm_handed done c = record { names = c.names; entered = c.entered; there = c.th
 calm_dropped : (done : List Deed) → IsCalm done → IsCalm (DropTaken ∷ done)
 calm_dropped done c = record { names = c.names; entered = c.entered; there = c.there; msize = c.msize; alone = c.alone; root = c.root; small = c.small; tagged = c.tagged; counted = c.counted; settled = c.settled; read = read_dropped (speakers done) done c.read }
 
-pub calm_kept : KeepsTaken IsCalm
+calm_kept : KeepsTaken IsCalm
 calm_kept = record { takes = record { takes = calm_taken }; asks = record { hands = calm_handed; drops = calm_dropped } }
 
 pub idle_behind : (e : Event) (h : History) → IsCalm (deeds (e ∷ h)) → Runs (drive e h) → IsIdle (drive e h)
@@ -58,7 +58,7 @@ seats_behind e h runs open_ =
     record { speakers = so.0; opened = so.1 }
 
 -- a question that is handed out keeps its number and its conversation
-pub asker_in : List Question → ℕ → Option ℕ
+asker_in : List Question → ℕ → Option ℕ
 asker_in qs call = option_map (λ q. q.conv) (find (λ q. eqb q.call call) qs)
 
 hand_step : (h b : Bool) (q : Question) (qs : List Question) (call : ℕ) → eqb q.call call ≡ b → asker_in (hand_first qs) call ≡ asker_in qs call

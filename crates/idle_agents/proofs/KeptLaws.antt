@@ -37,7 +37,7 @@ taking_keeps P k (reply ∷ rest) done p = (p.0, k.takes done p.1)
 entered_keeps : (P : List Deed → Type 0) (done : List Deed) → There P done → There P (entered 0 done)
 entered_keeps P done p = subst (There P) (ap (λ b. cond b done (OfConnection 0 Entered ∷ done)) (sym p.0)) p
 
-pub take_keeps : (P : List Deed → Type 0) → KeepsTakes P → (h : History) → Runs (Take 0 ∷ h) → There P (deeds h) → There P (deeds (Take 0 ∷ h))
+take_keeps : (P : List Deed → Type 0) → KeepsTakes P → (h : History) → Runs (Take 0 ∷ h) → There P (deeds h) → There P (deeds (Take 0 ∷ h))
 take_keeps P k h runs p =
     let done = deeds h in
     subst (There P) (sym (going (Take 0) h runs).now)
@@ -48,7 +48,7 @@ handing_keeps P k NoneDue done p = p
 handing_keeps P k (DropDue drop) done p = k.drops done p
 handing_keeps P k (QuestionDue question) done p = k.hands done p
 
-pub ask_keeps : (P : List Deed → Type 0) → KeepsAsks P → (h : History) → Runs (TakeAsk ∷ h) → P (deeds h) → P (deeds (TakeAsk ∷ h))
+ask_keeps : (P : List Deed → Type 0) → KeepsAsks P → (h : History) → Runs (TakeAsk ∷ h) → P (deeds h) → P (deeds (TakeAsk ∷ h))
 ask_keeps P k h runs p = let done = deeds h in subst P (sym (going TakeAsk h runs).now) (handing_keeps P k (due done) done p)
 
 -- ---- takes
@@ -63,7 +63,7 @@ takes_keep P k (suc n) h runs p =
     let once = take_keeps P k h (take_runs n h runs) p in
     by_choice (There P) (is_reply (answer h (Take 0)).0) (take_up n (Take 0 ∷ h)) (Take 0 ∷ h) (λ r. takes_keep P k n (Take 0 ∷ h) r once) (λ r. once) runs
 
-pub asks_keep : (P : List Deed → Type 0) → KeepsAsks P → (n : ℕ) (h : History) → Runs (ask_up n h) → P (deeds h) → P (deeds (ask_up n h))
+asks_keep : (P : List Deed → Type 0) → KeepsAsks P → (n : ℕ) (h : History) → Runs (ask_up n h) → P (deeds h) → P (deeds (ask_up n h))
 asks_keep P k zero h runs p = p
 asks_keep P k (suc n) h runs p =
     let once = ask_keeps P k h (ask_runs n h runs) p in

@@ -57,7 +57,7 @@ taken_swept true done = refl
 taken_swept false done = refl
 
 -- behind deeds that gave these, and a sweep
-pub swept_left : (before done : List Deed) (new : List RMsg) → untaken before 0 ≡ [] → taken done 0 ≡ taken before 0 → replies done 0 ≡ new ++ replies before 0 → untaken (swept done) 0 ≡ reverse new ++ swept_replies done
+swept_left : (before done : List Deed) (new : List RMsg) → untaken before 0 ≡ [] → taken done 0 ≡ taken before 0 → replies done 0 ≡ new ++ replies before 0 → untaken (swept done) 0 ≡ reverse new ++ swept_replies done
 swept_left before done new none same more =
     let told = reverse (swept_replies done) in
     left_behind before (swept done) (told ++ new) none (taken_swept (has_settled done) done ∙ same) (replies_swept (has_settled done) done ∙ (ap (λ xs. told ++ xs) more ∙ sym (append_assoc told new (replies before 0))))
@@ -80,10 +80,10 @@ met_gives rs n done (OfReplies at Taken) is g = absurd cc
 met_gives rs n done Swept is g = absurd cc
 met_gives rs n done deed is g = g
 
-pub frame_gives : (done : List Deed) (call : Call) (frame : List ℕ) → Gives (replies done 0) (taken done 0) (after_frame done call frame)
+frame_gives : (done : List Deed) (call : Call) (frame : List ℕ) → Gives (replies done 0) (taken done 0) (after_frame done call frame)
 frame_gives done call frame = frame_grows ⊥ (Gives (replies done 0) (taken done 0)) call (asked_gives (replies done 0) (taken done 0) call.conn) done frame (λ x. absurd x) (refl, refl)
 
-pub resumed_gives : (o : Option ℕ) (call : calls.Call) (done : List Deed) → Gives (replies done 0) (taken done 0) (resumed o call done)
+resumed_gives : (o : Option ℕ) (call : calls.Call) (done : List Deed) → Gives (replies done 0) (taken done 0) (resumed o call done)
 resumed_gives o call done = resumed_any (Gives (replies done 0) (taken done 0)) (met_gives (replies done 0) (taken done 0)) o call done (refl, refl)
 
 -- ---- requests

@@ -19,3 +19,4 @@ pub mod GrantLaws
 pub mod WalkLaws
 pub mod OpensLaws
 pub mod NewLaws
+pub mod KeepLaws

@@ -30,7 +30,7 @@ pub runs_either : (b : Bool) (one other : History) → (Runs one → Runs other)
 runs_either true one other so runs = so runs
 runs_either false one other so runs = runs
 
-pub takes_run : (n : ℕ) (h : History) → Runs (take_up n h) → Runs h
+takes_run : (n : ℕ) (h : History) → Runs (take_up n h) → Runs h
 takes_run zero h runs = runs
 takes_run (suc n) h runs = runs_before (Take 0) h (runs_either (is_reply (answer h (Take 0)).0) (take_up n (Take 0 ∷ h)) (Take 0 ∷ h) (takes_run n (Take 0 ∷ h)) runs)
 
@@ -38,7 +38,7 @@ takes_run (suc n) h runs = runs_before (Take 0) h (runs_either (is_reply (answer
 pub take_runs : (n : ℕ) (h : History) → Runs (take_up (suc n) h) → Runs (Take 0 ∷ h)
 take_runs n h runs = runs_either (is_reply (answer h (Take 0)).0) (take_up n (Take 0 ∷ h)) (Take 0 ∷ h) (takes_run n (Take 0 ∷ h)) runs
 
-pub asks_run : (n : ℕ) (h : History) → Runs (ask_up n h) → Runs h
+asks_run : (n : ℕ) (h : History) → Runs (ask_up n h) → Runs h
 asks_run zero h runs = runs
 asks_run (suc n) h runs = runs_before TakeAsk h (runs_either (hands_out (answer h TakeAsk).0) (ask_up n (TakeAsk ∷ h)) (TakeAsk ∷ h) (asks_run n (TakeAsk ∷ h)) runs)
 

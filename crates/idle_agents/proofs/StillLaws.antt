@@ -102,7 +102,7 @@ still_met done Halted is s = absurd cc
 pub still_answered : (at tag : ℕ) (body : RBody) (done : List Deed) → IsStill done → IsStill (OfReplies at (Answered tag body) ∷ done)
 still_answered at tag body done s = with_waits done (OfReplies at (Answered tag body)) s s.names refl refl refl refl refl s.tagged s.counted
 
-pub still_swept : (done : List Deed) → IsStill done → IsStill (Swept ∷ done)
+still_swept : (done : List Deed) → IsStill done → IsStill (Swept ∷ done)
 still_swept done s =
     with_waits done Swept s s.names refl refl refl refl refl
     (kept_all (λ w. eqb w.tag w.fid) is_unsettled (waits done 0) s.tagged) (kept_all (λ w. eqb w.count 8192) is_unsettled (waits done 0) s.counted)

@@ -66,7 +66,7 @@ by_hang false false (reply ∷ rest) done there = there
 still_there : (h : History) → Runs (Take 0 ∷ h) → was_hung (deeds h) 0 ≡ false → was_hung (deeds (Take 0 ∷ h)) 0 ≡ false
 still_there h runs there = let done = deeds h in ap (λ d. was_hung d 0) (going (Take 0) h runs).now ∙ by_hang (was_hung done 0) (was_opened done 0) (untaken done 0) done there
 
-pub takes_all : (n : ℕ) (h : History) → was_hung (deeds h) 0 ≡ false → Runs (take_up n h) → (left : List RMsg) → untaken (deeds h) 0 ≡ left → length left < n → TakenSo n h left
+takes_all : (n : ℕ) (h : History) → was_hung (deeds h) 0 ≡ false → Runs (take_up n h) → (left : List RMsg) → untaken (deeds h) 0 ≡ left → length left < n → TakenSo n h left
 takes_all zero h there runs left is few = absurd (omega arith)
 takes_all (suc n) h there runs left is few =
     let once = take_runs n h runs in
@@ -77,7 +77,7 @@ takes_all (suc n) h there runs left is few =
 
 -- ---- those that follow an event
 
-pub replies_taken : (e : Event) (h : History) → was_hung (deeds (e ∷ h)) 0 ≡ false → Runs (drive e h) → TakenSo (takes_of (e ∷ h)) (e ∷ h) (untaken (deeds (e ∷ h)) 0)
+replies_taken : (e : Event) (h : History) → was_hung (deeds (e ∷ h)) 0 ≡ false → Runs (drive e h) → TakenSo (takes_of (e ∷ h)) (e ∷ h) (untaken (deeds (e ∷ h)) 0)
 replies_taken e h there runs = takes_all (takes_of (e ∷ h)) (e ∷ h) there (taken_runs e h runs) (untaken (deeds (e ∷ h)) 0) refl (omega arith)
 
 pub replies_so : (e : Event) (h : History) → was_hung (deeds (e ∷ h)) 0 ≡ false → Runs (drive e h) → replies_to e h ≡ untaken (deeds (e ∷ h)) 0

@@ -104,16 +104,3 @@ other_step false fid other body w ws more is apart same = ap (λ o. cond (waits_
 pub other_reader : (fid other : ℕ) (body : RBody) (ws : List Wait) → eqb other fid ≡ false → find (waits_at other) (map (settle_fid fid body) ws) ≡ find (waits_at other) ws
 other_reader fid other body [] apart = refl
 other_reader fid other body (w ∷ ws) apart = other_step (eqb w.fid fid) fid other body w ws (map (settle_fid fid body) ws) refl apart (other_reader fid other body ws apart)
-
-tag_step : (b : Bool) (tag other : ℕ) (body : RBody) (w : Wait) (ws more : List Wait) → eqb w.tag tag ≡ b → eqb w.tag w.fid ≡ true → eqb other tag ≡ false → find (waits_at other) more ≡ find (waits_at other) ws → find (waits_at other) (cond b (settled_by body w ∷ ws) (w ∷ more)) ≡ find (waits_at other) (w ∷ ws)
-tag_step true tag other body w ws more is tagged apart same =
-    let off : eqb w.fid other ≡ false = ap (λ n. eqb n other) (sym (eqb-true w.tag w.fid tagged) ∙ eqb-true w.tag tag is) ∙ (eqb_swap tag other ∙ apart) in
-    rw off refl
-tag_step false tag other body w ws more is tagged apart same = ap (λ o. cond (waits_at other w) (Some w) o) same
-
--- where each has its fid for a tag
-pub other_tag : (tag other : ℕ) (body : RBody) (ws : List Wait) → list_all (λ w. eqb w.tag w.fid) ws ≡ true → eqb other tag ≡ false → find (waits_at other) (settle_tag tag body ws) ≡ find (waits_at other) ws
-other_tag tag other body [] tagged apart = refl
-other_tag tag other body (w ∷ ws) tagged apart =
-    let parts = and_parts (eqb w.tag w.fid) (list_all (λ w. eqb w.tag w.fid) ws) tagged in
-    tag_step (eqb w.tag tag) tag other body w ws (settle_tag tag body ws) refl parts.0 apart (other_tag tag other body ws parts.1 apart)

@@ -120,7 +120,7 @@ write_call fid bytes = call_of 0 (write_frame fid bytes) no_word
 any_write : (P : TBody → Type 0) → ((fid offset : ℕ) (content : List ℕ) → P (t.Write fid offset content)) → (fid : ℕ) (bytes : List ℕ) (m : TMsg) → request_of (write_frame fid bytes) ≡ Some m → P m.body
 any_write P each fid bytes m is = write_so P each (write_frame fid bytes) m.body (frame_read (write_asked fid bytes) m is)
 
-pub frame_alike : (fid : ℕ) (bytes : List ℕ) (done : List Deed) → NamesNoLines done → Alike done (after_frame done (write_call fid bytes) (write_frame fid bytes))
+frame_alike : (fid : ℕ) (bytes : List ℕ) (done : List Deed) → NamesNoLines done → Alike done (after_frame done (write_call fid bytes) (write_frame fid bytes))
 unfolding after_frame
 frame_alike fid bytes done names =
     let call = write_call fid bytes in

@@ -1,17 +1,17 @@
 -- How an agent stands between what a network does to it: all that it put out was taken, and each conversation that asked the
 -- authentication server is read by the request that waits for its answer. It serves proofs alone.
-use Rattle.std.specs.Prelude.{◌≡◌, ℕ, List, [], ◌∷◌, Bool, true, false, ◌==◌, nat_lt, Some, None}
+use Rattle.std.specs.Prelude.{◌≡◌, ◌+◌, ◌<◌, ℕ, List, [], ◌∷◌, Bool, true, false, ◌==◌, nat_lt, Some, None}
 use Rattle.std.specs.List.{list_all}
 use Rattle.file_tree.specs.Calls.{attached}
 use Rattle.talks.specs.Standings.{OnServer}
 use Rattle.agent_history.specs.declared.event.Event.{Event}
 use Rattle.agent_history.specs.Deeds.{Deed, fid_of, msize_of, was_hung, was_opened}
 use Rattle.agent_history.specs.Replies.{Wait, has_settled, reader, untaken, waits}
-use Rattle.agent_history.specs.Conversations.{Speaker, asker, drops, next_question, opened_talks, speakers, standing_of}
-use Rattle.agent_history.specs.Histories.{History, deeds, has_stopped}
+use Rattle.agent_history.specs.Conversations.{Speaker, asker, conv_of, drops, next_question, opened_talks, speakers, standing_of}
+use Rattle.agent_history.specs.Histories.{History, deeds, does, has_stopped}
 use Rattle.driven_agents.specs.Quiet.{NamesNoLines}
 use Rattle.world_history.specs.declared.question.Question.{Question}
-use Rattle.world_history.specs.Driving.{drive}
+use Rattle.world_history.specs.Driving.{clunks, drive, new_node, opened, refuses_open, replies_to, writes}
 
 -- the agent didn't stop
 abbrev pub Runs : History → Type 0
@@ -74,3 +74,37 @@ KeepsAskers of old new = (call number : ℕ) → asker (deeds old) call ≡ Some
 abbrev pub AreOf : ℕ → List Question → History → Type 0
 AreOf number [] h = Unit {0}
 AreOf number (q ∷ more) h = (asker (deeds h) q.call ≡ Some number) × AreOf number more h
+
+-- ---- the laws
+
+-- an agent that runs behind an event ran before it, and the event did what is defined
+abbrev pub EventsDo : Type 0
+EventsDo = (event : Event) (h : History) → Runs (event ∷ h) → Runs h × (deeds (event ∷ h) ≡ does (deeds h) event)
+
+-- where its connection is there behind an event, the replies that come of it are all that it left to be taken
+abbrev pub TakesGetWhatIsLeft : Type 0
+TakesGetWhatIsLeft = (event : Event) (h : History) → was_hung (deeds (event ∷ h)) 0 ≡ false → Runs (drive event h) → replies_to event h ≡ untaken (deeds (event ∷ h)) 0
+
+-- takes leave nothing of what an event left of a calm agent
+abbrev pub TakesLeaveNothing : Type 0
+TakesLeaveNothing = (event : Event) (h : History) → IsCalm (deeds (event ∷ h)) → Runs (drive event h) → IsIdle (drive event h)
+
+-- a write keeps an agent idle, and so does a fid that is given up which had rpc open
+abbrev pub WritesKeepIdle : Type 0
+WritesKeepIdle = (fid : ℕ) (bytes : List ℕ) (h : History) → KeepsIdle (writes fid bytes) h
+
+abbrev pub ClosingsKeepIdle : Type 0
+ClosingsKeepIdle = (fid number : ℕ) (h : History) → conv_of (deeds h) 0 fid ≡ Some number → KeepsIdle (clunks fid) h
+
+-- a fid that comes to rpc and opens it, which isn't refused, has the next conversation open
+pub record IsOpened (fid : ℕ) (h : History) : Type 0 where
+  pub idle : IsIdle (opened fid h)
+  pub next : opened_talks (deeds (opened fid h)) ≡ opened_talks (deeds h) + 1
+  pub seat : conv_of (deeds (opened fid h)) 0 fid ≡ Some (opened_talks (deeds h))
+
+abbrev pub OpeningsKeepIdle : Type 0
+OpeningsKeepIdle = (fid : ℕ) (h : History) → IsIdle h → fid < 65535 → (fid == 0) ≡ false → (standing_of (deeds h) (opened_talks (deeds h))).begun ≡ None → Runs (opened fid h) → refuses_open fid h ≡ false → IsOpened fid h
+
+-- a new node is idle
+abbrev pub NewNodesAreIdle : Type 0
+NewNodesAreIdle = Runs new_node → IsIdle new_node

@@ -1,37 +1,38 @@
-// Laws of an agent, each the contract of a function that does nothing.
-ghost use Rattle.idle_agents.specs.Keeping.{ClosingsKeepIdle, EventsDo, NewNodesAreIdle, OpeningsKeepIdle, TakesGetWhatIsLeft, TakesLeaveNothing, WritesKeepIdle};
+// Laws of an agent that a network drives, each the contract of a function that does nothing.
+ghost use Rattle.idle_agents.specs.Idle.{ClosingsKeepIdle, EventsDo, NewNodesAreIdle, OpeningsKeepIdle, TakesGetWhatIsLeft, TakesLeaveNothing, WritesKeepIdle};
 
 /// An agent that runs behind an event ran before it, and the event did what is defined.
-pub fn events_do_what_is_defined()
+pub fn an_event_does_what_is_defined()
     ensures { EventsDo }
 {}
 
-/// The replies that come of an event are all that it leaves to be taken.
+/// The replies that come of an event are all that it left to be taken.
 pub fn takes_get_what_is_left()
     ensures { TakesGetWhatIsLeft }
 {}
 
-/// Behind an event and the takes that follow it no reply, no question and no connection that is to be given up is left.
+/// The takes that follow an event leave no reply, no question and no connection to give up, where the event left the agent calm,
+/// and it is calm behind them.
 pub fn takes_leave_nothing()
     ensures { TakesLeaveNothing }
 {}
 
-/// A write to whatever fid leaves an idle agent idle.
-pub fn writes_keep_idle()
+/// A write keeps an agent idle, whatever is written, and to whatever fid.
+pub fn a_write_keeps_an_agent_idle()
     ensures { WritesKeepIdle }
 {}
 
-/// So does a fid that comes to name rpc and is opened, which opens the next conversation.
-pub fn openings_keep_idle()
-    ensures { OpeningsKeepIdle }
-{}
-
-/// So does a closing of a conversation.
-pub fn closings_keep_idle()
+/// So does a fid that is given up which had rpc open.
+pub fn a_closing_keeps_an_agent_idle()
     ensures { ClosingsKeepIdle }
 {}
 
-/// A new node of a network is idle, and none of its conversations met anything.
-pub fn new_nodes_are_idle()
+/// A fid that comes to rpc and opens it has the next conversation open, and the agent is idle again.
+pub fn an_opening_keeps_an_agent_idle()
+    ensures { OpeningsKeepIdle }
+{}
+
+/// A new node is idle.
+pub fn a_new_node_is_idle()
     ensures { NewNodesAreIdle }
 {}

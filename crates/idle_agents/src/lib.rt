@@ -4,6 +4,7 @@
 mod laws;
 
 pub use laws::{
-    closings_keep_idle, events_do_what_is_defined, new_nodes_are_idle, openings_keep_idle,
-    takes_get_what_is_left, takes_leave_nothing, writes_keep_idle,
+    a_closing_keeps_an_agent_idle, a_new_node_is_idle, a_write_keeps_an_agent_idle,
+    an_event_does_what_is_defined, an_opening_keeps_an_agent_idle, takes_get_what_is_left,
+    takes_leave_nothing,
 };

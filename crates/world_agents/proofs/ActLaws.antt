@@ -1,11 +1,11 @@
 -- Each act does to the conversations of its node what a turn does, and keeps what is known of all of them.
-use Rattle.std.proofs.Common.{◌≡◌, ℕ, ◌≤◌, List, [], ◌∷◌, Bool, true, false, cond, eqb, not, ◌||◌, Option, Some, None, refl, sym, ap, subst, ◌∙◌}
+use Rattle.std.proofs.Common.{◌≡◌, ℕ, List, [], ◌∷◌, Bool, true, false, cond, eqb, not, Option, Some, None, refl, sym, ap, subst, ◌∙◌}
 use Rattle.std.specs.Prelude.{is_some}
 use Rattle.std.specs.Str.{bytes_eq}
 use Rattle.std.proofs.lemmas.Bool.{or_parts}
 use Rattle.talks.specs.Standings.{Begun}
-use Rattle.agent_history.specs.Conversations.{asker, conv_of}
-use Rattle.agent_history.specs.Histories.{History, deeds}
+use Rattle.agent_history.specs.Conversations.{conv_of}
+use Rattle.agent_history.specs.Histories.{deeds}
 use Rattle.world_history.specs.Acts.{Act, Talk, Domain, KeyLine, SpeakLine, Made, Told, Opened, Started, Got, Given, Answered, Unanswered, Asked, Closed, talk_of}
 use Rattle.world_history.specs.Scripts.{call_now, call_or, is_unfit}
 use Rattle.world_history.specs.Talking.{Asks, gets, gives, starts}
@@ -14,7 +14,7 @@ use Rattle.world_history.specs.Worlds.{done_by, history, history_by, on_talk, ou
 use Rattle.recorded_talks.specs.Begun.{BegunWith}
 use Rattle.world_legality.specs.Agents.{AgentDoes, AgentsDo, begun_in}
 use Rattle.world_legality.specs.Conditions.{AreDone}
-use Rattle.world_legality.specs.Settings.{Place, place_of}
+use Rattle.world_legality.specs.Settings.{Place}
 use Rattle.world_legality.proofs.WordLaws.{Word, words_so}
 use Rattle.idle_agents.specs.Idle.{IsIdle, Runs}
 use Rattle.driven_requests.specs.Requests.{IsWorded}
@@ -114,7 +114,7 @@ absent_driven d before conv call done k t place o idle seat runs =
 same_goes : (before : List Act) (act : Act) → IsSame before act → done_by before act ≡ None → Known before → Goes before act
 same_goes before act same none k = record { known = same_known before act same k; does = does_nothing before act k none }
 
-pub act_goes : Driven → (before : List Act) (act : Act) → AreDone (act ∷ before) → AllRun (act ∷ before) → Known before → AgentsDo before → Goes before act
+act_goes : Driven → (before : List Act) (act : Act) → AreDone (act ∷ before) → AllRun (act ∷ before) → Known before → AgentsDo before → Goes before act
 act_goes d before (Domain dom) done run k does = same_goes before (Domain dom) (record { goes = λ n. refl; calls = λ n. refl; stands = λ n. refl; nodes = λ n. refl; talks = λ n t is. is }) refl k
 act_goes d before (KeyLine tuple) done run k does = same_goes before (KeyLine tuple) (record { goes = λ n. refl; calls = λ n. refl; stands = λ n. refl; nodes = λ n. refl; talks = λ n t is. is }) refl k
 act_goes d before (SpeakLine tuple) done run k does = same_goes before (SpeakLine tuple) (record { goes = λ n. refl; calls = λ n. refl; stands = λ n. refl; nodes = λ n. refl; talks = λ n t is. is }) refl k
@@ -145,10 +145,16 @@ act_goes d before (Unanswered conv call) done run k does =
 act_goes d before (Closed conv) done run k does =
     goes_on before (Closed conv) conv (λ fid. closes conv fid) its_own its_own
     (record {
-      does = refl; goes = λ n. refl; calls = λ n. refl; stands = λ n. refl; nodes = λ n. refl; of_conv = λ f. refl;
+      does = refl;
+      goes = λ n. refl;
+      calls = λ n. refl;
+      stands = λ n. refl;
+      nodes = λ n. refl;
+      of_conv = λ f. refl;
       talks = λ n t is. (closed_talk before conv n t is).0;
       stays = λ t is. absurd (not_both (bytes_eq conv conv) (itself conv) (closed_talk before conv conv t is).1);
-      ends_own = λ n m apart. apart; gone_own = λ f g apart. apart;
+      ends_own = λ n m apart. apart;
+      gone_own = λ f g apart. apart;
     })
     done.1 run k (λ t place o idle seat runs. close_so conv t.fid place.number (history before t.node) idle seat runs)
 

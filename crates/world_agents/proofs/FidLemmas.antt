@@ -1,7 +1,6 @@
 -- The fid of a conversation that is opened isn't held, and is a small number where few are.
-use Rattle.std.proofs.Common.{◌≡◌, ℕ, zero, suc, ◌+◌, ◌≤◌, ◌<◌, List, [], ◌∷◌, length, Bool, true, false, cond, eqb, ltb, ◌||◌, not, max, refl, sym, ap, subst, ◌∙◌, inl, inr, arith}
+use Rattle.std.proofs.Common.{◌≡◌, ℕ, zero, suc, ◌+◌, ◌≤◌, ◌<◌, List, [], ◌∷◌, length, Bool, true, false, cond, eqb, ltb, ◌||◌, not, refl, sym, ap, ◌∙◌, inl, inr, arith}
 use Rattle.std.specs.Prelude.{filter}
-use Rattle.std.specs.List.{list_all, list_any}
 use Rattle.std.proofs.lemmas.Bool.{cases_Bool, eqb-true, eq-eqb, ltb-false, ltb-true}
 use Rattle.world_history.specs.Acts.{highest, is_held, least_fid, least_from}
 
@@ -60,7 +59,7 @@ all_from (suc n) fid held k from below = by_held (is_held fid held) refl below (
         at true same = ap (λ n. is_held n held) (sym (eqb-true fid k same)) ∙ is
         at false other = more (beyond fid k other from) below
 
-pub below_least : (held : List ℕ) (k : ℕ) → 2 ≤ k → k < least_fid held → is_held k held ≡ true
+below_least : (held : List ℕ) (k : ℕ) → 2 ≤ k → k < least_fid held → is_held k held ≡ true
 below_least held k from below = all_from (highest held) 2 held k from below
 
 -- ---- so few are held

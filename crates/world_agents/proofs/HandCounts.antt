@@ -1,30 +1,23 @@
 -- How much is to be handed out behind an event of which nothing was left: few questions, and few connections that are given up.
-use Rattle.std.proofs.Common.{◌≡◌, ℕ, ◌+◌, ◌≤◌, ◌<◌, List, [], ◌∷◌, ◌++◌, length, map, Bool, true, false, cond, eqb, not, Option, Some, None, refl, sym, ap, subst, ◌∙◌, arith, length-append}
-use Rattle.std.specs.Prelude.{Result, Ok, Err, filter, is_some}
+use Rattle.std.proofs.Common.{◌≡◌, ℕ, ◌+◌, ◌≤◌, List, [], ◌∷◌, ◌++◌, length, Bool, true, false, cond, eqb, not, Option, Some, None, refl, sym, ap, subst, ◌∙◌, arith, length-append}
+use Rattle.std.specs.Prelude.{Result, Ok, filter}
 use Rattle.std.specs.List.{list_any}
 use Rattle.std.proofs.lemmas.List.{length-map}
-use Rattle.nine_messages.specs.declared.message.TBody.{TBody}
-use Rattle.nine_messages.specs.declared.message.TBody.TheVariants as t
-use Rattle.nine_messages.specs.declared.message.RBody.{RBody}
 use Rattle.file_tree.specs.declared.tree.Node.{Node}
-use Rattle.file_tree.specs.declared.tree.Node.TheVariants.{Root, Factotum, Rpc, Ctl, Confirm, Needkey, Proto, Log}
-use Rattle.file_tree.specs.Calls.{node_of}
-use Rattle.key_lists.specs.CtlLines.{CtlLine, carried_out, lines_of}
+use Rattle.file_tree.specs.declared.tree.Node.TheVariants.{Confirm, Needkey, Log}
+use Rattle.key_lists.specs.CtlLines.{CtlLine}
 use Rattle.rpc_file.specs.Requests.{RpcRequest}
-use Rattle.rpc_file.specs.Requests as rpc
 use Rattle.rpc_file.specs.declared.request.RpcFault.{RpcFault}
 use Rattle.rpc_file.specs.declared.answer.RpcAnswer.{RpcAnswer}
-use Rattle.side_files.specs.declared.line.PromptKind.{PromptKind}
 use Rattle.side_files.specs.Calls as side
 use Rattle.talks.specs.Calls as calls
 use Rattle.talks.specs.Lines.{log_lines}
-use Rattle.talks.specs.Standings.{Phase, Resting, Waiting, Seeking, OnConfirm, OnNeedkey, OnServer, Kept, Standing, finds}
-use Rattle.agent_history.specs.Deeds.{Deed, FidDeed, OfFids, OfKeys, OfReplies, OfTalk, OfPrompts, OfLog, Raised, Answered, Awaited, Settled, Swept, fid_of, holder_of, is_debug, keys_of}
+use Rattle.talks.specs.Standings.{Phase, Waiting, Seeking, OnServer, Kept, finds}
+use Rattle.agent_history.specs.Deeds.{Deed, FidDeed, OfFids, OfKeys, OfTalk, OfLog, Raised, Swept, holder_of, is_debug, keys_of}
 use Rattle.agent_history.specs.Replies.{Wait, has_settled, swept}
 use Rattle.agent_history.specs.SideFiles.{all_served, is_line_file, served_to}
-use Rattle.agent_history.specs.Conversations.{Drop, Question, Speaker, asking, deliver_to, delivered, drop_of, drops, fits, give_to, given_up, gives_up, logged, met, prompting, questions, raised, raising, reader_of, resumed, seeking, seeking_all, sought_once, speaker_of, speakers, standing_of, then_logged, then_raised, then_sought, then_took, told}
-use Rattle.agent_history.specs.Requests.{Call, carried, carrying_out, line_deed, lines_done, replied, stored}
-use Rattle.agent_history.specs.Histories.{History, deeds}
+use Rattle.agent_history.specs.Conversations.{Drop, Question, Speaker, asking, deliver_to, delivered, drop_of, drops, fits, give_to, given_up, gives_up, logged, met, prompting, questions, raised, raising, reader_of, resumed, seeking, seeking_all, sought_once, speaker_of, speakers, standing_of, then_logged, then_raised, then_sought, then_took}
+use Rattle.agent_history.specs.Requests.{carrying_out, line_deed, lines_done, stored}
 use Rattle.world_history.specs.Driving.{left_to_hand}
 use Rattle.driven_agents.specs.Quiet.{NamesNoLines}
 use Rattle.driven_agents.proofs.QuietLaws.{holder_none}
@@ -60,7 +53,7 @@ one_dropped false ds x = omega arith
 talk_few : (n conv : ℕ) (call : calls.Call) (done : List Deed) → AtMost n done → length (unhanded (questions (OfTalk conv call ∷ done))) ≤ length (unhanded (questions done)) → AtMost (n + 1) (OfTalk conv call ∷ done)
 talk_few n conv call done a qs = record { names = a.names; few = omega (arith, a.few, qs, one_dropped (gives_up (OfTalk conv call) done conv) (drops done) (drop_of done conv)) }
 
-pub talk_adds : (n conv : ℕ) (call : calls.Call) (done : List Deed) → AtMost n done → AtMost (n + 1) (OfTalk conv call ∷ done)
+talk_adds : (n conv : ℕ) (call : calls.Call) (done : List Deed) → AtMost n done → AtMost (n + 1) (OfTalk conv call ∷ done)
 talk_adds n conv (calls.Heard bytes) done a = talk_few n conv (calls.Heard bytes) done a (kept_few (λ q. not (eqb q.conv conv)) (questions done))
 talk_adds n conv calls.Unheard done a = talk_few n conv calls.Unheard done a (kept_few (λ q. not (eqb q.conv conv)) (questions done))
 talk_adds n conv calls.Roomless done a = talk_few n conv calls.Roomless done a (kept_few (λ q. not (eqb q.conv conv)) (questions done))
@@ -78,7 +71,7 @@ last_unhanded (x ∷ qs) q = by_handed x.handed (last_unhanded qs q)
     by_handed true more = more
     by_handed false more = omega arith
 
-pub raised_adds : (n conv : ℕ) (done : List Deed) → AtMost n done → AtMost (n + 1) (Raised conv ∷ done)
+raised_adds : (n conv : ℕ) (done : List Deed) → AtMost n done → AtMost (n + 1) (Raised conv ∷ done)
 raised_adds n conv done a = record { names = a.names; few = omega (arith, a.few, last_unhanded (questions done) (record { call = raised done + 1; conv = conv; handed = false })) }
 
 filter_few : (p : Speaker → Bool) (ss : List Speaker) → length (filter p ss) ≤ length ss
@@ -140,7 +133,7 @@ nobody_served done named =
     ap (λ d. served_to Log (holder_of (served_to Needkey (holder_of d Needkey) d) Log) (served_to Needkey (holder_of d Needkey) d)) (none_served Confirm done refl named)
     ∙ (ap (λ d. served_to Log (holder_of d Log) d) (none_served Needkey done refl named) ∙ none_served Log done refl named)
 
-pub met_adds : (n conv : ℕ) (call : calls.Call) (done : List Deed) → AtMost n done → AtMost (n + 5) (met conv call done)
+met_adds : (n conv : ℕ) (call : calls.Call) (done : List Deed) → AtMost n done → AtMost (n + 5) (met conv call done)
 met_adds n conv call done a =
     let first = OfTalk conv call ∷ done in
     let sought = then_sought conv first in
@@ -188,11 +181,7 @@ pub lines_add : (n conn : ℕ) (said : List CtlLine) (done : List Deed) → AtMo
 lines_add n conn [] done a = a
 lines_add n conn (line ∷ said) done a = lines_add n conn said (OfKeys conn (line_deed line) ∷ done) (record { names = a.names; few = a.few })
 
--- a reply and a sweep change nothing of it
-pub replied_adds : (n : ℕ) (call : Call) (o : Option RBody) (done : List Deed) → AtMost n done → AtMost n (replied call o done)
-replied_adds n call None done a = a
-replied_adds n call (Some body) done a = record { names = a.names; few = a.few }
-
+-- a sweep changes nothing of it
 pub swept_adds : (n : ℕ) (done : List Deed) → AtMost n done → AtMost n (swept done)
 swept_adds n done a = by_settled (has_settled done)
   where

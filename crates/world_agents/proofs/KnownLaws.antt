@@ -1,9 +1,9 @@
 -- What is known of the conversations of a network behind some acts; an act that concerns no agent keeps it.
-use Rattle.std.proofs.Common.{◌≡◌, ℕ, ◌≤◌, ◌<◌, List, [], ◌∷◌, Bool, true, false, cond, eqb, Option, Some, None, refl, sym, ap, subst, ◌∙◌, inl, inr, arith}
+use Rattle.std.proofs.Common.{◌≡◌, ℕ, ◌≤◌, ◌<◌, List, ◌∷◌, Bool, true, false, cond, eqb, Option, Some, None, refl, sym, ap, subst, ◌∙◌, inl, inr, arith}
 use Rattle.std.specs.Str.{bytes_eq}
 use Rattle.std.proofs.lemmas.Bool.{cases_Bool, eqb-true}
 use Rattle.agent_history.specs.Conversations.{asker, conv_of, opened_talks}
-use Rattle.agent_history.specs.Histories.{History, deeds}
+use Rattle.agent_history.specs.Histories.{deeds}
 use Rattle.world_history.specs.declared.question.Question.{Question}
 use Rattle.world_history.specs.Acts.{Act, Talk, is_node, talk_of}
 use Rattle.world_history.specs.Turns.{Turn, asks, closes, hears, lets_open, misses, tells}

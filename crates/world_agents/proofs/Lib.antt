@@ -10,4 +10,7 @@ pub mod ActLaws
 pub mod ShortLaws
 pub mod WaitCounts
 pub mod HandCounts
+pub mod EventCounts
 pub mod LittleLaws
+pub mod LengthLaws
+pub mod ScriptLaws

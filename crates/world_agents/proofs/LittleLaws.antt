@@ -1,141 +1,43 @@
 -- Little comes of what a network does to an agent of which all was taken.
-use Rattle.std.proofs.Common.{◌≡◌, ℕ, ◌+◌, ◌≤◌, List, [], ◌∷◌, length, Bool, true, false, cond, eqb, codes, Option, Some, None, refl, sym, ap, subst, ◌∙◌, arith}
-use Rattle.std.specs.Prelude.{Result, Ok, Err, filter, is_some}
+use Rattle.std.proofs.Common.{◌≡◌, ℕ, ◌+◌, ◌≤◌, List, [], ◌∷◌, length, Bool, true, false, cond, eqb, codes, Option, Some, None, refl, sym, subst, arith}
+use Rattle.std.specs.Prelude.{is_some}
 use Rattle.nine_messages.specs.declared.message.TMsg.{TMsg}
-use Rattle.nine_messages.specs.declared.message.TBody.{TBody}
 use Rattle.nine_messages.specs.declared.message.TBody.TheVariants as t
-use Rattle.nine_messages.specs.declared.message.RBody.{RBody}
 use Rattle.nine_messages.specs.Messages.{t_frame}
-use Rattle.nine_messages.specs.Decoding.{request_of}
 use Rattle.file_tree.specs.declared.tree.Node.{Node}
-use Rattle.file_tree.specs.declared.tree.Node.TheVariants.{Root, Factotum, Rpc, Ctl, Confirm, Needkey, Proto, Log}
+use Rattle.file_tree.specs.declared.tree.Node.TheVariants.{Root, Factotum, Ctl}
 use Rattle.file_tree.specs.Tree.{lead_to}
 use Rattle.file_tree.specs.Directories.{dir_end}
 use Rattle.file_tree.specs.Calls.{node_of}
 use Rattle.key_lists.specs.CtlLines.{carried_out, lines_of}
 use Rattle.rpc_file.specs.Requests as rpc
 use Rattle.side_files.specs.declared.line.PromptKind.{PromptKind}
-use Rattle.side_files.specs.Calls as side
 use Rattle.side_files.specs.Lines.{found}
 use Rattle.side_files.specs.Replies as prompt
 use Rattle.talks.specs.Calls as calls
 use Rattle.talks.specs.Standings.{Phase, Kept}
-use Rattle.agent_history.specs.declared.event.Event.{Event}
 use Rattle.agent_history.specs.declared.event.Event.TheVariants.{Request, NoAnswer}
 use Rattle.agent_history.specs.declared.event.Event.TheVariants as events
-use Rattle.agent_history.specs.Deeds.{Deed, OfFids, OfConnection, OfReplies, Attached, Awaited, Browsed, Clunked, Entered, Halted, Hung, Listed, Opened, Swept, Walked, fid_of, keys_of, msize_of, was_hung, was_opened}
-use Rattle.agent_history.specs.Replies.{has_settled, swept, untaken, waits}
+use Rattle.agent_history.specs.Deeds.{Deed, OfFids, Attached, Browsed, Clunked, Listed, Opened, Walked, fid_of, keys_of, msize_of}
+use Rattle.agent_history.specs.Replies.{swept}
 use Rattle.agent_history.specs.SideFiles.{is_line_file, kind_at, lines_in}
-use Rattle.agent_history.specs.Conversations.{Question, asker, conv_of, drops, ended_by, next_question, questions, resumed, speakers, standing_of, then_took}
-use Rattle.agent_history.specs.Requests.{Call, after, after_frame, answered, body_to, call_of, carried, effective, granted, is_rpc, lines_done, reading, reading_answer, reading_line, reading_talk, replied, replying, stored, walking}
+use Rattle.agent_history.specs.Conversations.{asker, conv_of, ended_by, resumed, speakers, standing_of}
+use Rattle.agent_history.specs.Requests.{Call, after, call_of, carried, effective, is_rpc, lines_done, reading, reading_answer, reading_line, reading_talk, replying, walking}
 use Rattle.agent_history.specs.Histories.{History, deeds}
 use Rattle.agent_laws.proofs.ConversationLaws.{few_speak}
-use Rattle.agent_laws.proofs.GrowLaws.{KeepsAny, frame_grows, resumed_any}
-use Rattle.agent_laws.proofs.KindLaws.{KeepsIf, is_asked, is_met}
-use Rattle.world_history.specs.Driving.{attaches, clunks, drive, left_to_hand, no_word, opens, reads, walks, writes}
+use Rattle.agent_laws.proofs.GrowLaws.{resumed_any}
+use Rattle.world_history.specs.Driving.{attaches, clunks, left_to_hand, no_word, opens, reads, walks, writes}
 use Rattle.driven_agents.specs.Quiet.{NamesNoLines}
-use Rattle.driven_agents.proofs.EditGrows.{granted_so}
 use Rattle.driven_agents.proofs.FrameKinds.{attach_so, clunk_so, frame_read, open_so, read_so, walk_so, write_so}
 use Rattle.driven_agents.proofs.QuietLaws.{fid_plain, no_kind}
 use Rattle.driven_agents.proofs.WriteLaws.{quiet_deeds}
-use Rattle.idle_agents.specs.Idle.{IsIdle, Runs}
-use Rattle.idle_agents.proofs.AlikeLaws.{granted_keeps}
+use Rattle.idle_agents.specs.Idle.{Runs}
 use Rattle.idle_agents.proofs.ClunkLaws.{clunk_is, gone_by, withdrawn_keeps}
-use Rattle.idle_agents.proofs.HandedLaws.{none_dropped, none_handed, none_unhanded}
-use Rattle.idle_agents.proofs.LeftLaws.{absence_deeds, answer_deeds, request_deeds}
-use Rattle.idle_agents.proofs.RunLaws.{event_runs}
-use Rattle.idle_agents.proofs.KeptLaws.{behind_takes}
-use Rattle.idle_agents.proofs.TakenLaws.{none_left}
-use Rattle.world_agents.proofs.HandCounts.{AtMost, carried_adds, fid_adds, lines_add, more_room, replied_adds, resumed_adds, stored_adds, swept_adds, took_adds}
+use Rattle.idle_agents.proofs.LeftLaws.{absence_deeds, answer_deeds}
+use Rattle.world_agents.proofs.HandCounts.{AtMost, carried_adds, fid_adds, lines_add, more_room, resumed_adds, stored_adds, swept_adds, took_adds}
 use Rattle.world_agents.proofs.ShortLaws.{IsLittle}
-use Rattle.world_agents.proofs.WaitCounts.{request_few, resumed_few}
-
--- an agent of which all was taken
-pub record IsTaken (h : History) : Type 0 where
-  pub entered : was_opened (deeds h) 0 ≡ true
-  pub there : was_hung (deeds h) 0 ≡ false
-  pub taken : untaken (deeds h) 0 ≡ []
-  pub left : left_to_hand (deeds h) ≤ 0
-
-left_none : (done : List Deed) → drops done ≡ [] → next_question done ≡ None → left_to_hand done ≤ 0
-left_none done dropped none = omega (arith, ap length dropped, ap length (none_unhanded (questions done) none))
-
-pub taken_idle : (h : History) → IsIdle h → IsTaken h
-taken_idle h idle = record { entered = idle.calm.entered; there = idle.calm.there; taken = idle.taken; left = left_none (deeds h) idle.dropped idle.handed }
-
--- ---- the connection is there
-
-abbrev IsThere : List Deed → Type 0
-IsThere done = (was_opened done 0 ≡ true) × (was_hung done 0 ≡ false)
-
-asked_there : (conn : ℕ) → KeepsIf ⊥ (is_asked conn) IsThere
-asked_there conn done (OfConnection at Entered) is fits there = absurd cc
-asked_there conn done (OfConnection at Hung) is fits there = absurd cc
-asked_there conn done deed is fits there = there
-
-met_there : KeepsAny is_met IsThere
-met_there done (OfConnection at Entered) is there = absurd cc
-met_there done (OfConnection at Hung) is there = absurd cc
-met_there done deed is there = there
-
-replied_there : (call : Call) (o : Option RBody) (done : List Deed) → IsThere done → IsThere (replied call o done)
-replied_there call None done there = there
-replied_there call (Some body) done there = there
-
-swept_there : (done : List Deed) → IsThere done → IsThere (swept done)
-swept_there done there = by_settled (has_settled done)
-  where
-    by_settled : (b : Bool) → IsThere (cond b (Swept ∷ done) done)
-    by_settled true = there
-    by_settled false = there
-
-request_there : (frame word : List ℕ) (h : History) → IsTaken h → Runs (Request 0 frame word ∷ h) → IsThere (deeds (Request 0 frame word ∷ h))
-request_there frame word h k runs =
-    let done = deeds h in
-    let call = call_of 0 frame word in
-    subst IsThere (sym (request_deeds frame word h runs k.entered k.there))
-    (swept_there (answered done call frame) (replied_there call (body_to done call frame) (after_frame done call frame) (frame_grows ⊥ IsThere call (asked_there call.conn) done frame (λ x. absurd x) (k.entered, k.there))))
-
--- ---- requests
-
-request_little : (frame word : List ℕ) (h : History) → IsTaken h → left_to_hand (after_frame (deeds h) (call_of 0 frame word) frame) ≤ 300 → Runs (Request 0 frame word ∷ h) → IsLittle (deeds (Request 0 frame word ∷ h))
-request_little frame word h k few runs =
-    let done = deeds h in
-    let call = call_of 0 frame word in
-    record {
-      entered = (request_there frame word h k runs).0;
-      replies = request_few frame word h runs k.entered k.there k.taken;
-      left = subst (λ d. left_to_hand d ≤ 300) (sym (request_deeds frame word h runs k.entered k.there)) (left_swept (has_settled (answered done call frame)) (answered done call frame) (left_replied call (body_to done call frame) (after_frame done call frame) few));
-    }
-  where
-    left_replied : (call : Call) (o : Option RBody) (done : List Deed) → left_to_hand done ≤ 300 → left_to_hand (replied call o done) ≤ 300
-    left_replied call None done few = few
-    left_replied call (Some body) done few = few
-
-    left_swept : (b : Bool) (done : List Deed) → left_to_hand done ≤ 300 → left_to_hand (cond b (Swept ∷ done) done) ≤ 300
-    left_swept true done few = few
-    left_swept false done few = few
-
--- all is taken behind it again
-pub request_taken : (frame word : List ℕ) (h : History) → IsTaken h → Runs (drive (Request 0 frame word) h) → IsTaken (drive (Request 0 frame word) h)
-request_taken frame word h k runs =
-    let event = Request 0 frame word in
-    let once = request_there frame word h k (event_runs event h runs) in
-    let there = behind_takes IsThere (record { takes = record { takes = λ d p. p }; asks = record { hands = λ d p. p; drops = λ d p. p } }) event h runs once.0 once in
-    record { entered = there.0; there = there.1; taken = none_left event h once.1 runs; left = left_none (deeds (drive event h)) (none_dropped event h runs) (none_handed event h runs) }
-
--- what a request of a type does
-abbrev Left : List Deed → Type 0
-Left done = left_to_hand done ≤ 300
-
-frame_left : (asked : TMsg) (word : List ℕ) (done : List Deed) → Left done → ((m : TMsg) → request_of (t_frame asked) ≡ Some m → Left (after done (call_of 0 (t_frame asked) word) m.body)) → Left (after_frame done (call_of 0 (t_frame asked) word) (t_frame asked))
-unfolding after_frame
-frame_left asked word done left is =
-    let call = call_of 0 (t_frame asked) word in
-    granted_keeps Left done call (granted done call (t_frame asked)) left (granted_so (λ body. Left (after done call body)) done call (t_frame asked) is)
-
-at_most : (h : History) → IsTaken h → NamesNoLines (deeds h) → AtMost 0 (deeds h)
-at_most h k named = record { names = named; few = k.left }
+use Rattle.world_agents.proofs.WaitCounts.{resumed_few}
+use Rattle.world_agents.proofs.EventCounts.{IsTaken, IsThere, Left, at_most, frame_left, met_there, request_little, swept_there}
 
 -- ---- writes
 

@@ -1,5 +1,5 @@
 -- A node that is made, and a line that is written to its ctl.
-use Rattle.std.proofs.Common.{◌≡◌, ℕ, ◌≤◌, ◌<◌, List, [], ◌∷◌, Bool, true, false, cond, ◌||◌, Option, Some, None, refl, sym, ap, subst, ◌∙◌, inl, inr, arith}
+use Rattle.std.proofs.Common.{◌≡◌, ℕ, ◌≤◌, ◌<◌, List, [], ◌∷◌, Bool, true, false, cond, ◌||◌, Some, None, refl, sym, ap, subst, ◌∙◌, inl, inr, arith}
 use Rattle.std.specs.Str.{bytes_eq}
 use Rattle.std.proofs.lemmas.Bool.{cases_Bool}
 use Rattle.talks.specs.Standings.{standing}
@@ -8,7 +8,7 @@ use Rattle.agent_history.specs.Histories.{History, deeds}
 use Rattle.world_history.specs.Acts.{Act, Made, Talk, Told, is_node, talk_of}
 use Rattle.world_history.specs.Driving.{new_node, told}
 use Rattle.world_history.specs.Turns.{after, tells}
-use Rattle.world_history.specs.Worlds.{Done, history, outstanding}
+use Rattle.world_history.specs.Worlds.{Done, history}
 use Rattle.driven_agents.proofs.NamesLaws.{names_no_lines}
 use Rattle.world_legality.specs.Agents.{AgentDoes, DoesTo, begun_in, conv_in}
 use Rattle.world_legality.specs.Conditions.{AreDone}

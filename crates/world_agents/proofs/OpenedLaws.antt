@@ -1,15 +1,15 @@
 -- A conversation that is opened: it has the next number of its node and a small fid that no other holds, and all others stay.
-use Rattle.std.proofs.Common.{◌≡◌, ℕ, ◌+◌, ◌≤◌, ◌<◌, List, [], ◌∷◌, length, map, Bool, true, false, cond, eqb, ◌&&◌, ◌||◌, Option, Some, None, refl, sym, ap, subst, ◌∙◌, ◌⊎◌, inl, inr, arith}
+use Rattle.std.proofs.Common.{◌≡◌, ℕ, ◌≤◌, ◌<◌, List, [], ◌∷◌, map, Bool, true, false, cond, eqb, ◌&&◌, ◌||◌, Some, None, refl, sym, ap, subst, ◌∙◌, ◌⊎◌, inl, inr, arith}
 use Rattle.std.specs.Prelude.{find, option_map}
 use Rattle.std.specs.Str.{bytes_eq}
-use Rattle.std.proofs.lemmas.Bool.{and_parts, cases_Bool, eqb-true, eq-eqb, or_parts}
+use Rattle.std.proofs.lemmas.Bool.{cases_Bool, eqb-true, or_parts}
 use Rattle.std.proofs.lemmas.List.{length-map}
 use Rattle.attr_tuples.proofs.EqualityLemmas.{eqb_swap}
 use Rattle.talks.specs.Standings.{standing}
-use Rattle.agent_history.specs.Conversations.{Speaker, asker, conv_of, opened_talks, speakers, standing_of}
+use Rattle.agent_history.specs.Conversations.{Speaker, asker, conv_of, opened_talks, speakers}
 use Rattle.agent_history.specs.Histories.{History, deeds}
 use Rattle.agent_laws.proofs.ConversationLaws.{few_speak}
-use Rattle.world_history.specs.Acts.{Act, Opened, Talk, fids_on, has_name, is_held, is_node, least_fid, opened_names, talk_of, talks}
+use Rattle.world_history.specs.Acts.{Act, Opened, Talk, fids_on, has_name, is_held, is_node, opened_names, talk_of, talks}
 use Rattle.world_history.specs.Driving.{opened, refuses_open}
 use Rattle.world_history.specs.Scripts.{is_unfit}
 use Rattle.world_history.specs.Turns.{after, lets_open}
@@ -84,9 +84,6 @@ module _ (before : List Act) (node conv : List ℕ) (done : AreDone (Opened node
   ]
 
   -- ---- places
-
-  new_place : Place
-  new_place = record { node = node; number = opened_talks (deeds (history before node)) }
 
   -- a place is the new one, or one of before
   old_or_new : (name : List ℕ) (p : Place) → place_of (Opened node conv ∷ before) name ≡ Some p → ((bytes_eq conv name ≡ true) × (record { node = node; number = opened_talks (deeds (history before node)) } ≡ p)) ⊎ ((bytes_eq conv name ≡ false) × (place_of before name ≡ Some p))

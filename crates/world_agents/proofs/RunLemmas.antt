@@ -1,12 +1,12 @@
 -- A node on which nothing was made has no history; and where all agents run behind some acts, they ran behind each earlier one.
-use Rattle.std.proofs.Common.{◌≡◌, ℕ, List, [], ◌∷◌, Bool, true, false, cond, ◌||◌, codes, Option, Some, None, refl, sym, ap, ◌∙◌, inl, inr}
+use Rattle.std.proofs.Common.{◌≡◌, ℕ, List, [], ◌∷◌, Bool, true, false, cond, codes, Option, Some, None, refl, sym, ap, ◌∙◌}
 use Rattle.std.specs.Str.{bytes_eq}
-use Rattle.std.proofs.lemmas.Bool.{cases_Bool, or_parts}
+use Rattle.std.proofs.lemmas.Bool.{or_parts}
 use Rattle.std.proofs.lemmas.Slice.Eq.{bytes_eq-Decides}
 use Rattle.agent_history.specs.declared.event.Event.TheVariants.{NoAnswer}
 use Rattle.agent_history.specs.declared.event.Event.TheVariants as events
 use Rattle.agent_history.specs.Histories.{History, has_stopped}
-use Rattle.world_history.specs.Acts.{Act, Talk, Domain, KeyLine, SpeakLine, Made, Told, Opened, Started, Got, Given, Answered, Unanswered, Asked, Closed, is_node, nodes, talk_of}
+use Rattle.world_history.specs.Acts.{Act, Talk, Domain, KeyLine, SpeakLine, Made, Told, Opened, Started, Got, Given, Answered, Unanswered, Asked, Closed, is_node, talk_of}
 use Rattle.world_history.specs.Driving.{clunks, drive, is_refused, new_node, opens, reads, replies_to, walks, writes}
 use Rattle.world_history.specs.Scripts.{is_unfit}
 use Rattle.world_history.specs.Talking.{request_text, starts, gets, gives, word_of}
@@ -30,7 +30,7 @@ other_node : (acts : List Act) (at node : List ℕ) (b : Bool) → bytes_eq at n
 other_node acts at node false is on off = refl
 other_node acts at node true is on off = absurd (let no_way : true ≡ false = sym on ∙ (ap (is_node acts) (same_name at node is) ∙ off) in cc)
 
-pub apart_nodes : (acts : List Act) (at node : List ℕ) → is_node acts at ≡ true → is_node acts node ≡ false → bytes_eq at node ≡ false
+apart_nodes : (acts : List Act) (at node : List ℕ) → is_node acts at ≡ true → is_node acts node ≡ false → bytes_eq at node ≡ false
 apart_nodes acts at node on off = other_node acts at node (bytes_eq at node) refl on off
 
 -- the node of a conversation that is open was made
@@ -44,7 +44,7 @@ nothing_by acts done conv (Some t) turn node h is off = ap (λ b. cond b (after 
 nothing_done : (acts : List Act) → AreDone acts → (conv : List ℕ) (turn : ℕ → Turn) (node : List ℕ) (h : History) → is_node acts node ≡ false → history_by (on_talk (talk_of acts conv) turn) node h ≡ h
 nothing_done acts done conv turn node h off = nothing_by acts done conv (talk_of acts conv) turn node h refl off
 
-pub unmade : (acts : List Act) → AreDone acts → (node : List ℕ) → is_node acts node ≡ false → history acts node ≡ []
+unmade : (acts : List Act) → AreDone acts → (node : List ℕ) → is_node acts node ≡ false → history acts node ≡ []
 unmade [] done node off = refl
 unmade (Made name ∷ before) done node off =
     let parts = or_parts (bytes_eq name node) (is_node before node) off in
@@ -64,7 +64,7 @@ unmade (Asked session request words ∷ before) done node off = unmade before do
 
 -- ---- agents that run
 
-pub turn_runs : (turn : Turn) (h : History) → Runs (after turn h) → Runs h
+turn_runs : (turn : Turn) (h : History) → Runs (after turn h) → Runs h
 unfolding after
 turn_runs (tells node line) h runs = drive_runs (writes 1 line) h runs
 turn_runs (lets_open fid) h runs = drive_runs (walks fid (codes "rpc")) h (drive_runs (opens fid) (drive (walks fid (codes "rpc")) h) runs)

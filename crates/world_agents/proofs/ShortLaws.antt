@@ -1,5 +1,5 @@
 -- An agent that isn't stopped runs as long as its history is short; and an event with its takes is short where little comes of it.
-use Rattle.std.proofs.Common.{◌≡◌, ℕ, zero, suc, ◌+◌, ◌≤◌, ◌<◌, List, [], ◌∷◌, length, Bool, true, false, cond, ltb, ◌&&◌, Option, Some, None, refl, sym, ap, subst, ◌∙◌, arith}
+use Rattle.std.proofs.Common.{◌≡◌, ℕ, zero, suc, ◌+◌, ◌≤◌, ◌<◌, List, [], ◌∷◌, length, Bool, true, false, cond, ltb, Option, Some, None, refl, arith}
 use Rattle.std.specs.List.{list_all}
 use Rattle.std.proofs.lemmas.Bool.{and_from, and_parts, lt-ltb}
 use Rattle.nine_messages.specs.declared.message.RMsg.{RMsg}
@@ -101,7 +101,7 @@ asks_driven : (n : ℕ) (h : History) → list_all is_driven h ≡ true → list
 asks_driven zero h all = all
 asks_driven (suc n) h all = either_driven (hands_out (answer h TakeAsk).0) (ask_up n (TakeAsk ∷ h)) (TakeAsk ∷ h) (asks_driven n (TakeAsk ∷ h) all) all
 
-pub drive_driven : (e : Event) (h : History) → is_driven e ≡ true → list_all is_driven h ≡ true → list_all is_driven (drive e h) ≡ true
+drive_driven : (e : Event) (h : History) → is_driven e ≡ true → list_all is_driven h ≡ true → list_all is_driven (drive e h) ≡ true
 unfolding drive
 drive_driven e h is all = asks_driven (asks_of (all_taken (e ∷ h))) (all_taken (e ∷ h)) (takes_driven (takes_of (e ∷ h)) (e ∷ h) (and_from (is_driven e) (list_all is_driven h) is all))
 

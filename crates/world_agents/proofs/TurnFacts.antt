@@ -1,6 +1,6 @@
 -- What a turn does to an agent of a network: what of its conversations and their questions stays, and what the turn's own
 -- conversation does.
-use Rattle.std.proofs.Common.{◌≡◌, ℕ, List, [], ◌∷◌, Bool, true, false, cond, eqb, ◌&&◌, not, Option, Some, None, refl, sym, ap, subst, ◌∙◌}
+use Rattle.std.proofs.Common.{◌≡◌, ℕ, List, [], ◌∷◌, Bool, true, false, cond, eqb, ◌&&◌, not, Option, Some, None, refl, sym, ap, ◌∙◌}
 use Rattle.std.specs.Prelude.{find, option_map}
 use Rattle.std.proofs.lemmas.Bool.{eq-eqb}
 use Rattle.std.specs.Str.{bytes_eq}
@@ -11,13 +11,13 @@ use Rattle.agent_history.specs.declared.event.Event.{Event}
 use Rattle.agent_history.specs.declared.event.Event.TheVariants.{NoAnswer}
 use Rattle.agent_history.specs.declared.event.Event.TheVariants as events
 use Rattle.roles.specs.Talks.{Call as Move, heard, unheard}
-use Rattle.agent_history.specs.Conversations.{asker, conv_of, opened_talks, speakers}
+use Rattle.agent_history.specs.Conversations.{asker, conv_of, opened_talks}
 use Rattle.agent_history.specs.Histories.{History, deeds}
 use Rattle.agent_laws.specs.Laws.{gives_content}
 use Rattle.world_history.specs.declared.question.Question.{Question}
-use Rattle.world_history.specs.Driving.{clunks, drive, questions_to, replies_to, told, writes}
+use Rattle.world_history.specs.Driving.{clunks, drive, questions_to, replies_to, told}
 use Rattle.world_history.specs.Talking.{Asks, request_questions, requested}
-use Rattle.world_history.specs.Turns.{Turn, after, asks, closes, hears, misses, tells, turn_questions}
+use Rattle.world_history.specs.Turns.{Turn, after, asks, closes, hears, misses, turn_questions}
 use Rattle.world_history.specs.Worlds.{call_behind, last_call}
 use Rattle.recorded_talks.specs.Begun.{BegunWith}
 use Rattle.world_legality.specs.Agents.{EventsLeave, GiveNothing, TurnDoes, begun_in, is_read}
@@ -96,7 +96,10 @@ not_mine n number apart = ap not apart
 
 answered_behind : (number fid : ℕ) (event : Event) (call : Move) (h : History) → Answered number fid event call h → Behind (λ n. eqb n number) none_of h (drive event h)
 answered_behind number fid event call h a = record {
-  idle = a.idle; opened = a.seats.opened; others = λ f _. same_seats h (drive event h) a.seats f; askers = λ c n is apart. a.keeps c n is (not_mine n number apart);
+  idle = a.idle;
+  opened = a.seats.opened;
+  others = λ f _. same_seats h (drive event h) a.seats f;
+  askers = λ c n is apart. a.keeps c n is (not_mine n number apart);
 }
 
 answered_own : (conv : List ℕ) (number fid : ℕ) (event : Event) (move : Move) (h : History) → Answered number fid event move h → (call : Option ℕ) (c : ℕ) → cond (bytes_eq conv conv) (last_call (questions_to event h) None) call ≡ Some c → asker (deeds (drive event h)) c ≡ Some number

@@ -1,5 +1,5 @@
 -- At most 64 reads wait, so that at most 65 replies come of an event.
-use Rattle.std.proofs.Common.{◌≡◌, ℕ, ◌+◌, ◌≤◌, ◌<◌, List, [], ◌∷◌, ◌++◌, length, map, Bool, true, false, cond, eqb, not, Option, Some, None, refl, sym, ap, subst, ◌∙◌, arith, length-append}
+use Rattle.std.proofs.Common.{◌≡◌, ℕ, ◌≤◌, ◌<◌, List, [], ◌∷◌, length, Bool, true, false, cond, eqb, not, Option, Some, None, refl, ap, subst, arith, length-append}
 use Rattle.std.specs.Prelude.{filter}
 use Rattle.std.specs.List.{cons_option, filter_map}
 use Rattle.std.proofs.lemmas.Bool.{eqb-true}
@@ -8,13 +8,13 @@ use Rattle.nine_messages.specs.declared.message.RMsg.{RMsg}
 use Rattle.nine_messages.specs.declared.message.RBody.{RBody}
 use Rattle.talks.specs.Calls as calls
 use Rattle.agent_history.specs.declared.event.Event.TheVariants.{Request}
-use Rattle.agent_history.specs.Deeds.{Deed, OfFids, OfReplies, OfConnection, Swept, Halted, Versioned, Clunked, Answered, Awaited, Settled, Flushed, Hung, was_hung, was_opened}
+use Rattle.agent_history.specs.Deeds.{Deed, OfFids, OfReplies, OfConnection, Swept, Halted, Versioned, Clunked, Awaited, Settled, Flushed, Hung, was_hung, was_opened}
 use Rattle.agent_history.specs.Replies.{Wait, fid_given_up, has_settled, is_unsettled, reply_in, settle_fid, settle_tag, settled_by, swept, untaken, waits}
 use Rattle.agent_history.specs.Conversations.{resumed}
 use Rattle.agent_history.specs.Requests.{Call, after_frame, answered, body_to, call_of, replied}
 use Rattle.agent_history.specs.Histories.{History, deeds}
 use Rattle.agent_laws.proofs.GrowLaws.{KeepsAny, all_are_known, frame_grows, history_grows, resumed_any}
-use Rattle.agent_laws.proofs.KindLaws.{Fits, KeepsIf, KeepsOf, is_asked, is_done, is_met}
+use Rattle.agent_laws.proofs.KindLaws.{Fits, is_met}
 use Rattle.idle_agents.specs.Idle.{Runs}
 use Rattle.idle_agents.proofs.LeftLaws.{own_reply, request_left, resumed_left, swept_replies}
 
@@ -56,7 +56,7 @@ few_more conn done Swept fits few = omega (arith, filter_few is_unsettled (waits
 few_more conn done Halted fits few = omega arith
 few_more conn done deed fits few = few
 
-pub few_wait : (h : History) (conn : ℕ) → FewWait conn (deeds h)
+few_wait : (h : History) (conn : ℕ) → FewWait conn (deeds h)
 few_wait h conn = history_grows (FewWait conn) (λ c done deed kind fits few. few_more conn done deed fits few) (omega arith) h
 
 frame_few : (h : History) (call : Call) (frame : List ℕ) → FewWait 0 (after_frame (deeds h) call frame)
