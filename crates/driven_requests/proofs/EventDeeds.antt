@@ -5,7 +5,7 @@ use Rattle.nine_messages.specs.declared.message.TBody.{TBody}
 use Rattle.nine_messages.specs.declared.message.RBody.{RBody}
 use Rattle.nine_messages.specs.Messages.{t_frame}
 use Rattle.agent_history.specs.Deeds.{Deed}
-use Rattle.agent_history.specs.Replies.{reply_in, swept, waits}
+use Rattle.agent_history.specs.Replies.{reply_in, waits}
 use Rattle.agent_history.specs.Requests.{Call, after_frame, after_granted, answered, body_for, body_to, call_of, granted, replied}
 use Rattle.agent_history.specs.Conversations.{asker, opened_talks, speakers, standing_of}
 use Rattle.agent_history.specs.Histories.{History, deeds}
@@ -15,9 +15,9 @@ use Rattle.idle_agents.specs.Idle.{IsCalm, IsIdle, Runs}
 use Rattle.idle_agents.proofs.RunLaws.{event_runs}
 use Rattle.idle_agents.proofs.TakenLaws.{replies_so}
 use Rattle.idle_agents.proofs.HandedLaws.{questions_so, to_put}
-use Rattle.idle_agents.proofs.IdleLaws.{asker_behind, idle_behind, seats_behind}
-use Rattle.idle_agents.proofs.LeftLaws.{own_reply, request_deeds, request_left, swept_replies}
-use Rattle.idle_agents.proofs.AlikeLaws.{answered_same, calm_answered, calm_replied}
+use Rattle.idle_agents.proofs.IdleLaws.{idle_behind}
+use Rattle.idle_agents.proofs.LeftLaws.{own_reply, request_left, swept_replies}
+use Rattle.idle_agents.proofs.AlikeLaws.{calm_replied}
 use Rattle.idle_agents.proofs.GrantLaws.{asker_then, calm_event, event_same, opened_then, speakers_then}
 use Rattle.driven_requests.proofs.FrameReads.{read_msg}
 

@@ -1,18 +1,14 @@
 -- What the frames of a read and of a write that a network makes are read as, and under which tag.
-use Rattle.std.proofs.Common.{◌≡◌, ℕ, suc, ◌+◌, ◌<◌, ◌^◌, List, [], ◌++◌, length, drop, Bool, true, false, cond, ltb, Option, Some, None, Result, Ok, Err, refl, sym, ap, ◌∙◌, arith, append-nil}
+use Rattle.std.proofs.Common.{◌≡◌, ℕ, suc, ◌+◌, ◌<◌, ◌^◌, List, length, Bool, true, false, cond, ltb, Option, Some, Result, Ok, Err, refl, sym, ap, ◌∙◌, arith}
 use Rattle.std.proofs.lemmas.Bool.{ltb-false}
 use Rattle.wire_base.specs.Readers.{value_of}
 use Rattle.nine_messages.specs.declared.message.TMsg.{TMsg}
 use Rattle.nine_messages.specs.declared.message.TBody.{TBody}
 use Rattle.nine_messages.specs.declared.message.TBody.TheVariants as t
 use Rattle.nine_messages.specs.Messages.{frame, t_fits, t_frame}
-use Rattle.nine_messages.specs.Decoding.{request_of}
 use Rattle.nine_messages.proofs.FieldLaws.{n16}
-use Rattle.nine_messages.proofs.RequestLaws.{t_body_again}
 use Rattle.agent_history.specs.Deeds.{Deed, msize_of}
-use Rattle.agent_history.specs.Requests.{Call, granted, granted_body, is_over, lacks_version, refusal, repeats_tag, tag_in, tag_of}
-use Rattle.agent_laws.proofs.GrowLaws.{of_message, unless_refused}
-use Rattle.driven_agents.proofs.FrameKinds.{frame_read}
+use Rattle.agent_history.specs.Requests.{Call, granted, is_over, tag_in, tag_of}
 use Rattle.idle_agents.proofs.ExactLaws.{granted_only}
 use Rattle.idle_agents.proofs.GrantLaws.{ok_is}
 
