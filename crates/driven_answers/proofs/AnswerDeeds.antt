@@ -3,9 +3,7 @@
 use Rattle.std.proofs.Common.{◌≡◌, ℕ, List, [], ◌∷◌, Bool, true, false, cond, eqb, ◌&&◌, ◌||◌, not, Option, Some, refl, ap, ◌∙◌, inl, inr, filter}
 use Rattle.std.specs.Prelude.{find}
 use Rattle.std.specs.List.{list_all, list_any}
-use Rattle.std.proofs.lemmas.Bool.{cases_Bool, eq-eqb}
-use Rattle.file_tree.specs.declared.tree.Node.{Node}
-use Rattle.file_tree.specs.declared.tree.Node.TheVariants.{Confirm, Needkey, Log}
+use Rattle.std.proofs.lemmas.Bool.{cases_Bool}
 use Rattle.roles.specs.declared.need.Need.TheVariants.{Nothing}
 use Rattle.roles.specs.Starts.{Start}
 use Rattle.roles.specs.Talks.{Call as Move, heard, unheard}
@@ -20,16 +18,16 @@ use Rattle.talks.specs.Lines.{log_lines}
 use Rattle.talks.specs.Standings.{Begun, Phase, OnServer, Kept, Standing, made, phase_after, standing, then_stands, with_move}
 use Rattle.agent_history.specs.Deeds.{Deed, OfLog, OfReplies, OfTalk, Settled, Swept, is_debug}
 use Rattle.agent_history.specs.Replies.{Wait, has_settled, is_unsettled, reader, swept, waits}
-use Rattle.agent_history.specs.SideFiles.{all_served, is_line_file, served, served_to}
+use Rattle.agent_history.specs.SideFiles.{all_served}
 use Rattle.agent_history.specs.Conversations.{Speaker, deliver_to, delivered, fits, give_to, logged, met, questions, raising, resumed, seeking, seeking_all, sought_once, speaker_of, standing_of, talk, then_logged, then_raised, then_sought, then_took, told}
 use Rattle.lawful_roles.proofs.AllRoles.{all_roles}
 use Rattle.wire_histories.specs.Conversations.{is_asked}
 use Rattle.recorded_talks.specs.Telling.{on_server}
 use Rattle.driven_agents.specs.Quiet.{NamesNoLines, leads_away}
-use Rattle.driven_agents.proofs.QuietLaws.{holder_none}
 use Rattle.idle_agents.specs.Idle.{read_of}
+use Rattle.idle_agents.proofs.CallLemmas.{logged_same, nobody_served, own_talk}
+use Rattle.agent_laws.proofs.KindLaws.{same_number}
 use Rattle.driven_answers.proofs.FoundLemmas.{found_first, found_later}
-use Rattle.driven_answers.proofs.OtherTalks.{logged_same}
 
 -- what a conversation meets by an answer or by its absence, the move that its role makes by it, and what becomes of its questions
 pub record IsAnswer (call : Call) (move : Move) : Type 0 where
@@ -56,12 +54,6 @@ pub makes_kept : (call : Call) (move : Move) → IsAnswer call move → (b : Beg
 makes_kept call move is b starting said asked =
     ap (λ n. record { begun = Some (with_move b move); phase = phase_after n (answer_by move b); starting = starting; said = said }) (is.rests b.start b.moves asked)
 
-self_same : (n : ℕ) → eqb n n ≡ true
-self_same n = eq-eqb n n refl
-
-pub own_talk : (number : ℕ) (call : Call) (done : List Deed) → talk (OfTalk number call ∷ done) number ≡ call ∷ talk done number
-own_talk number call done = ap (λ b. cond b (call ∷ talk done number) (talk done number)) (self_same number)
-
 call_stands : (call : Call) (move : Move) → IsAnswer call move → (s : Standing) (b : Begun) (starting : Bool) (said : Said) → s ≡ on_server b starting said → is_asked (needs b.start b.moves) ≡ true → then_stands s s.phase call ≡ kept move b starting said
 call_stands call move is s b starting said stood asked =
     ap (λ x. then_stands x x.phase call) stood ∙ is.makes (on_server b starting said) ∙ makes_kept call move is b starting said asked
@@ -71,9 +63,6 @@ stands_kept call move is number done b starting said stood asked =
     ap standing (own_talk number call done) ∙ call_stands call move is (standing_of done number) b starting said stood asked
 
 -- ---- what follows on it
-
-phase_so : (done : List Deed) (number : ℕ) (s : Standing) → standing_of done number ≡ s → (standing_of done number).phase ≡ s.phase
-phase_so done number s e = ap (λ x. x.phase) e
 
 -- it searches for nothing
 once_rests : (number : ℕ) (done : List Deed) (answer : RpcAnswer) → (standing_of done number).phase ≡ Kept answer → sought_once number done ≡ done
@@ -88,16 +77,6 @@ sought_rests number done answer e = all_rest (standing_of done number).starting 
 
 raised_rests : (number : ℕ) (done : List Deed) (answer : RpcAnswer) → (standing_of done number).phase ≡ Kept answer → then_raised number done ≡ done
 raised_rests number done answer e = ap (λ p. raising number p done) e
-
--- nobody is served
-served_rests : (node : Node) (done : List Deed) → is_line_file node ≡ true → NamesNoLines done → served node done ≡ done
-served_rests node done line names = ap (λ o. served_to node o done) (holder_none done node line names)
-
-all_served_rests : (done : List Deed) → NamesNoLines done → all_served done ≡ done
-all_served_rests done names =
-    ap (λ d. served Log (served Needkey d)) (served_rests Confirm done refl names)
-    ∙ ap (served Log) (served_rests Needkey done refl names)
-    ∙ served_rests Log done refl names
 
 names_logged : (lines : List (List ℕ)) (done : List Deed) → NamesNoLines done → NamesNoLines (logged lines done)
 names_logged lines done names = logged_same (list_all leads_away) (λ line d. refl) lines done ∙ names
@@ -115,7 +94,7 @@ met_so number call done answer e names =
     let one = OfTalk number call ∷ done in
     ap (λ d. all_served (then_logged number stood (then_raised number d))) (sought_rests number one answer e)
     ∙ ap (λ d. all_served (then_logged number stood d)) (raised_rests number one answer e)
-    ∙ all_served_rests (met_by number call done) (names_logged (lines_by number call done) one names)
+    ∙ nobody_served (met_by number call done) (names_logged (lines_by number call done) one names)
 
 -- ---- the read is told
 
@@ -133,7 +112,7 @@ deliver_so number fid answer phase o done kept speaks reads =
 pub found_under : (fid : ℕ) (ws : List Wait) → find (λ w. eqb w.fid fid && is_unsettled w) ws ≡ Some (read_of fid) → list_any (λ w. eqb w.tag fid) ws ≡ true
 found_under fid [] e = absurd cc
 found_under fid (w ∷ ws) e = elim (cases_Bool (eqb w.fid fid && is_unsettled w)) [
-  | inl now ↦ let same : w ≡ read_of fid = found_first (λ v. eqb v.fid fid && is_unsettled v) w (read_of fid) ws now e in ap (λ v. eqb v.tag fid || list_any (λ x. eqb x.tag fid) ws) same ∙ ap (λ b. b || list_any (λ x. eqb x.tag fid) ws) (self_same fid)
+  | inl now ↦ let same : w ≡ read_of fid = found_first (λ v. eqb v.fid fid && is_unsettled v) w (read_of fid) ws now e in ap (λ v. eqb v.tag fid || list_any (λ x. eqb x.tag fid) ws) same ∙ ap (λ b. b || list_any (λ x. eqb x.tag fid) ws) (same_number fid)
   | inr not_now ↦ or_more (eqb w.tag fid) _ (found_under fid ws (found_later (λ v. eqb v.fid fid && is_unsettled v) w (read_of fid) ws not_now e))
 ]
   where

@@ -26,6 +26,7 @@ use Rattle.idle_agents.proofs.HandedLaws.{none_unhanded, put_by, questions_so}
 use Rattle.idle_agents.proofs.IdleLaws.{asker_behind, idle_behind, seats_behind}
 use Rattle.idle_agents.proofs.RunLaws.{event_runs, going}
 use Rattle.idle_agents.proofs.TakenLaws.{replies_so}
+use Rattle.idle_agents.proofs.UnsettledLaws.{waits_at}
 use Rattle.driven_answers.specs.Answers.{AbsencesDo, AnswersDo, Answered}
 use Rattle.driven_answers.proofs.AnswerDeeds.{IsAnswer, absence_is, answer_by, answer_is, answered_by, event_so, kept, makes_kept, stands_kept, untold_same}
 use Rattle.driven_answers.proofs.AnsweredCalm.{answered_calm, same_speakers, stands_told, told_begun, told_outcome, told_stands}
@@ -34,7 +35,6 @@ use Rattle.driven_answers.proofs.AnsweredReplies.{answered_untaken}
 use Rattle.driven_answers.proofs.AskedLaws.{IsOnServer, asker_waits}
 use Rattle.driven_answers.proofs.FoundLemmas.{found_first, found_later}
 use Rattle.driven_answers.proofs.SeatLaws.{others_apart, seat, speaker_found}
-use Rattle.driven_answers.proofs.ToldReads.{waits_at}
 
 -- ---- its read waits for it
 

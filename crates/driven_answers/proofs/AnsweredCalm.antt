@@ -13,10 +13,12 @@ use Rattle.agent_history.specs.Replies.{waits}
 use Rattle.agent_history.specs.Conversations.{Speaker, fits, speakers, standing_of, talk, told}
 use Rattle.driven_agents.specs.Quiet.{leads_away}
 use Rattle.idle_agents.specs.Idle.{AreRead, IsCalm, IsRead, read_of}
-use Rattle.driven_answers.proofs.AnswerDeeds.{answer_by, answered_by, kept, lines_by, met_by, own_talk, untold_same}
-use Rattle.driven_answers.proofs.OtherTalks.{apart, logged_same, own_call}
+use Rattle.idle_agents.proofs.UnsettledLaws.{waits_at}
+use Rattle.idle_agents.proofs.CallLemmas.{logged_same, other_talk, own_talk}
+use Rattle.driven_answers.proofs.AnswerDeeds.{answer_by, answered_by, kept, lines_by, met_by, untold_same}
+use Rattle.driven_answers.proofs.OtherTalks.{apart}
 use Rattle.driven_answers.proofs.SeatLaws.{AreApart, is_apart}
-use Rattle.driven_answers.proofs.ToldReads.{all_left, left_by, other_left, waits_at}
+use Rattle.driven_answers.proofs.ToldReads.{all_left, left_by, other_left}
 
 -- ---- how the conversation stands
 
@@ -53,7 +55,7 @@ told_waits false move begun starting said e = absurd cc
 -- the others stand as they did
 pub others_stand : (number fid : ℕ) (call : Call) (answer : RpcAnswer) (done : List Deed) (other : ℕ) → eqb other number ≡ false → standing_of (answered_by number fid call answer done) other ≡ standing_of done other
 others_stand number fid call answer done other off =
-    ap standing (untold_same (λ d. talk d other) number call answer done (λ line d. refl) (λ c d. own_call number other c d (apart other number off)))
+    ap standing (untold_same (λ d. talk d other) number call answer done (λ line d. refl) (λ c d. other_talk number other c d (apart other number off)))
 
 -- ---- the reads that wait
 

@@ -6,9 +6,10 @@ use Rattle.rpc_file.specs.declared.answer.RpcAnswer.{RpcAnswer}
 use Rattle.talks.specs.Calls.{Call}
 use Rattle.agent_history.specs.Deeds.{Deed, OfTalk}
 use Rattle.agent_history.specs.Conversations.{Question, asker, next_question, questions}
+use Rattle.idle_agents.proofs.FoundLemmas.{found_by, found_stays}
+use Rattle.idle_agents.proofs.CallLemmas.{logged_same}
 use Rattle.driven_answers.proofs.AnswerDeeds.{IsAnswer, answered_by, lines_by, met_by, took_same}
-use Rattle.driven_answers.proofs.FoundLemmas.{found_with, none_kept, still_found}
-use Rattle.driven_answers.proofs.OtherTalks.{logged_same}
+use Rattle.driven_answers.proofs.FoundLemmas.{none_kept}
 
 abbrev pub others_of : ℕ → List Question → List Question
 others_of number qs = filter (λ q. not (eqb q.conv number)) qs
@@ -28,7 +29,7 @@ none_next number fid call move is answer done none =
 pub asker_left : (number fid : ℕ) (call : Call) (move : Move) → IsAnswer call move → (answer : RpcAnswer) (done : List Deed) (question other : ℕ) → asker done question ≡ Some other → not (eqb other number) ≡ true → asker (answered_by number fid call answer done) question ≡ Some other
 asker_left number fid call move is answer done question other asked away =
     let at = λ (q : Question). eqb q.call question in
-    let one = found_with (λ q. q.conv) (find at (questions done)) other asked in
+    let one = found_by (λ q. q.conv) (find at (questions done)) other asked in
     ap (λ qs. option_map (λ q. q.conv) (find at qs)) (left_questions number fid call move is answer done)
-    ∙ ap (option_map (λ q. q.conv)) (still_found at (λ q. not (eqb q.conv number)) (questions done) one.0 one.1 (ap (λ n. not (eqb n number)) one.2 ∙ away))
-    ∙ ap Some one.2
+    ∙ ap (option_map (λ q. q.conv)) (found_stays at (λ q. not (eqb q.conv number)) (questions done) one.which one.found (ap (λ n. not (eqb n number)) one.gives ∙ away))
+    ∙ ap Some one.gives

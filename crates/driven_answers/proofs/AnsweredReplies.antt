@@ -10,9 +10,9 @@ use Rattle.agent_history.specs.Replies.{replies, reply_in, settle_tag, taken, un
 use Rattle.agent_history.specs.Conversations.{told}
 use Rattle.idle_agents.specs.Idle.{IsCalm, read_of}
 use Rattle.idle_agents.proofs.LeftLaws.{left_behind}
+use Rattle.idle_agents.proofs.UnsettledLaws.{none_settled, waits_at}
 use Rattle.driven_answers.proofs.AnswerDeeds.{answered_by, untold_same}
-use Rattle.driven_answers.proofs.ToldReads.{one_replied, waits_at}
-use Rattle.driven_answers.proofs.UnsettledReads.{none_settled}
+use Rattle.driven_answers.proofs.ToldReads.{one_replied}
 
 pub answered_untaken : (number fid : ℕ) (call : Call) (answer : RpcAnswer) (done : List Deed) → IsCalm done → find (waits_at fid) (waits done 0) ≡ Some (read_of fid) → untaken done 0 ≡ []
     → untaken (answered_by number fid call answer done) 0 ≡ record { tag = fid; body = told 8192 answer } ∷ []

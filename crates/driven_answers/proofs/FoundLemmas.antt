@@ -1,8 +1,8 @@
 -- Who is found in a list.
-use Rattle.std.proofs.Common.{◌≡◌, ℕ, List, [], ◌∷◌, Bool, true, false, cond, ◌&&◌, Option, Some, None, refl, sym, ap, ◌∙◌, inl, inr, map}
+use Rattle.std.proofs.Common.{◌≡◌, ℕ, List, [], ◌∷◌, Bool, true, false, cond, ◌&&◌, Some, None, refl, sym, ap, ◌∙◌, inl, inr, map}
 use Rattle.std.specs.Prelude.{find, option_map}
 use Rattle.std.specs.List.{filter, list_all}
-use Rattle.std.proofs.lemmas.Bool.{and_from, and_parts, cases_Bool}
+use Rattle.std.proofs.lemmas.Bool.{and_parts, cases_Bool}
 
 pub found_first : {X : Type 0} (p : X → Bool) (x y : X) (xs : List X) → p x ≡ true → find p (x ∷ xs) ≡ Some y → x ≡ y
 found_first p x y xs on e = let there : Some x ≡ Some y = sym (ap (λ b. cond b (Some x) (find p xs)) on) ∙ e in cc
@@ -31,21 +31,6 @@ pub all_numbers : {X : Type 0} (f : X → ℕ) (test : ℕ → Bool) (xs : List 
 all_numbers f test [] = refl
 all_numbers f test (x ∷ xs) = ap (λ b. test (f x) && b) (all_numbers f test xs)
 
--- what is found, by its number
-pub found_with : {X : Type 0} (f : X → ℕ) (o : Option X) (n : ℕ) → option_map f o ≡ Some n → (x : X) × (o ≡ Some x) × (f x ≡ n)
-found_with f None n e = absurd cc
-found_with f (Some x) n e = (x, refl, let same : f x ≡ n = cc in same)
-
--- of those that are kept all pass what all passed
-pub all_kept : {X : Type 0} (p keep : X → Bool) (xs : List X) → list_all p xs ≡ true → list_all p (filter keep xs) ≡ true
-all_kept p keep [] all = refl
-all_kept p keep (x ∷ xs) all =
-    let parts = and_parts (p x) (list_all p xs) all in
-    elim (cases_Bool (keep x)) [
-      | inl on ↦ rw on (and_from (p x) (list_all p (filter keep xs)) parts.0 (all_kept p keep xs parts.1))
-      | inr off ↦ rw off (all_kept p keep xs parts.1)
-    ]
-
 -- where none passes, none does of those that are kept
 pub none_kept : {X : Type 0} (p keep : X → Bool) (xs : List X) → find p xs ≡ None → find p (filter keep xs) ≡ None
 none_kept p keep [] none = refl
@@ -53,17 +38,6 @@ none_kept p keep (x ∷ xs) none = elim (cases_Bool (p x)) [
   | inl on ↦ absurd (let no_way : Some x ≡ None = sym (first_found p x xs on) ∙ none in cc)
   | inr off ↦ let rest = none_kept p keep xs (sym (later_found p x xs off) ∙ none) in elim (cases_Bool (keep x)) [
     | inl kept ↦ rw kept (later_found p x (filter keep xs) off ∙ rest)
-    | inr left ↦ rw left rest
-  ]
-]
-
--- what is found is found among those that are kept, where it is kept
-pub still_found : {X : Type 0} (p keep : X → Bool) (xs : List X) (y : X) → find p xs ≡ Some y → keep y ≡ true → find p (filter keep xs) ≡ Some y
-still_found p keep [] y e kept = absurd cc
-still_found p keep (x ∷ xs) y e kept = elim (cases_Bool (p x)) [
-  | inl on ↦ let same = found_first p x y xs on e in rw (ap keep same ∙ kept) (first_found p x (filter keep xs) on ∙ ap Some same)
-  | inr off ↦ let rest = still_found p keep xs y (found_later p x y xs off e) kept in elim (cases_Bool (keep x)) [
-    | inl here ↦ rw here (later_found p x (filter keep xs) off ∙ rest)
     | inr left ↦ rw left rest
   ]
 ]

@@ -2,7 +2,6 @@ pub mod FoundLemmas
 pub mod AskedLaws
 pub mod OtherTalks
 pub mod SeatLaws
-pub mod UnsettledReads
 pub mod ToldReads
 pub mod AnswerDeeds
 pub mod AnsweredCalm

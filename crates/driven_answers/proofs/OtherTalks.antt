@@ -1,22 +1,22 @@
 -- What a conversation meets by an answer of the authentication server changes no other one.
-use Rattle.std.proofs.Common.{◌≡◌, ℕ, zero, suc, List, [], ◌∷◌, length, Bool, true, false, cond, eqb, Option, Some, None, refl, sym, ap, subst, ◌∙◌, inl, inr}
+use Rattle.std.proofs.Common.{◌≡◌, ℕ, zero, suc, List, ◌∷◌, length, Bool, true, false, eqb, Option, Some, None, refl, sym, ap, subst, ◌∙◌, inl, inr}
 use Rattle.std.proofs.lemmas.Bool.{cases_Bool, eq-eqb, eqb-true}
 use Rattle.file_tree.specs.declared.tree.Node.{Node}
 use Rattle.file_tree.specs.declared.tree.Node.TheVariants.{Confirm, Needkey, Log}
 use Rattle.rpc_file.specs.declared.answer.RpcAnswer.{RpcAnswer}
-use Rattle.side_files.specs.Calls as side
 use Rattle.side_files.specs.Lines.{Found as Line, Nothing, TooLong, First, found}
 use Rattle.talks.specs.Calls.{Call, Found, AsksConsent, AsksKey, Sought, Heard, Unheard, Took}
 use Rattle.talks.specs.Standings.{Phase, Seeking, OnServer, Kept, finds, standing}
 use Rattle.talks.specs.Lines.{log_lines}
 use Rattle.agent_history.specs.declared.event.Event.TheVariants.{Answer, NoAnswer}
-use Rattle.agent_history.specs.Deeds.{Deed, OfTalk, OfLog, Swept, holder_of, is_debug, keys_of}
+use Rattle.agent_history.specs.Deeds.{Deed, OfTalk, Swept, holder_of, is_debug, keys_of}
 use Rattle.agent_history.specs.Replies.{Wait, has_settled, reader, swept, waits}
 use Rattle.agent_history.specs.SideFiles.{all_served, line_read, lines_in, serve_first, serve_read, serve_reads, served, served_to}
-use Rattle.agent_history.specs.Conversations.{Speaker, asking, deliver_to, delivered, fits, give_to, logged, met, prompting, raising, reader_of, resumed, seeking, seeking_all, sought_once, speaker_of, standing_of, talk, then_logged, then_raised, then_sought}
+use Rattle.agent_history.specs.Conversations.{Speaker, asking, deliver_to, delivered, fits, give_to, met, prompting, raising, reader_of, resumed, seeking, seeking_all, sought_once, speaker_of, standing_of, talk, then_logged, then_raised, then_sought}
 use Rattle.agent_history.specs.Histories.{deeds}
 use Rattle.agent_laws.proofs.GrowLaws.{last_or_not}
 use Rattle.driven_agents.proofs.EditGrows.{where_so}
+use Rattle.idle_agents.proofs.CallLemmas.{logged_same, other_talk}
 use Rattle.driven_answers.specs.Answers.{AbsencesLeave, AnswersLeave}
 
 -- the talk of a conversation is as it was
@@ -30,9 +30,6 @@ apart n m off = elim (cases_Bool (eqb m n)) [
   | inr not_same ↦ not_same
 ]
 
-pub own_call : (number other : ℕ) (call : Call) (done : List Deed) → eqb number other ≡ false → talk (OfTalk number call ∷ done) other ≡ talk done other
-own_call number other call done off = ap (λ b. cond b (call ∷ talk done other) (talk done other)) off
-
 -- ---- searches, and what follows on them
 
 prompting_same : (number other : ℕ) (came : Found) (before done : List Deed) → SameFor other before done → SameFor other before (prompting number came done)
@@ -43,7 +40,7 @@ prompting_same number other came before done same = same
 seeking_same : (number other : ℕ) (phase : Phase) (before done : List Deed) → eqb number other ≡ false → SameFor other before done → SameFor other before (seeking number phase done)
 seeking_same number other Seeking before done off same =
     let came = finds (standing_of done number) (asking done) (keys_of done) in
-    prompting_same number other came before (OfTalk number (Sought came) ∷ done) (own_call number other (Sought came) done off ∙ same)
+    prompting_same number other came before (OfTalk number (Sought came) ∷ done) (other_talk number other (Sought came) done off ∙ same)
 seeking_same number other phase before done off same = same
 
 once_same : (number other : ℕ) (before done : List Deed) → eqb number other ≡ false → SameFor other before done → SameFor other before (sought_once number done)
@@ -59,10 +56,6 @@ all_same false number other before done off same = once_same number other before
 raising_same : (number other : ℕ) (phase : Phase) (before done : List Deed) → SameFor other before done → SameFor other before (raising number phase done)
 raising_same number other OnServer before done same = same
 raising_same number other phase before done same = same
-
-pub logged_same : {X : Type 0} (f : List Deed → X) → ((line : List ℕ) (done : List Deed) → f (OfLog (side.Pushed line) ∷ done) ≡ f done) → (lines : List (List ℕ)) (done : List Deed) → f (logged lines done) ≡ f done
-logged_same f same [] done = refl
-logged_same f same (line ∷ lines) done = logged_same f same lines (OfLog (side.Pushed line) ∷ done) ∙ same line done
 
 -- ---- files of lines
 
@@ -105,7 +98,7 @@ met_same number other call done off =
     let one = OfTalk number call ∷ done in
     let two = then_sought number one in
     let three = then_raised number two in
-    let sought_so : SameFor other done two = all_same (standing_of one number).starting number other done one off (own_call number other call done off) in
+    let sought_so : SameFor other done two = all_same (standing_of one number).starting number other done one off (other_talk number other call done off) in
     let raised_so : SameFor other done three = raising_same number other (standing_of two number).phase done two sought_so in
     all_served_same other done (then_logged number stood three)
     (logged_same (λ d. talk d other) (λ line d. refl) (log_lines (is_debug three) number stood (standing_of three number)) three ∙ raised_so)
@@ -113,7 +106,7 @@ met_same number other call done off =
 give_same : (number other conn : ℕ) (answer : RpcAnswer) (o : Option Wait) (before done : List Deed) → eqb number other ≡ false → SameFor other before done → SameFor other before (give_to number conn answer o done)
 give_same number other conn answer None before done off same = same
 give_same number other conn answer (Some wait) before done off same =
-    where_so (SameFor other before) (fits wait.count answer) (OfTalk number Took ∷ done) done (λ _. own_call number other Took done off ∙ same) same
+    where_so (SameFor other before) (fits wait.count answer) (OfTalk number Took ∷ done) done (λ _. other_talk number other Took done off ∙ same) same
 
 deliver_same : (number other : ℕ) (phase : Phase) (o : Option Speaker) (before done : List Deed) → eqb number other ≡ false → SameFor other before done → SameFor other before (deliver_to number phase o done)
 deliver_same number other (Kept answer) (Some s) before done off same = give_same number other s.conn answer (reader_of done s) before done off same

@@ -1,15 +1,17 @@
 -- A read that is told is swept with its reply; those that wait for others stay.
 use Rattle.std.proofs.Common.{◌≡◌, ℕ, List, [], ◌∷◌, Bool, true, false, cond, eqb, ◌&&◌, not, Option, Some, None, refl, sym, ap, ◌∙◌, inl, inr}
-use Rattle.std.specs.Prelude.{find, is_some, option_map}
+use Rattle.std.specs.Prelude.{find, is_some}
 use Rattle.std.specs.List.{filter, filter_map, list_all}
-use Rattle.std.proofs.lemmas.Bool.{and_from, and_parts, cases_Bool, eq-eqb, eqb-true}
+use Rattle.std.proofs.lemmas.Bool.{and_from, and_parts, cases_Bool, eqb-true}
 use Rattle.nine_messages.specs.declared.message.RBody.{RBody}
-use Rattle.nine_messages.specs.declared.message.RMsg.{RMsg}
 use Rattle.agent_history.specs.Replies.{Wait, first_of, is_unsettled, reply_in, settle_tag, settled_by}
 use Rattle.idle_agents.specs.Idle.{read_of}
-use Rattle.driven_answers.proofs.FoundLemmas.{all_kept, first_found, found_first, found_later, later_found, still_found}
+use Rattle.idle_agents.proofs.UnsettledLaws.{AreUnsettled, none_given, unsettled_none, waits_at}
+use Rattle.idle_agents.proofs.StillLaws.{kept_all, settled_all}
+use Rattle.idle_agents.proofs.FoundLemmas.{found_stays}
+use Rattle.agent_laws.proofs.KindLaws.{same_number}
+use Rattle.driven_answers.proofs.FoundLemmas.{first_found, found_first, found_later, later_found}
 use Rattle.driven_answers.proofs.OtherTalks.{apart}
-use Rattle.driven_answers.proofs.UnsettledReads.{AreUnsettled}
 
 abbrev pub AreTagged : List Wait → Type 0
 AreTagged ws = list_all (λ w. eqb w.tag w.fid) ws ≡ true
@@ -18,20 +20,8 @@ AreTagged ws = list_all (λ w. eqb w.tag w.fid) ws ≡ true
 abbrev pub left_by : ℕ → RBody → List Wait → List Wait
 left_by fid body ws = filter is_unsettled (settle_tag fid body ws)
 
--- the read of a fid that waits
-abbrev pub waits_at : ℕ → Wait → Bool
-waits_at fid w = eqb w.fid fid && is_unsettled w
-
--- what is so of each that a reply doesn't change is so of those that are left
-settle_all : (test : Wait → Bool) → ((body : RBody) (w : Wait) → test (settled_by body w) ≡ test w) → (tag : ℕ) (body : RBody) (ws : List Wait) → list_all test (settle_tag tag body ws) ≡ list_all test ws
-settle_all test same tag body [] = refl
-settle_all test same tag body (w ∷ ws) = elim (cases_Bool (eqb w.tag tag)) [
-  | inl on ↦ rw on (ap (λ b. b && list_all test ws) (same body w))
-  | inr off ↦ rw off (ap (λ b. test w && b) (settle_all test same tag body ws))
-]
-
 pub all_left : (test : Wait → Bool) → ((body : RBody) (w : Wait) → test (settled_by body w) ≡ test w) → (fid : ℕ) (body : RBody) (ws : List Wait) → list_all test ws ≡ true → list_all test (left_by fid body ws) ≡ true
-all_left test same fid body ws all = all_kept test is_unsettled (settle_tag fid body ws) (settle_all test same fid body ws ∙ all)
+all_left test same fid body ws all = kept_all test is_unsettled (settle_tag fid body ws) (settled_all test same fid body ws ∙ all)
 
 -- ---- one is told
 
@@ -41,17 +31,6 @@ now_settled body w = by_reply w.reply
     by_reply : (o : Option RBody) → not (is_some (first_of body o)) ≡ false
     by_reply None = refl
     by_reply (Some first) = refl
-
-unsettled_none : (w : Wait) → is_unsettled w ≡ true → reply_in w ≡ None
-unsettled_none w e = by_reply w.reply e
-  where
-    by_reply : (o : Option RBody) → not (is_some o) ≡ true → option_map {U = RMsg} (λ body. record { tag = w.tag; body = body }) o ≡ None
-    by_reply None e = refl
-    by_reply (Some body) e = absurd cc
-
-none_replied : (ws : List Wait) → AreUnsettled ws → filter_map reply_in ws ≡ []
-none_replied [] all = refl
-none_replied (w ∷ ws) all = let parts = and_parts (is_unsettled w) (list_all is_unsettled ws) all in rw (unsettled_none w parts.0) (none_replied ws parts.1)
 
 -- the reads that were settled are the one that was told
 pub one_replied : (fid : ℕ) (body : RBody) (ws : List Wait) → AreUnsettled ws → AreTagged ws → find (waits_at fid) ws ≡ Some (read_of fid) → filter_map reply_in (settle_tag fid body ws) ≡ record { tag = fid; body = body } ∷ []
@@ -63,15 +42,12 @@ one_replied fid body (w ∷ ws) all tagged e =
       | inl on ↦
           let is = found_first (waits_at fid) w (read_of fid) ws (and_from (eqb w.fid fid) (is_unsettled w) on unsettled.0) e in
           ap (λ v. filter_map reply_in (settle_tag fid body (v ∷ ws))) is
-          ∙ ap (λ b. filter_map reply_in (cond b (settled_by body (read_of fid) ∷ ws) (read_of fid ∷ settle_tag fid body ws))) (self_same fid)
-          ∙ ap (λ rs. record { tag = fid; body = body } ∷ rs) (none_replied ws unsettled.1)
+          ∙ ap (λ b. filter_map reply_in (cond b (settled_by body (read_of fid) ∷ ws) (read_of fid ∷ settle_tag fid body ws))) (same_number fid)
+          ∙ ap (λ rs. record { tag = fid; body = body } ∷ rs) (none_given ws unsettled.1)
       | inr off ↦
           let other : eqb w.tag fid ≡ false = ap (λ n. eqb n fid) (eqb-true w.tag w.fid tags.0) ∙ off in
-          rw other (rw (unsettled_none w unsettled.0) (one_replied fid body ws unsettled.1 tags.1 (found_later (waits_at fid) w (read_of fid) ws (ap (λ b. b && is_unsettled w) off) e)))
+          rw other (rw (unsettled_none w w.reply refl unsettled.0) (one_replied fid body ws unsettled.1 tags.1 (found_later (waits_at fid) w (read_of fid) ws (ap (λ b. b && is_unsettled w) off) e)))
     ]
-  where
-    self_same : (n : ℕ) → eqb n n ≡ true
-    self_same n = eq-eqb n n refl
 
 -- ---- the others stay
 
@@ -113,4 +89,4 @@ other_left fid other body (w ∷ ws) x off tagged e =
     ]
 
     kept_found : (vs : List Wait) → find (waits_at other) vs ≡ Some x → find (waits_at other) (filter is_unsettled vs) ≡ Some x
-    kept_found vs e = still_found (waits_at other) is_unsettled vs x e (found_on vs e)
+    kept_found vs e = found_stays (waits_at other) is_unsettled vs x e (found_on vs e)

@@ -1,11 +1,10 @@
 -- What each move of p9any answers and gives: no key is called bad but where the authentication server answers, and no more is got
 -- than an answer has room for.
-use Rattle.std.proofs.Common.{◌≡◌, ℕ, zero, suc, ◌+◌, ◌≤◌, List, [], ◌∷◌, ◌++◌, map, Bool, true, false, cond, eqb, leb, Option, Some, None, Result, Ok, Err, length, ltb, codes, slice_index_or, refl, arith, length-append}
+use Rattle.std.proofs.Common.{◌≡◌, ℕ, zero, suc, ◌+◌, ◌≤◌, List, [], ◌∷◌, ◌++◌, map, Bool, true, false, cond, eqb, Option, Some, None, Result, Ok, Err, length, ltb, codes, slice_index_or, refl, arith, length-append}
 use Rattle.std.specs.Prelude.{filter}
-use Rattle.std.specs.List.{list_all}
-use Rattle.std.proofs.lemmas.Bool.{and_parts, leb-true}
+use Rattle.std.proofs.lemmas.Bool.{and_parts}
 use Rattle.wire_base.specs.Texts.{is_text}
-use Rattle.attr_tuples.specs.Forms.{is_dom, is_dom_byte}
+use Rattle.attr_tuples.specs.Forms.{is_dom}
 use Rattle.ticket_codec.specs.Fields.{before_nul}
 use Rattle.roles.specs.declared.answer.Cause.{Cause}
 use Rattle.roles.specs.declared.answer.Gave.{Gave}
@@ -18,13 +17,14 @@ use Rattle.conv_p9any.specs.declared.stage.Stage.{Stage}
 use Rattle.conv_p9any.specs.declared.stage.Stage.TheVariants.{ServerOffers, ServerKey, ServerFirst, ServerSecond, ClientFirst, ClientPick, ClientSecond, ClientThird}
 use Rattle.conv_p9any.specs.declared.stage.TheConstants.{MOST_TEXT}
 use Rattle.conv_p9any.specs.Courses.{choice_came, choice_got, choice_tests, choice_text, chosen_start, consent_came, consent_tests, entered, list_came, list_tests, move, passed_on, seeks_first, taken_back, waits}
-use Rattle.conv_p9any.specs.Offers.{choice_of, consents, dom_at, dom_in, eligible, eligible_among, is_dom_text, is_eligible, offers_text, words}
+use Rattle.conv_p9any.specs.Offers.{choice_of, consents, dom_at, dom_in, eligible, eligible_among, is_eligible, offers_text, words}
 use Rattle.conv_p9any.specs.Talks.{Standing, choosing, needs_any, within}
 use Rattle.conv_p9any.specs.Texts.{ended_text, text_in, text_with_nul, with_text}
 use Rattle.conv_p9any.proofs.OfferLemmas.{eligible_dom}
 use Rattle.conv_set.specs.Protocols.{p9sk1}
 use Rattle.driven_requests.proofs.SkSizes.{sk_good, sk_small}
 use Rattle.driven_requests.proofs.VerdictForms.{FitMoves, FitsMove, Good, is_bad, tested_so}
+use Rattle.driven_requests.proofs.OffersServe.{dom_short}
 use Rattle.lawful_roles.proofs.RoleForms.{either}
 
 -- what stands of a stage: a list that is to be given is short
@@ -79,17 +79,12 @@ abbrev AreShort : List (List ℕ) → Type 0
 AreShort [] = Unit {0}
 AreShort (dom ∷ doms) = (length dom ≤ 47) × AreShort doms
 
-dom_short : (dom : List ℕ) → is_dom_text dom ≡ true → length dom ≤ 47
-dom_short dom is =
-    let parts = and_parts (leb 1 (length dom)) _ (and_parts (is_text dom) (is_dom dom) is).1 in
-    leb-true (length dom) 47 (and_parts (leb (length dom) 47) (list_all is_dom_byte dom) parts.1).0
-
 among_short : (start : Start) (ws : List (List ℕ)) → AreShort (eligible_among p9sk1.name start ws)
 among_short start [] = tt
 among_short start (word ∷ ws) = by_word (is_eligible p9sk1.name start word) refl (among_short start ws)
   where
     by_word : (b : Bool) → is_eligible p9sk1.name start word ≡ b → AreShort (eligible_among p9sk1.name start ws) → AreShort (map (λ w. dom_in p9sk1.name w) (cond b (word ∷ filter (λ w. is_eligible p9sk1.name start w) ws) (filter (λ w. is_eligible p9sk1.name start w) ws)))
-    by_word true is more = (dom_short (dom_in p9sk1.name word) (eligible_dom p9sk1.name start word is), more)
+    by_word true is more = (dom_short (dom_in p9sk1.name word) (and_parts (is_text (dom_in p9sk1.name word)) (is_dom (dom_in p9sk1.name word)) (eligible_dom p9sk1.name start word is)).1, more)
     by_word false is more = more
 
 index_short : (doms : List (List ℕ)) (n : ℕ) → AreShort doms → length (slice_index_or doms n []) ≤ 47

@@ -1,9 +1,9 @@
 -- What a read that is granted does to a calm agent: the request of its conversation is carried out, and its answer is read, told to
 -- be too long, or waited for.
-use Rattle.std.proofs.Common.{◌≡◌, ℕ, List, [], ◌∷◌, ◌++◌, Bool, true, false, cond, eqb, ◌&&◌, ◌||◌, Some, None, refl, sym, ap, subst, ◌∙◌}
+use Rattle.std.proofs.Common.{◌≡◌, ℕ, List, [], ◌∷◌, ◌++◌, Bool, true, false, cond, eqb, ◌&&◌, Some, None, refl, sym, ap, subst, ◌∙◌}
 use Rattle.std.specs.Prelude.{find}
 use Rattle.std.specs.List.{list_any}
-use Rattle.std.proofs.lemmas.Bool.{eqb-true}
+use Rattle.std.proofs.lemmas.Bool.{eqb-true, or_parts}
 use Rattle.talks.specs.Standings.{Phase, OnServer, standing}
 use Rattle.agent_history.specs.Deeds.{Deed, OfReplies, Awaited}
 use Rattle.agent_history.specs.Replies.{Wait, is_unsettled, waits, waits_for}
@@ -51,14 +51,10 @@ found_still p (v ∷ ws) w last e = by_test (p v) e (found_still p ws w last)
     by_test true e more = e
     by_test false e more = more e
 
-or_neither : (a b : Bool) → (a || b) ≡ false → (a ≡ false) × (b ≡ false)
-or_neither true b e = absurd cc
-or_neither false b e = (refl, e)
-
 found_last : (fid : ℕ) (ws : List Wait) → list_any (λ w. eqb w.fid fid) ws ≡ false → find (λ w. eqb w.fid fid && is_unsettled w) (ws ++ read_of fid ∷ []) ≡ Some (read_of fid)
 found_last fid [] none = ap (λ b. cond (b && true) (Some (read_of fid)) None) (same_number fid)
 found_last fid (w ∷ ws) none =
-    let parts = or_neither (eqb w.fid fid) (list_any (λ x. eqb x.fid fid) ws) none in
+    let parts = or_parts (eqb w.fid fid) (list_any (λ x. eqb x.fid fid) ws) none in
     ap (λ b. cond (b && is_unsettled w) (Some w) (find (λ x. eqb x.fid fid && is_unsettled x) (ws ++ read_of fid ∷ []))) parts.0 ∙ found_last fid ws parts.1
 
 pub read_waiting : (number fid : ℕ) (old new : List Deed) → AreMine number fid (speakers old) → AreRead old (speakers old) → speakers new ≡ speakers old → waits new 0 ≡ waits old 0 ++ read_of fid ∷ []

@@ -5,7 +5,7 @@ use Rattle.nine_messages.specs.declared.message.TBody.{TBody}
 use Rattle.nine_messages.specs.declared.message.RBody.{RBody}
 use Rattle.nine_messages.specs.Messages.{t_frame}
 use Rattle.agent_history.specs.Deeds.{Deed}
-use Rattle.agent_history.specs.Replies.{reply_in, swept, waits}
+use Rattle.agent_history.specs.Replies.{reply_in, waits}
 use Rattle.agent_history.specs.Requests.{Call, after_frame, after_granted, answered, body_for, body_to, call_of, granted, replied}
 use Rattle.agent_history.specs.Conversations.{asker, opened_talks, speakers, standing_of}
 use Rattle.agent_history.specs.Histories.{History, deeds}
@@ -15,9 +15,10 @@ use Rattle.idle_agents.specs.Idle.{IsCalm, IsIdle, Runs}
 use Rattle.idle_agents.proofs.RunLaws.{event_runs}
 use Rattle.idle_agents.proofs.TakenLaws.{replies_so}
 use Rattle.idle_agents.proofs.HandedLaws.{questions_so, to_put}
-use Rattle.idle_agents.proofs.IdleLaws.{asker_behind, idle_behind, seats_behind}
-use Rattle.idle_agents.proofs.LeftLaws.{own_reply, request_deeds, request_left, swept_replies}
-use Rattle.idle_agents.proofs.AlikeLaws.{answered_same, calm_answered, calm_replied}
+use Rattle.idle_agents.proofs.IdleLaws.{idle_behind}
+use Rattle.idle_agents.proofs.LeftLaws.{own_reply, request_left, swept_replies}
+use Rattle.idle_agents.proofs.AlikeLaws.{calm_replied}
+use Rattle.idle_agents.proofs.GrantLaws.{asker_then, calm_event, event_same, opened_then, speakers_then}
 use Rattle.driven_requests.proofs.FrameReads.{read_msg}
 
 abbrev pub read_frame : ℕ → List ℕ
@@ -59,23 +60,22 @@ came_of fid word h done o idle runs does =
     let old = deeds h in
     let once = event_runs e h runs in
     let all : answered old call frame ≡ replied call o done = ap (λ x. replied call x (after_frame old call frame)) does.body ∙ ap (replied call o) does.after in
-    let is : deeds (e ∷ h) ≡ swept (replied call o done) = request_deeds frame word h once idle.calm.entered idle.calm.there ∙ ap swept all in
-    let calm : IsCalm (deeds (e ∷ h)) = subst IsCalm (sym is) (calm_answered call o done does.calm) in
+    let c = idle.calm in
+    let calm = calm_event frame word h c once (subst IsCalm (sym does.after) does.calm) in
     let settled = (calm_replied call o done does.calm).settled in
-    let stands = λ (n : ℕ). ap (λ d. standing_of d n) is ∙ answered_same (λ d. standing_of d n) (λ at tag body d. refl) (λ d. refl) call o done in
-    let behind = seats_behind e h runs calm.entered in
+    let stands = λ (n : ℕ). event_same (λ d. standing_of d n) (record { answered = λ at tag body d. refl; sweeps = λ d. refl }) frame word h c once ∙ ap (λ d. standing_of d n) does.after in
     record {
       idle = idle_behind e h calm runs;
       replies = replies_so e h calm.there runs
-          ∙ (request_left frame word h once idle.calm.entered idle.calm.there idle.taken
+          ∙ (request_left frame word h once c.entered c.there idle.taken
           ∙ (ap (λ x. own_reply call x ++ swept_replies (answered old call frame)) does.body
           ∙ (ap (λ d. own_reply call o ++ swept_replies d) all
           ∙ (ap (λ b. own_reply call o ++ cond b (filter_map reply_in (waits (replied call o done) 0)) []) settled
           ∙ append-nil (own_reply call o)))));
-      questions = questions_so e h runs calm.entered ∙ (ap to_put is ∙ answered_same to_put (λ at tag body d. refl) (λ d. refl) call o done);
+      questions = questions_so e h runs calm.entered ∙ (event_same to_put (record { answered = λ at tag body d. refl; sweeps = λ d. refl }) frame word h c once ∙ ap to_put does.after);
       stands = stands;
       now = λ n. takes_change_none e h n ∙ stands n;
-      seated = behind.speakers ∙ (ap speakers is ∙ answered_same speakers (λ at tag body d. refl) (λ d. refl) call o done);
-      opened = behind.opened ∙ (ap opened_talks is ∙ answered_same opened_talks (λ at tag body d. refl) (λ d. refl) call o done);
-      askers = λ n. asker_behind e h n runs calm.entered ∙ (ap (λ d. asker d n) is ∙ answered_same (λ d. asker d n) (λ at tag body d. refl) (λ d. refl) call o done);
+      seated = speakers_then frame word h c runs calm ∙ ap speakers does.after;
+      opened = opened_then frame word h c runs calm ∙ ap opened_talks does.after;
+      askers = λ n. asker_then frame word h c runs calm n ∙ ap (λ d. asker d n) does.after;
     }

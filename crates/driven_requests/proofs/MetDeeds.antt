@@ -1,6 +1,6 @@
 -- What a request that is carried out does where nobody can be asked: the searches, the question that is raised, and the log.
 use Rattle.std.proofs.Common.{◌≡◌, ℕ, ◌+◌, List, [], ◌∷◌, ◌++◌, Bool, true, false, refl, sym, ap, subst, ◌∙◌}
-use Rattle.file_tree.specs.declared.tree.Node.TheVariants.{Confirm, Needkey, Log}
+use Rattle.file_tree.specs.declared.tree.Node.TheVariants.{Confirm, Needkey}
 use Rattle.rpc_file.specs.Requests.{RpcRequest}
 use Rattle.talks.specs.Calls as calls
 use Rattle.talks.specs.Lines.{log_lines}
@@ -11,8 +11,9 @@ use Rattle.agent_history.specs.Conversations.{Question, asking, met, questions, 
 use Rattle.driven_agents.specs.Quiet.{NamesNoLines}
 use Rattle.driven_agents.proofs.QuietLaws.{holder_none}
 use Rattle.recorded_talks.specs.Telling.{Searches}
+use Rattle.idle_agents.proofs.CallLemmas.{nobody_served}
 use Rattle.driven_requests.proofs.SearchDeeds.{IsShut, Rests, SearchedOn, searched_on, times}
-use Rattle.driven_requests.proofs.TalkSides.{Going, all_logged_on, none_served, raised_going, same_going, stands_here, talk_going}
+use Rattle.driven_requests.proofs.TalkSides.{Going, all_logged_on, raised_going, same_going, stands_here, talk_going}
 
 -- so many searches may follow
 abbrev pub most_searches : Bool → ℕ
@@ -74,7 +75,7 @@ met_so conv word request s done names stood waits r =
     let lines = all_logged_on conv (log_lines (is_debug three) conv (standing_of done conv) (standing_of three conv)) three in
     let far = then_going conv done three four rise.0 lines.going in
     let still = same_named far names in
-    let five : all_served four ≡ four = none_served four (holder_none four Confirm refl still) (holder_none four Needkey refl still) (holder_none four Log refl still) in
+    let five : all_served four ≡ four = nobody_served four still in
     let same : standing_of four conv ≡ standing_of two conv = ap standing (lines.talks conv ∙ rise.1) in
     subst (MetSo conv word request s done) (sym five)
     (record {

@@ -31,7 +31,7 @@ abbrev pub DomsFit : List (List ℕ) → Type 0
 DomsFit [] = Unit {0}
 DomsFit (dom ∷ doms) = length dom ≤ 47
 
-dom_short : (dom : List ℕ) → is_dom dom ≡ true → length dom ≤ 47
+pub dom_short : (dom : List ℕ) → is_dom dom ≡ true → length dom ≤ 47
 dom_short dom is =
     let parts = and_parts (leb 1 (length dom)) _ is in
     leb-true (length dom) 47 (and_parts (leb (length dom) 47) (list_all is_dom_byte dom) parts.1).0

@@ -1,12 +1,12 @@
 -- A request that a network makes of a conversation does what is said of it, and leaves the others.
-use Rattle.std.proofs.Common.{◌≡◌, ℕ, List, [], ◌∷◌, Bool, true, false, cond, Some, refl, sym, ap, subst, ◌∙◌, inl, inr}
+use Rattle.std.proofs.Common.{◌≡◌, ℕ, ◌<◌, arith, List, [], ◌∷◌, Bool, true, false, cond, Some, refl, sym, ap, subst, ◌∙◌, inl, inr}
 use Rattle.std.specs.Prelude.{◌⊎◌}
 use Rattle.nine_messages.specs.declared.message.RMsg.{RMsg}
 use Rattle.nine_messages.specs.declared.message.RBody.{RBody}
 use Rattle.nine_messages.specs.declared.message.RBody.TheVariants as r
 use Rattle.attr_tuples.proofs.EqualityLemmas.{eqb_swap}
 use Rattle.talks.specs.Standings.{nothing_said}
-use Rattle.agent_history.specs.Conversations.{asker, conv_of, speakers}
+use Rattle.agent_history.specs.Conversations.{asker, conv_of}
 use Rattle.agent_history.specs.Histories.{History, deeds}
 use Rattle.agent_laws.specs.Laws.{gives_content}
 use Rattle.world_history.specs.Driving.{drive, is_refused, questions_to, reads, replies_to}
@@ -17,31 +17,19 @@ use Rattle.idle_agents.specs.Idle.{AreOf, IsIdle, Runs, SameSeats}
 use Rattle.idle_agents.proofs.AlikeLaws.{GivesNone}
 use Rattle.idle_agents.proofs.RunLaws.{drive_runs}
 use Rattle.idle_agents.proofs.WritesLaws.{WriteSo, write_is}
+use Rattle.idle_agents.proofs.SeatLaws.{seat_small}
 use Rattle.driven_requests.specs.Requests.{IsWorded, Requested, RequestsDo, RequestsLeave}
 use Rattle.driven_requests.proofs.ReadCases.{read_case}
 use Rattle.driven_requests.proofs.ReadComes.{ReadSo, comes_so, driven_so, still_there}
-use Rattle.driven_requests.proofs.SeatLaws.{seat_small}
 use Rattle.driven_requests.proofs.StoredLaws.{stored_so}
 
 -- ---- a write that is refused
 
 same_read : (body : RBody) → is_read body ≡ gives_content body
 same_read (r.Read text) = refl
-same_read (r.Version msize version) = refl
-same_read (r.Auth aqid) = refl
-same_read (r.Attach qid) = refl
-same_read (r.Error text) = refl
-same_read r.Flush = refl
-same_read (r.Walk wqid) = refl
-same_read (r.Open qid iounit) = refl
-same_read (r.Create qid iounit) = refl
-same_read (r.Write count) = refl
-same_read r.Clunk = refl
-same_read r.Remove = refl
-same_read (r.Stat stat) = refl
-same_read r.Wstat = refl
+same_read body = refl
 
-give_nothing : (ms : List RMsg) → GivesNone ms → GiveNothing ms
+pub give_nothing : (ms : List RMsg) → GivesNone ms → GiveNothing ms
 give_nothing [] none = tt
 give_nothing (m ∷ ms) none = (same_read m.body ∙ none.0, give_nothing ms none.1)
 
@@ -81,11 +69,14 @@ does_so : (number fid : ℕ) (what : Asks) (h : History) → refused_in fid what
 does_so number fid what h e (inl unread) = isnt_read e unread
 does_so number fid what h e (inr carried) = is_carried e carried
 
+small_tag : (h : History) (number fid : ℕ) → IsIdle h → conv_of (deeds h) 0 fid ≡ Some number → fid < 65536
+small_tag h number fid idle_ there = omega (arith, seat_small (deeds h) fid number idle_.calm there)
+
 -- the read behind a write
 read_behind : (number fid : ℕ) (what : Asks) (h : History) → IsIdle h → conv_of (deeds h) 0 fid ≡ Some number → refused_in fid what h ≡ false → Runs (drive (reads fid (word_of what)) (behind fid what h)) → ReadSo number fid what (behind fid what h)
 read_behind number fid what h idle_ there e runs =
     let now = behind fid what h in
-    let small = seat_small fid number (speakers (deeds h)) idle_.calm.small there in
+    let small = small_tag h number fid idle_ there in
     let runs_now = drive_runs (reads fid (word_of what)) now runs in
     let w = write_is fid (request_text what) h idle_ runs_now in
     let s = stored_so number fid what h small idle_ there runs_now e in
@@ -98,7 +89,7 @@ read_on number fid what h worded idle_ there e runs =
     let now = behind fid what h in
     let runs_now = drive_runs (reads fid (word_of what)) now runs in
     let w = write_is fid (request_text what) h idle_ runs_now in
-    let s = stored_so number fid what h (seat_small fid number (speakers (deeds h)) idle_.calm.small there) idle_ there runs_now e in
+    let s = stored_so number fid what h (small_tag h number fid idle_ there) idle_ there runs_now e in
     let so = read_behind number fid what h idle_ there e runs in
     let left = so.left in
     let same = sym (and_read fid what h e) in

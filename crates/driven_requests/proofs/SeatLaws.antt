@@ -1,13 +1,11 @@
--- The fid of a conversation is the only one that has it open, and is small.
-use Rattle.std.proofs.Common.{◌≡◌, ℕ, ◌<◌, List, [], ◌∷◌, Bool, true, false, cond, eqb, ltb, ◌&&◌, map, Option, Some, refl, sym, arith}
+-- The fid of a conversation is the only one that has it open.
+use Rattle.std.proofs.Common.{◌≡◌, ℕ, ◌<◌, List, [], ◌∷◌, Bool, true, false, cond, eqb, ltb, map, Option, Some, refl, sym, arith}
 use Rattle.std.specs.Prelude.{find, option_map}
 use Rattle.std.specs.List.{list_all}
 use Rattle.std.proofs.lemmas.Bool.{and_parts, eqb-true, ltb-true}
 use Rattle.agent_history.specs.Conversations.{Speaker}
 use Rattle.agent_laws.proofs.ConversationLaws.{Rise, rise_parts}
-
-abbrev pub is_seat : ℕ → Speaker → Bool
-is_seat fid s = eqb s.conn 0 && eqb s.fid fid
+use Rattle.idle_agents.proofs.SeatLaws.{is_at}
 
 abbrev pub number_in : Option Speaker → Option ℕ
 number_in o = option_map (λ s. s.conv) o
@@ -23,13 +21,13 @@ AreMine number fid (s ∷ ss) = (eqb number s.conv ≡ true → s.fid ≡ fid) �
 same_some : (n m : ℕ) → Some n ≡ Some m → n ≡ m
 same_some n m e = cc
 
-found_above : (fid n number : ℕ) (ss : List Speaker) → list_all (ltb n) (numbers ss) ≡ true → number_in (find (is_seat fid) ss) ≡ Some number → n < number
+found_above : (fid n number : ℕ) (ss : List Speaker) → list_all (ltb n) (numbers ss) ≡ true → number_in (find (is_at fid) ss) ≡ Some number → n < number
 found_above fid n number [] above e = absurd cc
 found_above fid n number (s ∷ ss) above e =
     let parts = and_parts (ltb n s.conv) (list_all (ltb n) (numbers ss)) above in
-    by_seat (is_seat fid s) parts.0 e (found_above fid n number ss parts.1)
+    by_seat (is_at fid s) parts.0 e (found_above fid n number ss parts.1)
   where
-    by_seat : (b : Bool) → ltb n s.conv ≡ true → number_in (cond b (Some s) (find (is_seat fid) ss)) ≡ Some number → (number_in (find (is_seat fid) ss) ≡ Some number → n < number) → n < number
+    by_seat : (b : Bool) → ltb n s.conv ≡ true → number_in (cond b (Some s) (find (is_at fid) ss)) ≡ Some number → (number_in (find (is_at fid) ss) ≡ Some number → n < number) → n < number
     by_seat true first e more = omega (arith, ltb-true n s.conv first, same_some s.conv number e)
     by_seat false first e more = more e
 
@@ -39,22 +37,12 @@ none_mine fid n number (s ∷ ss) e above =
     let parts = and_parts (ltb n s.conv) (list_all (ltb n) (numbers ss)) above in
     ((λ same. absurd (omega (arith, e, ltb-true n s.conv parts.0, eqb-true number s.conv same))), none_mine fid n number ss e parts.1)
 
-pub all_mine : (top fid number : ℕ) (ss : List Speaker) → Rise top (numbers ss) → number_in (find (is_seat fid) ss) ≡ Some number → AreMine number fid ss
+pub all_mine : (top fid number : ℕ) (ss : List Speaker) → Rise top (numbers ss) → number_in (find (is_at fid) ss) ≡ Some number → AreMine number fid ss
 all_mine top fid number [] rise e = tt
 all_mine top fid number (s ∷ ss) rise e =
     let parts = rise_parts top s.conv (numbers ss) rise in
-    by_seat (is_seat fid s) refl parts.above e (all_mine top fid number ss parts.rest)
+    by_seat (is_at fid s) refl parts.above e (all_mine top fid number ss parts.rest)
   where
-    by_seat : (b : Bool) → is_seat fid s ≡ b → list_all (ltb s.conv) (numbers ss) ≡ true → number_in (cond b (Some s) (find (is_seat fid) ss)) ≡ Some number → (number_in (find (is_seat fid) ss) ≡ Some number → AreMine number fid ss) → AreMine number fid (s ∷ ss)
+    by_seat : (b : Bool) → is_at fid s ≡ b → list_all (ltb s.conv) (numbers ss) ≡ true → number_in (cond b (Some s) (find (is_at fid) ss)) ≡ Some number → (number_in (find (is_at fid) ss) ≡ Some number → AreMine number fid ss) → AreMine number fid (s ∷ ss)
     by_seat true is above e more = ((λ _. eqb-true s.fid fid (and_parts (eqb s.conn 0) (eqb s.fid fid) is).1), none_mine fid s.conv number ss (sym (same_some s.conv number e)) above)
     by_seat false is above e more = ((λ same. absurd (omega (arith, found_above fid s.conv number ss above e, eqb-true number s.conv same))), more e)
-
-pub seat_small : (fid number : ℕ) (ss : List Speaker) → list_all (λ s. ltb s.fid 65535) ss ≡ true → number_in (find (is_seat fid) ss) ≡ Some number → fid < 65536
-seat_small fid number [] small e = absurd cc
-seat_small fid number (s ∷ ss) small e =
-    let parts = and_parts (ltb s.fid 65535) (list_all (λ x. ltb x.fid 65535) ss) small in
-    by_seat (is_seat fid s) refl parts.0 e (seat_small fid number ss parts.1)
-  where
-    by_seat : (b : Bool) → is_seat fid s ≡ b → ltb s.fid 65535 ≡ true → number_in (cond b (Some s) (find (is_seat fid) ss)) ≡ Some number → (number_in (find (is_seat fid) ss) ≡ Some number → fid < 65536) → fid < 65536
-    by_seat true is small e more = omega (arith, ltb-true s.fid 65535 small, eqb-true s.fid fid (and_parts (eqb s.conn 0) (eqb s.fid fid) is).1)
-    by_seat false is small e more = more e

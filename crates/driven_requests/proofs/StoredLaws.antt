@@ -12,7 +12,7 @@ use Rattle.agent_history.specs.Requests.{Call, after_frame, answered, body_for, 
 use Rattle.agent_history.specs.Histories.{History, deeds}
 use Rattle.agent_laws.proofs.GrowLaws.{none_refuses}
 use Rattle.driven_agents.proofs.TakeLaws.{takes_change_none}
-use Rattle.world_history.specs.Driving.{drive, is_refused, replies_to, writes}
+use Rattle.world_history.specs.Driving.{drive, is_refused, no_word, replies_to, writes}
 use Rattle.world_history.specs.Talking.{Asks, request_text}
 use Rattle.recorded_talks.specs.Telling.{idle}
 use Rattle.world_legality.specs.Agents.{asked_as, begun_in, write_of}
@@ -20,7 +20,8 @@ use Rattle.idle_agents.specs.Idle.{IsIdle, Runs}
 use Rattle.idle_agents.proofs.RunLaws.{event_runs}
 use Rattle.idle_agents.proofs.TakenLaws.{replies_so}
 use Rattle.idle_agents.proofs.LeftLaws.{own_reply, request_left, swept_replies}
-use Rattle.idle_agents.proofs.WritesLaws.{write_call, write_calm, write_frame, write_same}
+use Rattle.idle_agents.proofs.WritesLaws.{write_call, write_calm, write_frame}
+use Rattle.idle_agents.proofs.GrantLaws.{event_same}
 use Rattle.driven_requests.proofs.AskedTexts.{asked_text}
 use Rattle.driven_requests.proofs.EventDeeds.{body_by, frame_by}
 use Rattle.driven_requests.proofs.FrameReads.{write_granted}
@@ -74,7 +75,7 @@ stored_so number fid what h small idle_ there runs taken = by_grant (granted don
         frame_by done call frame (Ok (t.Write fid 0 text)) e' ∙ write_does done call fid number text (asked_as what) is there (asked_text what tests.1) in
         record {
           stood = takes_change_none (writes fid text) h number
-              ∙ (write_same (λ d. standing_of d number) (λ at tag body d. refl) (λ d. refl) fid text h idle_.calm once
+              ∙ (event_same (λ d. standing_of d number) (record { answered = λ at tag body d. refl; sweeps = λ d. refl }) (write_frame fid text) no_word h idle_.calm once
               ∙ (ap (λ d. standing_of d number) does
               ∙ (stands_here number (calls.Stored (asked_as what)) done (standing_of done number) refl
               ∙ stored_at (standing_of done number) (asked_as what) at_rest)));

@@ -1,17 +1,14 @@
 -- What a conversation meets, and the lines of the log, leave of an agent: its connections, its reads and its replies.
-use Rattle.std.proofs.Common.{◌≡◌, ℕ, List, [], ◌∷◌, Bool, false, cond, eqb, Option, None, refl, ap, ◌∙◌}
+use Rattle.std.proofs.Common.{◌≡◌, ℕ, List, ◌∷◌, Bool, false, eqb, Option, refl, ap, ◌∙◌}
 use Rattle.std.specs.List.{list_all}
 use Rattle.nine_messages.specs.declared.message.RMsg.{RMsg}
-use Rattle.file_tree.specs.declared.tree.Node.TheVariants.{Confirm, Needkey, Log}
-use Rattle.side_files.specs.Calls as side
 use Rattle.talks.specs.Calls as calls
 use Rattle.talks.specs.Standings.{Standing, standing, then_stands}
-use Rattle.agent_history.specs.Deeds.{Deed, OfTalk, OfLog, Raised, holder_of, is_halted, keys_of, msize_of, was_hung, was_opened}
+use Rattle.agent_history.specs.Deeds.{Deed, OfTalk, Raised, is_halted, keys_of, msize_of, was_hung, was_opened}
 use Rattle.agent_history.specs.Replies.{Wait, has_settled, replies, taken, waits}
-use Rattle.agent_history.specs.SideFiles.{all_served, served, served_to}
 use Rattle.agent_history.specs.Conversations.{Speaker, logged, opened_talks, questions, raised, speakers, standing_of, talk}
 use Rattle.driven_agents.specs.Quiet.{leads_away}
-use Rattle.agent_laws.proofs.KindLaws.{same_number}
+use Rattle.idle_agents.proofs.CallLemmas.{logged_same, other_talk, own_talk}
 
 -- what is looked at of deeds
 pub record Sides : Type 0 where
@@ -54,22 +51,15 @@ same_going conv from = record { side = refl; others = λ other off. refl; keys =
 pub talk_going : (conv : ℕ) (from done : List Deed) (call : calls.Call) → Going conv from done → Going conv from (OfTalk conv call ∷ done)
 talk_going conv from done call g = record {
   side = g.side;
-  others = λ other off. ap (λ b. cond b (call ∷ talk done other) (talk done other)) off ∙ g.others other off;
+  others = λ other off. other_talk conv other call done off ∙ g.others other off;
   keys = g.keys;
 }
 
 pub raised_going : (conv : ℕ) (from done : List Deed) → Going conv from done → Going conv from (Raised conv ∷ done)
 raised_going conv from done g = record { side = g.side; others = λ other off. g.others other off; keys = g.keys }
 
-pub line_going : (conv : ℕ) (from done : List Deed) (line : List ℕ) → Going conv from done → Going conv from (OfLog (side.Pushed line) ∷ done)
-line_going conv from done line g = record { side = g.side; others = λ other off. g.others other off; keys = g.keys }
-
--- a call of a conversation is the newest of its talk
-pub talk_here : (conv : ℕ) (call : calls.Call) (done : List Deed) → talk (OfTalk conv call ∷ done) conv ≡ call ∷ talk done conv
-talk_here conv call done = ap (λ b. cond b (call ∷ talk done conv) (talk done conv)) (same_number conv)
-
 pub stands_here : (conv : ℕ) (call : calls.Call) (done : List Deed) (s : Standing) → standing_of done conv ≡ s → standing_of (OfTalk conv call ∷ done) conv ≡ then_stands s s.phase call
-stands_here conv call done s e = ap standing (talk_here conv call done) ∙ ap (λ x. then_stands x x.phase call) e
+stands_here conv call done s e = ap standing (own_talk conv call done) ∙ ap (λ x. then_stands x x.phase call) e
 
 -- ---- the log
 
@@ -80,18 +70,12 @@ pub record Logged (conv : ℕ) (from done : List Deed) : Type 0 where
   pub asked : questions done ≡ questions from
   pub risen : raised done ≡ raised from
 
-logged_on : (conv : ℕ) (lines : List (List ℕ)) (from done : List Deed) → Logged conv from done → Logged conv from (logged lines done)
-logged_on conv [] from done l = l
-logged_on conv (line ∷ lines) from done l =
-    logged_on conv lines from (OfLog (side.Pushed line) ∷ done) (record { going = line_going conv from done line l.going; talks = λ other. l.talks other; asked = l.asked; risen = l.risen })
-
 pub all_logged_on : (conv : ℕ) (lines : List (List ℕ)) (done : List Deed) → Logged conv done (logged lines done)
-all_logged_on conv lines done = logged_on conv lines done done (record { going = same_going conv done; talks = λ other. refl; asked = refl; risen = refl })
-
--- ---- files of lines that nobody has open
-
-pub none_served : (done : List Deed) → holder_of done Confirm ≡ None → holder_of done Needkey ≡ None → holder_of done Log ≡ None → all_served done ≡ done
-none_served done first second third =
-    ap (λ d. served Log (served Needkey d)) (ap (λ o. served_to Confirm o done) first)
-    ∙ ap (served Log) (ap (λ o. served_to Needkey o done) second)
-    ∙ ap (λ o. served_to Log o done) third
+all_logged_on conv lines done =
+    let others = λ (other : ℕ). logged_same (λ d. talk d other) (λ line d. refl) lines done in
+    record {
+      going = record { side = logged_same sides (λ line d. refl) lines done; others = λ other off. others other; keys = logged_same keys_of (λ line d. refl) lines done };
+      talks = others;
+      asked = logged_same questions (λ line d. refl) lines done;
+      risen = logged_same raised (λ line d. refl) lines done;
+    }

@@ -16,7 +16,7 @@ use Rattle.world_history.specs.Driving.{drive, is_refused, replies_to}
 use Rattle.idle_agents.specs.Idle.{IsCalm, IsIdle, Runs}
 use Rattle.idle_agents.proofs.AlikeLaws.{answered_same, calm_answered}
 use Rattle.idle_agents.proofs.ExactLaws.{granted_only}
-use Rattle.idle_agents.proofs.IdleLaws.{asker_behind}
+use Rattle.idle_agents.proofs.IdleLaws.{asker_behind, seats_behind}
 use Rattle.idle_agents.proofs.KeptLaws.{behind_takes}
 use Rattle.idle_agents.proofs.LeftLaws.{own_reply, request_deeds, request_left, swept_replies}
 use Rattle.idle_agents.proofs.RunLaws.{event_runs}
@@ -28,7 +28,7 @@ was_granted : (done : List Deed) (call : Call) (g : Result TBody (List ℕ)) (re
 was_granted done call (Err text) rest none = absurd cc
 was_granted done call (Ok body) rest none = (body, refl)
 
-ok_is : (P : TBody → Type 0) (g : Result TBody (List ℕ)) (body : TBody) → g ≡ Ok body → (elim g as (λ x. Type 0) [ Err text ↦ Unit {0} | Ok b ↦ P b ]) → P body
+pub ok_is : (P : TBody → Type 0) (g : Result TBody (List ℕ)) (body : TBody) → g ≡ Ok body → (elim g as (λ x. Type 0) [ Err text ↦ Unit {0} | Ok b ↦ P b ]) → P body
 ok_is P (Err text) body is p = absurd cc
 ok_is P (Ok other) body is p = let same : other ≡ body = cc in subst P same p
 
@@ -72,7 +72,7 @@ pub record Untold {X : Type 0} (f : List Deed → X) : Type 0 where
   pub answered : (at tag : ℕ) (body : RBody) (done : List Deed) → f (OfReplies at (Answered tag body) ∷ done) ≡ f done
   pub sweeps : (done : List Deed) → f (Swept ∷ done) ≡ f done
 
-event_same : {X : Type 0} (f : List Deed → X) → Untold f → (frame word : List ℕ) (h : History) → IsCalm (deeds h) → Runs (Request 0 frame word ∷ h) → f (deeds (Request 0 frame word ∷ h)) ≡ f (after_frame (deeds h) (call_of 0 frame word) frame)
+pub event_same : {X : Type 0} (f : List Deed → X) → Untold f → (frame word : List ℕ) (h : History) → IsCalm (deeds h) → Runs (Request 0 frame word ∷ h) → f (deeds (Request 0 frame word ∷ h)) ≡ f (after_frame (deeds h) (call_of 0 frame word) frame)
 event_same f u frame word h c runs =
     let done = deeds h in
     let call = call_of 0 frame word in
@@ -86,14 +86,12 @@ module _ (frame word : List ℕ) (h : History) (c : IsCalm (deeds h)) (runs : Ru
 
   pub speakers_then : speakers (deeds (drive (Request 0 frame word) h)) ≡ speakers (after_frame (deeds h) (call_of 0 frame word) frame)
   speakers_then =
-      let s = speakers (deeds (Request 0 frame word ∷ h)) in
-      behind_takes (λ d. speakers d ≡ s) (record { takes = record { takes = λ d p. p }; asks = record { hands = λ d p. p; drops = λ d p. p } }) (Request 0 frame word) h runs now.entered refl
+      (seats_behind (Request 0 frame word) h runs now.entered).speakers
       ∙ event_same speakers (record { answered = λ at tag body d. refl; sweeps = λ d. refl }) frame word h c (event_runs (Request 0 frame word) h runs)
 
   pub opened_then : opened_talks (deeds (drive (Request 0 frame word) h)) ≡ opened_talks (after_frame (deeds h) (call_of 0 frame word) frame)
   opened_then =
-      let n = opened_talks (deeds (Request 0 frame word ∷ h)) in
-      behind_takes (λ d. opened_talks d ≡ n) (record { takes = record { takes = λ d p. p }; asks = record { hands = λ d p. p; drops = λ d p. p } }) (Request 0 frame word) h runs now.entered refl
+      (seats_behind (Request 0 frame word) h runs now.entered).opened
       ∙ event_same opened_talks (record { answered = λ at tag body d. refl; sweeps = λ d. refl }) frame word h c (event_runs (Request 0 frame word) h runs)
 
   pub talk_then : (conv : ℕ) → talk (deeds (drive (Request 0 frame word) h)) conv ≡ talk (after_frame (deeds h) (call_of 0 frame word) frame) conv

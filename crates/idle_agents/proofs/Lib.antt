@@ -9,6 +9,7 @@ pub mod LeftLaws
 pub mod AlikeLaws
 pub mod WritesLaws
 pub mod FoundLemmas
+pub mod CallLemmas
 pub mod SeatLaws
 pub mod UnsettledLaws
 pub mod ExactLaws

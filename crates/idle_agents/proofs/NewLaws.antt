@@ -12,9 +12,6 @@ use Rattle.nine_messages.specs.declared.message.TBody.TheVariants as t
 use Rattle.nine_messages.specs.declared.message.RBody.{RBody}
 use Rattle.nine_messages.specs.Messages.{frame, t_fits, t_frame}
 use Rattle.nine_messages.specs.Decoding.{request_of}
-use Rattle.file_tree.specs.declared.tree.Node.{Node}
-use Rattle.file_tree.specs.declared.tree.Node.TheVariants.{Root, Factotum, Rpc, Ctl, Confirm, Needkey, Proto, Log}
-use Rattle.file_tree.specs.Tree.{lead_to, step}
 use Rattle.file_tree.specs.Calls.{attach_fault}
 use Rattle.talks.specs.Standings.{standing}
 use Rattle.agent_history.specs.Deeds.{Attached, Deed, Entered, OfConnection, OfFids, Versioned, fid_of, held_by, msize_of, was_hung, was_opened}
@@ -22,6 +19,7 @@ use Rattle.agent_history.specs.Replies.{has_settled, swept, waits}
 use Rattle.agent_history.specs.Conversations.{opened_talks, speakers, talk}
 use Rattle.agent_history.specs.Requests.{Call, after, after_frame, after_granted, body_to, call_of, granted, granted_body, is_over, lacks_version, refusal, repeats_tag, replied}
 use Rattle.agent_history.specs.Histories.{History, deeds}
+use Rattle.driven_agents.proofs.NamesLaws.{to_ctl}
 use Rattle.world_history.specs.Driving.{agrees, attaches, drive, new_node, no_word, opens, walks}
 use Rattle.driven_agents.specs.Quiet.{NamesNoLines}
 use Rattle.idle_agents.specs.Idle.{AreRead, IsCalm, IsIdle, Runs}
@@ -32,7 +30,7 @@ use Rattle.idle_agents.proofs.KeptLaws.{KeepsTaken, behind_takes}
 use Rattle.idle_agents.proofs.LeftLaws.{request_deeds}
 use Rattle.idle_agents.proofs.OpensLaws.{open_is}
 use Rattle.idle_agents.proofs.RunLaws.{drive_runs, event_runs, going}
-use Rattle.idle_agents.proofs.WalkLaws.{EndsAway, ctl_string, walk_is, way_to}
+use Rattle.idle_agents.proofs.WalkLaws.{ctl_string, walk_is}
 
 version_string : IsString (codes "9P2000")
 unfolding is_text is_utf8 chars encode
@@ -179,17 +177,6 @@ attached_new h f runs =
 
 -- ---- ctl
 
-ctl_away : (node : Node) → EndsAway (lead_to node (way_to (codes "ctl")))
-unfolding step
-ctl_away Root = refl
-ctl_away Factotum = tt
-ctl_away Rpc = tt
-ctl_away Ctl = tt
-ctl_away Confirm = tt
-ctl_away Needkey = tt
-ctl_away Proto = tt
-ctl_away Log = tt
-
 pub record IsNew (h : History) : Type 0 where
   pub idle : IsIdle h
   pub talks : (conv : ℕ) → talk (deeds h) conv ≡ []
@@ -209,7 +196,7 @@ new_is runs =
     let fresh : IsFresh (deeds one) = behind_takes IsFresh fresh_taken agrees [] one_runs first.entered first in
     let second = attached_new one fresh (event_runs attaches one two_runs) in
     let told : (conv : ℕ) → talk (deeds two) conv ≡ [] = behind_takes (λ done. (conv : ℕ) → talk done conv ≡ []) new_talks attaches one two_runs second.calm.entered second.talks in
-    let w = walk_is 1 (codes "ctl") two (idle_behind attaches one second.calm two_runs) (omega arith) refl ctl_string ctl_away three_runs in
+    let w = walk_is 1 (codes "ctl") two (idle_behind attaches one second.calm two_runs) (omega arith) refl ctl_string to_ctl three_runs in
     let told_then : (conv : ℕ) → talk (deeds three) conv ≡ [] = λ conv. w.talks conv ∙ told conv in
     let o = open_is 1 three w.idle (omega arith) refl (ap (λ talk. (standing talk).begun) (told_then (opened_talks (deeds three)))) runs in
     record { idle = o.idle; talks = λ conv. o.talks conv ∙ told_then conv }

@@ -7,9 +7,7 @@ use Rattle.std.proofs.lemmas.Bool.{and_from, and_parts, lt-ltb}
 use Rattle.nine_messages.specs.declared.message.TMsg.{TMsg}
 use Rattle.nine_messages.specs.declared.message.TBody.TheVariants as t
 use Rattle.nine_messages.specs.Messages.{t_frame}
-use Rattle.file_tree.specs.declared.tree.Node.{Node}
-use Rattle.file_tree.specs.declared.tree.Node.TheVariants.{Root, Factotum, Rpc, Ctl, Confirm, Needkey, Proto, Log}
-use Rattle.file_tree.specs.Tree.{lead_to, step}
+use Rattle.file_tree.specs.declared.tree.Node.TheVariants.{Rpc}
 use Rattle.file_tree.specs.Calls.{at_rest, opened}
 use Rattle.roles.specs.Answers.{IsExchange}
 use Rattle.talks.specs.Standings.{OnServer, need_in, standing}
@@ -18,6 +16,7 @@ use Rattle.agent_history.specs.Conversations.{Question, Speaker, asker, conv_of,
 use Rattle.agent_history.specs.Requests.{Call, after, after_frame, call_of, granted}
 use Rattle.agent_history.specs.Histories.{History, deeds}
 use Rattle.agent_laws.proofs.KindLaws.{same_number}
+use Rattle.driven_agents.proofs.NamesLaws.{to_rpc}
 use Rattle.world_history.specs.Driving.{drive, is_refused, no_word, opens, refuses_open, replies_to, walked, walks}
 use Rattle.world_history.specs.Driving as driving
 use Rattle.idle_agents.specs.Idle.{AreRead, IsCalm, IsIdle, IsRead, Runs}
@@ -30,7 +29,7 @@ use Rattle.idle_agents.proofs.IdleLaws.{idle_behind}
 use Rattle.idle_agents.proofs.RunLaws.{drive_runs, event_runs}
 use Rattle.idle_agents.proofs.SeatLaws.{all_seated, has_seat, is_at}
 use Rattle.idle_agents.proofs.StillLaws.{all_behind}
-use Rattle.idle_agents.proofs.WalkLaws.{EndsAway, at_rpc, rpc_string, walk_is, way_to}
+use Rattle.idle_agents.proofs.WalkLaws.{at_rpc, rpc_string, walk_is}
 
 -- ---- the request
 
@@ -168,23 +167,12 @@ both_granted : (a b : Bool) → cond a true b ≡ false → (a ≡ false) × (b 
 both_granted true b none = absurd cc
 both_granted false b none = (refl, none)
 
-rpc_away : (node : Node) → EndsAway (lead_to node (way_to (codes "rpc")))
-unfolding step
-rpc_away Root = refl
-rpc_away Factotum = tt
-rpc_away Rpc = tt
-rpc_away Ctl = tt
-rpc_away Confirm = tt
-rpc_away Needkey = tt
-rpc_away Proto = tt
-rpc_away Log = tt
-
 pub seat_is : (fid : ℕ) (h : History) → IsIdle h → fid < 65535 → eqb fid 0 ≡ false → (standing_of (deeds h) (opened_talks (deeds h))).begun ≡ None → Runs (driving.opened fid h) → refuses_open fid h ≡ false → SeatSo fid h
 seat_is fid h idle small off new runs none =
     let parts = both_granted (is_refused (replies_to (walks fid (codes "rpc")) h)) (is_refused (replies_to (opens fid) (walked fid h))) none in
     let on = walked fid h in
     let on_runs = drive_runs (opens fid) on runs in
-    let w = walk_is fid (codes "rpc") h idle small off rpc_string rpc_away on_runs in
+    let w = walk_is fid (codes "rpc") h idle small off rpc_string to_rpc on_runs in
     let at = at_rpc fid h idle small w.calm on_runs parts.0 in
     let done = deeds on in
     let still : (standing_of done (opened_talks done)).begun ≡ None = ap (λ n. (standing_of done n).begun) w.seats.opened ∙ (ap (λ talk. (standing talk).begun) (w.talks (opened_talks (deeds h))) ∙ new) in

@@ -32,7 +32,7 @@ calm_of done s settled read = record { names = s.names; entered = s.entered; the
 
 -- ---- reads that wait
 
-settled_all : (p : Wait → Bool) → ((body : RBody) (w : Wait) → p (settled_by body w) ≡ p w) → (tag : ℕ) (body : RBody) (ws : List Wait) → list_all p (settle_tag tag body ws) ≡ list_all p ws
+pub settled_all : (p : Wait → Bool) → ((body : RBody) (w : Wait) → p (settled_by body w) ≡ p w) → (tag : ℕ) (body : RBody) (ws : List Wait) → list_all p (settle_tag tag body ws) ≡ list_all p ws
 settled_all p same tag body [] = refl
 settled_all p same tag body (w ∷ ws) = by_tag (eqb w.tag tag) (settled_all p same tag body ws)
   where

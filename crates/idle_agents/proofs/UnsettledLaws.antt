@@ -31,17 +31,17 @@ filtered keep (w ∷ ws) = elim (cases_Bool (keep w)) [
   | inr off ↦ subst (λ b. list_all keep (cond b (w ∷ filter keep ws) (filter keep ws)) ≡ true) (sym off) (filtered keep ws)
 ]
 
-abbrev None_is : List Wait → Type 0
-None_is ws = list_all is_unsettled ws ≡ true
+abbrev pub AreUnsettled : List Wait → Type 0
+AreUnsettled ws = list_all is_unsettled ws ≡ true
 
-choice : (b : Bool) (one other : List Wait) → (b ≡ true → None_is one) → None_is other → None_is (cond b one other)
+choice : (b : Bool) (one other : List Wait) → (b ≡ true → AreUnsettled one) → AreUnsettled other → AreUnsettled (cond b one other)
 choice true one other p q = p refl
 choice false one other p q = q
 
 by_number : (at conn : ℕ) (P : ℕ → Type 0) → eqb at conn ≡ true → P at → P conn
 by_number at conn P is p = subst P (eqb-true at conn is) p
 
-pub none_settled : (done : List Deed) (conn : ℕ) → has_settled done ≡ false → None_is (waits done conn)
+pub none_settled : (done : List Deed) (conn : ℕ) → has_settled done ≡ false → AreUnsettled (waits done conn)
 none_settled [] conn none = refl
 none_settled (OfReplies at (Awaited tag fid count) ∷ done) conn none =
     choice (eqb at conn) (waits done conn ++ record { tag = tag; fid = fid; count = count; reply = None } ∷ []) (waits done conn)
@@ -50,7 +50,7 @@ none_settled (OfReplies at (Settled tag body) ∷ done) conn none =
     let parts = or_parts (waits_under done at tag) (has_settled done) none in
     let before = none_settled done conn parts.1 in
     choice (eqb at conn) (settle_tag tag body (waits done conn)) (waits done conn)
-    (λ on. subst None_is (sym (no_tag tag body (waits done conn) (by_number at conn (λ n. waits_under done n tag ≡ false) on parts.0))) before) before
+    (λ on. subst AreUnsettled (sym (no_tag tag body (waits done conn) (by_number at conn (λ n. waits_under done n tag ≡ false) on parts.0))) before) before
 none_settled (OfReplies at (Flushed tag) ∷ done) conn none =
     let before = none_settled done conn none in
     choice (eqb at conn) (filter (λ w. not (eqb w.tag tag)) (waits done conn)) (waits done conn) (λ _. kept_all is_unsettled (λ w. not (eqb w.tag tag)) (waits done conn) before) before
@@ -59,7 +59,7 @@ none_settled (OfFids at (Clunked fid) ∷ done) conn none =
     let parts = or_parts (waits_for done at fid) (has_settled done) none in
     let before = none_settled done conn parts.1 in
     choice (eqb at conn) (map (settle_fid fid fid_given_up) (waits done conn)) (waits done conn)
-    (λ on. subst None_is (sym (no_fid fid fid_given_up (waits done conn) (by_number at conn (λ n. waits_for done n fid ≡ false) on parts.0))) before) before
+    (λ on. subst AreUnsettled (sym (no_fid fid fid_given_up (waits done conn) (by_number at conn (λ n. waits_for done n fid ≡ false) on parts.0))) before) before
 none_settled (OfConnection at Hung ∷ done) conn none = choice (eqb at conn) [] (waits done conn) (λ _. refl) (none_settled done conn none)
 none_settled (Swept ∷ done) conn none = filtered is_unsettled (waits done conn)
 none_settled (Halted ∷ done) conn none = refl
@@ -67,11 +67,11 @@ none_settled (deed ∷ done) conn none = none_settled done conn none
 
 -- ---- what is swept then
 
-unsettled_none : (w : Wait) (o : Option RBody) → w.reply ≡ o → not (is_some o) ≡ true → reply_in w ≡ None
+pub unsettled_none : (w : Wait) (o : Option RBody) → w.reply ≡ o → not (is_some o) ≡ true → reply_in w ≡ None
 unsettled_none w None is none = ap (λ o. reply_in (record { tag = w.tag; fid = w.fid; count = w.count; reply = o })) is
 unsettled_none w (Some body) is none = absurd cc
 
-pub none_given : (ws : List Wait) → None_is ws → filter_map reply_in ws ≡ []
+pub none_given : (ws : List Wait) → AreUnsettled ws → filter_map reply_in ws ≡ []
 none_given [] none = refl
 none_given (w ∷ ws) none =
     let parts = and_parts (is_unsettled w) (list_all is_unsettled ws) none in
@@ -83,7 +83,7 @@ given_up_step true fid w ws None is none more = rw is (refl, more)
 given_up_step false fid w ws o is none more = rw (unsettled_none w o is none) more
 
 -- of reads that aren't settled those of a fid are told that it is given up
-pub given_up_bare : (fid : ℕ) (ws : List Wait) → None_is ws → GivesNone (filter_map reply_in (map (settle_fid fid fid_given_up) ws))
+pub given_up_bare : (fid : ℕ) (ws : List Wait) → AreUnsettled ws → GivesNone (filter_map reply_in (map (settle_fid fid fid_given_up) ws))
 given_up_bare fid [] none = tt
 given_up_bare fid (w ∷ ws) none =
     let parts = and_parts (is_unsettled w) (list_all is_unsettled ws) none in

@@ -5,7 +5,6 @@ use Rattle.std.specs.Prelude.{Result, Ok, Err, find, is_some, option_map}
 use Rattle.nine_messages.specs.declared.message.TMsg.{TMsg}
 use Rattle.nine_messages.specs.declared.message.TBody.{TBody}
 use Rattle.nine_messages.specs.declared.message.TBody.TheVariants as t
-use Rattle.nine_messages.specs.declared.message.RBody.{RBody}
 use Rattle.nine_messages.specs.declared.message.RBody.TheVariants as r
 use Rattle.nine_messages.specs.Messages.{t_frame}
 use Rattle.nine_messages.specs.Decoding.{request_of}
@@ -18,10 +17,9 @@ use Rattle.side_files.specs.declared.line.PromptKind.{PromptKind}
 use Rattle.side_files.specs.Replies as prompt
 use Rattle.talks.specs.Calls as calls
 use Rattle.talks.specs.Standings.{Phase, Resting, OnServer, Standing, standing, then_stands}
-use Rattle.agent_history.specs.Deeds.{Answered, Deed, OfKeys, OfReplies, Swept, fid_of, keys_of}
-use Rattle.agent_history.specs.Replies.{swept}
+use Rattle.agent_history.specs.Deeds.{Deed, OfKeys, fid_of, keys_of}
 use Rattle.agent_history.specs.SideFiles.{kind_at}
-use Rattle.agent_history.specs.Conversations.{asker, conv_of, opened_talks, speakers, talk}
+use Rattle.agent_history.specs.Conversations.{asker, conv_of, talk}
 use Rattle.agent_history.specs.Requests.{Call, after, after_frame, answered, body_to, call_of, granted, is_rpc, line_deed, lines_done, replying, reply_of, stored, written}
 use Rattle.agent_history.specs.Histories.{History, deeds}
 use Rattle.agent_laws.specs.Laws.{gives_content}
@@ -31,11 +29,12 @@ use Rattle.driven_agents.proofs.FrameKinds.{frame_read, write_so}
 use Rattle.driven_agents.proofs.QuietLaws.{fid_plain, no_kind}
 use Rattle.driven_agents.specs.Quiet.{NamesNoLines}
 use Rattle.idle_agents.specs.Idle.{IsCalm, IsIdle, Runs, SameSeats}
-use Rattle.idle_agents.proofs.AlikeLaws.{Alike, GivesNone, IsBare, alike_calm, alike_itself, answered_same, body_bare, calm_answered, calm_replied, granted_keeps, none_swept, own_gives_none}
-use Rattle.idle_agents.proofs.IdleLaws.{asker_behind, idle_behind, seats_behind}
-use Rattle.idle_agents.proofs.LeftLaws.{request_deeds, request_left, swept_replies}
+use Rattle.idle_agents.proofs.AlikeLaws.{Alike, GivesNone, IsBare, alike_calm, alike_itself, body_bare, calm_replied, granted_keeps, none_swept, own_gives_none}
+use Rattle.idle_agents.proofs.IdleLaws.{idle_behind}
+use Rattle.idle_agents.proofs.LeftLaws.{request_left, swept_replies}
 use Rattle.idle_agents.proofs.RunLaws.{event_runs}
 use Rattle.idle_agents.proofs.TakenLaws.{replies_so}
+use Rattle.idle_agents.proofs.GrantLaws.{asker_then, calm_event, opened_then, speakers_then}
 
 -- ---- what a write does
 
@@ -137,24 +136,11 @@ frame_bare fid bytes done =
     body_bare done call (granted done call frame)
     (granted_so (λ body. IsBare (reply_of done call body)) done call frame (λ m is. any_write (λ body. IsBare (reply_of done call body)) (λ f o c. write_bare done call f o c) fid bytes m is))
 
-write_deeds : (fid : ℕ) (bytes : List ℕ) (h : History) → IsCalm (deeds h) → Runs (writes fid bytes ∷ h) → deeds (writes fid bytes ∷ h) ≡ swept (answered (deeds h) (write_call fid bytes) (write_frame fid bytes))
-write_deeds fid bytes h calm runs = request_deeds (write_frame fid bytes) no_word h runs calm.entered calm.there
-
 pub write_calm : (fid : ℕ) (bytes : List ℕ) (h : History) → IsCalm (deeds h) → Runs (writes fid bytes ∷ h) → IsCalm (deeds (writes fid bytes ∷ h))
 write_calm fid bytes h calm runs =
     let done = deeds h in
-    let call = write_call fid bytes in
     let frame = write_frame fid bytes in
-    subst IsCalm (sym (write_deeds fid bytes h calm runs)) (calm_answered call (body_to done call frame) (after_frame done call frame) (alike_calm done (after_frame done call frame) (frame_alike fid bytes done calm.names) calm))
-
--- what neither its reply nor a sweep changes is as behind the write alone
-pub write_same : {X : Type 0} (f : List Deed → X) → ((at tag : ℕ) (body : RBody) (d : List Deed) → f (OfReplies at (Answered tag body) ∷ d) ≡ f d) → ((d : List Deed) → f (Swept ∷ d) ≡ f d) → (fid : ℕ) (bytes : List ℕ) (h : History) → IsCalm (deeds h) → Runs (writes fid bytes ∷ h)
-    → f (deeds (writes fid bytes ∷ h)) ≡ f (after_frame (deeds h) (write_call fid bytes) (write_frame fid bytes))
-write_same f one other fid bytes h calm runs =
-    let done = deeds h in
-    let call = write_call fid bytes in
-    let frame = write_frame fid bytes in
-    ap f (write_deeds fid bytes h calm runs) ∙ answered_same f one other call (body_to done call frame) (after_frame done call frame)
+    calm_event frame no_word h calm runs (alike_calm done (after_frame done (write_call fid bytes) frame) (frame_alike fid bytes done calm.names) calm)
 
 pub record WriteSo (fid : ℕ) (bytes : List ℕ) (h : History) : Type 0 where
   pub idle : IsIdle (drive (writes fid bytes) h)
@@ -171,14 +157,10 @@ write_is fid bytes h idle runs =
     let frame = write_frame fid bytes in
     let now = write_calm fid bytes h calm once in
     let a = frame_alike fid bytes done calm.names in
-    let behind = seats_behind (writes fid bytes) h runs now.entered in
     record {
       idle = idle_behind (writes fid bytes) h now runs;
-      seats = record {
-        speakers = behind.speakers ∙ (write_same speakers (λ at tag body d. refl) (λ d. refl) fid bytes h calm once ∙ a.speaking);
-        opened = behind.opened ∙ (write_same opened_talks (λ at tag body d. refl) (λ d. refl) fid bytes h calm once ∙ a.opened);
-      };
-      askers = λ n. asker_behind (writes fid bytes) h n runs now.entered ∙ (write_same (λ d. asker d n) (λ at tag body d. refl) (λ d. refl) fid bytes h calm once ∙ ap (λ qs. option_map (λ q. q.conv) (find (λ q. eqb q.call n) qs)) a.asked);
+      seats = record { speakers = speakers_then frame no_word h calm runs now ∙ a.speaking; opened = opened_then frame no_word h calm runs now ∙ a.opened };
+      askers = λ n. asker_then frame no_word h calm runs now n ∙ ap (λ qs. option_map (λ q. q.conv) (find (λ q. eqb q.call n) qs)) a.asked;
       replies = subst GivesNone (sym (replies_so (writes fid bytes) h now.there runs ∙ request_left frame no_word h once calm.entered calm.there idle.taken))
           (own_gives_none call (body_to done call frame) (swept_replies (answered done call frame)) (frame_bare fid bytes done) (none_swept (answered done call frame) (calm_replied call (body_to done call frame) (after_frame done call frame) (alike_calm done (after_frame done call frame) a calm)).settled));
     }

@@ -8,10 +8,10 @@ use Rattle.agent_history.specs.declared.event.Event.{Event}
 use Rattle.agent_history.specs.Deeds.{Deed, fid_of, msize_of, was_hung, was_opened}
 use Rattle.agent_history.specs.Replies.{Wait, has_settled, reader, untaken, waits}
 use Rattle.agent_history.specs.Conversations.{Speaker, asker, conv_of, drops, next_question, opened_talks, speakers, standing_of}
-use Rattle.agent_history.specs.Histories.{History, deeds, has_stopped}
+use Rattle.agent_history.specs.Histories.{History, deeds, does, has_stopped}
 use Rattle.driven_agents.specs.Quiet.{NamesNoLines}
 use Rattle.world_history.specs.declared.question.Question.{Question}
-use Rattle.world_history.specs.Driving.{clunks, drive, new_node, opened, refuses_open, writes}
+use Rattle.world_history.specs.Driving.{clunks, drive, new_node, opened, refuses_open, replies_to, writes}
 
 -- the agent didn't stop
 abbrev pub Runs : History → Type 0
@@ -76,6 +76,14 @@ AreOf number [] h = Unit {0}
 AreOf number (q ∷ more) h = (asker (deeds h) q.call ≡ Some number) × AreOf number more h
 
 -- ---- the laws
+
+-- an agent that runs behind an event ran before it, and the event did what is defined
+abbrev pub EventsDo : Type 0
+EventsDo = (event : Event) (h : History) → Runs (event ∷ h) → Runs h × (deeds (event ∷ h) ≡ does (deeds h) event)
+
+-- where its connection is there behind an event, the replies that come of it are all that it left to be taken
+abbrev pub TakesGetWhatIsLeft : Type 0
+TakesGetWhatIsLeft = (event : Event) (h : History) → was_hung (deeds (event ∷ h)) 0 ≡ false → Runs (drive event h) → replies_to event h ≡ untaken (deeds (event ∷ h)) 0
 
 -- takes leave nothing of what an event left of a calm agent
 abbrev pub TakesLeaveNothing : Type 0

@@ -1,5 +1,15 @@
 // Laws of an agent that a network drives, each the contract of a function that does nothing.
-ghost use Rattle.idle_agents.specs.Idle.{ClosingsKeepIdle, NewNodesAreIdle, OpeningsKeepIdle, TakesLeaveNothing, WritesKeepIdle};
+ghost use Rattle.idle_agents.specs.Idle.{ClosingsKeepIdle, EventsDo, NewNodesAreIdle, OpeningsKeepIdle, TakesGetWhatIsLeft, TakesLeaveNothing, WritesKeepIdle};
+
+/// An agent that runs behind an event ran before it, and the event did what is defined.
+pub fn an_event_does_what_is_defined()
+    ensures { EventsDo }
+{}
+
+/// The replies that come of an event are all that it left to be taken.
+pub fn takes_get_what_is_left()
+    ensures { TakesGetWhatIsLeft }
+{}
 
 /// The takes that follow an event leave no reply, no question and no connection to give up, where the event left the agent calm,
 /// and it is calm behind them.
