@@ -1,7 +1,7 @@
 // Laws of every script, each the contract of a function that does nothing.
 ghost use Rattle.clean_runs.specs.Statements.{IsBridged, IsSecret};
-ghost use Rattle.clean_agreement.specs.Statements.{ClientsAreAnswered, ClientsAreHosts, ClientsMatch, EachByATicket, OneByAMatch, OneByAText, OneByATicket, OneUnderAGrant, ServersAgree};
-ghost use Rattle.world_promises.specs.Statements.{OfEveryCleanScript};
+ghost use Rattle.clean_agreement.specs.Statements.{ClientsAreAnswered, ClientsAreHosts, ClientsMatch, EachByATicket, OneByAMatch, OneByAText, OneByATicket, OneUnderAGrant, ServersAgree, ServersNameTheUser};
+ghost use Rattle.world_promises.specs.Statements.{EachIsPromised, OfEveryCleanScript};
 
 /// Where the record of a script is clean it is a symbolic run, and each message that it gives is spelled by its label.
 pub fn scripts_are_symbolic_runs()
@@ -13,9 +13,11 @@ pub fn scripts_keep_their_secrets()
     ensures { OfEveryCleanScript IsSecret }
 {}
 
-/// A server whose holder isn't compromised accepts on the authentication server's word; where also none of the names that
-/// may speak for the user is compromised, a conversation of the user's client matches. A client accepts on a server's.
+/// The step by which a server accepts names the user whose field it accepted. A server whose holder isn't compromised accepts
+/// on the authentication server's word; where also none of the names that may speak for the user is compromised, a
+/// conversation of the user's client matches. A client accepts on a server's.
 pub fn servers_accept_by_grants()
+    ensures named { OfEveryCleanScript (λ history z atoms l. ServersNameTheUser history l) }
     ensures agree { OfEveryCleanScript (λ history z atoms l. ServersAgree history z l) }
     ensures matched { OfEveryCleanScript (λ history z atoms l. ClientsMatch history z l) }
     ensures answered { OfEveryCleanScript (λ history z atoms l. ClientsAreAnswered history z l) }
@@ -30,4 +32,9 @@ pub fn tickets_serve_once()
     ensures by_one_text { OfEveryCleanScript (λ history z atoms l. OneByAText history atoms l) }
     ensures under_one_grant { OfEveryCleanScript (λ history z atoms l. OneUnderAGrant history z l) }
     ensures matched_by_one { OfEveryCleanScript (λ history z atoms l. OneByAMatch history z l) }
+{}
+
+/// All of this is promised of every script of at most 2^22 bytes, and that its record is one that a network can have.
+pub fn every_script_is_promised()
+    ensures { EachIsPromised }
 {}

@@ -1,0 +1,10 @@
+pub mod FoundLemmas
+pub mod AskedLaws
+pub mod OtherTalks
+pub mod SeatLaws
+pub mod ToldReads
+pub mod AnswerDeeds
+pub mod AnsweredCalm
+pub mod AnsweredReplies
+pub mod AnsweredQuestions
+pub mod AnswerLaws

@@ -1,0 +1,16 @@
+pub mod RunLemmas
+pub mod FidLemmas
+pub mod TalkLemmas
+pub mod TurnFacts
+pub mod KnownLaws
+pub mod StepLaws
+pub mod OpenedLaws
+pub mod MadeLaws
+pub mod ActLaws
+pub mod ShortLaws
+pub mod WaitCounts
+pub mod HandCounts
+pub mod EventCounts
+pub mod LittleLaws
+pub mod LengthLaws
+pub mod ScriptLaws
