@@ -1,1 +1,2 @@
 pub mod EveryScript
+pub mod EveryPromise

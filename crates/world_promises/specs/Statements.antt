@@ -6,10 +6,35 @@ use Rattle.wire_histories.specs.Histories.{History}
 use Rattle.wire_histories.specs.Legal.{Setting}
 use Rattle.clean_runs.specs.Labels.{Labelling}
 use Rattle.clean_runs.specs.Clean.{IsClean}
+use Rattle.clean_runs.specs.Statements.{IsBridged, IsSecret}
+use Rattle.clean_agreement.specs.Statements.{ClientsAreAnswered, ClientsAreHosts, ClientsMatch, EachByATicket, OneByAMatch, OneByAText, OneByATicket, OneUnderAGrant, ServersAgree}
 use Rattle.world_history.specs.Scripts.{play, world}
 use Rattle.world_legality.specs.Agents.{AgentsDo}
 use Rattle.world_legality.specs.Settings.{setting}
 
-abbrev pub OfEveryCleanScript : (History → Setting → Atoms → Labelling → Type 0) → Type 0
-OfEveryCleanScript P = (script : List ℕ) (atoms : Atoms) (l : Labelling) → AgentsDo (play script).acts
+-- this holds of a script's record where it is clean
+abbrev pub OfCleanScript : (History → Setting → Atoms → Labelling → Type 0) → List ℕ → Type 0
+OfCleanScript P script = (atoms : Atoms) (l : Labelling) → AgentsDo (play script).acts
     → IsClean (reverse (world script)) (setting (play script).acts) atoms l → P (reverse (world script)) (setting (play script).acts) atoms l
+
+abbrev pub OfEveryCleanScript : (History → Setting → Atoms → Labelling → Type 0) → Type 0
+OfEveryCleanScript P = (script : List ℕ) → OfCleanScript P script
+
+-- all that is promised of one script: where its record is clean it is a symbolic run, and each message that it gives is
+-- spelled by its label; no uncompromised secret derives from what the network saw; each acceptance has its partner; and no
+-- ticket serves twice
+pub record IsPromised (script : List ℕ) : Type 0 where
+  pub bridged : OfCleanScript IsBridged script
+  pub secret : OfCleanScript IsSecret script
+  pub agree : OfCleanScript (λ history z atoms l. ServersAgree history z l) script
+  pub matched : OfCleanScript (λ history z atoms l. ClientsMatch history z l) script
+  pub answered : OfCleanScript (λ history z atoms l. ClientsAreAnswered history z l) script
+  pub hosted : OfCleanScript (λ history z atoms l. ClientsAreHosts history z l) script
+  pub by_a_ticket : OfCleanScript (λ history z atoms l. EachByATicket history l) script
+  pub by_one_ticket : OfCleanScript (λ history z atoms l. OneByATicket history l) script
+  pub by_one_text : OfCleanScript (λ history z atoms l. OneByAText history atoms l) script
+  pub under_one_grant : OfCleanScript (λ history z atoms l. OneUnderAGrant history z l) script
+  pub matched_by_one : OfCleanScript (λ history z atoms l. OneByAMatch history z l) script
+
+abbrev pub EachIsPromised : Type 0
+EachIsPromised = (script : List ℕ) → IsPromised script

@@ -1,7 +1,7 @@
 // Laws of every script, each the contract of a function that does nothing.
 ghost use Rattle.clean_runs.specs.Statements.{IsBridged, IsSecret};
 ghost use Rattle.clean_agreement.specs.Statements.{ClientsAreAnswered, ClientsAreHosts, ClientsMatch, EachByATicket, OneByAMatch, OneByAText, OneByATicket, OneUnderAGrant, ServersAgree};
-ghost use Rattle.world_promises.specs.Statements.{OfEveryCleanScript};
+ghost use Rattle.world_promises.specs.Statements.{EachIsPromised, OfEveryCleanScript};
 
 /// Where the record of a script is clean it is a symbolic run, and each message that it gives is spelled by its label.
 pub fn scripts_are_symbolic_runs()
@@ -30,4 +30,9 @@ pub fn tickets_serve_once()
     ensures by_one_text { OfEveryCleanScript (λ history z atoms l. OneByAText history atoms l) }
     ensures under_one_grant { OfEveryCleanScript (λ history z atoms l. OneUnderAGrant history z l) }
     ensures matched_by_one { OfEveryCleanScript (λ history z atoms l. OneByAMatch history z l) }
+{}
+
+/// All of this is promised of every script.
+pub fn every_script_is_promised()
+    ensures { EachIsPromised }
 {}

@@ -6,6 +6,6 @@
 mod laws;
 
 pub use laws::{
-    scripts_are_symbolic_runs, scripts_keep_their_secrets, servers_accept_by_grants,
-    tickets_serve_once,
+    every_script_is_promised, scripts_are_symbolic_runs, scripts_keep_their_secrets,
+    servers_accept_by_grants, tickets_serve_once,
 };
