@@ -1,6 +1,5 @@
 -- What an `authsrv` came to, and what is left where nothing stands in its way.
-use Rattle.std.proofs.Common.{◌≡◌, ◌⊎◌, ◌∙◌, ◌≤◌, ℕ, List, ◌++◌, true, false, append-nil, length, length-append, Option, Some, None, refl, ap, sym, subst, inl, inr, arith}
-use Rattle.std.specs.Io.KnownBytes.{Consumes, IsAtEnd}
+use Rattle.std.proofs.Common.{◌≡◌, ◌⊎◌, ◌∙◌, ℕ, List, true, false, Option, Some, None, refl, ap, sym, subst, inl, inr, arith}
 use Rattle.auth_tables.specs.Keys.{bad_key_line}
 use Rattle.auth_tables.specs.Speaks.{bad_speak_line, may_speak}
 use Rattle.auth_server.specs.Answers.{Knowledge}

@@ -1,0 +1,3 @@
+pub mod GenClap
+pub mod PlayLemmas
+pub mod EndLemmas
