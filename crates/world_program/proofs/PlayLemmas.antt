@@ -1,31 +1,26 @@
 -- What a run of a script comes to, and what is left where nothing stands in its way.
-use Rattle.std.proofs.Common.{◌≡◌, ◌⊎◌, ◌∙◌, ◌≤◌, ℕ, List, [], ◌∷◌, ◌++◌, append_assoc, append-nil, length, length-append, Bool, true, false, Option, Some, None, refl, ap, sym, subst, inl, inr, arith}
-use Rattle.std.specs.Prelude.{filter, is_some}
-use Rattle.std.specs.List.{filter_map}
+use Rattle.std.proofs.Common.{◌≡◌, ◌∙◌, ◌+◌, ℕ, List, [], ◌∷◌, ◌++◌, append_assoc, length, length-append, Option, Some, None, refl, ap, sym, subst, inl, inr, arith}
+use Rattle.std.specs.Prelude.{filter}
 use Rattle.std.proofs.lemmas.Grind.{flat_map-append}
 use Rattle.wire_streams.specs.Streams.{Gains}
 use Rattle.wire_streams.specs.Whole.{GainsFront}
 use Rattle.wire_model.specs.declared.step.Step.{Step}
 use Rattle.wire_model.specs.Lines.{step_line}
-use Rattle.world_history.specs.declared.cause.ScriptCause.{ScriptCause}
-use Rattle.world_history.specs.Scripts.{play, world}
+use Rattle.world_history.specs.Scripts.{world}
 use Rattle.world_history.specs.Worlds.{message_in, messages_in}
 use Rattle.world_record.specs.Writing.{lines_of}
-use Rattle.world_record.specs.declared.record.Cut.TheVariants as cut
 use Rattle.world_run.specs.declared.play.WorldEnd.{WorldEnd}
 use Rattle.world_run.specs.declared.play.WorldEnd.TheVariants as ends
-use Rattle.world_run.specs.Runs.{RunsAll, RunsPart, RunsSo}
+use Rattle.world_run.specs.Runs.{RunsSo}
 use Rattle.world_gen.specs.Generated.{gen_text}
 use Rattle.world_promises.proofs.EveryPromise.{promised}
-use Rattle.authsrv_program.specs.Files.{FloodsFile, ReadsFile, StopsSo}
-use Rattle.authsrv_program.specs.Statuses.{is_printable}
+use Rattle.authsrv_program.specs.Files.{ReadsFile, StopsSo}
 use Rattle.authsrv_program.specs.declared.status.Status.{Status}
 use Rattle.authsrv_program.specs.declared.status.Status.TheVariants.{Fine, Usage, ReadFault, WriteFault, WordFault, BadFrame, Torn, BadScript, BadTables, AsEnded, NoMemory, Flood}
-use Rattle.authsrv_program.proofs.FileLemmas.{no_flood, told_file}
 use Rattle.world_program.specs.Messages.{is_message}
-use Rattle.world_program.specs.Playing.{IsPlayable, PlaysUpTo, WorldSo}
+use Rattle.world_program.specs.Playing.{WorldSo}
 use Rattle.world_program.specs.Running.{HasNotRun, HasRun, status_of}
-use Rattle.world_program.specs.Summing.{GenSo, RefusesMade, summary}
+use Rattle.world_program.specs.Summing.{GenSo, summary}
 
 -- ---- a script that was read
 

@@ -1,5 +1,5 @@
 // The script of a number.
-ghost use Rattle.std.specs.Prelude.{◌≡◌, ◌≤◌, IfErr, IfOk};
+ghost use Rattle.std.specs.Prelude.{◌≡◌, ◌≤◌, ◌^◌, length, IfErr, IfOk};
 ghost use Rattle.wire_streams.specs.Causes.{Rose};
 ghost use Rattle.world_gen.specs.Generated.{gen_text};
 ghost use Rattle.world_program.specs.Running.{HasNotRun, HasRun};
@@ -16,18 +16,12 @@ use wire_streams::{Sink, WriteFault, write_all};
 use world_gen::gen_script;
 use world_run::{WorldEnd, run_world};
 
-/// The most bytes of a script that is run.
-const MOST_SCRIPT: usize = 1 << 22;
-
 // Runs a script, and writes its record nowhere.
 fn run_unseen(alloc: Global, script: &[u8]) -> Result<Wire, Status>
+    requires { length script.now ≤ 2 ^ 22 }
     ensures ok { IfOk result (HasRun script.now) }
     ensures err { IfErr result (HasNotRun script.now) }
 {
-    // None that `gen` makes is so long.
-    if script.len() > MOST_SCRIPT {
-        return Err(Status::NoMemory);
-    }
     let (record, end) = run_world(alloc, script, &mut Nowhere);
     match end {
         WorldEnd::Done => Ok(record),
@@ -39,6 +33,7 @@ fn run_unseen(alloc: Global, script: &[u8]) -> Result<Wire, Status>
 
 // Runs the script of a number.
 fn run_made(alloc: Global, given: GenWords) -> Result<Wire, Status>
+    requires { given.rounds ≤ 1000 }
     ensures ok { IfOk result (HasRun (gen_text given.number given.rounds)) }
     ensures err { IfErr result (HasNotRun (gen_text given.number given.rounds)) }
 {
@@ -50,6 +45,7 @@ fn run_made(alloc: Global, given: GenWords) -> Result<Wire, Status>
 
 /// Runs the script of a number, of so many rounds, and writes a line on what became of it. It reads nothing.
 pub fn play_gen<W: Sink>(alloc: Global, given: GenWords, output: &mut W) -> Status
+    requires { given.rounds ≤ 1000 }
     ensures ends { GenSo result given.number given.rounds
         (W.holds output.old) (W.holds output.new) }
     ensures write_fault { result ≡ Status.WriteFault

@@ -1,12 +1,12 @@
 // The words of `world` and of `gen`: whether they have the form of their words, and the values that clap reads of those of
 // `gen`.
-ghost use Rattle.std.specs.Prelude.{◌≡◌, ◌&&◌, ◌∷◌, ◌≤◌, [], codes, IfErr, IfOk, Some, true};
+ghost use Rattle.std.specs.Prelude.{◌≡◌, ◌&&◌, ◌∷◌, [], IfErr, IfOk, Some, true};
 ghost use Rattle.std.specs.List.{list_all};
 ghost use Rattle.clap.specs.Words.{app_of};
 ghost use Rattle.wire_base.specs.Texts.{is_text};
 ghost use Rattle.authsrv_program.specs.Words.{is_among, is_value};
 ghost use Rattle.authsrv_program.specs.Reading.{bytes_of};
-ghost use Rattle.world_program.specs.Words.{IsUnreadGen, gen_given, gen_options, has_gen_form, is_world, plain_number, rounds_in, rounds_of};
+ghost use Rattle.world_program.specs.Words.{IsUnreadGen, gen_given, gen_options, has_gen_form, is_world, plain_number, rounds_of};
 ghost use Rattle.world_program.specs.Reading.{HasTexts, gen_app};
 
 use authsrv_program::{Status, as_str, copy_value, is_value, required_option};
