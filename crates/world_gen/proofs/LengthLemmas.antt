@@ -115,7 +115,7 @@ text_short (l ∷ lines) s = omega (arith, s.0, text_short lines s.1, length-app
 
 opening_short : AllShort opening
 unfolding line
-opening_short = (omega arith, omega arith, omega arith, omega arith, omega arith, omega arith, tt)
+opening_short = (omega arith, (omega arith, (omega arith, (omega arith, (omega arith, (omega arith, tt))))))
 
 -- ---- a round
 
@@ -125,30 +125,33 @@ module _ (round before first : ℕ) (d : Drawn) (few : round < 100000) (old : be
 
   starting_short : AllShort (starting round d)
   unfolding client_tuple server_tuple
-  starting_short = (open_short (codes "a") (client_of round) (omega arith) (omega (arith, name_short)), open_short (codes "b") (server_of round) (omega arith) (omega (arith, name_short)),
-      start_short (client_of round) d.client client_tuple (omega (arith, name_short)) s.client (omega arith), start_short (server_of round) d.server server_tuple (omega (arith, name_short)) s.server (omega arith), tt)
+  starting_short = (open_short (codes "a") (client_of round) (omega arith) (omega (arith, name_short)), (open_short (codes "b") (server_of round) (omega arith) (omega (arith, name_short)),
+      (start_short (client_of round) d.client client_tuple (omega (arith, name_short)) s.client (omega arith), (start_short (server_of round) d.server server_tuple (omega (arith, name_short)) s.server (omega arith), tt))))
 
   challenging_short : AllShort (challenging round first)
-  challenging_short = (read_short (client_of round) (omega (arith, name_short)), gives_short (server_of round) first (omega (arith, name_short)) (omega (arith, new)),
-      read_short (server_of round) (omega (arith, name_short)), gives_short (client_of round) (first + 1) (omega (arith, name_short)) (omega (arith, new)), tt)
+  challenging_short = (read_short (client_of round) (omega (arith, name_short)), (gives_short (server_of round) first (omega (arith, name_short)) (omega (arith, new)),
+      (read_short (server_of round) (omega (arith, name_short)), (gives_short (client_of round) (first + 1) (omega (arith, name_short)) (omega (arith, new)), tt))))
 
   answering_short : AllShort (answering round first d)
   answering_short = (asked_short (session_of round) (first + 2) d.first d.second d.third (omega (arith, name_short)) (omega (arith, new)) s.first s.second s.third,
-      answer_short (client_of round) (first + 3) (omega (arith, name_short)) (omega (arith, new)), read_short (client_of round) (omega (arith, name_short)), tt)
+      (answer_short (client_of round) (first + 3) (omega (arith, name_short)) (omega (arith, new)), (read_short (client_of round) (omega (arith, name_short)), tt)))
 
   middle_short : (kind : Kind) → AllShort (middle kind round before first d)
-  middle_short Honest = short_both (answering round first d) _ answering_short
-      (gives_short (server_of round) (first + 4) (omega (arith, name_short)) (omega (arith, new)), read_short (server_of round) (omega (arith, name_short)),
-      gives_short (client_of round) (first + 5) (omega (arith, name_short)) (omega (arith, new)), tt)
-  middle_short Replayed = short_both (answering round first d) _ answering_short (gives_short (server_of round) (before + 4) (omega (arith, name_short)) (omega (arith, old)), tt)
+  middle_short Honest = short_both (answering round first d) (gives (server_of round) (first + 4) ∷ Read (server_of round) ∷ gives (client_of round) (first + 5) ∷ []) answering_short
+      (gives_short (server_of round) (first + 4) (omega (arith, name_short)) (omega (arith, new)), (read_short (server_of round) (omega (arith, name_short)),
+      (gives_short (client_of round) (first + 5) (omega (arith, name_short)) (omega (arith, new)), tt)))
+  middle_short Replayed = short_both (answering round first d) (gives (server_of round) (before + 4) ∷ []) answering_short (gives_short (server_of round) (before + 4) (omega (arith, name_short)) (omega (arith, old)), tt)
   middle_short Unanswered = (no_answer_short (client_of round) (omega (arith, name_short)), tt)
-  middle_short Blank = short_both (answering round first d) _ answering_short (blank_short (server_of round) (omega (arith, name_short)), tt)
+  middle_short Blank = short_both (answering round first d) (Write (server_of round) (Spelled zeros ∷ []) ∷ []) answering_short (blank_short (server_of round) (omega (arith, name_short)), tt)
 
   ending_short : AllShort (ending round)
-  ending_short = (close_short (client_of round) (omega (arith, name_short)), close_short (server_of round) (omega (arith, name_short)), tt)
+  ending_short = (close_short (client_of round) (omega (arith, name_short)), (close_short (server_of round) (omega (arith, name_short)), tt))
 
   lines_short : AllShort (round_lines round before first d)
-  lines_short = short_both (starting round d) _ starting_short (short_both (challenging round first) _ challenging_short (short_both (middle (kind_of round) round before first d) (ending round) (middle_short (kind_of round)) ending_short))
+  lines_short =
+      let later : List ScriptLine = middle (kind_of round) round before first d ++ ending round in
+      short_both (starting round d) (challenging round first ++ later) starting_short (short_both (challenging round first) later challenging_short
+      (short_both (middle (kind_of round) round before first d) (ending round) (middle_short (kind_of round)) ending_short))
 
 middle_few : (kind : Kind) (round before first : ℕ) (d : Drawn) → length (middle kind round before first d) ≤ 6
 middle_few Honest round before first d = omega arith
@@ -170,7 +173,7 @@ recorded_few Blank = omega arith
 rounds_short : (n round before first : ℕ) (words : List (List ℕ)) → round + n ≤ 1000 → before ≤ 6 * round → first ≤ 6 * round → AreShort words → AllShort (rounds_from n round before first words)
 rounds_short zero round before first words few old new s = tt
 rounds_short (suc n) round before first words few old new s =
-    short_both (round_lines round before first (drawn words)) _
+    short_both (round_lines round before first (drawn words)) (rounds_from n (round + 1) first (first + recorded (kind_of round)) (drop 5 words))
     (lines_short round before first (drawn words) (omega (arith, few)) (omega (arith, few, old)) (omega (arith, few, new)) (round_short words s))
     (rounds_short n (round + 1) first (first + recorded (kind_of round)) (drop 5 words) (omega (arith, few)) (omega (arith, new)) (omega (arith, new, recorded_few (kind_of round))) (short_behind 5 words s))
 

@@ -1,5 +1,5 @@
 -- What a run of a script comes to, and what is left where nothing stands in its way.
-use Rattle.std.proofs.Common.{◌≡◌, ◌∙◌, ◌+◌, ℕ, List, [], ◌∷◌, ◌++◌, append_assoc, length, length-append, Option, Some, None, refl, ap, sym, subst, inl, inr, arith}
+use Rattle.std.proofs.Common.{◌≡◌, ◌∙◌, ℕ, suc, List, [], ◌∷◌, ◌++◌, append_assoc, length, length-append, Option, Some, None, refl, ap, sym, subst, inl, inr, arith}
 use Rattle.std.specs.Prelude.{filter}
 use Rattle.std.proofs.lemmas.Grind.{flat_map-append}
 use Rattle.wire_streams.specs.Streams.{Gains}
@@ -17,7 +17,8 @@ use Rattle.world_promises.proofs.EveryPromise.{promised}
 use Rattle.authsrv_program.specs.Files.{ReadsFile, StopsSo}
 use Rattle.authsrv_program.specs.declared.status.Status.{Status}
 use Rattle.authsrv_program.specs.declared.status.Status.TheVariants.{Fine, Usage, ReadFault, WriteFault, WordFault, BadFrame, Torn, BadScript, BadTables, AsEnded, NoMemory, Flood}
-use Rattle.world_program.specs.Messages.{is_message}
+use Rattle.world_program.specs.Counts.{is_sought}
+use Rattle.world_program.specs.declared.summary.Sought.TheVariants.{Message}
 use Rattle.world_program.specs.Playing.{WorldSo}
 use Rattle.world_program.specs.Running.{HasNotRun, HasRun, status_of}
 use Rattle.world_program.specs.Summing.{GenSo, summary}
@@ -102,13 +103,14 @@ unread_wrote status lo ln s e = subst (λ (it : Status). StopsSo it lo ln) e s
 
 -- ---- a script that was made
 
-pub steps_counted : (steps : List Step) → length (filter is_message steps) ≡ length (messages_in steps)
+one_counted : (s : Step) (steps : List Step) (m : Option (List ℕ)) → message_in s ≡ m → length (filter (is_sought Message) steps) ≡ length (messages_in steps)
+    → length (filter (is_sought Message) (s ∷ steps)) ≡ length (messages_in (s ∷ steps))
+one_counted s steps None e rest = rw e rest
+one_counted s steps (Some bytes) e rest = rw e (ap suc rest)
+
+pub steps_counted : (steps : List Step) → length (filter (is_sought Message) steps) ≡ length (messages_in steps)
 steps_counted [] = refl
-steps_counted (s ∷ steps) = go (message_in s) refl
-  where
-    go : (m : Option (List ℕ)) → message_in s ≡ m → length (filter is_message (s ∷ steps)) ≡ length (messages_in (s ∷ steps))
-    go None e = rw e (steps_counted steps)
-    go (Some bytes) e = rw e (ap (λ (n : ℕ). 1 + n) (steps_counted steps))
+steps_counted (s ∷ steps) = one_counted s steps (message_in s) refl (steps_counted steps)
 
 pub made_ends : (status : Status) (number rounds : ℕ) (holds : Option (List ℕ)) → HasNotRun (gen_text number rounds) status → GenSo status number rounds holds holds
 made_ends Fine number rounds h s = absurd s

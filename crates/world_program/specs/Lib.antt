@@ -3,4 +3,4 @@ pub mod Reading
 pub mod Playing
 pub mod Running
 pub mod Summing
-pub mod Messages
+pub mod Counts

@@ -1,21 +1,27 @@
 // The line on a record.
-ghost use Rattle.std.specs.Prelude.{◌≡◌, filter, length, IfOk, string_bytes};
-ghost use Rattle.world_history.specs.Worlds.{messages_in};
-ghost use Rattle.world_program.specs.Messages.{is_message};
+ghost use Rattle.std.specs.Prelude.{◌≡◌, filter, is_some, length, IfOk, string_bytes};
+ghost use Rattle.world_history.specs.Worlds.{message_in, messages_in};
+ghost use Rattle.world_program.specs.Counts.{is_sought};
 ghost use Rattle.world_program.specs.Summing.{is_accept, is_fail, summary, told};
 
 use std::alloc::Global;
 use wire_base::NoMemory;
 use wire_model::Step;
 
-// Whether a conversation accepted.
+// What is counted of a record.
+#[derive(Clone, Copy, Debug, PartialEq, Eq)]
+enum Sought {
+    Accepted,
+    Failed,
+    Message,
+}
+
 fn is_accept(step: &Step) -> bool
     ensures { result ≡ is_accept step.now }
 {
     matches!(step, Step::Accept { .. })
 }
 
-// Whether one broke.
 fn is_fail(step: &Step) -> bool
     ensures { result ≡ is_fail step.now }
 {
@@ -24,7 +30,7 @@ fn is_fail(step: &Step) -> bool
 
 // Whether a message was recorded.
 fn is_message(step: &Step) -> bool
-    ensures { result ≡ is_message step.now }
+    ensures { result ≡ is_some (message_in step.now) }
 {
     match step {
         Step::Out { .. } | Step::Ask { .. } | Step::AsGave { .. } => true,
@@ -41,28 +47,26 @@ fn is_message(step: &Step) -> bool
     }
 }
 
-fn count_accepted(steps: &[Step]) -> usize
-    ensures { result ≡ length (filter is_accept steps.now) }
+fn is_sought(sought: Sought, step: &Step) -> bool
+    ensures { result ≡ is_sought sought step.now }
 {
-    steps.iter().filter(|step| is_accept(step)).count()
+    match sought {
+        Sought::Accepted => is_accept(step),
+        Sought::Failed => is_fail(step),
+        Sought::Message => is_message(step),
+    }
 }
 
-fn count_failed(steps: &[Step]) -> usize
-    ensures { result ≡ length (filter is_fail steps.now) }
+fn count(sought: Sought, steps: &[Step]) -> usize
+    ensures { result ≡ length (filter (is_sought sought) steps.now) }
 {
-    steps.iter().filter(|step| is_fail(step)).count()
-}
-
-fn filter_messages(steps: &[Step]) -> usize
-    ensures { result ≡ length (filter is_message steps.now) }
-{
-    steps.iter().filter(|step| is_message(step)).count()
+    steps.iter().filter(|step| is_sought(sought, step)).count()
 }
 
 fn count_messages(steps: &[Step]) -> usize
     ensures { result ≡ length (messages_in steps.now) }
 {
-    filter_messages(steps)
+    count(Sought::Message, steps)
 }
 
 // What is told of the four numbers.
@@ -82,6 +86,6 @@ fn told(
 pub(crate) fn summary(alloc: Global, rounds: u32, steps: &[Step]) -> Result<String, NoMemory>
     ensures { IfOk result (λ text. string_bytes text ≡ summary rounds steps.now) }
 {
-    let (accepted, failed) = (count_accepted(steps), count_failed(steps));
+    let (accepted, failed) = (count(Sought::Accepted, steps), count(Sought::Failed, steps));
     told(alloc, rounds, accepted, failed, count_messages(steps))
 }
