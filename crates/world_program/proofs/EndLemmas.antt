@@ -1,5 +1,5 @@
 -- What is left of the ends of `world` and `gen` where nothing stands in their way, and that each has a line.
-use Rattle.std.proofs.Common.{◌≡◌, ◌⊎◌, ◌∙◌, ℕ, List, true, Option, Some, None, refl, ap, sym, inl, inr}
+use Rattle.std.proofs.Common.{◌≡◌, ◌⊎◌, ◌∙◌, ℕ, List, true, false, Option, Some, None, is_some, refl, ap, sym, inl, inr}
 use Rattle.world_history.specs.declared.cause.ScriptCause.{ScriptCause}
 use Rattle.world_history.specs.Scripts.{play}
 use Rattle.world_gen.specs.Generated.{gen_text}
@@ -11,8 +11,8 @@ use Rattle.world_program.specs.Playing.{IsPlayable, WorldSo}
 use Rattle.world_program.specs.Summing.{GenSo}
 
 no_cause : (refused : Option (ℕ × ScriptCause)) (line : ℕ) (cause : ScriptCause) → refused ≡ None → refused ≡ Some (line, cause) → ⊥
-no_cause None line cause e f = let g : None ≡ Some (line, cause) = f in cc
-no_cause (Some other) line cause e f = let g : Some other ≡ None = e in cc
+no_cause None line cause e f = let g : false ≡ true = ap is_some f in cc
+no_cause (Some other) line cause e f = let g : true ≡ false = ap is_some e in cc
 
 pub played_to_end : (status : Status) (left_old left_new holds_old holds_new : Option (List ℕ)) → IsPlayable left_old → WorldSo status left_old left_new holds_old holds_new
     → (status ≡ ReadFault → ⊥) → (status ≡ WriteFault → ⊥) → (status ≡ Fine) ⊎ (status ≡ NoMemory)
@@ -28,7 +28,7 @@ played_to_end (BadScript line cause) lo ln ho hn p v read write =
 played_to_end (BadTables speaks line) lo ln ho hn p v read write = absurd v
 played_to_end (AsEnded end) lo ln ho hn p v read write = absurd v
 played_to_end NoMemory lo ln ho hn p v read write = inr refl
-played_to_end (Flood limit) lo ln ho hn p v read write = absurd (no_flood p.script lo ln p.told p.few v.1.0)
+played_to_end (Flood limit) lo ln ho hn p v read write = absurd (no_flood p.script lo ln p.told p.few v.1)
 
 pub summed_to_end : (status : Status) (number rounds : ℕ) (old new : Option (List ℕ)) → (play (gen_text number rounds)).refused ≡ None → GenSo status number rounds old new
     → (status ≡ WriteFault → ⊥) → (status ≡ Fine) ⊎ (status ≡ NoMemory)

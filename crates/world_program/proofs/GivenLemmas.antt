@@ -1,5 +1,5 @@
 -- The words of `gen` give so few rounds.
-use Rattle.std.proofs.Common.{◌≡◌, ◌≤◌, ◌&&◌, ℕ, List, Bool, true, false, refl, ap, sym, subst, codes, Option, Some, None}
+use Rattle.std.proofs.Common.{◌≡◌, ◌≤◌, ◌&&◌, ℕ, List, Bool, true, false, refl, ap, subst, codes, Option, Some, None}
 use Rattle.std.specs.Prelude.{if◌then◌else◌, nat_le, nat_lt, unwrap_or}
 use Rattle.std.proofs.lemmas.Bool.{leb-true}
 use Rattle.authsrv_program.proofs.WordLemmas.{and_right}
