@@ -8,7 +8,7 @@ use Rattle.authsrv_program.specs.Words.{HasValues, has_authsrv_form, is_authsrv}
 use Rattle.world_program.specs.declared.words.GenWords.{GenWords}
 use Rattle.world_program.specs.Playing.{WorldSo}
 use Rattle.world_program.specs.Summing.{GenSo}
-use Rattle.world_program.specs.Words.{gen_given, is_gen, is_world}
+use Rattle.world_program.specs.Words.{gen_given, is_world}
 use Rattle.factotum_program.specs.Words.{IsUnread, is_command, is_pipe}
 use Rattle.factotum_program.specs.Commands.{EndsSo as Piped}
 use Rattle.authsrv_program.specs.Serving.{Outside, ServesSo}
@@ -31,35 +31,16 @@ with_left : (a b : Bool) → a ≡ true → (a || b) ≡ true
 with_left true b e = refl
 with_left false b e = absurd (let f : false ≡ true = e in cc)
 
-with_right : (a b : Bool) → b ≡ true → (a || b) ≡ true
-with_right true b e = refl
-with_right false b e = e
-
 pub pipe_is_command : (words : List (List ℕ)) → is_pipe words ≡ true → is_command words ≡ true
 pipe_is_command words e = with_left (is_pipe words) _ e
 
-pub authsrv_is_command : (words : List (List ℕ)) → is_authsrv words ≡ true → is_command words ≡ true
-authsrv_is_command words e = with_right (is_pipe words) _ (with_left (is_authsrv words) _ e)
-
-pub world_is_command : (words : List (List ℕ)) → is_world words ≡ true → is_command words ≡ true
-world_is_command words e = with_right (is_pipe words) _ (with_right (is_authsrv words) _ (with_left (is_world words) _ e))
-
-pub gen_is_command : (words : List (List ℕ)) (given : GenWords) → gen_given words ≡ Some given → is_command words ≡ true
-gen_is_command words given e = with_right (is_pipe words) _ (with_right (is_authsrv words) _ (with_right (is_world words) (is_gen words) (rw e refl)))
-
-pub not_both : (b : Bool) {X : Type 0} → b ≡ true → b ≡ false → X
+not_both : (b : Bool) {X : Type 0} → b ≡ true → b ≡ false → X
 not_both b e f = absurd (let g : true ≡ false = sym e ∙ f in cc)
 
 -- a command's words are unread for want of memory alone
 pub only_memory : (words : List (List ℕ)) (status : Status) → IsUnread words status → is_command words ≡ true → status ≡ NoMemory
 only_memory words status (inl u) p = not_both (is_command words) p u.1
 only_memory words status (inr n) p = n.0
-
-pub unread_plays : (words : List (List ℕ)) (status : Status) (left holds : Option (List ℕ)) → IsUnread words status → is_world words ≡ true → WorldSo status left left holds holds
-unread_plays words status left holds u w = rw (only_memory words status u (world_is_command words w)) (inl refl)
-
-pub unread_sums : (words : List (List ℕ)) (status : Status) (given : GenWords) (holds : Option (List ℕ)) → IsUnread words status → gen_given words ≡ Some given → GenSo status given.number given.rounds holds holds
-unread_sums words status given holds u g = rw (only_memory words status u (gen_is_command words given g)) refl
 
 -- ---- each status has a line
 

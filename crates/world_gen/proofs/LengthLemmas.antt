@@ -94,9 +94,19 @@ asked_short session message first second third s m a b c =
     let two : List ℕ = encode_lower second ++ 32 ∷ three in
     let one : List ℕ = encode_lower first ++ 32 ∷ two in
     let asks : List ℕ = 109 ∷ decimal message in
-    omega (arith, s, number_short message m, digits_of first a, digits_of second b, digits_of third c,
-    length-append (session ++ 32 ∷ (asks ++ 32 ∷ one)) (10 ∷ []), length-append session (32 ∷ (asks ++ 32 ∷ one)), length-append (decimal message) (32 ∷ one),
-    length-append (encode_lower first) (32 ∷ two), length-append (encode_lower second) (32 ∷ three))
+    omega (
+      arith,
+      s,
+      number_short message m,
+      digits_of first a,
+      digits_of second b,
+      digits_of third c,
+      length-append (session ++ 32 ∷ (asks ++ 32 ∷ one)) (10 ∷ []),
+      length-append session (32 ∷ (asks ++ 32 ∷ one)),
+      length-append (decimal message) (32 ∷ one),
+      length-append (encode_lower first) (32 ∷ two),
+      length-append (encode_lower second) (32 ∷ three),
+    )
 
 -- ---- lists of lines
 
@@ -124,21 +134,37 @@ module _ (round before first : ℕ) (d : Drawn) (few : round < 100000) (old : be
 
   starting_short : AllShort (starting round d)
   unfolding client_tuple server_tuple
-  starting_short = (open_short (codes "a") (client_of round) (omega arith) (omega (arith, name_short)), (open_short (codes "b") (server_of round) (omega arith) (omega (arith, name_short)),
-      (start_short (client_of round) d.client client_tuple (omega (arith, name_short)) s.client (omega arith), (start_short (server_of round) d.server server_tuple (omega (arith, name_short)) s.server (omega arith), tt))))
+  starting_short = (
+    open_short (codes "a") (client_of round) (omega arith) (omega (arith, name_short)),
+    (
+      open_short (codes "b") (server_of round) (omega arith) (omega (arith, name_short)),
+      (start_short (client_of round) d.client client_tuple (omega (arith, name_short)) s.client (omega arith), (start_short (server_of round) d.server server_tuple (omega (arith, name_short)) s.server (omega arith), tt)),
+    ),
+  )
 
   challenging_short : AllShort (challenging round first)
-  challenging_short = (read_short (client_of round) (omega (arith, name_short)), (gives_short (server_of round) first (omega (arith, name_short)) (omega (arith, new)),
-      (read_short (server_of round) (omega (arith, name_short)), (gives_short (client_of round) (first + 1) (omega (arith, name_short)) (omega (arith, new)), tt))))
+  challenging_short = (
+    read_short (client_of round) (omega (arith, name_short)),
+    (
+      gives_short (server_of round) first (omega (arith, name_short)) (omega (arith, new)),
+      (read_short (server_of round) (omega (arith, name_short)), (gives_short (client_of round) (first + 1) (omega (arith, name_short)) (omega (arith, new)), tt)),
+    ),
+  )
 
   answering_short : AllShort (answering round first d)
-  answering_short = (asked_short (session_of round) (first + 2) d.first d.second d.third (omega (arith, name_short)) (omega (arith, new)) s.first s.second s.third,
-      (answer_short (client_of round) (first + 3) (omega (arith, name_short)) (omega (arith, new)), (read_short (client_of round) (omega (arith, name_short)), tt)))
+  answering_short = (
+    asked_short (session_of round) (first + 2) d.first d.second d.third (omega (arith, name_short)) (omega (arith, new)) s.first s.second s.third,
+    (answer_short (client_of round) (first + 3) (omega (arith, name_short)) (omega (arith, new)), (read_short (client_of round) (omega (arith, name_short)), tt)),
+  )
 
   middle_short : (kind : Kind) → AllShort (middle kind round before first d)
-  middle_short Honest = short_both (answering round first d) (gives (server_of round) (first + 4) ∷ Read (server_of round) ∷ gives (client_of round) (first + 5) ∷ []) answering_short
-      (gives_short (server_of round) (first + 4) (omega (arith, name_short)) (omega (arith, new)), (read_short (server_of round) (omega (arith, name_short)),
-      (gives_short (client_of round) (first + 5) (omega (arith, name_short)) (omega (arith, new)), tt)))
+  middle_short Honest = short_both (answering round first d) (gives (server_of round) (first + 4) ∷ Read (server_of round) ∷ gives (client_of round) (first + 5) ∷ []) answering_short (
+    gives_short (server_of round) (first + 4) (omega (arith, name_short)) (omega (arith, new)),
+    (
+      read_short (server_of round) (omega (arith, name_short)),
+      (gives_short (client_of round) (first + 5) (omega (arith, name_short)) (omega (arith, new)), tt),
+    ),
+  )
   middle_short Replayed = short_both (answering round first d) (gives (server_of round) (before + 4) ∷ []) answering_short (gives_short (server_of round) (before + 4) (omega (arith, name_short)) (omega (arith, old)), tt)
   middle_short Unanswered = (no_answer_short (client_of round) (omega (arith, name_short)), tt)
   middle_short Blank = short_both (answering round first d) (Write (server_of round) (Spelled zeros ∷ []) ∷ []) answering_short (blank_short (server_of round) (omega (arith, name_short)), tt)
@@ -179,8 +205,12 @@ rounds_short (suc n) round before first words few old new s =
 rounds_few : (n round before first : ℕ) (words : List (List ℕ)) → length (rounds_from n round before first words) ≤ 16 * n
 rounds_few zero round before first words = omega arith
 rounds_few (suc n) round before first words =
-    omega (arith, round_few round before first (drawn words), rounds_few n (round + 1) first (first + recorded (kind_of round)) (drop 5 words),
-    length-append (round_lines round before first (drawn words)) (rounds_from n (round + 1) first (first + recorded (kind_of round)) (drop 5 words)))
+    omega (
+      arith,
+      round_few round before first (drawn words),
+      rounds_few n (round + 1) first (first + recorded (kind_of round)) (drop 5 words),
+      length-append (round_lines round before first (drawn words)) (rounds_from n (round + 1) first (first + recorded (kind_of round)) (drop 5 words)),
+    )
 
 pub script_short : (number rounds : ℕ) → rounds ≤ 1000 → length (gen_text number rounds) ≤ 4194304
 unfolding gen_text

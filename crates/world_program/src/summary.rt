@@ -79,7 +79,9 @@ fn told(
 ) -> Result<String, NoMemory>
     ensures { IfOk result (λ text. string_bytes text ≡ told rounds accepted failed messages) }
 {
-    Ok(format!(in alloc; "rounds {rounds} accepted {accepted} failed {failed} messages {messages}\n")?)
+    Ok(format!(in alloc;
+        "rounds {rounds} accepted {accepted} failed {failed} messages {messages}\n"
+    )?)
 }
 
 /// The line on the record of so many rounds.

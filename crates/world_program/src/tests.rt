@@ -67,7 +67,11 @@ fn the_word_world_stands_alone(rt: HostRuntime) -> Result<(), Fail> {
         ("worlds", false),
         ("world x", false),
     ] {
-        assert_eq!(rt; is_world(words_of(alloc, line)?.as_slice()), wanted, "{line}");
+        assert_eq!(rt;
+            is_world(words_of(alloc, line)?.as_slice()),
+            wanted,
+            "{line}"
+        );
     }
     Ok(())
 }

@@ -84,9 +84,11 @@ struct GenTexts {
 fn gen_command<'a>(alloc: Global) -> Result<Command<'a>, NoMemory>
     ensures { IfOk result (λ command. app_of command ≡ gen_app) }
 {
-    Ok(Command::new(alloc, "gen")
-        .arg(required_option(alloc, "number"))?
-        .arg(required_option(alloc, "rounds"))?)
+    Ok(
+        Command::new(alloc, "gen")
+            .arg(required_option(alloc, "number"))?
+            .arg(required_option(alloc, "rounds"))?,
+    )
 }
 
 // The values of the options of `gen`, as clap reads them.

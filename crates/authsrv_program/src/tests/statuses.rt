@@ -74,7 +74,13 @@ fn statuses_of_scripts(rt: HostRuntime) -> Result<(), Fail> {
     expect_line(&rt, alloc, status, 7, "factotum: script line 3: bad line\n")?;
     let (line, cause) = (1, ScriptCause::UnknownNode);
     let status = Status::BadScript { line, cause };
-    expect_line(&rt, alloc, status, 7, "factotum: script line 1: unknown node\n")?;
+    expect_line(
+        &rt,
+        alloc,
+        status,
+        7,
+        "factotum: script line 1: unknown node\n",
+    )?;
     let (line, cause) = (4194304, ScriptCause::UnknownConv);
     let status = Status::BadScript { line, cause };
     expect_line(

@@ -1,3 +1,4 @@
+use Rattle.factotum_program.proofs.ApartWords.{world_or_gen}
 use Rattle.factotum_program.proofs.CommandWords.{dom_given, only_memory, pipe_is_command, usage_alone}
 use Rattle.factotum_program.proofs.PipeLemmas.{memory_first}
 use Rattle.world_program.proofs.GivenLemmas.{few_rounds}
@@ -17,3 +18,6 @@ returns-clause-usage g c = λ e. usage_alone c.args.words.now c.in-Err.status c.
 pub returns-clause-piped : goal.returns-clause-piped
 returns-clause-piped g c = λ p.
     rw (only_memory c.args.words.now c.in-Err.status c.in-Err.ensures.err (pipe_is_command c.args.words.now p)) (memory_first _ _)
+
+pub returns-in-Ok-World-clause-summed : goal.returns-in-Ok-World-clause-summed
+returns-in-Ok-World-clause-summed g c = λ given is. world_or_gen c.args.words.now given (rw c.in-Ok-World.field-0-is at c.in-Ok-World.ensures.ok) is
