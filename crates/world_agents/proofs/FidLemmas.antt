@@ -64,9 +64,9 @@ below_least held k from below = all_from (highest held) 2 held k from below
 
 -- ---- so few are held
 
-filter_le : (p : ℕ → Bool) (xs : List ℕ) → length (filter p xs) ≤ length xs
-filter_le p [] = omega arith
-filter_le p (x ∷ xs) = by_test (p x) (filter_le p xs)
+pub filter_few : {X : Type 0} (p : X → Bool) (xs : List X) → length (filter p xs) ≤ length xs
+filter_few p [] = omega arith
+filter_few p (x ∷ xs) = by_test (p x) (filter_few p xs)
   where
     by_test : (b : Bool) → length (filter p xs) ≤ length xs → length (cond b (x ∷ filter p xs) (filter p xs)) ≤ suc (length xs)
     by_test true more = omega arith
@@ -77,7 +77,7 @@ without k xs = filter (λ x. not (eqb x k)) xs
 
 shorter : (k : ℕ) (xs : List ℕ) → is_held k xs ≡ true → length (without k xs) < length xs
 shorter k [] is = absurd cc
-shorter k (x ∷ xs) is = by_first (eqb x k) is (filter_le (λ x. not (eqb x k)) xs) (shorter k xs)
+shorter k (x ∷ xs) is = by_first (eqb x k) is (filter_few (λ x. not (eqb x k)) xs) (shorter k xs)
   where
     by_first : (b : Bool) → (b || is_held k xs) ≡ true → length (without k xs) ≤ length xs → (is_held k xs ≡ true → length (without k xs) < length xs) → length (cond (not b) (x ∷ without k xs) (without k xs)) < suc (length xs)
     by_first true is most more = omega arith

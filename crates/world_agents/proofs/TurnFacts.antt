@@ -4,28 +4,24 @@ use Rattle.std.proofs.Common.{◌≡◌, ℕ, List, [], ◌∷◌, Bool, true, f
 use Rattle.std.specs.Prelude.{find, option_map}
 use Rattle.std.proofs.lemmas.Bool.{eq-eqb}
 use Rattle.std.specs.Str.{bytes_eq}
-use Rattle.nine_messages.specs.declared.message.RMsg.{RMsg}
-use Rattle.nine_messages.specs.declared.message.RBody.{RBody}
-use Rattle.nine_messages.specs.declared.message.RBody.TheVariants as r
 use Rattle.agent_history.specs.declared.event.Event.{Event}
 use Rattle.agent_history.specs.declared.event.Event.TheVariants.{NoAnswer}
 use Rattle.agent_history.specs.declared.event.Event.TheVariants as events
 use Rattle.roles.specs.Talks.{Call as Move, heard, unheard}
 use Rattle.agent_history.specs.Conversations.{asker, conv_of, opened_talks}
 use Rattle.agent_history.specs.Histories.{History, deeds}
-use Rattle.agent_laws.specs.Laws.{gives_content}
 use Rattle.world_history.specs.declared.question.Question.{Question}
 use Rattle.world_history.specs.Driving.{clunks, drive, questions_to, replies_to, told}
 use Rattle.world_history.specs.Talking.{Asks, request_questions, requested}
 use Rattle.world_history.specs.Turns.{Turn, after, asks, closes, hears, misses, turn_questions}
 use Rattle.world_history.specs.Worlds.{call_behind, last_call}
 use Rattle.recorded_talks.specs.Begun.{BegunWith}
-use Rattle.world_legality.specs.Agents.{EventsLeave, GiveNothing, TurnDoes, begun_in, is_read}
+use Rattle.world_legality.specs.Agents.{EventsLeave, TurnDoes, begun_in}
 use Rattle.idle_agents.specs.Idle.{AreOf, IsIdle, Runs, SameSeats}
-use Rattle.idle_agents.proofs.AlikeLaws.{GivesNone}
 use Rattle.idle_agents.proofs.ClosesLaws.{close_is}
 use Rattle.idle_agents.proofs.WritesLaws.{write_is}
 use Rattle.driven_requests.specs.Requests.{IsWorded, RequestsDo, RequestsLeave}
+use Rattle.driven_requests.proofs.RequestsLaws.{give_nothing}
 use Rattle.driven_answers.specs.Answers.{AbsencesDo, AbsencesLeave, Answered, AnswersDo, AnswersLeave}
 use Rattle.world_agents.proofs.RunLemmas.{itself}
 
@@ -131,14 +127,6 @@ absence_so d conv call fid number h idle seat asks_it runs =
     }
 
 -- ---- a closing
-
-same_read : (body : RBody) → is_read body ≡ gives_content body
-same_read (r.Read text) = refl
-same_read body = refl
-
-give_nothing : (ms : List RMsg) → GivesNone ms → GiveNothing ms
-give_nothing [] none = tt
-give_nothing (m ∷ ms) none = (same_read m.body ∙ none.0, give_nothing ms none.1)
 
 gone_itself : (fid : ℕ) → eqb fid fid ≡ false → ⊥
 gone_itself fid off = let on = eq-eqb fid fid refl in let no_way : true ≡ false = sym on ∙ off in cc
