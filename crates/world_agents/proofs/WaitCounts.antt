@@ -1,6 +1,5 @@
 -- At most 64 reads wait, so that at most 65 replies come of an event.
 use Rattle.std.proofs.Common.{◌≡◌, ℕ, ◌≤◌, ◌<◌, List, [], ◌∷◌, length, Bool, true, false, cond, eqb, not, Option, Some, None, refl, ap, subst, arith, length-append}
-use Rattle.std.specs.Prelude.{filter}
 use Rattle.std.specs.List.{cons_option, filter_map}
 use Rattle.std.proofs.lemmas.Bool.{eqb-true}
 use Rattle.std.proofs.lemmas.List.{length-map}
