@@ -93,7 +93,7 @@ still k j (x ∷ xs) apart is = by_first (eqb x j) (eqb x k) refl refl is (still
     by_first false true gone mine is more = rw mine refl
     by_first false false gone mine is more = rw mine (more is)
 
-not_same : (k j : ℕ) → k < j → eqb k j ≡ false
+pub not_same : (k j : ℕ) → k < j → eqb k j ≡ false
 not_same k j below = elim (cases_Bool (eqb k j)) [
   | inl same ↦ absurd (let is = eqb-true k j same in let no_way : j < j = omega arith in omega arith)
   | inr other ↦ other
