@@ -2,6 +2,7 @@
 use Rattle.std.proofs.Common.{◌≡◌, ℕ, zero, suc, ◌+◌, ◌≤◌, ◌<◌, List, [], ◌∷◌, length, Bool, true, false, cond, eqb, ltb, ◌||◌, not, refl, sym, ap, ◌∙◌, inl, inr, arith}
 use Rattle.std.specs.Prelude.{filter}
 use Rattle.std.proofs.lemmas.Bool.{cases_Bool, eqb-true, eq-eqb, ltb-false, ltb-true}
+use Rattle.std.proofs.lemmas.List.Sums.{count_by-le-length, length-filter}
 use Rattle.world_history.specs.Acts.{highest, is_held, least_fid, least_from}
 
 -- ---- the least that isn't held
@@ -65,12 +66,7 @@ below_least held k from below = all_from (highest held) 2 held k from below
 -- ---- so few are held
 
 pub filter_few : {X : Type 0} (p : X → Bool) (xs : List X) → length (filter p xs) ≤ length xs
-filter_few p [] = omega arith
-filter_few p (x ∷ xs) = by_test (p x) (filter_few p xs)
-  where
-    by_test : (b : Bool) → length (filter p xs) ≤ length xs → length (cond b (x ∷ filter p xs) (filter p xs)) ≤ suc (length xs)
-    by_test true more = omega arith
-    by_test false more = omega arith
+filter_few p xs = omega (arith, length-filter p xs, count_by-le-length p xs)
 
 abbrev without : ℕ → List ℕ → List ℕ
 without k xs = filter (λ x. not (eqb x k)) xs
