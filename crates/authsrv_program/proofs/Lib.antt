@@ -1,3 +1,4 @@
 pub mod ClapLemmas
 pub mod WordLemmas
+pub mod FileLemmas
 pub mod ServeLemmas

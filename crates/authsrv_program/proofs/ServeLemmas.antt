@@ -1,6 +1,5 @@
 -- What an `authsrv` came to, and what is left where nothing stands in its way.
-use Rattle.std.proofs.Common.{◌≡◌, ◌⊎◌, ◌∙◌, ◌≤◌, ℕ, List, ◌++◌, true, false, append-nil, length, length-append, Option, Some, None, refl, ap, sym, subst, inl, inr, arith}
-use Rattle.std.specs.Io.KnownBytes.{Consumes, IsAtEnd}
+use Rattle.std.proofs.Common.{◌≡◌, ◌⊎◌, ◌∙◌, ℕ, List, true, false, Option, Some, None, refl, ap, sym, subst, inl, inr, arith}
 use Rattle.auth_tables.specs.Keys.{bad_key_line}
 use Rattle.auth_tables.specs.Speaks.{bad_speak_line, may_speak}
 use Rattle.auth_server.specs.Answers.{Knowledge}
@@ -11,11 +10,13 @@ use Rattle.authsrv_program.specs.Statuses.{is_printable}
 use Rattle.auth_server.specs.declared.serve.AuthEnd.{AuthEnd}
 use Rattle.auth_server.specs.declared.serve.AuthEnd.TheVariants as ends
 use Rattle.authsrv_program.specs.declared.status.Status.{Status}
-use Rattle.authsrv_program.specs.declared.status.Status.TheVariants.{Fine, Usage, ReadFault, WriteFault, WordFault, BadFrame, Torn, BadTables, AsEnded, NoMemory, Flood}
+use Rattle.authsrv_program.specs.declared.status.Status.TheVariants.{Fine, Usage, ReadFault, WriteFault, WordFault, BadFrame, Torn, BadScript, BadTables, AsEnded, NoMemory, Flood}
 use Rattle.authsrv_program.specs.declared.tables.Tables.{Tables}
-use Rattle.authsrv_program.specs.Serving.{FloodsTable, IsServableAll, MeetsBadKeys, MeetsBadSpeaks, Outside, ReadsBoth, ReadsTable, Serves, ServesSo, StopsAtTables, known_by, most_table}
+use Rattle.authsrv_program.specs.Files.{FloodsFile, ReadsFile}
+use Rattle.authsrv_program.specs.Serving.{IsServableAll, MeetsBadKeys, MeetsBadSpeaks, Outside, ReadsBoth, Serves, ServesSo, StopsAtTables, known_by}
 use Rattle.authsrv_program.specs.Cores.{HasCore, StopsEarly}
 use Rattle.authsrv_program.specs.Tabling.{HasParsed, HasRead, status_of_end}
+use Rattle.authsrv_program.proofs.FileLemmas.{no_flood, told_file}
 
 -- 1 for the two ends that are left, 0 for all others
 abbrev end_number : AuthEnd → ℕ
@@ -77,6 +78,7 @@ early_serves dom WriteFault before now s = absurd s
 early_serves dom WordFault before now s = absurd s
 early_serves dom (BadFrame at size) before now s = absurd s
 early_serves dom (Torn at) before now s = absurd s
+early_serves dom (BadScript line cause) before now s = absurd s
 early_serves dom (BadTables false line) before now s = s
 early_serves dom (BadTables true line) before now s = s
 early_serves dom (AsEnded end) before now s = absurd s
@@ -96,6 +98,7 @@ early_printable WriteFault before now s = refl
 early_printable WordFault before now s = refl
 early_printable (BadFrame at size) before now s = refl
 early_printable (Torn at) before now s = refl
+early_printable (BadScript line cause) before now s = refl
 early_printable (BadTables speaks line) before now s = refl
 early_printable (AsEnded end) before now s = absurd s
 early_printable NoMemory before now s = refl
@@ -103,36 +106,16 @@ early_printable (Flood limit) before now s = refl
 
 -- ---- what is told leaves two statuses
 
--- what was read stands in front of what is told
-front_of : (content read : List ℕ) (left : Option (List ℕ)) → Consumes (Some content) left read → (rest : List ℕ) × (content ≡ read ++ rest)
-front_of content read None taken = absurd taken
-front_of content read (Some rest) taken = (rest, taken)
-
--- and at the end it is that
-all_read : (content read : List ℕ) (left : Option (List ℕ)) → Consumes (Some content) left read → IsAtEnd left → content ≡ read
-all_read content read None taken end = absurd taken
-all_read content read (Some rest) taken end = taken ∙ ap (λ (r : List ℕ). read ++ r) end ∙ append-nil read
-
--- a table that is told was read as it is
-told_file : (content file : List ℕ) (before now : Option (List ℕ)) → before ≡ Some content → ReadsTable before now file → content ≡ file
-told_file content file before now told r = all_read content file now (subst (λ (b : Option (List ℕ)). Consumes b now file) told r.read) r.at_end
-
--- and it is no flood where it is within the limit
-no_flood : (content : List ℕ) (before now : Option (List ℕ)) → before ≡ Some content → length content ≤ most_table → FloodsTable before now → ⊥
-no_flood content before now told few f =
-    let r = front_of content f.taken now (subst (λ (b : Option (List ℕ)). Consumes b now f.taken) told f.read) in
-    omega (arith, few, f.over, ap length r.1, length-append f.taken r.0)
-
 some_line : (line : ℕ) (o : Option ℕ) → o ≡ None → o ≡ Some line → ⊥
 some_line line None e f = let g : None ≡ Some line = f in cc
 some_line line (Some n) e f = let g : Some n ≡ None = e in cc
 
 -- what was served was served by the tables that are told
 module _ (dom : List ℕ) (before now : Outside) (s : IsServableAll dom before) where
-  same_keys : (file : List ℕ) → ReadsTable before.keys now.keys file → s.keys ≡ file
+  same_keys : (file : List ℕ) → ReadsFile before.keys now.keys file → s.keys ≡ file
   same_keys file r = told_file s.keys file before.keys now.keys s.keys_told r
 
-  same_speaks : (file : List ℕ) → ReadsTable before.speaks now.speaks file → s.speaks ≡ file
+  same_speaks : (file : List ℕ) → ReadsFile before.speaks now.speaks file → s.speaks ≡ file
   same_speaks file r = told_file s.speaks file before.speaks now.speaks s.speaks_told r
 
   client_of : (keys speaks : List ℕ) → ReadsBoth before now keys speaks → IsServable (known_by dom keys speaks) before.client
@@ -147,7 +130,7 @@ module _ (dom : List ℕ) (before now : Outside) (s : IsServableAll dom before) 
   no_bad_speaks : (line : ℕ) → MeetsBadSpeaks line before now → ⊥
   no_bad_speaks line b = some_line line (bad_speak_line b.speaks) (subst (λ (k : List ℕ). bad_speak_line k ≡ None) (same_speaks b.speaks b.tables.1) s.good_speaks) b.bad
 
-  no_table_flood : StopsAtTables FloodsTable before now → ⊥
+  no_table_flood : StopsAtTables FloodsFile before now → ⊥
   no_table_flood (inl k) = no_flood s.keys before.keys now.keys s.keys_told s.few_keys k.keys
   no_table_flood (inr k) = no_flood s.speaks before.speaks now.speaks s.speaks_told s.few_speaks k.speaks
 
@@ -163,6 +146,7 @@ module _ (dom : List ℕ) (before now : Outside) (s : IsServableAll dom before) 
   served_to_end WordFault v read write word = absurd (word refl)
   served_to_end (BadFrame at size) v read write word = absurd v
   served_to_end (Torn at) v read write word = absurd (no_other (ends.Torn at) (whole_end (ends.Torn at) v (λ e. cc) (λ e. cc) (λ e. cc)) refl)
+  served_to_end (BadScript line cause) v read write word = absurd v
   served_to_end (BadTables false line) v read write word = absurd (no_bad_keys line v)
   served_to_end (BadTables true line) v read write word = absurd (no_bad_speaks line v)
   served_to_end (AsEnded ends.End) v read write word = absurd v
@@ -188,6 +172,7 @@ served_printable dom WriteFault before now v = refl
 served_printable dom WordFault before now v = refl
 served_printable dom (BadFrame at size) before now v = refl
 served_printable dom (Torn at) before now v = refl
+served_printable dom (BadScript line cause) before now v = refl
 served_printable dom (BadTables speaks line) before now v = refl
 served_printable dom (AsEnded ends.End) before now v = absurd v
 served_printable dom (AsEnded (ends.UnknownType at kind)) before now v = refl

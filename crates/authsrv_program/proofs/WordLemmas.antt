@@ -205,7 +205,7 @@ found_by_clap (n ∷ a ∷ x ∷ b ∷ y ∷ c ∷ z ∷ []) e =
     record { dom = found_dom n a x b y c z f; keys = found_keys n a x b y c z f; speaks = found_speaks n a x b y c z f }
 found_by_clap (n ∷ a ∷ x ∷ b ∷ y ∷ c ∷ z ∷ w ∷ rest) e = short_form e
 
-texts_from : (option : Text) (words : List Text) → list_all is_text words ≡ true → is_text (value_of option words) ≡ true
+pub texts_from : (option : Text) (words : List Text) → list_all is_text words ≡ true → is_text (value_of option words) ≡ true
 texts_from option [] e = empty_text
 texts_from option (name ∷ []) e = empty_text
 texts_from option (name ∷ value ∷ rest) e =

@@ -1,5 +1,6 @@
 pub mod Statuses
 pub mod Words
+pub mod Files
 pub mod Serving
 pub mod Cores
 pub mod Tabling

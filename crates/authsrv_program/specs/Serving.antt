@@ -1,7 +1,6 @@
 -- What `authsrv` has read, drawn and written when it ends: its two tables, the keys first, and then the requests of one
 -- client. Content is optional: the words on it hold where it is told. The server is that of authsrv(6) of the Plan 9 manual.
-use Rattle.std.specs.Prelude.{◌≡◌, ℕ, ◌<◌, ◌≤◌, List, length, Option, Some, None, true, false, ◌⊎◌}
-use Rattle.std.specs.Io.KnownBytes.{Consumes, IsAtEnd}
+use Rattle.std.specs.Prelude.{◌≡◌, ℕ, ◌≤◌, List, length, Option, Some, None, true, false, ◌⊎◌}
 use Rattle.auth_tables.specs.Keys.{bad_key_line, key_of, table_keys}
 use Rattle.auth_tables.specs.Speaks.{bad_speak_line, may_speak, names_in, table_speaks}
 use Rattle.auth_server.specs.Answers.{Knowledge}
@@ -9,11 +8,8 @@ use Rattle.auth_server.specs.Serving.{EndsSo, IsServable, Moment, moment, most_i
 use Rattle.auth_server.specs.declared.serve.AuthEnd.{AuthEnd}
 use Rattle.auth_server.specs.declared.serve.AuthEnd.TheVariants as ends
 use Rattle.authsrv_program.specs.declared.status.Status.{Status}
-use Rattle.authsrv_program.specs.declared.status.Status.TheVariants.{Fine, Usage, ReadFault, WriteFault, WordFault, BadFrame, Torn, BadTables, AsEnded, NoMemory, Flood}
-
--- how many bytes of a table are taken: 2^22
-abbrev pub most_table : ℕ
-most_table = 4194304
+use Rattle.authsrv_program.specs.declared.status.Status.TheVariants.{Fine, Usage, ReadFault, WriteFault, WordFault, BadFrame, Torn, BadScript, BadTables, AsEnded, NoMemory, Flood}
+use Rattle.authsrv_program.specs.Files.{FloodsFile, ReadsFile, ReadsPart, most_file}
 
 -- what the outside tells at a moment: what the two files have left, and what there is of the client
 pub record Outside : Type 0 where
@@ -35,27 +31,9 @@ known_by dom keys speaks = record {
 
 -- ---- tables
 
--- a table was read to its end
-pub record ReadsTable (before now : Option (List ℕ)) (file : List ℕ) : Type 0 where
-  pub read : Consumes before now file
-  pub at_end : IsAtEnd now
-  pub few : length file ≤ most_table
-
--- of a table so much was read, which is more than is taken of one
-pub record FloodsTable (before now : Option (List ℕ)) : Type 0 where
-  pub taken : List ℕ
-  pub read : Consumes before now taken
-  pub over : most_table < length taken
-
--- of a table no more was read than is taken of one
-pub record ReadsPart (before now : Option (List ℕ)) : Type 0 where
-  pub taken : List ℕ
-  pub read : Consumes before now taken
-  pub few : length taken ≤ most_table
-
 -- both tables were read
 abbrev pub ReadsBoth : Outside → Outside → List ℕ → List ℕ → Type 0
-ReadsBoth before now keys speaks = ReadsTable before.keys now.keys keys × ReadsTable before.speaks now.speaks speaks
+ReadsBoth before now keys speaks = ReadsFile before.keys now.keys keys × ReadsFile before.speaks now.speaks speaks
 
 -- the client was served by both tables, which have no bad line, and it came to this end
 pub record Serves (dom : List ℕ) (end : AuthEnd) (before now : Outside) : Type 0 where
@@ -94,7 +72,7 @@ pub record StopsAtKeys (Stops : Option (List ℕ) → Option (List ℕ) → Type
 -- the keys were read, the other table came to this, and nothing else was touched
 pub record StopsAtSpeaks (Stops : Option (List ℕ) → Option (List ℕ) → Type 0) (before now : Outside) : Type 0 where
   pub file : List ℕ
-  pub keys : ReadsTable before.keys now.keys file
+  pub keys : ReadsFile before.keys now.keys file
   pub speaks : Stops before.speaks now.speaks
   pub untouched : now.client ≡ before.client
 
@@ -117,13 +95,14 @@ ServesSo dom WriteFault before now = Serves dom ends.WriteFault before now
 ServesSo dom WordFault before now = Serves dom ends.WordFault before now
 ServesSo dom (BadFrame at size) before now = ⊥
 ServesSo dom (Torn at) before now = Serves dom (ends.Torn at) before now
+ServesSo dom (BadScript line cause) before now = ⊥
 ServesSo dom (BadTables false line) before now = MeetsBadKeys line before now
 ServesSo dom (BadTables true line) before now = MeetsBadSpeaks line before now
 ServesSo dom (AsEnded (ends.UnknownType at kind)) before now = Serves dom (ends.UnknownType at kind) before now
 ServesSo dom (AsEnded ends.TooManyWrong) before now = Serves dom ends.TooManyWrong before now
 ServesSo dom (AsEnded end) before now = ⊥
 ServesSo dom NoMemory before now = LacksTables before now ⊎ Serves dom ends.NoMemory before now
-ServesSo dom (Flood limit) before now = ((limit ≡ most_table) × StopsAtTables FloodsTable before now) ⊎ ((limit ≡ most_input) × Serves dom ends.Flood before now)
+ServesSo dom (Flood limit) before now = ((limit ≡ most_file) × StopsAtTables FloodsFile before now) ⊎ ((limit ≡ most_input) × Serves dom ends.Flood before now)
 
 -- ---- what is served to its end
 
@@ -133,8 +112,8 @@ pub record IsServableAll (dom : List ℕ) (before : Outside) : Type 0 where
   pub speaks : List ℕ
   pub keys_told : before.keys ≡ Some keys
   pub speaks_told : before.speaks ≡ Some speaks
-  pub few_keys : length keys ≤ most_table
-  pub few_speaks : length speaks ≤ most_table
+  pub few_keys : length keys ≤ most_file
+  pub few_speaks : length speaks ≤ most_file
   pub good_keys : bad_key_line keys ≡ None
   pub good_speaks : bad_speak_line speaks ≡ None
   pub client : IsServable (known_by dom keys speaks) before.client

@@ -3,8 +3,10 @@ use Rattle.std.specs.Prelude.{ℕ, List, [], ◌∷◌, ◌++◌, Bool, true, fa
 use Rattle.std.specs.Fmt.{decimal}
 use Rattle.auth_server.specs.declared.serve.AuthEnd.{AuthEnd}
 use Rattle.auth_server.specs.declared.serve.AuthEnd.TheVariants as ends
+use Rattle.world_history.specs.declared.cause.ScriptCause.{ScriptCause}
+use Rattle.world_history.specs.declared.cause.ScriptCause.TheVariants.{BadLine, UnknownNode, UnknownConv, NoSuchMessage}
 use Rattle.authsrv_program.specs.declared.status.Status.{Status}
-use Rattle.authsrv_program.specs.declared.status.Status.TheVariants.{Fine, Usage, ReadFault, WriteFault, WordFault, BadFrame, Torn, BadTables, AsEnded, NoMemory, Flood}
+use Rattle.authsrv_program.specs.declared.status.Status.TheVariants.{Fine, Usage, ReadFault, WriteFault, WordFault, BadFrame, Torn, BadScript, BadTables, AsEnded, NoMemory, Flood}
 
 abbrev pub status_number : Status → ℕ
 status_number Fine = 0
@@ -14,6 +16,7 @@ status_number WriteFault = 3
 status_number WordFault = 4
 status_number (BadFrame at size) = 5
 status_number (Torn at) = 6
+status_number (BadScript line cause) = 7
 status_number (BadTables speaks line) = 8
 status_number (AsEnded end) = 9
 status_number NoMemory = 10
@@ -28,6 +31,16 @@ torn_text at = codes "factotum: input ends inside the message at " ++ (decimal a
 
 abbrev pub flood_text : ℕ → List ℕ
 flood_text limit = codes "factotum: input over " ++ (decimal limit ++ (codes " bytes" ++ 10 ∷ []))
+
+-- the line of a script's first line that was refused, and why it was
+abbrev pub cause_text : ScriptCause → List ℕ
+cause_text BadLine = codes "bad line"
+cause_text UnknownNode = codes "unknown node"
+cause_text UnknownConv = codes "unknown conversation"
+cause_text NoSuchMessage = codes "no such message"
+
+abbrev pub bad_script_text : ℕ → ScriptCause → List ℕ
+bad_script_text line cause = codes "factotum: script line " ++ (decimal line ++ (codes ": " ++ (cause_text cause ++ 10 ∷ [])))
 
 -- the line of a table's first bad line: of who speaks for whom, or of the keys
 abbrev pub bad_table_text : Bool → ℕ → List ℕ
@@ -61,6 +74,7 @@ status_text WriteFault = codes "factotum: write fault" ++ 10 ∷ []
 status_text WordFault = codes "factotum: word fault" ++ 10 ∷ []
 status_text (BadFrame at size) = bad_frame_text at size
 status_text (Torn at) = torn_text at
+status_text (BadScript line cause) = bad_script_text line cause
 status_text (BadTables speaks line) = bad_table_text speaks line
 status_text (AsEnded end) = ended_text end
 status_text NoMemory = codes "factotum: out of memory" ++ 10 ∷ []

@@ -10,14 +10,7 @@ use Rattle.auth_server.specs.declared.serve.AuthEnd.TheVariants as ends
 use Rattle.authsrv_program.specs.declared.status.Status.{Status}
 use Rattle.authsrv_program.specs.declared.status.Status.TheVariants.{Fine, ReadFault, WriteFault, WordFault, Torn, BadTables, AsEnded, NoMemory, Flood}
 use Rattle.authsrv_program.specs.declared.tables.Tables.{Tables}
-use Rattle.authsrv_program.specs.Serving.{FloodsTable, ReadsPart, ReadsTable, most_table}
-
--- what a reading of a table that failed came to
-abbrev pub StopsSo : Status → Option (List ℕ) → Option (List ℕ) → Type 0
-StopsSo ReadFault before now = ReadsPart before now
-StopsSo NoMemory before now = ⊤
-StopsSo (Flood limit) before now = (limit ≡ most_table) × FloodsTable before now
-StopsSo status before now = ⊥
+use Rattle.authsrv_program.specs.Files.{ReadsFile}
 
 -- the status of a fault of a table
 abbrev pub IsBadTable : Bool → TableFault → Status → Type 0
@@ -42,8 +35,8 @@ IsTableEnd status keys speaks = ⊥
 pub record HasRead (keys_before keys_now speaks_before speaks_now : Option (List ℕ)) (tables : Tables) : Type 0 where
   pub keys : List ℕ
   pub speaks : List ℕ
-  pub read_keys : ReadsTable keys_before keys_now keys
-  pub read_speaks : ReadsTable speaks_before speaks_now speaks
+  pub read_keys : ReadsFile keys_before keys_now keys
+  pub read_speaks : ReadsFile speaks_before speaks_now speaks
   pub parsed : HasParsed keys speaks tables
 
 -- the status of an end of a client

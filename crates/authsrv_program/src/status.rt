@@ -1,11 +1,12 @@
 // The statuses of a command, their numbers and their texts.
 ghost use Rattle.std.specs.Prelude.{◌≡◌, ◌++◌, IfOk, OnOk, OnErr, string_bytes, true};
-ghost use Rattle.authsrv_program.specs.Statuses.{status_number, bad_frame_text, torn_text, flood_text, bad_table_text, unknown_text, ended_text, is_printable, status_text};
+ghost use Rattle.authsrv_program.specs.Statuses.{status_number, bad_frame_text, torn_text, flood_text, bad_script_text, bad_table_text, unknown_text, ended_text, is_printable, status_text};
 ghost use Rattle.authsrv_program.specs.declared.status.Status.TheVariants.{AsEnded, NoMemory};
 
 use auth_server::AuthEnd;
 use std::alloc::Global;
 use wire_base::{Bytes, NoMemory};
+use world_history::ScriptCause;
 
 /// How a command ended.
 #[derive(Clone, Copy, Debug, PartialEq, Eq)]
@@ -24,6 +25,8 @@ pub enum Status {
     BadFrame { at: u64, size: u32 },
     /// The input ended inside the frame or request that begins at this offset.
     Torn { at: u64 },
+    /// A script's first line that was refused, counted from 1, and why.
+    BadScript { line: u32, cause: ScriptCause },
     /// A table's first bad line, counted from 1: of who speaks for whom, or of the keys.
     BadTables { speaks: bool, line: u32 },
     /// The authentication server ended its client so: by an unknown request or too many wrong answers.
@@ -55,6 +58,7 @@ impl Status {
             Status::WordFault => 4,
             Status::BadFrame { .. } => 5,
             Status::Torn { .. } => 6,
+            Status::BadScript { .. } => 7,
             Status::BadTables { .. } => 8,
             Status::AsEnded(_) => 9,
             Status::NoMemory => 10,
@@ -79,6 +83,23 @@ fn flood_text(alloc: Global, limit: u64) -> Result<String, NoMemory>
     ensures { IfOk result (λ text. string_bytes text ≡ flood_text limit) }
 {
     Ok(format!(in alloc; "factotum: input over {limit} bytes\n")?)
+}
+
+fn bad_script_text(alloc: Global, line: u32, cause: ScriptCause) -> Result<String, NoMemory>
+    ensures { IfOk result (λ text. string_bytes text ≡ bad_script_text line cause) }
+{
+    match cause {
+        ScriptCause::BadLine => Ok(format!(in alloc; "factotum: script line {line}: bad line\n")?),
+        ScriptCause::UnknownNode => {
+            Ok(format!(in alloc; "factotum: script line {line}: unknown node\n")?)
+        }
+        ScriptCause::UnknownConv => {
+            Ok(format!(in alloc; "factotum: script line {line}: unknown conversation\n")?)
+        }
+        ScriptCause::NoSuchMessage => {
+            Ok(format!(in alloc; "factotum: script line {line}: no such message\n")?)
+        }
+    }
 }
 
 fn bad_table_text(alloc: Global, speaks: bool, line: u32) -> Result<String, NoMemory>
@@ -131,6 +152,10 @@ pub fn print_status(alloc: Global, status: &Status, out: &mut Bytes) -> Result<(
         }
         Status::Torn { at } => {
             let text = torn_text(alloc, *at)?;
+            out.append(text.as_bytes())
+        }
+        Status::BadScript { line, cause } => {
+            let text = bad_script_text(alloc, *line, *cause)?;
             out.append(text.as_bytes())
         }
         Status::BadTables { speaks, line } => {

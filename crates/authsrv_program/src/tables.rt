@@ -4,42 +4,22 @@ ghost use Rattle.attr_tuples.specs.Forms.{is_dom};
 ghost use Rattle.auth_server.specs.Serving.{Moment};
 ghost use Rattle.wire_streams.specs.Causes.{Rose};
 ghost use Rattle.authsrv_program.specs.Cores.{HasCore, StopsEarly};
-ghost use Rattle.authsrv_program.specs.Serving.{ReadsTable};
 ghost use Rattle.authsrv_program.specs.Statuses.{is_printable};
-ghost use Rattle.authsrv_program.specs.Tabling.{HasParsed, HasRead, IsBadTable, IsTableEnd, StopsSo};
+ghost use Rattle.authsrv_program.specs.Tabling.{HasParsed, HasRead, IsBadTable, IsTableEnd};
 
+use crate::files::read_file;
 use crate::status::Status;
 use auth_server::AuthCore;
 use auth_tables::{KeyTable, SpeaksTable, TableFault, parse_keys, parse_speaks};
 use std::alloc::Global;
 use wire_base::Text;
-use wire_streams::{Source, WholeFault, read_whole};
-
-/// How many bytes of a table are taken.
-const MOST_TABLE: usize = 1 << 22;
+use wire_streams::Source;
 
 /// What the server's administrator says of users and hosts.
 #[derive(Drop)]
 struct Tables {
     keys: KeyTable,
     speaks: SpeaksTable,
-}
-
-// Reads a table to its end.
-fn read_table<F: Source>(alloc: Global, file: &mut F) -> Result<Vec<u8>, Status>
-    ensures ok { IfOk result (λ text. ReadsTable (F.left file.old) (F.left file.new) text.items) }
-    ensures err { IfErr result (λ status. StopsSo status (F.left file.old) (F.left file.new)) }
-    ensures fault { result ≡ Err Status.ReadFault → Rose (F.faults file.old) (F.faults file.new) }
-    ensures counted { F.faults file.old ≤ F.faults file.new }
-{
-    match read_whole(alloc, MOST_TABLE, file) {
-        Ok(text) => Ok(text),
-        Err(WholeFault::Failed) => Err(Status::ReadFault),
-        Err(WholeFault::Flood) => Err(Status::Flood {
-            limit: MOST_TABLE as u64,
-        }),
-        Err(WholeFault::NoMemory) => Err(Status::NoMemory),
-    }
 }
 
 // The status of a bad table.
@@ -84,8 +64,8 @@ fn read_tables<F: Source>(alloc: Global, keys: &mut F, speaks: &mut F) -> Result
     ensures counted_keys { F.faults keys.old ≤ F.faults keys.new }
     ensures counted_speaks { F.faults speaks.old ≤ F.faults speaks.new }
 {
-    let key_text = read_table(alloc, keys)?;
-    let speak_text = read_table(alloc, speaks)?;
+    let key_text = read_file(alloc, keys)?;
+    let speak_text = read_file(alloc, speaks)?;
     parse_tables(alloc, key_text.as_slice(), speak_text.as_slice())
 }
 

@@ -109,7 +109,7 @@ deliver_so number fid answer phase o done kept speaks reads =
     ∙ ap (λ w. give_to number 0 answer w done) reads
 
 -- some read waits under the tag
-pub found_under : (fid : ℕ) (ws : List Wait) → find (λ w. eqb w.fid fid && is_unsettled w) ws ≡ Some (read_of fid) → list_any (λ w. eqb w.tag fid) ws ≡ true
+found_under : (fid : ℕ) (ws : List Wait) → find (λ w. eqb w.fid fid && is_unsettled w) ws ≡ Some (read_of fid) → list_any (λ w. eqb w.tag fid) ws ≡ true
 found_under fid [] e = absurd cc
 found_under fid (w ∷ ws) e = elim (cases_Bool (eqb w.fid fid && is_unsettled w)) [
   | inl now ↦ let same : w ≡ read_of fid = found_first (λ v. eqb v.fid fid && is_unsettled v) w (read_of fid) ws now e in ap (λ v. eqb v.tag fid || list_any (λ x. eqb x.tag fid) ws) same ∙ ap (λ b. b || list_any (λ x. eqb x.tag fid) ws) (same_number fid)

@@ -14,7 +14,7 @@ use Rattle.driven_answers.proofs.FoundLemmas.{none_kept}
 abbrev pub others_of : ℕ → List Question → List Question
 others_of number qs = filter (λ q. not (eqb q.conv number)) qs
 
-pub left_questions : (number fid : ℕ) (call : Call) (move : Move) → IsAnswer call move → (answer : RpcAnswer) (done : List Deed) → questions (answered_by number fid call answer done) ≡ others_of number (questions done)
+left_questions : (number fid : ℕ) (call : Call) (move : Move) → IsAnswer call move → (answer : RpcAnswer) (done : List Deed) → questions (answered_by number fid call answer done) ≡ others_of number (questions done)
 left_questions number fid call move is answer done =
     took_same questions number answer (met_by number call done) (λ d. refl)
     ∙ logged_same questions (λ line d. refl) (lines_by number call done) (OfTalk number call ∷ done)

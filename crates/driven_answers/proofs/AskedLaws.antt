@@ -15,7 +15,7 @@ use Rattle.wire_histories.specs.Conversations.{is_asked}
 use Rattle.recorded_talks.specs.Telling.{on_server}
 use Rattle.idle_agents.proofs.AskedLemmas.{needs_exchange}
 use Rattle.idle_agents.proofs.HandedLaws.{on_server as waits_there}
-use Rattle.driven_answers.proofs.FoundLemmas.{found_passes}
+use Rattle.driven_answers.proofs.FoundLemmas.{number_passes}
 
 exchange_asked : (need : Need) → IsExchange need → is_asked need ≡ true
 exchange_asked (Exchange request shape) is = refl
@@ -37,6 +37,6 @@ on_it s e is = by_parts s.begun s.phase s.starting s.said e (exchange_asked (nee
 pub asker_waits : (h : History) (call number : ℕ) → asker (deeds h) call ≡ Some number → IsOnServer (standing_of (deeds h) number)
 asker_waits h call number asked =
     let done = deeds h in
-    let there = found_passes (λ q. q.conv) (λ q. eqb q.call call) (λ n. stands done n && asks_server done n) (questions done) number asked (all_are_asked h) in
+    let there = number_passes (λ q. q.conv) (λ q. eqb q.call call) (λ n. stands done n && asks_server done n) (questions done) number asked (all_are_asked h) in
     let e = waits_there (standing_of done number).phase (and_parts (stands done number) (asks_server done number) there).1 in
     on_it (standing_of done number) e (needs_exchange (talk done number) e)

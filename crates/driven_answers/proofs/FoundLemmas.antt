@@ -2,7 +2,8 @@
 use Rattle.std.proofs.Common.{◌≡◌, ℕ, List, [], ◌∷◌, Bool, true, false, cond, ◌&&◌, Some, None, refl, sym, ap, ◌∙◌, inl, inr, map}
 use Rattle.std.specs.Prelude.{find, option_map}
 use Rattle.std.specs.List.{filter, list_all}
-use Rattle.std.proofs.lemmas.Bool.{and_parts, cases_Bool}
+use Rattle.std.proofs.lemmas.Bool.{cases_Bool}
+use Rattle.idle_agents.proofs.FoundLemmas.{found_by, found_passes}
 
 pub found_first : {X : Type 0} (p : X → Bool) (x y : X) (xs : List X) → p x ≡ true → find p (x ∷ xs) ≡ Some y → x ≡ y
 found_first p x y xs on e = let there : Some x ≡ Some y = sym (ap (λ b. cond b (Some x) (find p xs)) on) ∙ e in cc
@@ -17,14 +18,8 @@ pub later_found : {X : Type 0} (p : X → Bool) (x : X) (xs : List X) → p x �
 later_found p x xs off = ap (λ b. cond b (Some x) (find p xs)) off
 
 -- the number of what is found passes what all numbers pass
-pub found_passes : {X : Type 0} (f : X → ℕ) (p : X → Bool) (test : ℕ → Bool) (xs : List X) (n : ℕ) → option_map f (find p xs) ≡ Some n → list_all (λ x. test (f x)) xs ≡ true → test n ≡ true
-found_passes f p test [] n e all = absurd cc
-found_passes f p test (x ∷ xs) n e all =
-    let parts = and_parts (test (f x)) (list_all (λ y. test (f y)) xs) all in
-    elim (cases_Bool (p x)) [
-      | inl on ↦ let there : Some (f x) ≡ Some n = sym (ap (option_map f) (first_found p x xs on)) ∙ e in let same : f x ≡ n = cc in ap test (sym same) ∙ parts.0
-      | inr off ↦ found_passes f p test xs n (sym (ap (option_map f) (later_found p x xs off)) ∙ e) parts.1
-    ]
+pub number_passes : {X : Type 0} (f : X → ℕ) (p : X → Bool) (test : ℕ → Bool) (xs : List X) (n : ℕ) → option_map f (find p xs) ≡ Some n → list_all (λ x. test (f x)) xs ≡ true → test n ≡ true
+number_passes f p test xs n e all = let x = found_by f (find p xs) n e in ap test (sym x.gives) ∙ (found_passes (λ x. test (f x)) p xs x.which x.found all).0
 
 -- a test of the numbers
 pub all_numbers : {X : Type 0} (f : X → ℕ) (test : ℕ → Bool) (xs : List X) → list_all (λ x. test (f x)) xs ≡ list_all test (map f xs)

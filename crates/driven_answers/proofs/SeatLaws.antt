@@ -8,7 +8,7 @@ use Rattle.agent_history.specs.Histories.{History, deeds}
 use Rattle.agent_laws.specs.Laws.{is_same_place}
 use Rattle.agent_laws.proofs.ConversationLaws.{Rise, number, rise_parts, speak_once, speakers_rise}
 use Rattle.idle_agents.proofs.SeatLaws.{is_at}
-use Rattle.driven_answers.proofs.FoundLemmas.{all_numbers, first_found, found_passes, later_found}
+use Rattle.driven_answers.proofs.FoundLemmas.{all_numbers, first_found, number_passes, later_found}
 use Rattle.driven_answers.proofs.OtherTalks.{apart}
 
 abbrev pub AreAlone : List Speaker → Type 0
@@ -45,7 +45,7 @@ by_number top fid conv (s ∷ ss) rise e =
       | inl on ↦ let is = first_number (is_at fid) s ss conv on e in first_found (λ t. eqb t.conv conv) s ss (eq-eqb s.conv conv is) ∙ ap Some (is_seat s conv fid on is)
       | inr off ↦
           let rest = later_number (is_at fid) s ss conv off e in
-          later_found (λ t. eqb t.conv conv) s ss (below_apart s.conv conv (found_passes number (is_at fid) (ltb s.conv) ss conv rest (all_numbers number (ltb s.conv) ss ∙ parts.above)))
+          later_found (λ t. eqb t.conv conv) s ss (below_apart s.conv conv (number_passes number (is_at fid) (ltb s.conv) ss conv rest (all_numbers number (ltb s.conv) ss ∙ parts.above)))
           ∙ by_number top fid conv ss parts.rest rest
     ]
 

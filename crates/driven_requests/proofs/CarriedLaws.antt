@@ -33,7 +33,7 @@ phase_of_other number old new same s off e = ap (λ x. (standing x).phase) (sym 
 unasked : (number : ℕ) (new : List Deed) (phase : Phase) → (standing_of new number).phase ≡ phase → (phase ≡ OnServer → ⊥) → (s : Speaker) → eqb number s.conv ≡ true → IsRead new s
 unasked number new phase e none s same = λ asks. absurd (none (sym e ∙ (ap (λ n. (standing_of new n).phase) (eqb-true number s.conv same) ∙ asks)))
 
-pub read_still : (number fid : ℕ) (old new : List Deed) (phase : Phase) → AreMine number fid (speakers old) → AreRead old (speakers old) → speakers new ≡ speakers old → waits new 0 ≡ waits old 0
+read_still : (number fid : ℕ) (old new : List Deed) (phase : Phase) → AreMine number fid (speakers old) → AreRead old (speakers old) → speakers new ≡ speakers old → waits new 0 ≡ waits old 0
     → ((other : ℕ) → eqb number other ≡ false → talk new other ≡ talk old other) → (standing_of new number).phase ≡ phase → (phase ≡ OnServer → ⊥) → AreRead new (speakers new)
 read_still number fid old new phase mine read seated same others e none =
     subst (AreRead new) (sym seated)
@@ -57,7 +57,7 @@ found_last fid (w ∷ ws) none =
     let parts = or_parts (eqb w.fid fid) (list_any (λ x. eqb x.fid fid) ws) none in
     ap (λ b. cond (b && is_unsettled w) (Some w) (find (λ x. eqb x.fid fid && is_unsettled x) (ws ++ read_of fid ∷ []))) parts.0 ∙ found_last fid ws parts.1
 
-pub read_waiting : (number fid : ℕ) (old new : List Deed) → AreMine number fid (speakers old) → AreRead old (speakers old) → speakers new ≡ speakers old → waits new 0 ≡ waits old 0 ++ read_of fid ∷ []
+read_waiting : (number fid : ℕ) (old new : List Deed) → AreMine number fid (speakers old) → AreRead old (speakers old) → speakers new ≡ speakers old → waits new 0 ≡ waits old 0 ++ read_of fid ∷ []
     → ((other : ℕ) → eqb number other ≡ false → talk new other ≡ talk old other) → waits_for old 0 fid ≡ false → AreRead new (speakers new)
 read_waiting number fid old new mine read seated more others free =
     subst (AreRead new) (sym seated)

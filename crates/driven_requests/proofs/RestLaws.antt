@@ -90,7 +90,7 @@ attributes_fit : (s : Standing) (o : Option Begun) → need_in s.begun ≡ Nothi
 attributes_fit s None none = none
 attributes_fit s (Some b) none = none
 
-pub carried_fit : (s : Standing) (word : List ℕ) (request : RpcRequest) → need_in s.begun ≡ Nothing → Fits (carried_out s word request)
+carried_fit : (s : Standing) (word : List ℕ) (request : RpcRequest) → need_in s.begun ≡ Nothing → Fits (carried_out s word request)
 carried_fit s word (rpc.starts text) none = once_fit s word text s.begun none
 carried_fit s word rpc.reads none = got_fit s s.begun none none
 carried_fit s word (rpc.writes message) none = given_fit s message s.begun none none
@@ -221,7 +221,7 @@ step_fit s (Kept answer) Unheard p q = p
 step_fit s (Kept answer) Roomless p q = p
 step_fit s (Kept answer) Took p q = q
 
-pub talk_fit : (t : List Call) → Fits (standing t)
+talk_fit : (t : List Call) → Fits (standing t)
 talk_fit [] = refl
 talk_fit (call ∷ t) = step_fit (standing t) (standing t).phase call (talk_fit t) (talk_fit t)
 

@@ -66,7 +66,7 @@ one_found b starting said answer (Offered list) once is =
 one_found b starting said answer (Picked place) once is =
     unsought (needs b.start (picked place ∷ b.moves)) (move_answer a.Ok b.key (answers b.start b.moves (picked place))) (once (picked place) (pick_meets (needs b.start b.moves) place is))
 
-pub once_rests : (n : ℕ) (b : Begun) (starting : Bool) (said : Said) (answer : RpcAnswer) (list : KeyList) (asks : Asking) → Once (needs b.start) b.moves → Rests (suc n) list asks (stood b starting said answer)
+once_rests : (n : ℕ) (b : Begun) (starting : Bool) (said : Said) (answer : RpcAnswer) (list : KeyList) (asks : Asking) → Once (needs b.start) b.moves → Rests (suc n) list asks (stood b starting said answer)
 once_rests n b starting said answer list asks once e =
     let s = stood b starting said answer in
     rests_so n list asks (sought s (finds s asks list)) (one_found b starting said answer (finds s asks list) once (finds_for s asks list (sought_so (needs b.start b.moves) answer e)))

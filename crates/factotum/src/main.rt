@@ -1,5 +1,5 @@
-//! factotum: the agent that holds a user's keys and speaks authentication protocols, and the authentication server. All
-//! that they do is in the libraries; here the real input, output and files are opened, sockets listen, an authentication
+//! factotum: the agent that holds a user's keys and speaks authentication protocols, the authentication server, and runs of
+//! scripts of both. All that they do is in the libraries; here the real input, output and files are opened, sockets listen, an authentication
 //! server is dialed, and the process ends with the status's number.
 #![tactic(auto)]
 
@@ -41,6 +41,8 @@ const PATIENCE: u64 = 30;
 const COMMANDS: &[u8] = b"    factotum pipe [--auth ADDR]
     factotum serve --listen ADDR [--auth ADDR] [--consent N]
     factotum authsrv --dom D --keys PATH --speaks PATH
+    factotum world
+    factotum gen --number N --rounds K
 ";
 
 /// A file; each read of one that couldn't be opened fails.
@@ -131,7 +133,9 @@ fn run(rt: &HostRuntime, words: &[Text]) -> Status
             open(rt, RANDOM.as_bytes()),
             auth,
         ),
-        Err(_) => (Opened::Shut, Opened::Shut, Opened::Shut, None),
+        Ok(Task::World | Task::Gen(_)) | Err(_) => {
+            (Opened::Shut, Opened::Shut, Opened::Shut, None)
+        }
     };
     let address = match address(rt, auth) {
         Ok(address) => address,

@@ -5,7 +5,7 @@ use Rattle.nine_frames.specs.Streams.{IsFrames}
 use Rattle.nine_frames.proofs.StreamLaws.{no_bad_size}
 use Rattle.nine_frames.proofs.InputLaws.{front_of, all_read}
 use Rattle.authsrv_program.specs.declared.status.Status.{Status}
-use Rattle.authsrv_program.specs.declared.status.Status.TheVariants.{Fine, Usage, ReadFault, WriteFault, WordFault, BadFrame, Torn, BadTables, AsEnded, NoMemory, Flood}
+use Rattle.authsrv_program.specs.declared.status.Status.TheVariants.{Fine, Usage, ReadFault, WriteFault, WordFault, BadFrame, Torn, BadScript, BadTables, AsEnded, NoMemory, Flood}
 use Rattle.factotum_program.specs.Pipe.{most_frame}
 use Rattle.factotum_program.specs.Sights.{Sight}
 use Rattle.factotum_program.specs.Commands.{most_input, MeetsBadFrame, EndsInside, EndsSo, Floods}
@@ -36,6 +36,7 @@ two_left WriteFault content lo ln old new told whole few read write draw ends = 
 two_left WordFault content lo ln old new told whole few read write draw ends = absurd (draw refl)
 two_left (BadFrame at size) content lo ln old new told whole few read write draw ends = absurd (no_bad at size content lo ln old new told whole ends)
 two_left (Torn at) content lo ln old new told whole few read write draw ends = absurd (no_tear at content lo ln old new told whole ends)
+two_left (BadScript line cause) content lo ln old new told whole few read write draw ends = absurd ends
 two_left (BadTables speaks line) content lo ln old new told whole few read write draw ends = absurd ends
 two_left (AsEnded end) content lo ln old new told whole few read write draw ends = absurd ends
 two_left NoMemory content lo ln old new told whole few read write draw ends = inr refl

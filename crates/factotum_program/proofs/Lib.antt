@@ -6,4 +6,5 @@ pub mod PartLemmas
 pub mod PipeLemmas
 pub mod CommandLemmas
 pub mod AuthWords
+pub mod ApartWords
 pub mod CommandWords

@@ -15,7 +15,7 @@ use Rattle.agent_history.specs.Histories.{History}
 use Rattle.agent_core.specs.declared.agent.Agent.{Agent}
 use Rattle.agent_core.specs.Agents.{StandsFor}
 use Rattle.authsrv_program.specs.declared.status.Status.{Status}
-use Rattle.authsrv_program.specs.declared.status.Status.TheVariants.{Fine, Usage, ReadFault, WriteFault, WordFault, BadFrame, Torn, BadTables, AsEnded, NoMemory, Flood}
+use Rattle.authsrv_program.specs.declared.status.Status.TheVariants.{Fine, Usage, ReadFault, WriteFault, WordFault, BadFrame, Torn, BadScript, BadTables, AsEnded, NoMemory, Flood}
 use Rattle.factotum_program.specs.declared.pipe.Session.{Session}
 use Rattle.factotum_program.specs.Pipe.{Turn, after_turn, after_turns, frames_of, most_frame, replies_text, text_of, turn_of}
 use Rattle.factotum_program.specs.Sights.{GoesPart, Sight, sight}
@@ -193,6 +193,7 @@ stop_gone (Torn at) origin now later gathered stream gone s = absurd s
 stop_gone NoMemory origin now later gathered stream gone s = record { front = s.front; others = s.others; parts = s.parts; told = told_part_gone NoMemory s.front origin now later gathered gone s.told }
 stop_gone (Flood limit) origin now later gathered stream gone s = absurd s
 stop_gone WordFault origin now later gathered stream gone s = record { front = s.front; frame = s.frame; others = s.others; parts = s.parts; told = told_gone s.front origin now later gathered gone s.told }
+stop_gone (BadScript line cause) origin now later gathered stream gone s = absurd s
 stop_gone (BadTables speaks line) origin now later gathered stream gone s = absurd s
 stop_gone (AsEnded end) origin now later gathered stream gone s = absurd s
 
@@ -220,6 +221,7 @@ told_so (Torn at) origin now gathered stream s = absurd s
 told_so NoMemory origin now gathered stream s = s
 told_so (Flood limit) origin now gathered stream s = absurd s
 told_so WordFault origin now gathered stream s = record { front = s.front; others = s.frame ∷ s.others; parts = s.parts; told = in_part s.front origin now gathered s.told }
+told_so (BadScript line cause) origin now gathered stream s = absurd s
 told_so (BadTables speaks line) origin now gathered stream s = absurd s
 told_so (AsEnded end) origin now gathered stream s = absurd s
 
@@ -269,6 +271,7 @@ stop_ends WriteFault first next origin now input behind r s = record { input = i
 stop_ends WordFault first next origin now input behind r s = record { input = input; behind = behind; read = r; front = s.front; frame = s.frame; others = s.others; parts = s.parts; replies = replied s.front origin now s.told }
 stop_ends (BadFrame at size) first next origin now input behind r s = record { input = input; behind = behind; read = r; place = s.place; bad = s.bad; replies = replied (frames_in input) origin now s.told }
 stop_ends (Torn at) first next origin now input behind r s = absurd s
+stop_ends (BadScript line cause) first next origin now input behind r s = absurd s
 stop_ends (BadTables speaks line) first next origin now input behind r s = absurd s
 stop_ends (AsEnded end) first next origin now input behind r s = absurd s
 stop_ends NoMemory first next origin now input behind r s = record { input = input; behind = behind; read = r; front = s.front; others = s.others; parts = s.parts; replies = replied_part NoMemory s.front origin now s.told }

@@ -5,7 +5,7 @@ use Rattle.std.specs.Io.KnownBytes.{Consumes, IsAtEnd}
 use Rattle.wire_streams.specs.Streams.{Gains}
 use Rattle.nine_frames.specs.Streams.{frames, end_of, HasBadSize, HasNoBadSize, IsFrames}
 use Rattle.authsrv_program.specs.declared.status.Status.{Status}
-use Rattle.authsrv_program.specs.declared.status.Status.TheVariants.{Fine, Usage, ReadFault, WriteFault, WordFault, BadFrame, Torn, BadTables, AsEnded, NoMemory, Flood}
+use Rattle.authsrv_program.specs.declared.status.Status.TheVariants.{Fine, Usage, ReadFault, WriteFault, WordFault, BadFrame, Torn, BadScript, BadTables, AsEnded, NoMemory, Flood}
 use Rattle.factotum_program.specs.Pipe.{Turn, all_met, frames_of, most_frame, pipe, replies_text, text_of}
 use Rattle.factotum_program.specs.Sights.{Goes, GoesPart, Sight}
 
@@ -126,6 +126,7 @@ EndsSo WriteFault left_old left_new before now = RepliesInPart WriteFault left_o
 EndsSo WordFault left_old left_new before now = LacksWord left_old left_new before now
 EndsSo (BadFrame at size) left_old left_new before now = MeetsBadFrame at size left_old left_new before now
 EndsSo (Torn at) left_old left_new before now = EndsInside at left_old left_new before now
+EndsSo (BadScript line cause) left_old left_new before now = ⊥
 EndsSo (BadTables speaks line) left_old left_new before now = ⊥
 EndsSo (AsEnded end) left_old left_new before now = ⊥
 EndsSo NoMemory left_old left_new before now = RepliesInPart NoMemory left_old left_new before now

@@ -10,6 +10,7 @@ use wire_streams::{
 };
 
 mod batches;
+mod scripts;
 mod sessions;
 
 const VERSION: &str = "13000000 64 ffff 18200000 0600 395032303030";
@@ -370,7 +371,7 @@ fn a_reply_is_written_before_more_is_read(rt: HostRuntime) -> Result<(), Fail> {
 }
 
 // No command's words.
-static OTHER_WORDS: [&str; 31] = [
+static OTHER_WORDS: [&str; 40] = [
     "",
     "pipe x",
     "pipe --auth",
@@ -382,10 +383,19 @@ static OTHER_WORDS: [&str; 31] = [
     "Pipe",
     "pipes",
     "x pipe",
-    "world",
+    "world x",
+    "worlds",
+    "gen",
     "gen --number 7",
     "gen --rounds 0 --number 7",
-    "gen --number 7 --rounds 4",
+    "gen --rounds 1001 --number 7",
+    "gen --number 07 --rounds 1",
+    "gen --number 7 --rounds 01",
+    "gen --number 18446744073709551616 --rounds 1",
+    "gen --number 7 --number 4",
+    "gen --number 7 --rounds -4",
+    "gen --number=7 --rounds 4",
+    "gen --number 7 --rounds 4 x",
     "serve --listen x --auth y",
     "authsrv",
     "--dom x --keys k --speaks s",

@@ -15,6 +15,7 @@ use clap::Command;
 use clap::error::ErrorKind;
 use std::alloc::Global;
 use wire_base::{NoMemory, Text};
+use world_program::{GenWords, has_gen_form, is_world, read_gen_words};
 
 /// What the words of a command line ask for.
 #[derive(Drop)]
@@ -23,6 +24,10 @@ pub enum Task {
     Pipe { auth: Option<Text> },
     /// The authentication server, for one client.
     Authsrv(AuthsrvWords),
+    /// A script that is read is run.
+    World,
+    /// The script of a number is run.
+    Gen(GenWords),
 }
 
 // Whether the words are the one word `pipe`.
@@ -98,6 +103,13 @@ pub fn read_words(alloc: Global, words: &[Text]) -> Result<Task, Status>
     if has_auth_form(words) {
         let auth = read_auth(alloc, words)?;
         return Ok(Task::Pipe { auth: Some(auth) });
+    }
+    if is_world(words) {
+        return Ok(Task::World);
+    }
+    if has_gen_form(words) {
+        let given = read_gen_words(alloc, words)?;
+        return Ok(Task::Gen(given));
     }
     let given = read_authsrv_words(alloc, words)?;
     Ok(Task::Authsrv(given))

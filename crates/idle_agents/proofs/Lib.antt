@@ -1,6 +1,7 @@
 pub mod RunLaws
 pub mod KeptLaws
 pub mod TakenLaws
+pub mod StandLemmas
 pub mod AskedLemmas
 pub mod HandedLaws
 pub mod IdleLaws

@@ -128,7 +128,7 @@ frame_alike fid bytes done names =
     granted_keeps (Alike done) done call (granted done call frame) (alike_itself done names)
     (granted_so (λ body. Alike done (after done call body)) done call frame (λ m is. any_write (λ body. Alike done (after done call body)) (λ f o c. write_alike done call f o c names) fid bytes m is))
 
-pub frame_bare : (fid : ℕ) (bytes : List ℕ) (done : List Deed) → IsBare (body_to done (write_call fid bytes) (write_frame fid bytes))
+frame_bare : (fid : ℕ) (bytes : List ℕ) (done : List Deed) → IsBare (body_to done (write_call fid bytes) (write_frame fid bytes))
 unfolding body_to
 frame_bare fid bytes done =
     let call = write_call fid bytes in

@@ -6,6 +6,7 @@ use Rattle.std.proofs.lemmas.Bool.{or_parts}
 use Rattle.talks.specs.Standings.{Begun}
 use Rattle.agent_history.specs.Conversations.{conv_of}
 use Rattle.agent_history.specs.Histories.{deeds}
+use Rattle.agent_laws.proofs.GrowLaws.{not_false}
 use Rattle.world_history.specs.Acts.{Act, Talk, Domain, KeyLine, SpeakLine, Made, Told, Opened, Started, Got, Given, Answered, Unanswered, Asked, Closed, talk_of}
 use Rattle.world_history.specs.Scripts.{call_now, call_or, is_unfit}
 use Rattle.world_history.specs.Talking.{Asks, gets, gives, starts}
@@ -88,10 +89,6 @@ outstanding_is (Some call) is = refl
 
 asks_now : (before : List Act) (conv : List ℕ) (call : ℕ) → call ≡ call_now before conv → is_some (outstanding before conv) ≡ true → outstanding before conv ≡ Some call
 asks_now before conv call named is = outstanding_is (outstanding before conv) is ∙ ap (λ n. Some n) (sym named)
-
-not_false : (b : Bool) → not b ≡ false → b ≡ true
-not_false true is = refl
-not_false false is = absurd cc
 
 answer_fits : (before : List Act) (conv bytes : List ℕ) (call : ℕ) → is_unfit before (Answered conv bytes call) ≡ false → is_some (outstanding before conv) ≡ true
 unfolding is_unfit

@@ -2,6 +2,7 @@
 use Rattle.std.proofs.Common.{◌≡◌, ℕ, zero, suc, ◌+◌, ◌≤◌, ◌<◌, List, [], ◌∷◌, length, Bool, true, false, cond, eqb, ltb, ◌||◌, not, refl, sym, ap, ◌∙◌, inl, inr, arith}
 use Rattle.std.specs.Prelude.{filter}
 use Rattle.std.proofs.lemmas.Bool.{cases_Bool, eqb-true, eq-eqb, ltb-false, ltb-true}
+use Rattle.std.proofs.lemmas.List.Sums.{count_by-le-length, length-filter}
 use Rattle.world_history.specs.Acts.{highest, is_held, least_fid, least_from}
 
 -- ---- the least that isn't held
@@ -64,20 +65,15 @@ below_least held k from below = all_from (highest held) 2 held k from below
 
 -- ---- so few are held
 
-filter_le : (p : ℕ → Bool) (xs : List ℕ) → length (filter p xs) ≤ length xs
-filter_le p [] = omega arith
-filter_le p (x ∷ xs) = by_test (p x) (filter_le p xs)
-  where
-    by_test : (b : Bool) → length (filter p xs) ≤ length xs → length (cond b (x ∷ filter p xs) (filter p xs)) ≤ suc (length xs)
-    by_test true more = omega arith
-    by_test false more = omega arith
+pub filter_few : {X : Type 0} (p : X → Bool) (xs : List X) → length (filter p xs) ≤ length xs
+filter_few p xs = omega (arith, length-filter p xs, count_by-le-length p xs)
 
 abbrev without : ℕ → List ℕ → List ℕ
 without k xs = filter (λ x. not (eqb x k)) xs
 
 shorter : (k : ℕ) (xs : List ℕ) → is_held k xs ≡ true → length (without k xs) < length xs
 shorter k [] is = absurd cc
-shorter k (x ∷ xs) is = by_first (eqb x k) is (filter_le (λ x. not (eqb x k)) xs) (shorter k xs)
+shorter k (x ∷ xs) is = by_first (eqb x k) is (filter_few (λ x. not (eqb x k)) xs) (shorter k xs)
   where
     by_first : (b : Bool) → (b || is_held k xs) ≡ true → length (without k xs) ≤ length xs → (is_held k xs ≡ true → length (without k xs) < length xs) → length (cond (not b) (x ∷ without k xs) (without k xs)) < suc (length xs)
     by_first true is most more = omega arith
@@ -93,7 +89,7 @@ still k j (x ∷ xs) apart is = by_first (eqb x j) (eqb x k) refl refl is (still
     by_first false true gone mine is more = rw mine refl
     by_first false false gone mine is more = rw mine (more is)
 
-not_same : (k j : ℕ) → k < j → eqb k j ≡ false
+pub not_same : (k j : ℕ) → k < j → eqb k j ≡ false
 not_same k j below = elim (cases_Bool (eqb k j)) [
   | inl same ↦ absurd (let is = eqb-true k j same in let no_way : j < j = omega arith in omega arith)
   | inr other ↦ other

@@ -1,10 +1,8 @@
 -- How much is to be handed out behind an event of which nothing was left: few questions, and few connections that are given up.
-use Rattle.std.proofs.Common.{◌≡◌, ℕ, ◌+◌, ◌≤◌, List, [], ◌∷◌, ◌++◌, length, Bool, true, false, cond, eqb, not, Option, Some, None, refl, sym, ap, subst, ◌∙◌, arith, length-append}
+use Rattle.std.proofs.Common.{◌≡◌, ℕ, ◌+◌, ◌≤◌, List, [], ◌∷◌, ◌++◌, length, Bool, true, false, cond, eqb, not, Option, Some, None, refl, sym, subst, arith, length-append}
 use Rattle.std.specs.Prelude.{Result, Ok, filter}
 use Rattle.std.specs.List.{list_any}
 use Rattle.std.proofs.lemmas.List.{length-map}
-use Rattle.file_tree.specs.declared.tree.Node.{Node}
-use Rattle.file_tree.specs.declared.tree.Node.TheVariants.{Confirm, Needkey, Log}
 use Rattle.key_lists.specs.CtlLines.{CtlLine}
 use Rattle.rpc_file.specs.Requests.{RpcRequest}
 use Rattle.rpc_file.specs.declared.request.RpcFault.{RpcFault}
@@ -13,14 +11,15 @@ use Rattle.side_files.specs.Calls as side
 use Rattle.talks.specs.Calls as calls
 use Rattle.talks.specs.Lines.{log_lines}
 use Rattle.talks.specs.Standings.{Phase, Waiting, Seeking, OnServer, Kept, finds}
-use Rattle.agent_history.specs.Deeds.{Deed, FidDeed, OfFids, OfKeys, OfTalk, OfLog, Raised, Swept, holder_of, is_debug, keys_of}
+use Rattle.agent_history.specs.Deeds.{Deed, FidDeed, OfFids, OfKeys, OfTalk, OfLog, Raised, Swept, is_debug, keys_of}
 use Rattle.agent_history.specs.Replies.{Wait, has_settled, swept}
-use Rattle.agent_history.specs.SideFiles.{all_served, is_line_file, served_to}
 use Rattle.agent_history.specs.Conversations.{Drop, Question, Speaker, asking, deliver_to, delivered, drop_of, drops, fits, give_to, given_up, gives_up, logged, met, prompting, questions, raised, raising, reader_of, resumed, seeking, seeking_all, sought_once, speaker_of, speakers, standing_of, then_logged, then_raised, then_sought, then_took}
 use Rattle.agent_history.specs.Requests.{carrying_out, line_deed, lines_done, stored}
 use Rattle.world_history.specs.Driving.{left_to_hand}
 use Rattle.driven_agents.specs.Quiet.{NamesNoLines}
-use Rattle.driven_agents.proofs.QuietLaws.{holder_none}
+use Rattle.idle_agents.proofs.CallLemmas.{nobody_served}
+use Rattle.idle_agents.proofs.HandedLaws.{unhanded}
+use Rattle.world_agents.proofs.FidLemmas.{filter_few}
 
 -- no more than so much, of an agent of whose fids none came to name a file of lines
 pub record AtMost (n : ℕ) (done : List Deed) : Type 0 where
@@ -31,9 +30,6 @@ pub more_room : (n m : ℕ) (done : List Deed) → n ≤ m → AtMost n done →
 more_room n m done most a = record { names = a.names; few = omega (arith, a.few) }
 
 -- ---- deeds
-
-abbrev unhanded : List Question → List Question
-unhanded qs = filter (λ q. not q.handed) qs
 
 kept_few : (keep : Question → Bool) (qs : List Question) → length (unhanded (filter keep qs)) ≤ length (unhanded qs)
 kept_few keep [] = omega arith
@@ -74,14 +70,6 @@ last_unhanded (x ∷ qs) q = by_handed x.handed (last_unhanded qs q)
 raised_adds : (n conv : ℕ) (done : List Deed) → AtMost n done → AtMost (n + 1) (Raised conv ∷ done)
 raised_adds n conv done a = record { names = a.names; few = omega (arith, a.few, last_unhanded (questions done) (record { call = raised done + 1; conv = conv; handed = false })) }
 
-filter_few : (p : Speaker → Bool) (ss : List Speaker) → length (filter p ss) ≤ length ss
-filter_few p [] = omega arith
-filter_few p (s ∷ ss) = by_test (p s) (filter_few p ss)
-  where
-    by_test : (b : Bool) → length (filter p ss) ≤ length ss → length (cond b (s ∷ filter p ss) (filter p ss)) ≤ length (s ∷ ss)
-    by_test true more = omega arith
-    by_test false more = omega arith
-
 -- a deed of a fid may give up one of each conversation
 pub fid_adds : (n at : ℕ) (deed : FidDeed) (done : List Deed) → length (speakers done) ≤ 256 → left_to_hand done ≤ n → left_to_hand (OfFids at deed ∷ done) ≤ n + 256
 fid_adds n at deed done few left =
@@ -119,19 +107,6 @@ raising_adds n conv phase done a = more_room n (n + 1) done (omega arith) a
 logged_adds : (n : ℕ) (lines : List (List ℕ)) (done : List Deed) → AtMost n done → AtMost n (logged lines done)
 logged_adds n [] done a = a
 logged_adds n (line ∷ lines) done a = logged_adds n lines (OfLog (side.Pushed line) ∷ done) (record { names = a.names; few = a.few })
-
--- nobody reads a file of lines
-served_none : (node : Node) (o : Option (ℕ × ℕ)) (done : List Deed) → o ≡ None → served_to node o done ≡ done
-served_none node None done none = refl
-served_none node (Some holder) done none = absurd cc
-
-none_served : (node : Node) (done : List Deed) → is_line_file node ≡ true → NamesNoLines done → served_to node (holder_of done node) done ≡ done
-none_served node done line named = served_none node (holder_of done node) done (holder_none done node line named)
-
-nobody_served : (done : List Deed) → NamesNoLines done → all_served done ≡ done
-nobody_served done named =
-    ap (λ d. served_to Log (holder_of (served_to Needkey (holder_of d Needkey) d) Log) (served_to Needkey (holder_of d Needkey) d)) (none_served Confirm done refl named)
-    ∙ (ap (λ d. served_to Log (holder_of d Log) d) (none_served Needkey done refl named) ∙ none_served Log done refl named)
 
 met_adds : (n conv : ℕ) (call : calls.Call) (done : List Deed) → AtMost n done → AtMost (n + 5) (met conv call done)
 met_adds n conv call done a =

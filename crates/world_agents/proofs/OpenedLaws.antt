@@ -4,7 +4,6 @@ use Rattle.std.specs.Prelude.{find, option_map}
 use Rattle.std.specs.Str.{bytes_eq}
 use Rattle.std.proofs.lemmas.Bool.{cases_Bool, eqb-true, or_parts}
 use Rattle.std.proofs.lemmas.List.{length-map}
-use Rattle.attr_tuples.proofs.EqualityLemmas.{eqb_swap}
 use Rattle.talks.specs.Standings.{standing}
 use Rattle.agent_history.specs.Conversations.{Speaker, asker, conv_of, opened_talks, speakers}
 use Rattle.agent_history.specs.Histories.{History, deeds}
@@ -21,7 +20,7 @@ use Rattle.world_legality.proofs.PlaceLemmas.{placed, unplaced}
 use Rattle.idle_agents.specs.Idle.{IsIdle, Runs}
 use Rattle.idle_agents.proofs.OpensLaws.{SeatSo, seat_is}
 use Rattle.world_agents.specs.Worlds.{AllRun, IsSeated}
-use Rattle.world_agents.proofs.FidLemmas.{least_free, least_off, least_small}
+use Rattle.world_agents.proofs.FidLemmas.{least_free, least_off, least_small, not_same}
 use Rattle.world_agents.proofs.KnownLaws.{Known, none_some, not_both, same_some, unequal}
 use Rattle.world_agents.proofs.RunLemmas.{itself, same_name}
 use Rattle.world_agents.proofs.TalkLemmas.{IsFound, all_found, held_by_talk, is_held_by, new_name, new_talk, none_named, opened_talk}
@@ -115,7 +114,7 @@ module _ (before : List Act) (node conv : List ℕ) (done : AreDone (Opened node
       | inr old ↦ subst (λ n. eqb n q.number ≡ false) (ap (λ p. p.number) new.1) (unequal q.number (opened_talks (deeds (history before node))) (low_place other q old.1 (ap (λ p. p.node) new.1 ∙ same)))
     ]
     | inr old ↦ elim (old_or_new other q there) [
-      | inl new ↦ subst (λ n. eqb p.number n ≡ false) (ap (λ p. p.number) new.1) (eqb_swap p.number (opened_talks (deeds (history before node))) ∙ unequal p.number (opened_talks (deeds (history before node))) (low_place one p old.1 (ap (λ p. p.node) new.1 ∙ sym same)))
+      | inl new ↦ subst (λ n. eqb p.number n ≡ false) (ap (λ p. p.number) new.1) (not_same p.number (opened_talks (deeds (history before node))) (low_place one p old.1 (ap (λ p. p.node) new.1 ∙ sym same)))
       | inr both ↦ k.apart one other p q old.1 both.1 names same
     ]
   ]

@@ -1,7 +1,8 @@
 -- A script does few acts: none of its agents stops, and each does what its conversations do.
 use Rattle.std.proofs.Common.{ℕ, ◌+◌, ◌≤◌, List, [], ◌∷◌, length, Bool, true, false, cond, eqb, Result, Ok, Err, arith}
-use Rattle.std.specs.List.{onto_first}
-use Rattle.attr_words.specs.Cutting.{text_lines}
+use Rattle.std.specs.List.{slice_split}
+use Rattle.std.proofs.lemmas.List.Splits.{length-slice_split}
+use Rattle.std.proofs.lemmas.List.Sums.{count_by-le-length}
 use Rattle.world_scripts.specs.Reading.{line_of}
 use Rattle.world_scripts.specs.Scripts.{Numbered, is_skipped, numbered, script_lines}
 use Rattle.world_history.specs.declared.cause.ScriptCause.{ScriptCause}
@@ -40,18 +41,6 @@ scripts_do script run = all_do (play script).acts (played script) run
 
 -- ---- how many acts a script does
 
-lines_few : (text : List ℕ) → length (text_lines text) ≤ length text + 1
-lines_few [] = omega arith
-lines_few (b ∷ text) = by_end (eqb b 10) (lines_few text)
-  where
-    by_end : (c : Bool) → length (text_lines text) ≤ length text + 1 → length (cond c ([] ∷ text_lines text) (onto_first b (text_lines text))) ≤ length (b ∷ text) + 1
-    by_end true more = omega arith
-    by_end false more = same_few (text_lines text) more
-      where
-        same_few : (parts : List (List ℕ)) → length parts ≤ length text + 1 → length (onto_first b parts) ≤ length (b ∷ text) + 1
-        same_few [] more = omega arith
-        same_few (part ∷ parts) more = omega arith
-
 numbered_few : (n : ℕ) (lines : List (List ℕ)) → length (numbered n lines) ≤ length lines
 numbered_few n [] = omega arith
 numbered_few n (line ∷ lines) = by_skip (is_skipped line) (numbered_few (n + 1) lines)
@@ -70,7 +59,9 @@ plays_few acts (line ∷ lines) = goes_few acts line.number (judged acts (line_o
 
 acts_few : (script : List ℕ) → length (play script).acts ≤ length script + 1
 unfolding play
-acts_few script = omega (arith, plays_few [] (script_lines script), numbered_few 1 (text_lines script), lines_few script)
+acts_few script =
+    let ends = λ (b : ℕ). eqb b 10 in
+    omega (arith, plays_few [] (script_lines script), numbered_few 1 (slice_split ends script), length-slice_split ends script, count_by-le-length ends script)
 
 pub scripts_run : ScriptsRun
 scripts_run script few = few_run driven (play script).acts (played script) (omega (arith, acts_few script))

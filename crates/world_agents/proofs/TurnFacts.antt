@@ -4,29 +4,24 @@ use Rattle.std.proofs.Common.{◌≡◌, ℕ, List, [], ◌∷◌, Bool, true, f
 use Rattle.std.specs.Prelude.{find, option_map}
 use Rattle.std.proofs.lemmas.Bool.{eq-eqb}
 use Rattle.std.specs.Str.{bytes_eq}
-use Rattle.nine_messages.specs.declared.message.RMsg.{RMsg}
-use Rattle.nine_messages.specs.declared.message.RBody.{RBody}
-use Rattle.nine_messages.specs.declared.message.RBody.TheVariants as r
 use Rattle.agent_history.specs.declared.event.Event.{Event}
 use Rattle.agent_history.specs.declared.event.Event.TheVariants.{NoAnswer}
 use Rattle.agent_history.specs.declared.event.Event.TheVariants as events
-use Rattle.roles.specs.Talks.{Call as Move, heard, unheard}
 use Rattle.agent_history.specs.Conversations.{asker, conv_of, opened_talks}
 use Rattle.agent_history.specs.Histories.{History, deeds}
-use Rattle.agent_laws.specs.Laws.{gives_content}
 use Rattle.world_history.specs.declared.question.Question.{Question}
 use Rattle.world_history.specs.Driving.{clunks, drive, questions_to, replies_to, told}
 use Rattle.world_history.specs.Talking.{Asks, request_questions, requested}
 use Rattle.world_history.specs.Turns.{Turn, after, asks, closes, hears, misses, turn_questions}
 use Rattle.world_history.specs.Worlds.{call_behind, last_call}
 use Rattle.recorded_talks.specs.Begun.{BegunWith}
-use Rattle.world_legality.specs.Agents.{EventsLeave, GiveNothing, TurnDoes, begun_in, is_read}
-use Rattle.idle_agents.specs.Idle.{AreOf, IsIdle, Runs, SameSeats}
-use Rattle.idle_agents.proofs.AlikeLaws.{GivesNone}
+use Rattle.world_legality.specs.Agents.{EventsLeave, TurnDoes, begun_in}
+use Rattle.idle_agents.specs.Idle.{AreOf, IsIdle, KeepsAskers, Runs, SameSeats}
 use Rattle.idle_agents.proofs.ClosesLaws.{close_is}
 use Rattle.idle_agents.proofs.WritesLaws.{write_is}
 use Rattle.driven_requests.specs.Requests.{IsWorded, RequestsDo, RequestsLeave}
-use Rattle.driven_answers.specs.Answers.{AbsencesDo, AbsencesLeave, Answered, AnswersDo, AnswersLeave}
+use Rattle.driven_requests.proofs.RequestsLaws.{give_nothing}
+use Rattle.driven_answers.specs.Answers.{AbsencesDo, AbsencesLeave, AnswersDo, AnswersLeave}
 use Rattle.world_agents.proofs.RunLemmas.{itself}
 
 -- what is known of an agent's requests and answers
@@ -94,17 +89,17 @@ request_so d conv what fid number h begun idle seat runs =
 not_mine : (n number : ℕ) → eqb n number ≡ false → not (eqb n number) ≡ true
 not_mine n number apart = ap not apart
 
-answered_behind : (number fid : ℕ) (event : Event) (call : Move) (h : History) → Answered number fid event call h → Behind (λ n. eqb n number) none_of h (drive event h)
-answered_behind number fid event call h a = record {
-  idle = a.idle;
-  opened = a.seats.opened;
-  others = λ f _. same_seats h (drive event h) a.seats f;
-  askers = λ c n is apart. a.keeps c n is (not_mine n number apart);
+answered_behind : (number : ℕ) (event : Event) (h : History) → IsIdle (drive event h) → SameSeats h (drive event h) → KeepsAskers (λ n. not (eqb n number)) h (drive event h) → Behind (λ n. eqb n number) none_of h (drive event h)
+answered_behind number event h idle seats keeps = record {
+  idle = idle;
+  opened = seats.opened;
+  others = λ f _. same_seats h (drive event h) seats f;
+  askers = λ c n is apart. keeps c n is (not_mine n number apart);
 }
 
-answered_own : (conv : List ℕ) (number fid : ℕ) (event : Event) (move : Move) (h : History) → Answered number fid event move h → (call : Option ℕ) (c : ℕ) → cond (bytes_eq conv conv) (last_call (questions_to event h) None) call ≡ Some c → asker (deeds (drive event h)) c ≡ Some number
-answered_own conv number fid event move h a call c is =
-    last_of number (questions_to event h) None (drive event h) a.raises (λ e no_way. absurd cc) c (ap (λ b. cond b (last_call (questions_to event h) None) call) (sym (itself conv)) ∙ is)
+answered_own : (conv : List ℕ) (number : ℕ) (event : Event) (h : History) → AreOf number (questions_to event h) (drive event h) → (call : Option ℕ) (c : ℕ) → cond (bytes_eq conv conv) (last_call (questions_to event h) None) call ≡ Some c → asker (deeds (drive event h)) c ≡ Some number
+answered_own conv number event h raises call c is =
+    last_of number (questions_to event h) None (drive event h) raises (λ e no_way. absurd cc) c (ap (λ b. cond b (last_call (questions_to event h) None) call) (sym (itself conv)) ∙ is)
 
 pub answer_so : Driven → (conv bytes : List ℕ) (call fid number : ℕ) (h : History) → IsIdle h → conv_of (deeds h) 0 fid ≡ Some number → asker (deeds h) call ≡ Some number → Runs (after (hears conv fid call bytes) h) → TurnSo conv (hears conv fid call bytes) fid number (λ n. eqb n number) none_of h
 unfolding after turn_questions
@@ -112,10 +107,10 @@ answer_so d conv bytes call fid number h idle seat asks_it runs =
     let event = events.Answer call bytes in
     let a = d.answers number fid call bytes h idle seat asks_it runs in
     record {
-      behind = answered_behind number fid event (heard bytes) h a;
+      behind = answered_behind number event h a.idle a.seats a.keeps;
       does = a.does;
       leaves = λ other apart. d.answer_others other number call bytes h asks_it apart;
-      own = λ _ old _ c is. answered_own conv number fid event (heard bytes) h a old c is;
+      own = λ _ old _ c is. answered_own conv number event h a.raises old c is;
     }
 
 pub absence_so : Driven → (conv : List ℕ) (call fid number : ℕ) (h : History) → IsIdle h → conv_of (deeds h) 0 fid ≡ Some number → asker (deeds h) call ≡ Some number → Runs (after (misses conv fid call) h) → TurnSo conv (misses conv fid call) fid number (λ n. eqb n number) none_of h
@@ -124,21 +119,13 @@ absence_so d conv call fid number h idle seat asks_it runs =
     let event = NoAnswer call in
     let a = d.absences number fid call h idle seat asks_it runs in
     record {
-      behind = answered_behind number fid event unheard h a;
+      behind = answered_behind number event h a.idle a.seats a.keeps;
       does = a.does;
       leaves = λ other apart. d.absence_others other number call h asks_it apart;
-      own = λ _ old _ c is. answered_own conv number fid event unheard h a old c is;
+      own = λ _ old _ c is. answered_own conv number event h a.raises old c is;
     }
 
 -- ---- a closing
-
-same_read : (body : RBody) → is_read body ≡ gives_content body
-same_read (r.Read text) = refl
-same_read body = refl
-
-give_nothing : (ms : List RMsg) → GivesNone ms → GiveNothing ms
-give_nothing [] none = tt
-give_nothing (m ∷ ms) none = (same_read m.body ∙ none.0, give_nothing ms none.1)
 
 gone_itself : (fid : ℕ) → eqb fid fid ≡ false → ⊥
 gone_itself fid off = let on = eq-eqb fid fid refl in let no_way : true ≡ false = sym on ∙ off in cc

@@ -1,6 +1,5 @@
 -- At most 64 reads wait, so that at most 65 replies come of an event.
 use Rattle.std.proofs.Common.{◌≡◌, ℕ, ◌≤◌, ◌<◌, List, [], ◌∷◌, length, Bool, true, false, cond, eqb, not, Option, Some, None, refl, ap, subst, arith, length-append}
-use Rattle.std.specs.Prelude.{filter}
 use Rattle.std.specs.List.{cons_option, filter_map}
 use Rattle.std.proofs.lemmas.Bool.{eqb-true}
 use Rattle.std.proofs.lemmas.List.{length-map}
@@ -17,16 +16,9 @@ use Rattle.agent_laws.proofs.GrowLaws.{KeepsAny, all_are_known, frame_grows, his
 use Rattle.agent_laws.proofs.KindLaws.{Fits, is_met}
 use Rattle.idle_agents.specs.Idle.{Runs}
 use Rattle.idle_agents.proofs.LeftLaws.{own_reply, request_left, resumed_left, swept_replies}
+use Rattle.world_agents.proofs.FidLemmas.{filter_few}
 
 -- ---- reads that wait
-
-filter_few : (p : Wait → Bool) (ws : List Wait) → length (filter p ws) ≤ length ws
-filter_few p [] = omega arith
-filter_few p (w ∷ ws) = by_test (p w) (filter_few p ws)
-  where
-    by_test : (b : Bool) → length (filter p ws) ≤ length ws → length (cond b (w ∷ filter p ws) (filter p ws)) ≤ length (w ∷ ws)
-    by_test true more = omega arith
-    by_test false more = omega arith
 
 settle_few : (tag : ℕ) (body : RBody) (ws : List Wait) → length (settle_tag tag body ws) ≤ length ws
 settle_few tag body [] = omega arith

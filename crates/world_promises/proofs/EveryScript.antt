@@ -1,5 +1,5 @@
 -- What holds of every clean legal history holds of every clean script.
-use Rattle.std.proofs.Common.{ℕ, List, reverse}
+use Rattle.std.proofs.Common.{reverse}
 use Rattle.term_trees.specs.Spellings.{Atoms}
 use Rattle.wire_histories.specs.Histories.{History}
 use Rattle.wire_histories.specs.Legal.{Setting}

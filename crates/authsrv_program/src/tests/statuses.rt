@@ -8,6 +8,7 @@ use std::alloc::Global;
 use std::process::Abort;
 use std::test::Fail;
 use wire_base::Bytes;
+use world_history::ScriptCause;
 
 // A status has this number, and this line on standard error.
 fn expect_line(
@@ -62,6 +63,41 @@ fn statuses_tell_their_places(rt: HostRuntime) -> Result<(), Fail> {
         status,
         11,
         "factotum: input over 1099511627776 bytes\n",
+    )
+}
+
+#[test]
+fn statuses_of_scripts(rt: HostRuntime) -> Result<(), Fail> {
+    let alloc = rt.alloc();
+    let (line, cause) = (3, ScriptCause::BadLine);
+    let status = Status::BadScript { line, cause };
+    expect_line(&rt, alloc, status, 7, "factotum: script line 3: bad line\n")?;
+    let (line, cause) = (1, ScriptCause::UnknownNode);
+    let status = Status::BadScript { line, cause };
+    expect_line(
+        &rt,
+        alloc,
+        status,
+        7,
+        "factotum: script line 1: unknown node\n",
+    )?;
+    let (line, cause) = (4194304, ScriptCause::UnknownConv);
+    let status = Status::BadScript { line, cause };
+    expect_line(
+        &rt,
+        alloc,
+        status,
+        7,
+        "factotum: script line 4194304: unknown conversation\n",
+    )?;
+    let (line, cause) = (12, ScriptCause::NoSuchMessage);
+    let status = Status::BadScript { line, cause };
+    expect_line(
+        &rt,
+        alloc,
+        status,
+        7,
+        "factotum: script line 12: no such message\n",
     )
 }
 

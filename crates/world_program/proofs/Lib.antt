@@ -1,0 +1,4 @@
+pub mod GenClap
+pub mod GivenLemmas
+pub mod PlayLemmas
+pub mod EndLemmas
