@@ -51,31 +51,31 @@ static ROWS: [Row; 14] = [
     },
     Row {
         words: &["gen", "--number", "7", "--rounds", "4"],
-        input: "README.md",
+        input: "faulty.script",
     },
     Row {
         words: &["gen", "--rounds", "400", "--number", "7"],
-        input: "README.md",
+        input: "faulty.script",
     },
     Row {
         words: &[],
-        input: "README.md",
+        input: "faulty.script",
     },
     Row {
         words: &["pipe", "x"],
-        input: "README.md",
+        input: "faulty.script",
     },
     Row {
         words: &["gen", "--number", "7"],
-        input: "README.md",
+        input: "faulty.script",
     },
     Row {
         words: &["gen", "--rounds", "0", "--number", "7"],
-        input: "README.md",
+        input: "faulty.script",
     },
     Row {
         words: &["world"],
-        input: "README.md",
+        input: "faulty.script",
     },
 ];
 
