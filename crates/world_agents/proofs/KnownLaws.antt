@@ -1,7 +1,6 @@
 -- What is known of the conversations of a network behind some acts; an act that concerns no agent keeps it.
-use Rattle.std.proofs.Common.{◌≡◌, ℕ, ◌≤◌, ◌<◌, List, ◌∷◌, Bool, true, false, cond, eqb, Option, Some, None, refl, sym, ap, subst, ◌∙◌, inl, inr, arith}
+use Rattle.std.proofs.Common.{◌≡◌, ℕ, ◌≤◌, ◌<◌, List, ◌∷◌, Bool, true, false, cond, eqb, Option, Some, None, refl, sym, ap, subst, ◌∙◌, arith}
 use Rattle.std.specs.Str.{bytes_eq}
-use Rattle.std.proofs.lemmas.Bool.{cases_Bool, eqb-true}
 use Rattle.agent_history.specs.Conversations.{asker, conv_of, opened_talks}
 use Rattle.agent_history.specs.Histories.{deeds}
 use Rattle.world_history.specs.declared.question.Question.{Question}
@@ -11,6 +10,8 @@ use Rattle.world_history.specs.Worlds.{call_behind, done_by, history, last_call,
 use Rattle.world_legality.specs.Agents.{AgentDoes, begun_in, conv_in}
 use Rattle.world_legality.specs.Settings.{Place, place_of}
 use Rattle.idle_agents.specs.Idle.{IsIdle}
+use Rattle.driven_answers.proofs.OtherTalks.{apart}
+use Rattle.world_agents.proofs.FidLemmas.{not_same}
 use Rattle.world_agents.specs.Worlds.{AreSeated, IsSeated}
 
 pub record Known (acts : List Act) : Type 0 where
@@ -35,10 +36,7 @@ pub not_both : (b : Bool) → b ≡ true → b ≡ false → ⊥
 not_both b on off = let no_way : true ≡ false = sym on ∙ off in cc
 
 pub unequal : (a b : ℕ) → a < b → eqb b a ≡ false
-unequal a b below = elim (cases_Bool (eqb b a)) [
-  | inl same ↦ absurd (let is = eqb-true b a same in let no_way : a < a = omega arith in omega arith)
-  | inr other ↦ other
-]
+unequal a b below = apart a b (not_same a b below)
 
 -- the questions of another conversation's turn
 pub other_call : (conv : List ℕ) (turn : Turn) (raised : List Question) (call : Option ℕ) → bytes_eq (conv_in turn) conv ≡ false → call_behind conv turn raised call ≡ call
