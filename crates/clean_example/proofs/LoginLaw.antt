@@ -79,7 +79,7 @@ table k spoken name key is = elim (cases_Bool (bytes_eq name ann)) [
         let here : Some (user_key k.srv_key k.srv_password) ≡ Some key = rw (not_first, second) at is in
         entry k name srv k.srv_key k.srv_password key ((bytes_eq-Decides name srv).0 second) (let same : user_key k.srv_key k.srv_password ≡ key = cc in same) (refl, refl))
     | inr other ↦ absurd (let nothing : None ≡ Some key = rw (not_first, other) at is in cc)
-    ]
+  ]
 ]
 
 -- ---- all of it

@@ -51,7 +51,7 @@ apart kind (x ∷ atoms) h a b text ka kb ra rb = elim (cases_Bool (same_tree x.
         let value : x.1 ≡ text = cc in
         let rest : bytes_of atoms b ≡ Some text = rw other at rb in
         absurd (so_of_each (DiffersFrom kind x.0 x.1) atoms h.0 b text rest (subst (λ (y : Tree). kind y ≡ true) (sym (equal_trees x.0 a first)) ka) kb value))
-    ]
+  ]
   | inr not_first ↦ elim (cases_Bool (same_tree x.0 b)) [
     | inl second ↦ (
         let here : Some x.1 ≡ Some text = rw second at rb in
@@ -62,7 +62,7 @@ apart kind (x ∷ atoms) h a b text ka kb ra rb = elim (cases_Bool (same_tree x.
         let one : bytes_of atoms a ≡ Some text = rw not_first at ra in
         let two : bytes_of atoms b ≡ Some text = rw other at rb in
         apart kind atoms h.1 a b text ka kb one two)
-    ]
+  ]
 ]
 
 -- the texts of a kind of atoms, which differ
