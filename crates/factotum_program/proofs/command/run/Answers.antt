@@ -1,4 +1,4 @@
-use Rattle.factotum_program.proofs.ApartWords.{world_or_gen}
+use Rattle.factotum_program.proofs.ApartWords.{authsrv_or_gen, pipe_or_gen, world_or_gen}
 use Rattle.factotum_program.proofs.CommandWords.{dom_given, only_memory, pipe_is_command, usage_alone}
 use Rattle.factotum_program.proofs.PipeLemmas.{memory_first}
 use Rattle.world_program.proofs.GivenLemmas.{few_rounds}
@@ -21,3 +21,9 @@ returns-clause-piped g c = λ p.
 
 pub returns-in-Ok-World-clause-summed : goal.returns-in-Ok-World-clause-summed
 returns-in-Ok-World-clause-summed g c = λ given is. world_or_gen c.args.words.now given (rw c.in-Ok-World.field-0-is at c.in-Ok-World.ensures.ok) is
+
+pub returns-in-Ok-Pipe-clause-summed : goal.returns-in-Ok-Pipe-clause-summed
+returns-in-Ok-Pipe-clause-summed g c = λ given is. pipe_or_gen c.args.words.now given (rw c.in-Ok-Pipe.field-0-is at c.in-Ok-Pipe.ensures.ok).0 is
+
+pub returns-in-Ok-Authsrv-clause-summed : goal.returns-in-Ok-Authsrv-clause-summed
+returns-in-Ok-Authsrv-clause-summed g c = λ given is. authsrv_or_gen c.args.words.now given (rw c.in-Ok-Authsrv.field-0-is at c.in-Ok-Authsrv.ensures.ok).0 is
