@@ -34,7 +34,7 @@ demo:
 
 attacks:
 	@scripts/need rt
-	@echo 'The program is built without its proof for this, about two minutes; make build proves it.'
+	@echo 'The program is built without its proof for each of five scripts, a minute each; make build proves it.'
 	@scripts/attacks --unproved
 
 test:
