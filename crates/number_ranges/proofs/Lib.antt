@@ -1,0 +1,3 @@
+pub mod PlaceLemmas
+pub mod AddLemmas
+pub mod WriteLemmas
