@@ -19,6 +19,9 @@ pub(crate) const GIVEN: usize = 1;
 // How many bells there are besides the first, by which those that wait for their turn are woken.
 pub(crate) const MORE_BELLS: u32 = 63;
 
+// How often the next to have the turn looks for it before it sleeps.
+pub(crate) const MOST_LOOKS: u32 = 100;
+
 // The one slot, with the value.
 pub(crate) const VALUE: usize = 0;
 

@@ -6,12 +6,25 @@ ghost use Rattle.turn_lock.specs.Fronts.{among, events};
 ghost use Rattle.turn_lock.specs.Seats.{front, numbers, IsSeatOf, IsSame, HoldsValue, Turned};
 ghost use Rattle.turn_lock.specs.Steps.{with_ticket, after_turn, Took};
 
-use crate::lock::{DRAWN, GIVEN, Seat, TurnLock, VALUE};
+use crate::lock::{DRAWN, GIVEN, MOST_LOOKS, Seat, TurnLock, VALUE};
 use crate::logged::{Logged, TurnCall};
 use crate::plays::{Draw, Give, Look, Made};
+use bells::Bell;
+use std::hint::spin_loop;
 use std::marker::Brand;
 use std::snapshot::Snapshot;
 use std::sync::Wait;
+
+// A moment passes, where he who waits is the next and has looks left; else he sleeps until the bell is rung, unless it was
+// since this count.
+fn rest<R: Wait>(rt: &R, bell: &Bell, count: u32, is_next: bool, looks_left: &mut u32) {
+    if is_next && *looks_left > 0 {
+        *looks_left -= 1;
+        spin_loop();
+    } else {
+        bell.sleep(rt, count);
+    }
+}
 
 impl<S: Logged> TurnLock<S> {
     // Draws a ticket. A failed try finds the number for the next one; at the last number of all, where no ticket is
@@ -35,7 +48,8 @@ impl<S: Logged> TurnLock<S> {
         unreachable!()
     }
 
-    // Waits until the ticket is served, and then has the turn.
+    // Waits until the ticket is served, and then has the turn. Who is the next looks some times more before he sleeps, since
+    // most turns are shorter than it takes to sleep and to be woken.
     fn await_turn<R: Wait>(&self, rt: &R, seat: &mut Seat<S>, ticket: u64)
         requires { (seat.old.table_id ≡ self.now.table.shared.table_id)
             × (seat.old.me.0.stage ≡ Waits ticket) }
@@ -43,13 +57,15 @@ impl<S: Logged> TurnLock<S> {
         ensures took { Took S.stands ticket seat.old.me seat.new.me }
     {
         let bell = self.bells.of(ticket);
+        let mut looks_left = MOST_LOOKS;
         for _ in rt.forever() {
             let count = bell.count();
             let given = self.table.shared.load::<Look>(seat, GIVEN);
             if given == ticket {
                 return;
             }
-            bell.sleep(rt, count);
+            let is_next = given.wrapping_add(1) == ticket;
+            rest(rt, bell, count, is_next, &mut looks_left);
         }
         unreachable!()
     }
