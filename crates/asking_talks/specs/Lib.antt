@@ -1,1 +1,2 @@
 pub mod Asking
+pub use Rattle.kept_calls.specs.Calls

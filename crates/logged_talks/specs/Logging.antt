@@ -12,7 +12,7 @@ use Rattle.agent_history.specs.Deeds.{Deed}
 use Rattle.agent_history.specs.Conversations.{logged, standing_of, then_logged}
 use Rattle.agent_talks.specs.declared.held.Talks.{Talks}
 use Rattle.agent_talks.specs.Speaks.{stands, talked}
-use Rattle.kept_calls.specs.Calls.{Calls}
+use Rattle.asking_talks.specs.Calls.{Calls}
 use Rattle.asking_talks.specs.Asking.{Tells}
 use Rattle.logged_talks.specs.declared.ready.ReadyLine.{ReadyLine}
 use Rattle.logged_talks.specs.declared.logged.LoggedTalks.{LoggedTalks}
