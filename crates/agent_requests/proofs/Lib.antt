@@ -6,3 +6,7 @@ pub mod RequestSteps
 pub mod RpcSteps
 pub mod LineSteps
 pub mod FrameSteps
+pub use Rattle.agent_shared.proofs.DeedLemmas
+pub use Rattle.agent_shared.proofs.FidLemmas
+pub use Rattle.agent_shared.proofs.OwnDeeds
+pub use Rattle.agent_shared.proofs.ShareLemmas

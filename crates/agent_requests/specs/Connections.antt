@@ -37,10 +37,6 @@ abbrev pub is_opened : Phase → Bool
 is_opened p.Fresh = false
 is_opened phase = true
 
-abbrev pub is_hung : Phase → Bool
-is_hung p.Hung = true
-is_hung phase = false
-
 -- the largest message that was agreed
 abbrev pub msize_in : Phase → Option ℕ
 msize_in (p.Agreed msize) = Some msize
@@ -72,12 +68,6 @@ pub record SameKept (old new : Connection) : Type 0 where
 -- nothing is known of the connection yet
 pub record IsFresh (c : Connection) : Type 0 where
   pub phase : c.phase ≡ p.Fresh
-  pub fids : c.fids ≡ []
-  pub texts : (fid : ℕ) → get nat_cmp c.texts fid ≡ None
-
--- it was hung up, and nothing else is kept of it
-pub record IsHungUp (c : Connection) : Type 0 where
-  pub phase : c.phase ≡ p.Hung
   pub fids : c.fids ≡ []
   pub texts : (fid : ℕ) → get nat_cmp c.texts fid ≡ None
 
@@ -143,11 +133,10 @@ pub record Served (done : List Deed) (call : history.Call) (body : TBody) (c : C
   pub shares : Shares (after done call body) s
   pub said : Says call.tag (reply_of done call body) reply
 
--- What a request does, whatever was done before it. It doesn't hang up its connection, adds no more keys than its frame
--- has bytes, and leaves the room that was made for its reply. Where it isn't served nothing changes.
+-- What a request does, whatever was done before it. It adds no more keys than its frame has bytes, and
+-- leaves the room that was made for its reply. Where it isn't served nothing changes.
 pub record Tried (call : Call) (body : TBody) (old new : Connection) (s u : Shared) (result : Result (Option Reply) Refused) : Type 0 where
   pub told : (done : List Deed) → Keeps done call.conn old → Shares done s → Told (refusal done (asked call) body) (Served done (asked call) body new u) result
-  pub hung : is_hung old.phase ≡ false → is_hung new.phase ≡ false
   pub few : u.ring.ever_added ≤ s.ring.ever_added + 8216
   pub room : has_room u.mailboxes call.conn ≡ has_room s.mailboxes call.conn
   pub kept : OnErr result (SameKept old new)
@@ -174,7 +163,6 @@ pub record FrameServed (done : List Deed) (call : history.Call) (frame : List �
 -- the same of a frame as of a request
 pub record FrameTried (call : Call) (frame : List ℕ) (old new : Connection) (s u : Shared) (result : Result (Option Reply) Refused) : Type 0 where
   pub told : (done : List Deed) → Keeps done call.conn old → Shares done s → Told (refusal_of (history.granted done (asked call) frame)) (FrameServed done (asked call) frame new u) result
-  pub hung : is_hung old.phase ≡ false → is_hung new.phase ≡ false
   pub few : u.ring.ever_added ≤ s.ring.ever_added + 8216
   pub room : has_room u.mailboxes call.conn ≡ has_room s.mailboxes call.conn
   pub kept : OnErr result (SameKept old new)
@@ -183,7 +171,6 @@ pub record FrameTried (call : Call) (frame : List ℕ) (old new : Connection) (s
 -- a frame was answered, by what it asked for or by what refuses it
 pub record FrameAnswered {E : Type 0} (call : Call) (frame : List ℕ) (old new : Connection) (s u : Shared) (result : Result (Option Reply) E) : Type 0 where
   pub served : IfOk result (λ reply. (done : List Deed) → Keeps done call.conn old → Shares done s → FrameServed done (asked call) frame new u reply)
-  pub hung : is_hung old.phase ≡ false → is_hung new.phase ≡ false
   pub few : u.ring.ever_added ≤ s.ring.ever_added + 8216
   pub room : has_room u.mailboxes call.conn ≡ has_room s.mailboxes call.conn
   pub kept : OnErr result (SameKept old new)

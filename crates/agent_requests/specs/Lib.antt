@@ -1,3 +1,8 @@
 pub mod Connections
 pub mod LineRequests
 pub mod RpcRequests
+pub use Rattle.agent_shared.specs.LoggedTalks
+pub use Rattle.agent_shared.specs.Logging
+pub use Rattle.agent_shared.specs.Sharing
+pub use Rattle.agent_shared.specs.declared.holders.Holders
+pub use Rattle.agent_shared.specs.declared.shared.Shared

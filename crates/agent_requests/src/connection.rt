@@ -1,9 +1,7 @@
 // One connection.
-ghost use Rattle.std.specs.Prelude.{◌≡◌, ◌&&◌, List, [], ℕ, None, not, true};
-ghost use Rattle.std.specs.Ordering.{nat_cmp};
-ghost use Rattle.std.specs.BTreeMap.{get};
+ghost use Rattle.std.specs.Prelude.{◌≡◌, List, ℕ, true};
 ghost use Rattle.agent_history.specs.Deeds.{Deed};
-ghost use Rattle.agent_requests.specs.Connections.{IsFresh, IsHungUp, Keeps, is_hung, is_opened, msize_in};
+ghost use Rattle.agent_requests.specs.Connections.{IsFresh, Keeps, is_opened, msize_in};
 
 use crate::msize::Msize;
 use fid_table::Fids;
@@ -20,8 +18,6 @@ pub enum Phase {
     Open,
     /// A version is agreed, with this largest message.
     Agreed(Msize),
-    /// It was hung up.
-    Hung,
 }
 
 /// What the agent keeps of one connection.
@@ -35,46 +31,25 @@ pub struct Connection {
 }
 
 impl Connection {
-    fn in_phase(alloc: Global, phase: Phase) -> Connection
-        ensures phase { result.phase ≡ phase }
-        ensures fids { result.fids ≡ [] }
-        ensures texts { (fid : ℕ) → get nat_cmp result.texts fid ≡ None }
+    /// A connection of which nothing is known yet. It takes no memory.
+    pub fn new(alloc: Global) -> Connection
+        ensures { IsFresh result }
     {
         Connection {
-            phase,
+            phase: Phase::Fresh,
             fids: Fids::new(alloc),
             texts: BTreeMap::new(alloc),
         }
     }
 
-    /// A connection of which nothing is known yet. It takes no memory.
-    pub fn new(alloc: Global) -> Connection
-        ensures { IsFresh result }
-    {
-        Connection::in_phase(alloc, Phase::Fresh)
-    }
-
-    /// A connection that was hung up: nothing else is kept of it. It takes no memory.
-    pub fn hung_up(alloc: Global) -> Connection
-        ensures { IsHungUp result }
-    {
-        Connection::in_phase(alloc, Phase::Hung)
-    }
-
-    /// Whether it was opened, and wasn't hung up.
+    /// Whether it was opened.
     pub fn is_open(&self) -> bool
-        ensures { result ≡ (is_opened self.now.phase && not (is_hung self.now.phase)) }
+        ensures { result ≡ is_opened self.now.phase }
     {
         match self.phase {
-            Phase::Fresh | Phase::Hung => false,
+            Phase::Fresh => false,
             Phase::Open | Phase::Agreed(_) => true,
         }
-    }
-
-    pub fn is_hung(&self) -> bool
-        ensures { result ≡ is_hung self.now.phase }
-    {
-        matches!(self.phase, Phase::Hung)
     }
 
     /// The largest message that was agreed.
@@ -83,14 +58,13 @@ impl Connection {
     {
         match self.phase {
             Phase::Agreed(msize) => Some(msize),
-            Phase::Fresh | Phase::Open | Phase::Hung => None,
+            Phase::Fresh | Phase::Open => None,
         }
     }
 
     /// It took part in an event that was carried out.
     pub fn enter(&mut self)
         ensures opened { is_opened self.new.phase ≡ true }
-        ensures hung { is_hung self.new.phase ≡ is_hung self.old.phase }
         ensures keeps { (done : List Deed) (conn : ℕ) → Keeps done conn self.old
             → Keeps done conn self.new }
     {

@@ -10,7 +10,7 @@ ghost use Rattle.agent_history.specs.Requests.{agreed, is_known, walking};
 ghost use Rattle.agent_history.specs.Conversations.{given_up_by};
 ghost use Rattle.mailboxes.specs.Deliveries.{SameRoom};
 ghost use Rattle.agent_shared.specs.Sharing.{Shares};
-ghost use Rattle.agent_requests.specs.Connections.{Keeps, SameKept, Tried, is_hung, msize_in};
+ghost use Rattle.agent_requests.specs.Connections.{Keeps, SameKept, Tried, msize_in};
 
 use crate::call::Call;
 use crate::connection::{Connection, Phase};
@@ -47,8 +47,7 @@ fn is_known(version: &[u8]) -> bool
 
 // How far a connection has come with this version.
 fn agreed(msize: u32, version: &[u8]) -> Phase
-    ensures msize { msize_in result ≡ agreed msize version.now }
-    ensures live { is_hung result ≡ false }
+    ensures { msize_in result ≡ agreed msize version.now }
 {
     if is_known(version) {
         Phase::Agreed(Msize::agree(msize))
@@ -95,14 +94,12 @@ impl Connection {
 
     // It comes so far, all fids are given up, and reads that wait are dropped.
     fn renew(&mut self, call: Call, shared: &mut Shared, phase: Phase)
-        requires { is_hung phase ≡ false }
         ensures keeps { (done : List Deed) (msize : Option ℕ) → msize_in phase ≡ msize
             → Keeps done call.conn self.old
             → Keeps (OfFids call.conn (Versioned msize) ∷ done) call.conn self.new }
         ensures shares { (done : List Deed) (msize : Option ℕ) → was_hung done call.conn ≡ false
             → Shares done shared.old
             → Shares (given_up_by (OfFids call.conn (Versioned msize)) done) shared.new }
-        ensures hung { is_hung self.new.phase ≡ false }
         ensures ring { shared.new.ring ≡ shared.old.ring }
         ensures room { SameRoom shared.old.mailboxes shared.new.mailboxes }
     {

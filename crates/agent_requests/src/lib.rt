@@ -11,5 +11,6 @@ mod refused;
 mod rpc_requests;
 mod serve;
 
+pub use agent_shared::Shared;
 pub use call::Call;
 pub use connection::{Connection, Phase};

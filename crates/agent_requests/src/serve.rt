@@ -6,7 +6,7 @@ ghost use Rattle.agent_history.specs.Deeds.{Deed, msize_of, was_hung};
 ghost use Rattle.agent_history.specs.Requests.{Call as HistoryCall, answered, comes_first, is_over, lacks_version, repeats_tag};
 ghost use Rattle.mailboxes.specs.Deliveries.{Delivers};
 ghost use Rattle.agent_shared.specs.Sharing.{SameShared, Shares};
-ghost use Rattle.agent_requests.specs.Connections.{FrameAnswered, FrameTried, Keeps, SameKept, Tried, WritesAtMost, asked, is_hung, msize_in};
+ghost use Rattle.agent_requests.specs.Connections.{FrameAnswered, FrameTried, Keeps, SameKept, Tried, WritesAtMost, asked, msize_in};
 
 use crate::call::Call;
 use crate::connection::Connection;
@@ -131,7 +131,6 @@ impl Connection {
             → Keeps (answered done (asked call) frame.now) call.conn self.new) }
         ensures shares { OnOk result ((done : List Deed) → Keeps done call.conn self.old
             → Shares done shared.old → Shares (answered done (asked call) frame.now) shared.new) }
-        ensures hung { is_hung self.old.phase ≡ false → is_hung self.new.phase ≡ false }
         ensures few { shared.new.ring.ever_added ≤ shared.old.ring.ever_added + 8216 }
         ensures kept { OnErr result (SameKept self.old self.new) }
         ensures same { OnErr result (SameShared shared.old shared.new) }

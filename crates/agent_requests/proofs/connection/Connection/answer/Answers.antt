@@ -14,7 +14,6 @@ returns-in-Err-For c =
           (keeps_still done a.call.conn a.self.now c.try_frame.new.self c.in-Err-For.ensures.kept keeps)
           (shares_still done a.shared.now c.try_frame.new.shared c.in-Err-For.ensures.shared shares)
           (rw (← c.in-Err-For.field-0-is) (c.in-Err-For.ensures.told done keeps shares)) c.reply.result c.reply.ensures;
-      hung = h.hung;
       few = h.few;
       room = h.room;
       kept = tt;

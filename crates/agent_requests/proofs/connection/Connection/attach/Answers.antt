@@ -11,7 +11,6 @@ returns c =
       told = λ done k h.
           attach_told done (asked a.call) a.fid a.afid uname aname _ s _ c.if-afid-ne-NOFID.false (rw (← state_is done a.call.conn a.self.now a.fid k, ← k.held) ok.0)
           (c.in_ok-hold_root.ensures.keeps done a.call.conn k) h (rw (c.in_ok-put_attach.ensures.ok, c.in_ok-reply.ensures, c.qid.ensures) refl);
-      hung = λ live. rw c.hold_root.ensures.phase live;
       few = omega arith;
       room = refl;
       kept = tt;

@@ -8,7 +8,6 @@ use Rattle.agent_requests.proofs.connection.Connection.carry_out.Goals as goal
 pub returns-in-Auth : goal.returns-in-Auth
 returns-in-Auth c = record {
   told = λ done keeps shares. rw c.in-Auth.is (auth_told done (asked c.args.call) c.in-Auth.afid c.in-Auth.uname c.in-Auth.aname c.args.self.now c.args.shared.now);
-  hung = λ live. live;
   few = omega arith;
   room = refl;
   kept = record { phase = refl; fids = refl; texts = λ fid. refl };

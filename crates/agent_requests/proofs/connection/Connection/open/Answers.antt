@@ -19,7 +19,6 @@ returns c =
           (open_allowed done (asked a.call) a.fid a.mode c.in_ok-node.node fault named (sym (c.has.ensures done shares.holders) ∙ c.if-has.false) (sym (c.is_crowded.ensures done shares.talks) ∙ c.if-is_crowded.false))
           (open_served done (asked a.call) a.fid a.mode c.in_ok-node.node _ _ _ (c.open_fid.ensures.keeps done a.call.conn keeps)
           (c.in_ok-open.ensures.opened done a.mode keeps.live (open_held (fid_of done a.call.conn a.fid) a.mode fault) named shares) named (rw (c.in_ok-put_open.ensures.ok, c.in_ok-reply.ensures, c.qid.ensures) refl));
-      hung = λ live. rw c.open_fid.ensures.phase live;
       few = rw c.in_ok-open.ensures.ring (omega arith);
       room = rw c.in_ok-open.ensures.mail refl;
       kept = tt;

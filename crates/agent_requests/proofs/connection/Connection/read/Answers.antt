@@ -12,7 +12,6 @@ returns-in-Root c =
           let held = sym (state_is done a.call.conn a.self.now a.fid keeps) ∙ held_ok _ _ _ (sym c.in_ok-state.ensures.answer) in
           dir_told done (asked a.call) a.fid a.offset a.count _ c.in_ok-state.state a.self.now c.read_directory.new.self a.shared.now c.read_directory.result keeps shares
           held (rw (c.is_none.ensures, c.if-is_none.false) refl) (sym c.lets_read.ensures ∙ c.if-not-lets_read.false) (c.effective-most.ensures.most ∙ ap (effective a.count) c.msize.ensures) c.in-Root.is c.read_directory.ensures.told c.read_directory.ensures.keeps;
-      hung = λ live. rw c.read_directory.ensures.phase live;
       few = omega arith;
       room = refl;
       kept = c.read_directory.ensures.err;
@@ -28,7 +27,6 @@ returns-in-Rpc c =
           let held = sym (state_is done a.call.conn a.self.now a.fid keeps) ∙ held_ok _ _ _ (sym c.in_ok-state.ensures.answer) in
           rpc_told done (asked a.call) a.fid a.offset a.count _ c.in_ok-state.state a.self.now _ c.read_rpc.result keeps
           held (rw (c.is_none.ensures, c.if-is_none.false) refl) (sym c.lets_read.ensures ∙ c.if-not-lets_read.false) (c.effective-most.ensures.most ∙ ap (effective a.count) c.msize.ensures) c.in-Rpc.is (h.told done keeps.live shares);
-      hung = λ live. live;
       few = rw h.ring (omega arith);
       room = h.room a.call.conn;
       kept = on_err {P = SameKept a.self.now a.self.now} _ (record { phase = refl; fids = refl; texts = λ fid. refl });
@@ -44,7 +42,6 @@ returns-in-Confirm c =
           let held = sym (state_is done a.call.conn a.self.now a.fid keeps) ∙ held_ok _ _ _ (sym c.in_ok-state.ensures.answer) in
           line_told done (asked a.call) a.fid a.offset a.count _ c.in_ok-state.state a.self.now _ c.read_line.result keeps
           held (rw (c.is_none.ensures, c.if-is_none.false) refl) (sym c.lets_read.ensures ∙ c.if-not-lets_read.false) (c.effective-most.ensures.most ∙ ap (effective a.count) c.msize.ensures) c.in-Confirm.is (h.told done keeps.live shares);
-      hung = λ live. live;
       few = rw h.ring (omega arith);
       room = h.room a.call.conn;
       kept = on_err {P = SameKept a.self.now a.self.now} _ (record { phase = refl; fids = refl; texts = λ fid. refl });

@@ -8,7 +8,6 @@ use Rattle.agent_requests.proofs.connection.Connection.try_frame.Goals as goal
 pub returns-then-is_over : goal.returns-then-is_over
 returns-then-is_over c = record {
   told = λ done keeps shares. refused_told _ _ _ (frame_over done (asked c.args.call) c.args.frame.now (sym (c.is_over.ensures.over done c.args.call.conn keeps) ∙ c.if-is_over.true));
-  hung = λ live. live;
   few = omega arith;
   room = refl;
   kept = record { phase = refl; fids = refl; texts = λ fid. refl };
@@ -21,7 +20,6 @@ returns-in_err-request c =
     rw (p.1, p.2) (record {
       told = λ done keeps shares.
           unread_told _ _ _ _ c.in_err-request.ensures.none (λ unread. frame_none done (asked c.args.call) c.args.frame.now (sym (c.is_over.ensures.over done c.args.call.conn keeps) ∙ c.if-is_over.false) unread);
-      hung = λ live. live;
       few = omega arith;
       room = refl;
       kept = record { phase = refl; fids = refl; texts = λ fid. refl };
@@ -33,7 +31,6 @@ returns-then-lacks_version c = record {
   told = λ done keeps shares.
       refused_told _ _ _ (frame_unversioned done (asked c.args.call) c.args.frame.now c.in_ok-request.request (sym (c.is_over.ensures.over done c.args.call.conn keeps) ∙ c.if-is_over.false) c.in_ok-request.ensures.request
       (sym (c.lacks_version.ensures.lacks done (asked c.args.call) keeps) ∙ c.if-lacks_version.true));
-  hung = λ live. live;
   few = omega arith;
   room = refl;
   kept = record { phase = refl; fids = refl; texts = λ fid. refl };
@@ -45,7 +42,6 @@ returns-then-repeats_tag c = record {
   told = λ done keeps shares.
       refused_told _ _ _ (frame_repeats done (asked c.args.call) c.args.frame.now c.in_ok-request.request (sym (c.is_over.ensures.over done c.args.call.conn keeps) ∙ c.if-is_over.false) c.in_ok-request.ensures.request
       (sym (c.lacks_version.ensures.lacks done (asked c.args.call) keeps) ∙ c.if-lacks_version.false) (sym (c.repeats_tag.ensures done keeps.live shares.mail) ∙ c.if-repeats_tag.true));
-  hung = λ live. live;
   few = omega arith;
   room = refl;
   kept = record { phase = refl; fids = refl; texts = λ fid. refl };
@@ -63,7 +59,6 @@ returns c =
       told = λ done keeps shares.
           frame_told done (asked c.args.call) c.args.frame.now c.in_ok-request.request _ _ _ (sym (c.is_over.ensures.over done c.args.call.conn keeps) ∙ c.if-is_over.false) c.in_ok-request.ensures.request
           (sym (c.lacks_version.ensures.lacks done (asked c.args.call) keeps) ∙ c.if-lacks_version.false) (sym (c.repeats_tag.ensures done keeps.live shares.mail) ∙ c.if-repeats_tag.false) (h.told done keeps shares);
-      hung = h.hung;
       few = h.few;
       room = h.room;
       kept = h.kept;

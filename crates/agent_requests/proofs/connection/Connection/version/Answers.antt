@@ -11,9 +11,8 @@ returns c =
     let a = c.args in
     record {
       told = λ done k h. version_told done (asked a.call) a.msize a.version.now _ _ _ c.if-msize-lt-LEAST_MSIZE.false
-          (keeps_ended (OfFids a.call.conn (Versioned (agreed a.msize a.version.now))) done a.call.conn a.self.now c.renew.new.self (λ now k. c.renew.ensures.keeps now (agreed a.msize a.version.now) c.agreed.ensures.msize k) k) (c.renew.ensures.shares done (agreed a.msize a.version.now) k.live h)
+          (keeps_ended (OfFids a.call.conn (Versioned (agreed a.msize a.version.now))) done a.call.conn a.self.now c.renew.new.self (λ now k. c.renew.ensures.keeps now (agreed a.msize a.version.now) c.agreed.ensures k) k) (c.renew.ensures.shares done (agreed a.msize a.version.now) k.live h)
           (rw (c.in_ok-put_version.ensures.ok, c.in_ok-reply.ensures, c.min-most.ensures, c.answered.ensures) refl);
-      hung = λ live. c.renew.ensures.hung;
       few = rw c.renew.ensures.ring (omega arith);
       room = c.renew.ensures.room a.call.conn;
       kept = tt;

@@ -12,7 +12,6 @@ returns c = λ offset.
           told_served _ _ _
           (write_allowed done (asked a.call) a.fid offset a.content.now c.in_ok-state.state held (rw (c.is_none.ensures, c.if-is_none.false) refl) (sym c.lets_write.ensures ∙ c.if-not-lets_write.false) (sym c.is_rpc.ensures ∙ c.if-is_rpc.false) (sym c.kind_at.ensures ∙ c.in_default.is))
           (write_served done (asked a.call) a.fid offset a.content.now c.in_ok-state.state a.self.now a.shared.now _ _ held (sym c.is_rpc.ensures ∙ c.if-is_rpc.false) (sym c.kind_at.ensures ∙ c.in_default.is) keeps shares c.in_ok-write_lines.ensures.holders c.in_ok-write_lines.ensures.mailboxes c.in_ok-write_lines.ensures.talks c.in_ok-write_lines.ensures.keys c.in_ok-write_lines.ensures.said);
-      hung = λ live. live;
       few = c.in_ok-write_lines.ensures.few;
       room = rw c.in_ok-write_lines.ensures.mailboxes refl;
       kept = tt;
@@ -27,7 +26,6 @@ returns-then-is_rpc c = λ offset.
       told = λ done keeps shares.
           let held = sym (state_is done a.call.conn a.self.now a.fid keeps) ∙ held_ok _ _ _ (sym c.in_ok-state.ensures.answer) in
           rpc_write_told done (asked a.call) a.fid offset a.content.now c.in_ok-state.state a.self.now _ _ keeps held (rw (c.is_none.ensures, c.if-is_none.false) refl) (sym c.lets_write.ensures ∙ c.if-not-lets_write.false) (sym c.is_rpc.ensures ∙ c.if-is_rpc.true) (h.told done shares);
-      hung = λ live. live;
       few = rw h.ring (omega arith);
       room = rw h.mail refl;
       kept = on_err {P = SameKept a.self.now a.self.now} _ (record { phase = refl; fids = refl; texts = λ fid. refl });
@@ -42,7 +40,6 @@ returns-in-Some c = λ offset.
       told = λ done keeps shares.
           let held = sym (state_is done a.call.conn a.self.now a.fid keeps) ∙ held_ok _ _ _ (sym c.in_ok-state.ensures.answer) in
           reply_told done (asked a.call) a.fid offset a.content.now c.in_ok-state.state c.in-Some.kind a.self.now _ _ keeps held (rw (c.is_none.ensures, c.if-is_none.false) refl) (sym c.lets_write.ensures ∙ c.if-not-lets_write.false) (sym c.kind_at.ensures ∙ c.in-Some.is) (h.told done shares);
-      hung = λ live. live;
       few = rw h.ring (omega arith);
       room = h.room a.call.conn;
       kept = on_err {P = SameKept a.self.now a.self.now} _ (record { phase = refl; fids = refl; texts = λ fid. refl });
