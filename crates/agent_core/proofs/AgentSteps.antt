@@ -1,5 +1,5 @@
 -- What is told of a history after one more event that doesn't stop the agent.
-use Rattle.std.proofs.Common.{◌≡◌, ◌≢◌, ℕ, ◌+◌, ◌<◌, List, [], ◌∷◌, map, Bool, true, false, not, ◌&&◌, length, Option, Some, None, refl, sym, ap, ◌∙◌, inl, inr, arith}
+use Rattle.std.proofs.Common.{◌≡◌, ◌≢◌, ℕ, ◌+◌, ◌<◌, List, [], ◌∷◌, map, Bool, true, false, not, ◌&&◌, length, refl, sym, ap, ◌∙◌, inl, inr, arith}
 use Rattle.std.proofs.lemmas.Bool.{cases_Bool, lt-ltb}
 use Rattle.agent_history.specs.declared.event.Event.{Event}
 use Rattle.nine_messages.specs.declared.message.RMsg.{RMsg}
@@ -8,15 +8,15 @@ use Rattle.agent_history.specs.Deeds.{Deed, is_halted, was_hung}
 use Rattle.agent_history.specs.Replies.{untaken}
 use Rattle.mailboxes.specs.Deliveries.{replies_at}
 use Rattle.agent_requests.specs.declared.connection.Connection.{Connection}
-use Rattle.agent_requests.specs.Connections.{IsFresh, Keeps, is_hung, is_opened}
+use Rattle.agent_requests.specs.Connections.{IsFresh, Keeps, is_opened}
 use Rattle.agent_requests.proofs.KeepLemmas.{keeps_still}
-use Rattle.agent_shared.proofs.ShareLemmas.{shares_still}
+use Rattle.agent_requests.proofs.ShareLemmas.{shares_still}
 use Rattle.agent_history.specs.Histories.{History, has_stopped, most_events, deeds, does, answer, first_reply, is_reply}
 use Rattle.agent_history.specs.declared.event.Event.TheVariants.{Take}
 use Rattle.agent_core.specs.declared.agent.State.{State}
 use Rattle.agent_core.specs.declared.agent.State.TheVariants.{Runs, Stopped}
 use Rattle.agent_core.specs.declared.agent.Running.{Running}
-use Rattle.agent_core.specs.Events.{KeepsNothing, SameAt, Stands, is_stop, phase_at, gives_reply, is_some_left}
+use Rattle.agent_core.specs.Events.{Known, Unknown, Live, HungUp, KeepsNothing, SameAt, Stands, is_hung_at, is_stop, gives_reply, is_some_left}
 use Rattle.agent_core.specs.Agents.{RunsAfter, SameRunning, StandsBy, TakesOneIn, connection_at, replies_in, gives_in}
 use Rattle.agent_core.proofs.EventSteps.{runs_on}
 
@@ -36,9 +36,8 @@ runs_still H event running no_stop next = ap is_halted next ∙ runs_on (deeds H
 
 -- ---- whether a take is answered by a reply
 
-gives_by : (o : Option Connection) (replies : List (List ℕ)) (hung : Bool) → is_hung (phase_at o) ≡ hung → gives_reply o replies ≡ (not hung && is_some_left replies)
-gives_by None replies hung e = rw (← e) refl
-gives_by (Some c) replies hung e = rw e refl
+gives_by : (k : Known) (replies : List (List ℕ)) (hung : Bool) → is_hung_at k ≡ hung → gives_reply k replies ≡ (not hung && is_some_left replies)
+gives_by k replies hung e = ap (λ (b : Bool). not b && is_some_left replies) e
 
 left_is : (ms : List RMsg) (replies : List (List ℕ)) → replies ≡ map r_frame ms → is_some_left replies ≡ is_reply (first_reply ms).0
 left_is [] replies e = ap is_some_left e
@@ -65,15 +64,21 @@ fresh_keeps done q c fresh k = record {
   texts = λ fid. rw (fresh.texts fid, k.texts fid) refl;
 }
 
-pub stands_still : (done : List Deed) (q : ℕ) (o p : Option Connection) → SameAt o p → Stands done q o → Stands done q p
-stands_still done q None None same s = s
-stands_still done q None (Some c) fresh s = record { opened = rw fresh.phase s.opened; hung = rw fresh.phase s.hung; keeps = λ live. fresh_keeps done q c fresh (s.keeps live) }
-stands_still done q (Some c) None same s = absurd same
-stands_still done q (Some c) (Some d) same s = record { opened = ap is_opened same.phase ∙ s.opened; hung = ap is_hung same.phase ∙ s.hung; keeps = λ live. keeps_still done q c d same (s.keeps live) }
+pub stands_still : (done : List Deed) (q : ℕ) (o p : Known) → SameAt o p → Stands done q o → Stands done q p
+stands_still done q Unknown Unknown same s = s
+stands_still done q Unknown (Live c) fresh s = record { opened = rw fresh.phase s.opened; hung = s.hung; keeps = λ live. fresh_keeps done q c fresh (s.keeps live) }
+stands_still done q Unknown HungUp same s = absurd same
+stands_still done q (Live c) Unknown same s = absurd same
+stands_still done q (Live c) (Live d) same s = record { opened = ap is_opened same.phase ∙ s.opened; hung = s.hung; keeps = λ live. keeps_still done q c d same (s.keeps live) }
+stands_still done q (Live c) HungUp same s = absurd same
+stands_still done q HungUp Unknown same s = absurd same
+stands_still done q HungUp (Live c) same s = absurd same
+stands_still done q HungUp HungUp same s = s
 
-pub same_itself : (o : Option Connection) → SameAt o o
-same_itself None = tt
-same_itself (Some c) = record { phase = refl; fids = refl; texts = λ fid. refl }
+pub same_itself : (o : Known) → SameAt o o
+same_itself Unknown = tt
+same_itself (Live c) = record { phase = refl; fids = refl; texts = λ fid. refl }
+same_itself HungUp = tt
 
 pub runs_same : (H : History) (old new : Running) → RunsAfter H old → SameRunning old new → RunsAfter H new
 runs_same H old new h same = record {

@@ -1,9 +1,7 @@
 -- What is told of a connection after one more event.
-use Rattle.std.proofs.Common.{◌≡◌, ℕ, ◌+◌, List, [], ◌∷◌, length, map, Bool, true, false, cond, eqb, ltb, not, ◌&&◌, ◌||◌, Equal, Greater, Option, Some, None, refl, sym, subst, ◌∙◌, inl, inr, arith}
+use Rattle.std.proofs.Common.{◌≡◌, ℕ, ◌+◌, List, [], ◌∷◌, length, map, Bool, true, false, cond, eqb, not, ◌&&◌, ◌||◌, Option, refl, sym, subst, ap, ◌∙◌, inl, inr}
 use Rattle.std.specs.Prelude.{nat_lt}
-use Rattle.std.specs.Ordering.{nat_cmp, is_eq}
-use Rattle.std.specs.BTreeMap.{is_at}
-use Rattle.std.proofs.lemmas.Bool.{cases_Bool, eq-eqb, eqb-true, ne_eqb, ltb-true, false≢true}
+use Rattle.std.proofs.lemmas.Bool.{cases_Bool, eq-eqb, eqb-true, false≢true}
 use Rattle.nine_messages.specs.declared.message.RMsg.{RMsg}
 use Rattle.nine_messages.specs.Messages.{r_frame}
 use Rattle.side_files.specs.Calls as side
@@ -19,20 +17,20 @@ use Rattle.agent_history.specs.Requests.{answered, call_of}
 use Rattle.agent_history.specs.Histories.{History, deeds, does, entered, handing, has_stopped, most_events, taking}
 use Rattle.mailboxes.specs.Deliveries.{Delivers, replies_at}
 use Rattle.agent_requests.specs.declared.connection.Connection.{Connection}
-use Rattle.agent_requests.specs.Connections.{IsHungUp, Keeps, is_opened, is_hung}
+use Rattle.agent_requests.specs.Connections.{Keeps, is_opened}
 use Rattle.agent_requests.proofs.OwnRequests.{IsOwn, answered_own, entered_by}
-use Rattle.agent_shared.specs.LoggedTalks.{LoggedTalks}
-use Rattle.agent_shared.specs.Logging.{Logs}
-use Rattle.agent_shared.proofs.DeedLemmas.{replies_logs}
-use Rattle.agent_shared.specs.declared.shared.Shared.{Shared}
-use Rattle.agent_shared.specs.declared.holders.Holders.{Holders}
-use Rattle.agent_shared.specs.Sharing.{Holds, Shares}
-use Rattle.agent_shared.proofs.OwnDeeds.{OfAll, closed_all, ended_all, resumed_all, swept_by}
-use Rattle.agent_shared.proofs.ShareLemmas.{with_talks}
-use Rattle.agent_shared.proofs.FidLemmas.{shares_entered}
-use Rattle.agent_core.specs.Events.{KeepsNothing, KeepsAt, Stands, AllStand, Serves, is_stop}
+use Rattle.agent_requests.specs.LoggedTalks.{LoggedTalks}
+use Rattle.agent_requests.specs.Logging.{Logs}
+use Rattle.agent_requests.proofs.DeedLemmas.{replies_logs}
+use Rattle.agent_requests.specs.Shared.{Shared}
+use Rattle.agent_requests.specs.Holders.{Holders}
+use Rattle.agent_requests.specs.Sharing.{Holds, Shares}
+use Rattle.agent_requests.proofs.OwnDeeds.{OfAll, closed_all, ended_all, resumed_all, swept_by}
+use Rattle.agent_requests.proofs.ShareLemmas.{with_talks}
+use Rattle.agent_requests.proofs.FidLemmas.{shares_entered}
+use Rattle.agent_core.specs.Events.{Known, Unknown, Live, HungUp, KeepsNothing, KeepsAt, Stands, AllStand, Serves, is_hung_at, is_open_at, is_stop}
 
-same : (a : ℕ) → eqb a a ≡ true
+pub same : (a : ℕ) → eqb a a ≡ true
 same a = eq-eqb a a refl
 
 -- ---- what holds before an event of a connection, and after each deed that the event may do, holds after it
@@ -92,51 +90,62 @@ none_others conn q e (Listed f) done k = record { live = k.live; msize = k.msize
 none_others conn q e (Browsed f next) done k = record { live = k.live; msize = k.msize; fids = k.fids; held = k.held; texts = k.texts }
 none_others conn q e (Clunked f) done k = record { live = k.live; msize = k.msize; fids = λ fid. rw e (k.fids fid); held = rw e k.held; texts = λ fid. rw e (k.texts fid) }
 
-at_fids : (conn q : ℕ) (o : Option Connection) → eqb conn q ≡ false → (deed : FidDeed) (done : List Deed) → KeepsAt done q o → KeepsAt (OfFids conn deed ∷ done) q o
-at_fids conn q None e deed done k = none_others conn q e deed done k
-at_fids conn q (Some c) e deed done k = fids_others conn q c e deed done k
+at_fids : (conn q : ℕ) (o : Known) → eqb conn q ≡ false → (deed : FidDeed) (done : List Deed) → KeepsAt done q o → KeepsAt (OfFids conn deed ∷ done) q o
+at_fids conn q Unknown e deed done k = none_others conn q e deed done k
+at_fids conn q (Live c) e deed done k = fids_others conn q c e deed done k
+at_fids conn q HungUp e deed done k = k
 
-at_keys : (conn q : ℕ) (o : Option Connection) (deed : KeyDeed) (done : List Deed) → KeepsAt done q o → KeepsAt (OfKeys conn deed ∷ done) q o
-at_keys conn q None deed done k = record { live = k.live; msize = k.msize; fids = k.fids; held = k.held; texts = k.texts }
-at_keys conn q (Some c) deed done k = record { live = k.live; msize = k.msize; fids = k.fids; held = k.held; texts = k.texts }
+at_keys : (conn q : ℕ) (o : Known) (deed : KeyDeed) (done : List Deed) → KeepsAt done q o → KeepsAt (OfKeys conn deed ∷ done) q o
+at_keys conn q Unknown deed done k = record { live = k.live; msize = k.msize; fids = k.fids; held = k.held; texts = k.texts }
+at_keys conn q (Live c) deed done k = record { live = k.live; msize = k.msize; fids = k.fids; held = k.held; texts = k.texts }
+at_keys conn q HungUp deed done k = k
 
-at_replies : (conn q : ℕ) (o : Option Connection) (deed : ReplyDeed) (done : List Deed) → KeepsAt done q o → KeepsAt (OfReplies conn deed ∷ done) q o
-at_replies conn q None deed done k = record { live = k.live; msize = k.msize; fids = k.fids; held = k.held; texts = k.texts }
-at_replies conn q (Some c) deed done k = record { live = k.live; msize = k.msize; fids = k.fids; held = k.held; texts = k.texts }
+at_replies : (conn q : ℕ) (o : Known) (deed : ReplyDeed) (done : List Deed) → KeepsAt done q o → KeepsAt (OfReplies conn deed ∷ done) q o
+at_replies conn q Unknown deed done k = record { live = k.live; msize = k.msize; fids = k.fids; held = k.held; texts = k.texts }
+at_replies conn q (Live c) deed done k = record { live = k.live; msize = k.msize; fids = k.fids; held = k.held; texts = k.texts }
+at_replies conn q HungUp deed done k = k
 
-at_talk : (q : ℕ) (o : Option Connection) (conv : ℕ) (call : calls.Call) (done : List Deed) → KeepsAt done q o → KeepsAt (OfTalk conv call ∷ done) q o
-at_talk q None conv call done k = record { live = k.live; msize = k.msize; fids = k.fids; held = k.held; texts = k.texts }
-at_talk q (Some c) conv call done k = record { live = k.live; msize = k.msize; fids = k.fids; held = k.held; texts = k.texts }
+at_talk : (q : ℕ) (o : Known) (conv : ℕ) (call : calls.Call) (done : List Deed) → KeepsAt done q o → KeepsAt (OfTalk conv call ∷ done) q o
+at_talk q Unknown conv call done k = record { live = k.live; msize = k.msize; fids = k.fids; held = k.held; texts = k.texts }
+at_talk q (Live c) conv call done k = record { live = k.live; msize = k.msize; fids = k.fids; held = k.held; texts = k.texts }
+at_talk q HungUp conv call done k = k
 
-at_asked : (q : ℕ) (o : Option Connection) (kind : PromptKind) (call : side.Call) (done : List Deed) → KeepsAt done q o → KeepsAt (OfPrompts kind call ∷ done) q o
-at_asked q None kind call done k = record { live = k.live; msize = k.msize; fids = k.fids; held = k.held; texts = k.texts }
-at_asked q (Some c) kind call done k = record { live = k.live; msize = k.msize; fids = k.fids; held = k.held; texts = k.texts }
+at_asked : (q : ℕ) (o : Known) (kind : PromptKind) (call : side.Call) (done : List Deed) → KeepsAt done q o → KeepsAt (OfPrompts kind call ∷ done) q o
+at_asked q Unknown kind call done k = record { live = k.live; msize = k.msize; fids = k.fids; held = k.held; texts = k.texts }
+at_asked q (Live c) kind call done k = record { live = k.live; msize = k.msize; fids = k.fids; held = k.held; texts = k.texts }
+at_asked q HungUp kind call done k = k
 
-at_logged : (q : ℕ) (o : Option Connection) (call : side.LogCall) (done : List Deed) → KeepsAt done q o → KeepsAt (OfLog call ∷ done) q o
-at_logged q None call done k = record { live = k.live; msize = k.msize; fids = k.fids; held = k.held; texts = k.texts }
-at_logged q (Some c) call done k = record { live = k.live; msize = k.msize; fids = k.fids; held = k.held; texts = k.texts }
+at_logged : (q : ℕ) (o : Known) (call : side.LogCall) (done : List Deed) → KeepsAt done q o → KeepsAt (OfLog call ∷ done) q o
+at_logged q Unknown call done k = record { live = k.live; msize = k.msize; fids = k.fids; held = k.held; texts = k.texts }
+at_logged q (Live c) call done k = record { live = k.live; msize = k.msize; fids = k.fids; held = k.held; texts = k.texts }
+at_logged q HungUp call done k = k
 
-at_raised : (q : ℕ) (o : Option Connection) (conv : ℕ) (done : List Deed) → KeepsAt done q o → KeepsAt (Raised conv ∷ done) q o
-at_raised q None conv done k = record { live = k.live; msize = k.msize; fids = k.fids; held = k.held; texts = k.texts }
-at_raised q (Some c) conv done k = record { live = k.live; msize = k.msize; fids = k.fids; held = k.held; texts = k.texts }
+at_raised : (q : ℕ) (o : Known) (conv : ℕ) (done : List Deed) → KeepsAt done q o → KeepsAt (Raised conv ∷ done) q o
+at_raised q Unknown conv done k = record { live = k.live; msize = k.msize; fids = k.fids; held = k.held; texts = k.texts }
+at_raised q (Live c) conv done k = record { live = k.live; msize = k.msize; fids = k.fids; held = k.held; texts = k.texts }
+at_raised q HungUp conv done k = k
 
-at_handed : (q : ℕ) (o : Option Connection) (done : List Deed) → KeepsAt done q o → KeepsAt (HandedOut ∷ done) q o
-at_handed q None done k = record { live = k.live; msize = k.msize; fids = k.fids; held = k.held; texts = k.texts }
-at_handed q (Some c) done k = record { live = k.live; msize = k.msize; fids = k.fids; held = k.held; texts = k.texts }
+at_handed : (q : ℕ) (o : Known) (done : List Deed) → KeepsAt done q o → KeepsAt (HandedOut ∷ done) q o
+at_handed q Unknown done k = record { live = k.live; msize = k.msize; fids = k.fids; held = k.held; texts = k.texts }
+at_handed q (Live c) done k = record { live = k.live; msize = k.msize; fids = k.fids; held = k.held; texts = k.texts }
+at_handed q HungUp done k = k
 
-at_dropped : (q : ℕ) (o : Option Connection) (done : List Deed) → KeepsAt done q o → KeepsAt (DropTaken ∷ done) q o
-at_dropped q None done k = record { live = k.live; msize = k.msize; fids = k.fids; held = k.held; texts = k.texts }
-at_dropped q (Some c) done k = record { live = k.live; msize = k.msize; fids = k.fids; held = k.held; texts = k.texts }
+at_dropped : (q : ℕ) (o : Known) (done : List Deed) → KeepsAt done q o → KeepsAt (DropTaken ∷ done) q o
+at_dropped q Unknown done k = record { live = k.live; msize = k.msize; fids = k.fids; held = k.held; texts = k.texts }
+at_dropped q (Live c) done k = record { live = k.live; msize = k.msize; fids = k.fids; held = k.held; texts = k.texts }
+at_dropped q HungUp done k = k
 
-at_entered : (conn q : ℕ) (o : Option Connection) (done : List Deed) → KeepsAt done q o → KeepsAt (OfConnection conn Entered ∷ done) q o
-at_entered conn q None done k = record { live = k.live; msize = k.msize; fids = k.fids; held = k.held; texts = k.texts }
-at_entered conn q (Some c) done k = record { live = k.live; msize = k.msize; fids = k.fids; held = k.held; texts = k.texts }
+at_entered : (conn q : ℕ) (o : Known) (done : List Deed) → KeepsAt done q o → KeepsAt (OfConnection conn Entered ∷ done) q o
+at_entered conn q Unknown done k = record { live = k.live; msize = k.msize; fids = k.fids; held = k.held; texts = k.texts }
+at_entered conn q (Live c) done k = record { live = k.live; msize = k.msize; fids = k.fids; held = k.held; texts = k.texts }
+at_entered conn q HungUp done k = k
 
-at_swept : (q : ℕ) (o : Option Connection) (done : List Deed) → KeepsAt done q o → KeepsAt (Swept ∷ done) q o
-at_swept q None done k = record { live = k.live; msize = k.msize; fids = k.fids; held = k.held; texts = k.texts }
-at_swept q (Some c) done k = record { live = k.live; msize = k.msize; fids = k.fids; held = k.held; texts = k.texts }
+at_swept : (q : ℕ) (o : Known) (done : List Deed) → KeepsAt done q o → KeepsAt (Swept ∷ done) q o
+at_swept q Unknown done k = record { live = k.live; msize = k.msize; fids = k.fids; held = k.held; texts = k.texts }
+at_swept q (Live c) done k = record { live = k.live; msize = k.msize; fids = k.fids; held = k.held; texts = k.texts }
+at_swept q HungUp done k = k
 
-stands_all : (q : ℕ) (o : Option Connection) → OfAll (λ done. Stands done q o)
+stands_all : (q : ℕ) (o : Known) → OfAll (λ done. Stands done q o)
 stands_all q o = record {
   talks = record {
     talk = λ conv call done s. record { opened = s.opened; hung = s.hung; keeps = λ live. at_talk q o conv call done (s.keeps live) };
@@ -148,7 +157,7 @@ stands_all q o = record {
   swept = λ done s. record { opened = s.opened; hung = s.hung; keeps = λ live. at_swept q o done (s.keeps live) };
 }
 
-stands_own : (conn q : ℕ) (o : Option Connection) → eqb conn q ≡ false → IsOwn conn (λ done. Stands done q o)
+stands_own : (conn q : ℕ) (o : Known) → eqb conn q ≡ false → IsOwn conn (λ done. Stands done q o)
 stands_own conn q o e = record {
   fids = λ deed done s. record { opened = s.opened; hung = s.hung; keeps = λ live. at_fids conn q o e deed done (s.keeps live) };
   keys = λ deed done s. record { opened = s.opened; hung = s.hung; keeps = λ live. at_keys conn q o deed done (s.keeps live) };
@@ -157,18 +166,18 @@ stands_own conn q o e = record {
 }
 
 -- what the authentication server is done with changes nothing that is kept of a connection
-pub resumed_stand : (conv : Option ℕ) (call : calls.Call) (done : List Deed) (at : ℕ → Option Connection) → AllStand done at → AllStand (swept (resumed conv call done)) at
+pub resumed_stand : (conv : Option ℕ) (call : calls.Call) (done : List Deed) (at : ℕ → Known) → AllStand done at → AllStand (swept (resumed conv call done)) at
 resumed_stand conv call done at all q = resumed_by (λ now. Stands now q (at q)) (stands_all q (at q)) conv call done (all q)
 
-pub handed_stand : (d : Due) (done : List Deed) (at : ℕ → Option Connection) → AllStand done at → AllStand (handing d done) at
+pub handed_stand : (d : Due) (done : List Deed) (at : ℕ → Known) → AllStand done at → AllStand (handing d done) at
 handed_stand d done at all q =
     handing_by (λ now. Stands now q (at q)) (λ now s. record { opened = s.opened; hung = s.hung; keeps = λ live. at_handed q (at q) now (s.keeps live) })
     (λ now s. record { opened = s.opened; hung = s.hung; keeps = λ live. at_dropped q (at q) now (s.keeps live) }) d done (all q)
 
-pub request_others : (done : List Deed) (conn : ℕ) (frame word : List ℕ) (q : ℕ) (o : Option Connection) → eqb conn q ≡ false → Stands done q o → Stands (does done (v.Request conn frame word)) q o
+pub request_others : (done : List Deed) (conn : ℕ) (frame word : List ℕ) (q : ℕ) (o : Known) → eqb conn q ≡ false → Stands done q o → Stands (does done (v.Request conn frame word)) q o
 request_others done conn frame word q o e s = request_own conn (λ now. Stands now q o) (stands_own conn q o e) done frame word s
 
-pub take_others : (done : List Deed) (conn q : ℕ) (o : Option Connection) → eqb conn q ≡ false → Stands done q o → Stands (does done (v.Take conn)) q o
+pub take_others : (done : List Deed) (conn q : ℕ) (o : Known) → eqb conn q ≡ false → Stands done q o → Stands (does done (v.Take conn)) q o
 take_others done conn q o e s = take_own conn (λ now. Stands now q o) (stands_own conn q o e) done s
 
 -- ---- the connection of the event
@@ -198,21 +207,21 @@ was_entered conn done = elim (cases_Bool (was_opened done conn)) [
 ]
 
 pub keeps_entered : (conn : ℕ) (c : Connection) (done : List Deed) → Keeps done conn c → Keeps (entered conn done) conn c
-keeps_entered conn c done k = entered_by conn (λ now. Keeps now conn c) (λ now h. at_entered conn conn (Some c) now h) done k
+keeps_entered conn c done k = entered_by conn (λ now. Keeps now conn c) (λ now h. at_entered conn conn (Live c) now h) done k
 
-pub request_stands : (done : List Deed) (conn : ℕ) (frame word : List ℕ) (d : Connection) → was_hung done conn ≡ false → is_opened d.phase ≡ true → is_hung d.phase ≡ false → Keeps (answered (entered conn done) (call_of conn frame word) frame) conn d
-    → Stands (does done (v.Request conn frame word)) conn (Some d)
-request_stands done conn frame word d live opened held k =
+pub request_stands : (done : List Deed) (conn : ℕ) (frame word : List ℕ) (d : Connection) → was_hung done conn ≡ false → is_opened d.phase ≡ true → Keeps (answered (entered conn done) (call_of conn frame word) frame) conn d
+    → Stands (does done (v.Request conn frame word)) conn (Live d)
+request_stands done conn frame word d live opened k =
     let last : List Deed = answered (entered conn done) (call_of conn frame word) frame in
-    let kept : Keeps (swept last) conn d = swept_by (λ now. Keeps now conn d) (λ now h. at_swept conn (Some d) now h) last k in
+    let kept : Keeps (swept last) conn d = swept_by (λ now. Keeps now conn d) (λ now h. at_swept conn (Live d) now h) last k in
     rw live (record {
       opened = opened ∙ sym (served_own conn (λ now. was_opened now conn ≡ true) (opened_own conn conn) done frame word (was_entered conn done));
-      hung = held ∙ sym kept.live;
+      hung = sym kept.live;
       keeps = λ h. kept;
     })
 
 -- nothing happens on a connection that was hung up
-pub request_hung : (done : List Deed) (conn : ℕ) (frame word : List ℕ) (o : Option Connection) → was_hung done conn ≡ true → Stands done conn o → Stands (does done (v.Request conn frame word)) conn o
+pub request_hung : (done : List Deed) (conn : ℕ) (frame word : List ℕ) (o : Known) → was_hung done conn ≡ true → Stands done conn o → Stands (does done (v.Request conn frame word)) conn o
 request_hung done conn frame word o hung s = rw hung s
 
 -- ---- a take of a reply
@@ -221,13 +230,13 @@ taking_some : (conn : ℕ) (ms : List RMsg) (X : List Deed) (x : List ℕ) (rest
 taking_some conn [] X x rest e = absurd cc
 taking_some conn (m ∷ ms) X x rest e = refl
 
-pub take_serves : (done : List Deed) (conn : ℕ) (c d : Connection) (s u : Shared) (x : List ℕ) (rest : List (List ℕ)) → was_hung done conn ≡ false → Serves done conn c s → is_opened d.phase ≡ true → is_hung d.phase ≡ false → Keeps done conn d
+pub take_serves : (done : List Deed) (conn : ℕ) (c d : Connection) (s u : Shared) (x : List ℕ) (rest : List (List ℕ)) → was_hung done conn ≡ false → Serves done conn c s → is_opened d.phase ≡ true → Keeps done conn d
     → replies_at s.mailboxes conn ≡ x ∷ rest → u.ring ≡ s.ring → u.holders ≡ s.holders → u.talks ≡ s.talks → ((now : List Deed) → Delivers now s.mailboxes → Delivers (OfReplies conn Taken ∷ now) u.mailboxes) → Serves (does done (v.Take conn)) conn d u
-take_serves done conn c d s u x rest live before opened held k some ring holders talks pops =
+take_serves done conn c d s u x rest live before opened k some ring holders talks pops =
     let shares = shares_entered done conn s before.shares in
-    let kept = at_replies conn conn (Some d) Taken (entered conn done) (keeps_entered conn d done k) in
+    let kept = at_replies conn conn (Live d) Taken (entered conn done) (keeps_entered conn d done k) in
     rw (live, taking_some conn (untaken done conn) (entered conn done) x rest (sym some ∙ (before.shares.mail.mails conn live).replies)) (record {
-      stands = record { opened = opened ∙ sym (was_entered conn done); hung = held ∙ sym kept.live; keeps = λ h. kept };
+      stands = record { opened = opened ∙ sym (was_entered conn done); hung = sym kept.live; keeps = λ h. kept };
       shares = record {
         ring = ring ∙ shares.ring;
         holders = subst (λ (now : Holders). Holds (OfReplies conn Taken ∷ entered conn done) now) (sym holders) (record { confirm = shares.holders.confirm; needkey = shares.holders.needkey; log = shares.holders.log });
@@ -243,38 +252,25 @@ taking_none : (conn : ℕ) (ms : List RMsg) (X : List Deed) → [] ≡ map r_fra
 taking_none conn [] X e = refl
 taking_none conn (m ∷ ms) X e = absurd cc
 
-pub take_nothing : (done : List Deed) (conn : ℕ) (c d : Connection) (s : Shared) → was_hung done conn ≡ false → Serves done conn c s → is_opened d.phase ≡ true → is_hung d.phase ≡ false → Keeps done conn d → replies_at s.mailboxes conn ≡ [] → Serves (does done (v.Take conn)) conn d s
-take_nothing done conn c d s live before opened held k none =
+pub take_nothing : (done : List Deed) (conn : ℕ) (c d : Connection) (s : Shared) → was_hung done conn ≡ false → Serves done conn c s → is_opened d.phase ≡ true → Keeps done conn d → replies_at s.mailboxes conn ≡ [] → Serves (does done (v.Take conn)) conn d s
+take_nothing done conn c d s live before opened k none =
     let kept : Keeps (entered conn done) conn d = keeps_entered conn d done k in
     rw (live, taking_none conn (untaken done conn) (entered conn done) (sym none ∙ (before.shares.mail.mails conn live).replies)) (record {
-      stands = record { opened = opened ∙ sym (was_entered conn done); hung = held ∙ sym kept.live; keeps = λ h. kept };
+      stands = record { opened = opened ∙ sym (was_entered conn done); hung = sym kept.live; keeps = λ h. kept };
       shares = shares_entered done conn s before.shares;
     })
 
 -- ---- all connections, where the one of the event was changed
 
-at_same : (a b : ℕ) → is_at (nat_cmp a) b ≡ eqb a b
-at_same a b = elim (cases_Bool (ltb a b)) [
-  | inl below ↦ rw (below, ne_eqb a b (λ e. omega (arith, ltb-true a b below))) refl
-  | inr not_below ↦ rw not_below (chosen (eqb a b))
-]
-  where
-    chosen : (t : Bool) → is_eq (cond t Equal Greater) ≡ t
-    chosen true = refl
-    chosen false = refl
-
-pub here_now : (at : ℕ) (old new : ℕ → Option Connection) (d : Connection) → ((q : ℕ) → new q ≡ cond (is_at (nat_cmp at) q) (Some d) (old q)) → new at ≡ Some d
-here_now at old new d updates = updates at ∙ rw (at_same at at, same at) refl
-
-pub all_stand : (done after : List Deed) (at : ℕ) (old new : ℕ → Option Connection) (d : Connection) → ((q : ℕ) → new q ≡ cond (is_at (nat_cmp at) q) (Some d) (old q)) → Stands after at (Some d)
+pub all_stand : (done after : List Deed) (at : ℕ) (old new : ℕ → Known) (k : Known) → ((q : ℕ) → new q ≡ cond (eqb at q) k (old q)) → Stands after at k
     → ((q : ℕ) → eqb at q ≡ false → Stands done q (old q) → Stands after q (old q)) → AllStand done old → AllStand after new
-all_stand done after at old new d updates here others all q = elim (cases_Bool (eqb at q)) [
+all_stand done after at old new k updates here others all q = elim (cases_Bool (eqb at q)) [
   | inl is ↦
-      let found : new q ≡ Some d = updates q ∙ rw (at_same at q, is) refl in
-      subst (λ (o : Option Connection). Stands after q o) (sym found) (subst (λ (n : ℕ). Stands after n (Some d)) (eqb-true at q is) here)
+      let found : new q ≡ k = updates q ∙ rw is refl in
+      subst (λ (o : Known). Stands after q o) (sym found) (subst (λ (n : ℕ). Stands after n k) (eqb-true at q is) here)
   | inr is ↦
-      let found : new q ≡ old q = updates q ∙ rw (at_same at q, is) refl in
-      subst (λ (o : Option Connection). Stands after q o) (sym found) (others q is (all q))
+      let found : new q ≡ old q = updates q ∙ rw is refl in
+      subst (λ (o : Known). Stands after q o) (sym found) (others q is (all q))
 ]
 
 -- ---- events that don't stop the agent
@@ -320,11 +316,12 @@ hung_before : (a b : Bool) → (a || b) ≡ false → b ≡ false
 hung_before true b e = absurd (false≢true (sym e))
 hung_before false b e = e
 
-at_hung : (conn q : ℕ) (o : Option Connection) → eqb conn q ≡ false → (done : List Deed) → KeepsAt done q o → KeepsAt (OfConnection conn Hung ∷ done) q o
-at_hung conn q None e done k = record { live = rw e k.live; msize = rw e k.msize; fids = λ fid. rw e (k.fids fid); held = rw e k.held; texts = λ fid. rw e (k.texts fid) }
-at_hung conn q (Some c) e done k = record { live = rw e k.live; msize = rw e k.msize; fids = λ fid. rw e (k.fids fid); held = rw e k.held; texts = λ fid. rw e (k.texts fid) }
+at_hung : (conn q : ℕ) (o : Known) → eqb conn q ≡ false → (done : List Deed) → KeepsAt done q o → KeepsAt (OfConnection conn Hung ∷ done) q o
+at_hung conn q Unknown e done k = record { live = rw e k.live; msize = rw e k.msize; fids = λ fid. rw e (k.fids fid); held = rw e k.held; texts = λ fid. rw e (k.texts fid) }
+at_hung conn q (Live c) e done k = record { live = rw e k.live; msize = rw e k.msize; fids = λ fid. rw e (k.fids fid); held = rw e k.held; texts = λ fid. rw e (k.texts fid) }
+at_hung conn q HungUp e done k = k
 
-pub hang_others : (done : List Deed) (conn q : ℕ) (o : Option Connection) → eqb conn q ≡ false → Stands done q o → Stands (does done (v.Hang conn)) q o
+pub hang_others : (done : List Deed) (conn q : ℕ) (o : Known) → eqb conn q ≡ false → Stands done q o → Stands (does done (v.Hang conn)) q o
 hang_others done conn q o e s = here (was_opened done conn && not (was_hung done conn))
   where
     here : (b : Bool) → Stands (cond b (swept (given_up_by (OfConnection conn Hung) done)) done) q o
@@ -345,27 +342,30 @@ hangs_it conn done =
     let one : List Deed = OfConnection conn Hung ∷ all_withdrawn (ended_by (OfConnection conn Hung) done) done in
     swept_by is_hung all.swept (given_up_by (OfConnection conn Hung) done) (closed_all is_hung all k.Needkey (closed k.Confirm one) (closed_all is_hung all k.Confirm one (rw (same conn) refl)))
 
--- a connection that is open was opened, and isn't hung up
-pub opened_part : (a b : Bool) → (a && not b) ≡ true → a ≡ true
+-- a connection is open by the deeds as by what is known of it
+pub open_told : (done : List Deed) (conn : ℕ) (k : Known) → Stands done conn k → is_open_at k ≡ (was_opened done conn && not (was_hung done conn))
+open_told done conn k s = ap (λ (b : Bool). b && not (is_hung_at k)) s.opened ∙ ap (λ (b : Bool). was_opened done conn && not b) s.hung
+
+opened_part : (a b : Bool) → (a && not b) ≡ true → a ≡ true
 opened_part true b e = refl
 opened_part false b e = absurd (false≢true e)
 
-pub live_part : (a b : Bool) → (a && not b) ≡ true → b ≡ false
-live_part true true e = absurd (false≢true e)
-live_part true false e = refl
-live_part false b e = absurd (false≢true e)
+hung_after : (done : List Deed) (conn : ℕ) → was_opened done conn ≡ true → Stands (swept (given_up_by (OfConnection conn Hung) done)) conn HungUp
+hung_after done conn opened = record {
+  opened = sym (hung_by (λ now. was_opened now conn ≡ true) (was_opened_all conn) conn done (λ before k. k) opened);
+  hung = sym (hangs_it conn done);
+  keeps = λ live. tt;
+}
 
-pub hang_stands : (done : List Deed) (conn : ℕ) (c d : Connection) → is_opened c.phase ≡ true → is_hung c.phase ≡ false → IsHungUp d → Stands done conn (Some c) → Stands (does done (v.Hang conn)) conn (Some d)
-hang_stands done conn c d opened live hung s =
-    let last : List Deed = swept (given_up_by (OfConnection conn Hung) done) in
-    rw (← s.opened, opened, ← s.hung, live) (record {
-      opened = rw hung.phase (sym (hung_by (λ now. was_opened now conn ≡ true) (was_opened_all conn) conn done (λ before k. k) (sym s.opened ∙ opened)));
-      hung = rw hung.phase (sym (hangs_it conn done));
-      keeps = λ live. absurd (false≢true (sym live ∙ hangs_it conn done));
-    })
+-- what a hang does
+pub hang_does : (done : List Deed) (conn : ℕ) (P : List Deed → Type 0) (k : Known) (b : Bool) → is_open_at k ≡ b → Stands done conn k
+    → P (cond b (swept (given_up_by (OfConnection conn Hung) done)) done) → P (does done (v.Hang conn))
+hang_does done conn P k b is s h = subst (λ (t : Bool). P (cond t (swept (given_up_by (OfConnection conn Hung) done)) done)) (sym is ∙ open_told done conn k s) h
 
-pub hang_shares : (done : List Deed) (conn : ℕ) (c : Connection) (u : Shared) → is_opened c.phase ≡ true → is_hung c.phase ≡ false → Stands done conn (Some c) → Shares (swept (given_up_by (OfConnection conn Hung) done)) u → Shares (does done (v.Hang conn)) u
-hang_shares done conn c u opened live s h = rw (← s.opened, opened, ← s.hung, live) h
+pub hang_stands : (done : List Deed) (conn : ℕ) (k : Known) → is_open_at k ≡ true → Stands done conn k → Stands (does done (v.Hang conn)) conn HungUp
+hang_stands done conn k open_now s =
+    hang_does done conn (λ now. Stands now conn HungUp) k true open_now s
+    (hung_after done conn (opened_part (was_opened done conn) (was_hung done conn) (sym (open_told done conn k s) ∙ open_now)))
 
 -- ---- after a stop
 

@@ -1,3 +1,4 @@
 pub mod EventSteps
 pub mod AskSteps
 pub mod AgentSteps
+mod KnownSteps

@@ -1,22 +1,21 @@
 -- When an agent stands for a history: what it keeps of each connection, and what the connections share, are what is told
 -- of the deeds of the history; after a stop it keeps nothing.
-use Rattle.std.specs.Prelude.{◌≡◌, ℕ, ◌≤◌, ◌+◌, List, [], length, Bool, true, false, ◌⊎◌, Option}
+use Rattle.std.specs.Prelude.{◌≡◌, ℕ, ◌≤◌, ◌+◌, List, [], length, Bool, true, false, ◌⊎◌}
 use Rattle.agent_history.specs.declared.event.Event.{Event}
 use Rattle.agent_history.specs.declared.event.StepAnswer.{StepAnswer}
 use Rattle.agent_history.specs.Histories.{History, has_stopped, most_events, deeds}
 use Rattle.mailboxes.specs.Deliveries.{replies_at}
-use Rattle.agent_requests.specs.declared.connection.Connection.{Connection}
 use Rattle.agent_core.specs.declared.agent.Running.{Running}
 use Rattle.agent_core.specs.declared.agent.State.{State}
 use Rattle.agent_core.specs.declared.agent.State.TheVariants.{Runs, Stopped}
 use Rattle.agent_core.specs.declared.agent.Agent.{Agent}
-use Rattle.agent_shared.specs.Sharing.{SameShared}
-use Rattle.agent_core.specs.Events.{Lives, SameEach, TakesNoneOf, LeavesOneLess, HadOne, AsksFewer, HadAsk, NoneAsked, GivesUp, gives_to, is_stop, known, left_to_ask}
+use Rattle.agent_requests.specs.Sharing.{SameShared}
+use Rattle.agent_core.specs.Events.{Known, Lives, SameEach, TakesNoneOf, LeavesOneLess, HadOne, AsksFewer, HadAsk, NoneAsked, GivesUp, gives_to, is_stop, known, left_to_ask}
 
 -- ---- agents
 
--- the connection of a number
-abbrev pub connection_at : Running → ℕ → Option Connection
+-- what is known of a number
+abbrev pub connection_at : Running → ℕ → Known
 connection_at r conn = known r.connections conn
 
 -- an agent that hasn't stopped

@@ -1,7 +1,8 @@
 -- What an event does to what is kept of the connections, and to what they share.
-use Rattle.std.specs.Prelude.{◌≡◌, ℕ, ◌≤◌, ◌<◌, ◌+◌, ◌*◌, List, [], ◌∷◌, ◌++◌, length, Bool, true, false, not, ◌&&◌, ◌⊎◌, Option, Some, None}
+use Rattle.std.specs.Prelude.{◌≡◌, ℕ, ◌≤◌, ◌<◌, ◌+◌, ◌*◌, List, [], ◌∷◌, ◌++◌, length, Bool, true, false, not, ◌&&◌, Option, Some, None}
 use Rattle.std.specs.Ordering.{nat_cmp}
-use Rattle.std.specs.BTreeMap.{BTreeMap, get}
+use Rattle.std.specs.BTreeMap.{get}
+use Rattle.number_ranges.specs.Spans.{has_number}
 use Rattle.nine_messages.specs.Decoding.{IsFrame}
 use Rattle.agent_history.specs.declared.event.Event.{Event}
 use Rattle.agent_history.specs.declared.event.Event.TheVariants.{Request, Hang, Answer, NoAnswer, NoRoom, Take, TakeAsk, Stop}
@@ -17,20 +18,41 @@ use Rattle.roles.specs.declared.need.Need.TheVariants.{Nothing, Key, Offers, Pic
 use Rattle.wire_base.specs.declared.shape.Shape.{Shape}
 use Rattle.agent_talks.specs.Kept.{is_asked, questions_in}
 use Rattle.agent_talks.specs.Kept as kept
-use Rattle.agent_requests.specs.declared.connection.Phase.{Phase}
-use Rattle.agent_requests.specs.declared.connection.Phase.TheVariants.{Fresh}
 use Rattle.agent_requests.specs.declared.connection.Connection.{Connection}
-use Rattle.agent_requests.specs.Connections.{Keeps, SameKept, IsFresh, IsHungUp, is_opened, is_hung}
-use Rattle.agent_shared.specs.declared.shared.Shared.{Shared}
-use Rattle.agent_shared.specs.Sharing.{Shares}
-use Rattle.agent_shared.specs.Logging.{calls_in, talks_in}
+use Rattle.agent_requests.specs.Connections.{Keeps, SameKept, IsFresh, is_opened}
+use Rattle.agent_core.specs.declared.connections.Connections.{Connections}
+use Rattle.agent_requests.specs.Shared.{Shared}
+use Rattle.agent_requests.specs.Sharing.{Shares}
+use Rattle.agent_requests.specs.Logging.{calls_in, talks_in}
 
 -- ---- connections
 
--- what is kept of a number; of one that isn't known, what would be kept of a fresh connection
-abbrev pub phase_at : Option Connection → Phase
-phase_at None = Fresh
-phase_at (Some c) = c.phase
+-- what is known of a number: nothing, what is kept of a connection that wasn't hung up, or that it was
+pub data Known : Type 0 where
+  Unknown : Known
+  Live : (connection : Connection) → Known
+  HungUp : Known
+
+abbrev pub known_by : Bool → Option Connection → Known
+known_by true o = HungUp
+known_by false None = Unknown
+known_by false (Some c) = Live c
+
+abbrev pub known : Connections → ℕ → Known
+known connections conn = known_by (has_number connections.gone.ranges conn) (get nat_cmp connections.live conn)
+
+abbrev pub is_opened_at : Known → Bool
+is_opened_at Unknown = false
+is_opened_at (Live c) = is_opened c.phase
+is_opened_at HungUp = true
+
+abbrev pub is_hung_at : Known → Bool
+is_hung_at HungUp = true
+is_hung_at k = false
+
+-- it was opened, and wasn't hung up
+abbrev pub is_open_at : Known → Bool
+is_open_at k = is_opened_at k && not (is_hung_at k)
 
 pub record KeepsNothing (done : List Deed) (conn : ℕ) : Type 0 where
   pub live : was_hung done conn ≡ false
@@ -39,49 +61,47 @@ pub record KeepsNothing (done : List Deed) (conn : ℕ) : Type 0 where
   pub held : held_by done conn ≡ 0
   pub texts : (fid : ℕ) → text_of done conn fid ≡ []
 
-abbrev pub KeepsAt : List Deed → ℕ → Option Connection → Type 0
-KeepsAt done conn None = KeepsNothing done conn
-KeepsAt done conn (Some c) = Keeps done conn c
+abbrev pub KeepsAt : List Deed → ℕ → Known → Type 0
+KeepsAt done conn Unknown = KeepsNothing done conn
+KeepsAt done conn (Live c) = Keeps done conn c
+KeepsAt done conn HungUp = Unit {0}
 
 -- what is kept of a connection is what the deeds tell of it; of one that was hung up, that it was
-pub record Stands (done : List Deed) (conn : ℕ) (o : Option Connection) : Type 0 where
-  pub opened : is_opened (phase_at o) ≡ was_opened done conn
-  pub hung : is_hung (phase_at o) ≡ was_hung done conn
-  pub keeps : was_hung done conn ≡ false → KeepsAt done conn o
+pub record Stands (done : List Deed) (conn : ℕ) (k : Known) : Type 0 where
+  pub opened : is_opened_at k ≡ was_opened done conn
+  pub hung : is_hung_at k ≡ was_hung done conn
+  pub keeps : was_hung done conn ≡ false → KeepsAt done conn k
 
--- the connection of a number
-abbrev pub known : BTreeMap ℕ Connection → ℕ → Option Connection
-known connections conn = get nat_cmp connections conn
-
-abbrev pub AllStand : List Deed → (ℕ → Option Connection) → Type 0
+abbrev pub AllStand : List Deed → (ℕ → Known) → Type 0
 AllStand done at = (conn : ℕ) → Stands done conn (at conn)
 
 -- ---- agents
 
 -- what is kept of one connection, and what all share
 pub record Serves (done : List Deed) (conn : ℕ) (c : Connection) (s : Shared) : Type 0 where
-  pub stands : Stands done conn (Some c)
+  pub stands : Stands done conn (Live c)
   pub shares : Shares done s
 
 -- what is kept of all connections, and what they share
-pub record Lives (done : List Deed) (at : ℕ → Option Connection) (s : Shared) : Type 0 where
+pub record Lives (done : List Deed) (at : ℕ → Known) (s : Shared) : Type 0 where
   pub shares : Shares done s
   pub connections : AllStand done at
 
 -- what lived lives after the event
-abbrev pub LivesOn : Event → (ℕ → Option Connection) → Shared → (ℕ → Option Connection) → Shared → Type 0
+abbrev pub LivesOn : Event → (ℕ → Known) → Shared → (ℕ → Known) → Shared → Type 0
 LivesOn event old s new u = (done : List Deed) → Lives done old s → Lives (does done event) new u
 
 -- ---- what stays
 
 -- the same is kept of a number; where nothing was, a connection of which nothing is known is the same
-abbrev pub SameAt : Option Connection → Option Connection → Type 0
-SameAt None None = Unit {0}
-SameAt None (Some c) = IsFresh c
-SameAt (Some c) None = ⊥
-SameAt (Some c) (Some d) = SameKept c d
+abbrev pub SameAt : Known → Known → Type 0
+SameAt Unknown Unknown = Unit {0}
+SameAt Unknown (Live c) = IsFresh c
+SameAt (Live c) (Live d) = SameKept c d
+SameAt HungUp HungUp = Unit {0}
+SameAt k l = ⊥
 
-abbrev pub SameEach : (ℕ → Option Connection) → (ℕ → Option Connection) → Type 0
+abbrev pub SameEach : (ℕ → Known) → (ℕ → Known) → Type 0
 SameEach old new = (conn : ℕ) → SameAt (old conn) (new conn)
 
 -- ---- events
@@ -102,16 +122,17 @@ pub record AnswersAfter (done : List Deed) (event : Event) (a : StepAnswer) (old
   pub out : new ≡ old ++ (answer_after done event).1
 
 -- while nothing stopped, it is answered so
-abbrev pub AnswersFor : Event → (ℕ → Option Connection) → Shared → StepAnswer → List ℕ → List ℕ → Type 0
+abbrev pub AnswersFor : Event → (ℕ → Known) → Shared → StepAnswer → List ℕ → List ℕ → Type 0
 AnswersFor event at s a old new = (done : List Deed) → is_halted done ≡ false → Lives done at s → AnswersAfter done event a old new
 
 abbrev pub Answers : History → Event → StepAnswer → List ℕ → List ℕ → Type 0
 Answers history event a old new = AnswersAfter (deeds history) event a old new
 
--- something is kept of the connection, and there is no reply to take: it was hung up, or none is left
-abbrev pub FindsNone : Option Connection → List (List ℕ) → Type 0
-FindsNone None replies = ⊥
-FindsNone (Some c) replies = (is_hung c.phase ≡ true) ⊎ (replies ≡ [])
+-- something is known of the connection, and there is no reply to take: it was hung up, or none is left
+abbrev pub FindsNone : Known → List (List ℕ) → Type 0
+FindsNone Unknown replies = ⊥
+FindsNone (Live c) replies = replies ≡ []
+FindsNone HungUp replies = Unit {0}
 
 -- the questions for the authentication server that are out
 abbrev pub questions : Shared → List Question
@@ -144,7 +165,7 @@ IsPut done conv shape old new = PutFor (question_of (standing_of done conv)) sha
 
 -- Events that take no memory: a take that finds no reply on a connection that is known, an answer to a question that isn't
 -- out, a take of what is due where no question is, a hang, the want of an answer, and a stop.
-abbrev pub TakesNoneOf : Event → (ℕ → Option Connection) → Shared → Type 0
+abbrev pub TakesNoneOf : Event → (ℕ → Known) → Shared → Type 0
 TakesNoneOf (Request conn frame word) at s = ⊥
 TakesNoneOf (Take conn) at s = FindsNone (at conn) (replies_at s.mailboxes conn)
 TakesNoneOf (Answer call bytes) at s = is_asked call (questions s) ≡ false
@@ -156,12 +177,11 @@ abbrev pub is_some_left : List (List ℕ) → Bool
 is_some_left [] = false
 is_some_left (frame ∷ frames) = true
 
-abbrev pub gives_reply : Option Connection → List (List ℕ) → Bool
-gives_reply None replies = is_some_left replies
-gives_reply (Some c) replies = not (is_hung c.phase) && is_some_left replies
+abbrev pub gives_reply : Known → List (List ℕ) → Bool
+gives_reply k replies = not (is_hung_at k) && is_some_left replies
 
 -- an event is answered by a reply
-abbrev pub gives_to : Event → (ℕ → Option Connection) → Shared → Bool
+abbrev pub gives_to : Event → (ℕ → Known) → Shared → Bool
 gives_to (Take conn) at s = gives_reply (at conn) (replies_at s.mailboxes conn)
 gives_to event at s = false
 
@@ -198,15 +218,11 @@ NoneAsked a = Unit {0}
 
 -- ---- memory that is given up
 
-abbrev pub IsHungAt : Option Connection → Type 0
-IsHungAt None = ⊥
-IsHungAt (Some c) = IsHungUp c
+-- a connection that was opened is known as hung up now, and no reply and no read that waits is kept of it
+abbrev pub HangsUp : ℕ → (ℕ → Known) → (ℕ → Known) → Shared → Type 0
+HangsUp conn old new s = is_open_at (old conn) ≡ true → (new conn ≡ HungUp) × KeepsNone s.mailboxes conn
 
--- a connection that was opened, and hung up now: of it nothing is kept but that, no reply, and no read that waits
-abbrev pub HangsUp : ℕ → (ℕ → Option Connection) → (ℕ → Option Connection) → Shared → Type 0
-HangsUp conn old new s = (is_opened (phase_at (old conn)) && not (is_hung (phase_at (old conn)))) ≡ true → IsHungAt (new conn) × KeepsNone s.mailboxes conn
-
--- a hang gives up what is kept of its connection
-abbrev pub GivesUp : Event → (ℕ → Option Connection) → (ℕ → Option Connection) → Shared → Type 0
+-- a hang gives up the replies and the reads that wait of its connection
+abbrev pub GivesUp : Event → (ℕ → Known) → (ℕ → Known) → Shared → Type 0
 GivesUp (Hang conn) old new s = HangsUp conn old new s
 GivesUp event old new s = Unit {0}

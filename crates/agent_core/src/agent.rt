@@ -4,14 +4,14 @@ ghost use Rattle.agent_history.specs.Deeds.{Deed, is_halted};
 ghost use Rattle.agent_history.specs.Histories.{answer_after, is_reply};
 ghost use Rattle.agent_core.specs.Events.{NoneAsked};
 
-use crate::events::{Connections, Stepped, act, has_reply, is_stop};
+use crate::connections::Connections;
+use crate::events::{Stepped, act, has_reply, is_stop};
 use crate::news::{News, STOPPED, news_of};
 use agent_history::{Event, StepAnswer};
-use agent_shared::Shared;
+use agent_requests::Shared;
 use key_ring::Key;
 use roles::Outcome;
 use std::alloc::Global;
-use std::collections::BTreeMap;
 use std::mem::replace;
 use wire_base::{Bytes, NoMemory};
 
@@ -79,7 +79,7 @@ impl Agent {
     {
         let shared = Shared::new(alloc)?;
         let running = Running {
-            connections: BTreeMap::new(alloc),
+            connections: Connections::new(alloc),
             shared,
             events: 0,
         };

@@ -1,5 +1,5 @@
 // The events on the connections of an agent.
-ghost use Rattle.std.specs.Prelude.{◌≡◌, ◌<◌, ◌≤◌, ◌+◌, ◌-◌, ◌^◌, ◌∷◌, List, ℕ, Option, true, false, None, Some, IsSome, IsOk, IfOk, OnOk, OnErr, length, take};
+ghost use Rattle.std.specs.Prelude.{◌≡◌, ◌<◌, ◌≤◌, ◌+◌, ◌-◌, ◌^◌, ◌∷◌, List, [], Option, true, false, None, Some, IsOk, IfOk, OnOk, OnErr, length, take};
 ghost use Rattle.nine_messages.specs.Decoding.{IsFrame};
 ghost use Rattle.agent_history.specs.declared.event.Event.TheVariants as events;
 ghost use Rattle.agent_history.specs.Deeds.{Deed, HandedOut, is_halted};
@@ -8,20 +8,17 @@ ghost use Rattle.agent_history.specs.Requests.{tag_of};
 ghost use Rattle.agent_history.specs.Histories.{does, is_reply};
 ghost use Rattle.agent_talks.specs.Kept.{question_of};
 ghost use Rattle.mailboxes.specs.Deliveries.{replies_at};
-ghost use Rattle.agent_shared.specs.Sharing.{SameShared, Shares};
+ghost use Rattle.agent_requests.specs.Sharing.{SameShared, Shares};
 ghost use Rattle.agent_requests.specs.Connections.{SameKept};
-ghost use Rattle.agent_core.specs.Events.{AllStand, AnswersAfter, FindsNone, AnswersFor, AsksFewer, GivesUp, HangsUp, IsEvent, IsPut, LeavesOneLess, LivesOn, SameEach, Serves, TakesNoneOf, gives_reply, gives_to, is_stop, known, unasked};
+ghost use Rattle.agent_core.specs.Events.{AnswersAfter, FindsNone, AnswersFor, AsksFewer, GivesUp, HangsUp, IsEvent, IsPut, LeavesOneLess, LivesOn, SameEach, Serves, TakesNoneOf, gives_reply, gives_to, is_some_left, is_stop, known, unasked};
 
+use crate::connections::Connections;
 use agent_history::{Event, StepAnswer};
-use agent_requests::{Call, Connection};
-use agent_shared::Shared;
+use agent_requests::{Call, Connection, Shared};
 use agent_talks::Question;
 use kept_calls::Due;
 use std::alloc::Global;
-use std::collections::BTreeMap;
 use wire_base::{Bytes, NoMemory, Shape, get_u16};
-
-pub(crate) type Connections = BTreeMap<u64, Connection>;
 
 /// What an event that is carried out is answered.
 pub(crate) type Stepped = Result<StepAnswer, NoMemory>;
@@ -40,7 +37,7 @@ pub(crate) fn is_stop(event: &Event) -> bool
     matches!(event, Event::Stop)
 }
 
-// A frame on a connection: the connection is opened, and the frame is answered, unless it was hung up.
+// A frame on a connection: the connection is opened, and the frame is answered.
 fn request(
     alloc: Global,
     conn: u64,
@@ -57,9 +54,6 @@ fn request(
     ensures err { OnErr result (SameKept connection.old connection.new) }
     ensures err_shared { OnErr result (SameShared shared.old shared.new) }
 {
-    if connection.is_hung() {
-        return Ok(());
-    }
     let call = Call {
         alloc,
         conn,
@@ -84,14 +78,10 @@ fn take(conn: u64, connection: &mut Connection, shared: &mut Shared, out: &mut B
     ensures ring { shared.new.ring ≡ shared.old.ring }
     ensures fewer { IfOk result (λ a. is_reply a ≡ true
         → LeavesOneLess (events.Take conn) shared.old shared.new) }
-    ensures takes_none { FindsNone (Some connection.old) (replies_at shared.old.mailboxes conn)
-        → IsOk result }
+    ensures takes_none { replies_at shared.old.mailboxes conn ≡ [] → IsOk result }
     ensures gives { IfOk result (λ a. is_reply a
-        ≡ gives_reply (Some connection.old) (replies_at shared.old.mailboxes conn)) }
+        ≡ is_some_left (replies_at shared.old.mailboxes conn)) }
 {
-    if connection.is_hung() {
-        return Ok(StepAnswer::Gone);
-    }
     let Some(reply) = shared.mailboxes.front(conn) else {
         connection.enter();
         return Ok(StepAnswer::NoReply);
@@ -100,33 +90,6 @@ fn take(conn: u64, connection: &mut Connection, shared: &mut Shared, out: &mut B
     connection.enter();
     shared.mailboxes.pop(conn);
     Ok(StepAnswer::Reply)
-}
-
-// A hang: a connection that was opened is hung up, and the memory that was kept for it is given up.
-fn hang(alloc: Global, conn: u64, connection: &mut Connection, shared: &mut Shared)
-    ensures serves { (done : List Deed) → Serves done conn connection.old shared.old
-        → Serves (does done (events.Hang conn)) conn connection.new shared.new }
-    ensures ring { shared.new.ring ≡ shared.old.ring }
-    ensures gives_up { (old new : ℕ → Option Connection) → old conn ≡ Some connection.old
-        → new conn ≡ Some connection.new → HangsUp conn old new shared.new }
-{
-    if connection.is_open() {
-        *connection = Connection::hung_up(alloc);
-        shared.leave(alloc, conn);
-        shared.mailboxes.sweep();
-    }
-}
-
-// Something is kept of a connection from now on.
-fn add(alloc: Global, connections: &mut Connections, conn: u64) -> Result<(), NoMemory>
-    requires { known connections.old conn ≡ None }
-    ensures known { OnOk result (IsSome (known connections.new conn)) }
-    ensures stands { (done : List Deed) → AllStand done (known connections.old)
-        → AllStand done (known connections.new) }
-    ensures same { SameEach (known connections.old) (known connections.new) }
-{
-    connections.insert(conn, Connection::new(alloc))?;
-    Ok(())
 }
 
 // A frame on a connection of this number.
@@ -146,11 +109,11 @@ fn request_at(
     ensures err { OnErr result (SameEach (known connections.old) (known connections.new)) }
     ensures err_shared { OnErr result (SameShared shared.old shared.new) }
 {
-    if let Some(connection) = connections.get_mut(&conn) {
-        return request(alloc, conn, connection, shared, frame, word);
+    if connections.is_gone(conn) {
+        return Ok(());
     }
-    add(alloc, connections, conn)?;
-    let Some(connection) = connections.get_mut(&conn) else {
+    connections.keep(alloc, conn)?;
+    let Some(connection) = connections.live.get_mut(&conn) else {
         unreachable!()
     };
     request(alloc, conn, connection, shared, frame, word)
@@ -179,25 +142,27 @@ fn take_at(
     ensures gives { IfOk result (λ a. is_reply a
         ≡ gives_reply (known connections.old conn) (replies_at shared.old.mailboxes conn)) }
 {
-    if let Some(connection) = connections.get_mut(&conn) {
-        return take(conn, connection, shared, out);
+    if connections.is_gone(conn) {
+        return Ok(StepAnswer::Gone);
     }
-    add(alloc, connections, conn)?;
-    let Some(connection) = connections.get_mut(&conn) else {
+    connections.keep(alloc, conn)?;
+    let Some(connection) = connections.live.get_mut(&conn) else {
         unreachable!()
     };
     take(conn, connection, shared, out)
 }
 
-// A hang of a connection of this number.
+// A hang of a connection of this number: if it was opened it is hung up, and the memory that was kept for it is given up.
 fn hang_at(alloc: Global, connections: &mut Connections, shared: &mut Shared, conn: u64)
     ensures lives { LivesOn (events.Hang conn)
         (known connections.old) shared.old (known connections.new) shared.new }
     ensures ring { shared.new.ring ≡ shared.old.ring }
     ensures gives_up { HangsUp conn (known connections.old) (known connections.new) shared.new }
 {
-    if let Some(connection) = connections.get_mut(&conn) {
-        hang(alloc, conn, connection, shared);
+    if connections.is_open(conn) {
+        connections.hang_up(conn);
+        shared.leave(alloc, conn);
+        shared.mailboxes.sweep();
     }
 }
 
@@ -269,10 +234,8 @@ pub(crate) fn has_reply(connections: &Connections, shared: &Shared, conn: u64) -
     ensures { result ≡ gives_reply (known connections.now conn)
         (replies_at shared.now.mailboxes conn) }
 {
-    if let Some(connection) = connections.get(&conn) {
-        if connection.is_hung() {
-            return false;
-        }
+    if connections.is_gone(conn) {
+        return false;
     }
     shared.mailboxes.front(conn).is_some()
 }

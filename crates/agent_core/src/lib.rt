@@ -2,6 +2,7 @@
 #![tactic(auto)]
 
 mod agent;
+mod connections;
 mod events;
 mod news;
 

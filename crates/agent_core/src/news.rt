@@ -1,8 +1,8 @@
 // What is new behind the events of late, for those who wait for it. It carries no claim: who is awake looks for himself.
 ghost use Rattle.std.specs.Prelude.{◌≡◌};
-ghost use Rattle.agent_shared.specs.Sharing.{SameShared};
+ghost use Rattle.agent_requests.specs.Sharing.{SameShared};
 
-use agent_shared::Shared;
+use agent_requests::Shared;
 use kept_calls::Due;
 pub use mailboxes::SettledFor;
 

@@ -6,8 +6,8 @@ use Rattle.agent_talks.specs.Kept.{question_of, unasked}
 use Rattle.kept_calls.specs.Calls.{drop_of}
 use Rattle.kept_calls.specs.Keeps.{IsLeft, due_of}
 use Rattle.kept_calls.specs.declared.due.Due.{Due as HeldDue}
-use Rattle.agent_shared.specs.Sharing.{Shares}
-use Rattle.agent_shared.proofs.ShareLemmas.{with_talks}
+use Rattle.agent_requests.specs.Sharing.{Shares}
+use Rattle.agent_requests.proofs.ShareLemmas.{with_talks}
 use Rattle.agent_core.proofs.AskSteps.{dropped_after, dropped_fewer, none_after}
 use Rattle.agent_core.proofs.EventSteps.{shares_dropped}
 use Rattle.agent_core.proofs.events.take_ask.Goals as goal

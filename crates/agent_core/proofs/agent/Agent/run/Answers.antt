@@ -1,9 +1,7 @@
 use Rattle.std.proofs.Common.{◌∙◌, refl, sym, subst, List, arith}
-use Rattle.std.specs.Ordering.{nat_cmp}
-use Rattle.std.specs.BTreeMap.{get}
 use Rattle.agent_history.specs.Deeds.{Deed}
 use Rattle.agent_history.specs.Histories.{deeds}
-use Rattle.agent_core.specs.Events.{Lives}
+use Rattle.agent_core.specs.Events.{Lives, known}
 use Rattle.agent_core.proofs.AgentSteps.{goes_on, runs_same, runs_still}
 use Rattle.agent_core.proofs.agent.Agent.run.Goals as goal
 
@@ -15,7 +13,7 @@ returns-else-events-eq-MOST_EVENTS-clause-stands c = λ H runs.
     record {
       running = runs_still H a.event.now runs.running no_stop next;
       events = omega (arith, runs.events);
-      lives = subst (λ (done : List Deed). Lives done (λ q. get nat_cmp c.act.new.connections q) c.act.new.shared) (sym next) (c.in-Ok.ensures.lives no_stop (deeds H) runs.lives);
+      lives = subst (λ (done : List Deed). Lives done (known c.act.new.connections) c.act.new.shared) (sym next) (c.in-Ok.ensures.lives no_stop (deeds H) runs.lives);
     }
 
 pub returns-in-Err-clause-err_stands : goal.returns-in-Err-clause-err_stands
