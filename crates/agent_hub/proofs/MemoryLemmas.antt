@@ -7,13 +7,11 @@ use Rattle.agent_history.specs.declared.event.Event.TheVariants.{Request, Hang, 
 use Rattle.agent_history.specs.Deeds.{was_opened}
 use Rattle.agent_history.specs.Conversations.{Drop, Question, due, drops, due_of, next_question, questions}
 use Rattle.agent_history.specs.Histories.{History, answer, deeds, is_reply}
-use Rattle.agent_core.specs.Connection.{Connection}
-use Rattle.agent_core.specs.Connections.{is_hung, is_opened}
 use Rattle.agent_core.specs.declared.agent.Running.{Running}
 use Rattle.agent_core.specs.declared.agent.State.{State}
 use Rattle.agent_core.specs.declared.agent.State.TheVariants.{Runs, Stopped}
 use Rattle.agent_core.specs.declared.agent.Agent.{Agent}
-use Rattle.agent_core.specs.Events.{FindsNone, gives_reply, is_some_left, phase_at}
+use Rattle.agent_core.specs.Events.{Known, Unknown, Live, HungUp, FindsNone, gives_reply, is_opened_at, is_some_left}
 use Rattle.agent_core.specs.Agents.{RunsAfter, StandsBy, StandsFor, TakesNone, TakesNoneIn, connection_at, replies_in}
 use Rattle.agent_core.proofs.AgentSteps.{gives_told}
 use Rattle.agent_hub.specs.Submits.{is_due, takes_memory}
@@ -24,12 +22,10 @@ none_left : (replies : List (List ℕ)) → is_some_left replies ≡ false → r
 none_left [] e = refl
 none_left (frame ∷ frames) e = absurd (true≢false e)
 
-finds_none : (o : Option Connection) (replies : List (List ℕ)) → is_opened (phase_at o) ≡ true → gives_reply o replies ≡ false → FindsNone o replies
-finds_none None replies opened none = absurd (true≢false (sym opened))
-finds_none (Some c) replies opened none = elim (cases_Bool (is_hung c.phase)) [
-  | inl hung ↦ inl hung
-  | inr live ↦ inr (none_left replies (rw live at none))
-]
+finds_none : (k : Known) (replies : List (List ℕ)) → is_opened_at k ≡ true → gives_reply k replies ≡ false → FindsNone k replies
+finds_none Unknown replies opened none = absurd (true≢false (sym opened))
+finds_none (Live c) replies opened none = none_left replies none
+finds_none HungUp replies opened none = tt
 
 neither : (a b : Bool) → (not a || b) ≡ false → (a ≡ true) × (b ≡ false)
 neither true b e = (refl, e)

@@ -12,8 +12,7 @@ use Rattle.mailboxes.proofs.DeliveryLemmas.{untaken_taken}
 use Rattle.agent_core.specs.declared.agent.Agent.{Agent}
 use Rattle.agent_core.specs.declared.agent.State.{State}
 use Rattle.agent_core.specs.declared.agent.State.TheVariants.{Runs, Stopped}
-use Rattle.agent_core.specs.Connection.{Connection}
-use Rattle.agent_core.specs.Events.{SameAt, gives_reply, is_some_left}
+use Rattle.agent_core.specs.Events.{Known, Unknown, Live, HungUp, SameAt, gives_reply, is_some_left}
 use Rattle.agent_core.specs.Agents.{StandsFor, SameState, SameAgent, connection_at, replies_in, gives_in, kept_replies}
 use Rattle.wire_streams.specs.declared.dialer.Outcome.{Outcome}
 use Rattle.factotum_program.specs.Pipe.{Turn, take_while, after_turn, asked_in, text_of, turn_of}
@@ -122,11 +121,16 @@ going_grows H n agent origin held gathered g is =
 
 -- ---- an agent that is the same gives the same
 
-same_reply : (old new : Option Connection) (some more : List (List ℕ)) → SameAt old new → more ≡ some → gives_reply new more ≡ gives_reply old some
-same_reply None None some more same e = ap is_some_left e
-same_reply None (Some c) some more same e = rw (same.phase, e) refl
-same_reply (Some c) None some more same e = absurd same
-same_reply (Some c) (Some d) some more same e = rw (same.phase, e) refl
+same_reply : (old new : Known) (some more : List (List ℕ)) → SameAt old new → more ≡ some → gives_reply new more ≡ gives_reply old some
+same_reply Unknown Unknown some more same e = ap is_some_left e
+same_reply Unknown (Live c) some more same e = ap is_some_left e
+same_reply Unknown HungUp some more same e = absurd same
+same_reply (Live c) Unknown some more same e = absurd same
+same_reply (Live c) (Live d) some more same e = ap is_some_left e
+same_reply (Live c) HungUp some more same e = absurd same
+same_reply HungUp Unknown some more same e = absurd same
+same_reply HungUp (Live c) some more same e = absurd same
+same_reply HungUp HungUp some more same e = refl
 
 same_replies : (old new : State) (conn : ℕ) → SameState old new → replies_in new conn ≡ replies_in old conn
 same_replies Stopped Stopped conn same = refl
