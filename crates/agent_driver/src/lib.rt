@@ -9,6 +9,7 @@ mod takes;
 #[cfg(test)]
 mod tests;
 
+pub use agent_core::{Agent, Event};
 pub use events::{File, clunks, opens, reads, walks, writes};
 pub use nodes::{CTL, new_node, open_rpc};
 pub use replies::{content_in, error_in, is_refused};

@@ -3,7 +3,7 @@ use Rattle.std.proofs.Common.{◌≡◌, ℕ, ◌+◌, List, [], ◌∷◌, ◌+
 use Rattle.agent_history.specs.declared.event.Event.{Event}
 use Rattle.agent_history.specs.declared.event.Event.TheVariants as events
 use Rattle.agent_history.specs.Histories.{History}
-use Rattle.agent_core.specs.declared.agent.Agent.{Agent}
+use Rattle.agent_driver.specs.Agent.{Agent}
 use Rattle.wire_model.specs.declared.step.Step.{Step}
 use Rattle.wire_model.specs.declared.step.Step.TheVariants as s
 use Rattle.world_history.specs.Driving.{clunks, drive, is_refused, questions_to, reads, replies_to, writes}

@@ -1,2 +1,3 @@
 pub mod Frames
 pub mod Turning
+pub use Rattle.agent_driver.specs.Agents

@@ -3,8 +3,8 @@ use Rattle.std.specs.Prelude.{◌≡◌, ℕ, ◌≤◌, ◌<◌, ◌^◌, ◌+�
 use Rattle.roles.specs.declared.need.Outcome.{Outcome}
 use Rattle.agent_history.specs.declared.event.Event.{Event}
 use Rattle.agent_history.specs.Histories.{History}
-use Rattle.agent_core.specs.declared.agent.Agent.{Agent}
-use Rattle.agent_core.specs.Agents.{StandsFor}
+use Rattle.agent_driver.specs.Agent.{Agent}
+use Rattle.agent_driver.specs.Agents.{StandsFor}
 use Rattle.wire_model.specs.declared.step.Step.{Step}
 use Rattle.wire_model.specs.declared.step.Step.TheVariants.{In}
 use Rattle.world_history.specs.declared.question.Question.{Question}

@@ -11,4 +11,5 @@ mod steps;
 mod tests;
 mod turns;
 
+pub use agent_driver::{Agent, new_node, open_rpc};
 pub use turns::{Asks, Turn, Turned, take_turn};

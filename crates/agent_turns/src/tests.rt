@@ -4,8 +4,7 @@ ghost use Rattle.agent_turns.specs.Turning.{IsTurn, said_asks};
 ghost use Rattle.world_history.specs.Talking.{request_text};
 
 use super::{Asks, Turn, take_turn};
-use agent_core::Agent;
-use agent_driver::{new_node, open_rpc};
+use agent_driver::{Agent, new_node, open_rpc};
 use std::alloc::Global;
 use std::process::Abort;
 use std::test::Fail;

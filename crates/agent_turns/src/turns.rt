@@ -1,7 +1,7 @@
 // What is done to an agent.
 ghost use Rattle.std.specs.Prelude.{◌≡◌, ◌≤◌, ◌<◌, ◌^◌, ◌∷◌, ◌++◌, OnOk, IfOk, length};
 ghost use Rattle.agent_history.specs.Histories.{History};
-ghost use Rattle.agent_core.specs.Agents.{StandsFor};
+ghost use Rattle.agent_driver.specs.Agents.{StandsFor};
 ghost use Rattle.agent_turns.specs.Turning.{Turns, IsTurn, own, said_asks, said_turn};
 ghost use Rattle.world_history.specs.Talking.{request_text, word_of};
 ghost use Rattle.world_history.specs.Turns as does;
@@ -10,8 +10,7 @@ use crate::following::{Came, last_call, meet, put_following};
 use crate::replies::{are_taken, put_all_told, put_frames};
 use crate::starts::put_start;
 use crate::steps::{put, put_taken};
-use agent_core::{Agent, Event};
-use agent_driver::{CTL, clunks, drive, is_refused, reads, writes};
+use agent_driver::{Agent, CTL, Event, clunks, drive, is_refused, reads, writes};
 use std::alloc::Global;
 use wire_base::{Bytes, NoMemory};
 use wire_model::Step;

@@ -6,7 +6,7 @@ use Rattle.std.specs.Str.{bytes_eq}
 use Rattle.std.specs.Cmp.Lexicographic.{bytes_decides}
 use Rattle.std.proofs.lemmas.Bool.{cases_Bool, cond-true, cond-false, false≢true}
 use Rattle.agent_history.specs.Histories.{History}
-use Rattle.agent_core.specs.Agents.{StandsFor}
+use Rattle.agent_turns.specs.Agents.{StandsFor}
 use Rattle.agent_turns.specs.declared.turns.Turned.{Turned}
 use Rattle.agent_turns.specs.Turning.{Turns}
 use Rattle.world_history.specs.Acts.{least_fid}

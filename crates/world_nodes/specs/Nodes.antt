@@ -3,7 +3,7 @@ use Rattle.std.specs.Prelude.{◌≡◌, ℕ, List, [], ◌∷◌, ◌++◌, map
 use Rattle.std.specs.Map.{lookup}
 use Rattle.std.specs.Str.{bytes_eq}
 use Rattle.agent_history.specs.Histories.{History}
-use Rattle.agent_core.specs.Agents.{StandsFor}
+use Rattle.agent_turns.specs.Agents.{StandsFor}
 use Rattle.agent_turns.specs.declared.turns.Turned.{Turned}
 use Rattle.world_history.specs.Acts.{least_fid}
 use Rattle.world_history.specs.Driving.{new_node, refuses_open}

@@ -1,7 +1,7 @@
 -- What a node does that opens a conversation. This serves proofs alone.
 use Rattle.std.specs.Prelude.{◌≡◌, ℕ, List, [], ◌∷◌, ◌++◌, true, false, Option, Some, None}
 use Rattle.agent_history.specs.Histories.{History}
-use Rattle.agent_core.specs.Agents.{StandsFor}
+use Rattle.agent_turns.specs.Agents.{StandsFor}
 use Rattle.world_history.specs.Acts.{least_fid}
 use Rattle.world_history.specs.Driving as driving
 use Rattle.world_history.specs.Driving.{refuses_open}

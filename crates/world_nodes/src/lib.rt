@@ -5,6 +5,7 @@ mod fids;
 mod node;
 mod nodes;
 
+pub use agent_turns::{Asks, Turn, Turned, new_node};
 pub use fids::Open;
 pub use node::Node;
 pub use nodes::Nodes;

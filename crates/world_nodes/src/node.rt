@@ -1,8 +1,6 @@
 // One node.
 use crate::fids::{Open, least_fid};
-use agent_core::Agent;
-use agent_driver::open_rpc;
-use agent_turns::{Turn, Turned, take_turn};
+use agent_turns::{Agent, Turn, Turned, open_rpc, take_turn};
 use std::alloc::Global;
 use wire_base::{Bytes, NoMemory};
 
@@ -17,7 +15,7 @@ impl Node {
     ghost use Rattle.std.specs.Prelude.{◌≡◌, [], filter, not, IfOk};
     ghost use Rattle.std.specs.Str.{bytes_eq};
     ghost use Rattle.agent_history.specs.Histories.{History};
-    ghost use Rattle.agent_core.specs.Agents.{StandsFor};
+    ghost use Rattle.agent_turns.specs.Agents.{StandsFor};
     ghost use Rattle.agent_turns.specs.Turning.{IsTurn, Turns, said_turn};
     ghost use Rattle.world_nodes.specs.Opening.{OpensOne};
 

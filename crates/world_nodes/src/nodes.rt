@@ -1,7 +1,6 @@
 // Nodes by their names.
 use crate::node::Node;
-use agent_core::Agent;
-use agent_turns::{Turn, Turned};
+use agent_turns::{Agent, Turn, Turned};
 use std::alloc::Global;
 use std::collections::BTreeMap;
 use wire_base::NoMemory;
@@ -15,7 +14,7 @@ pub struct Nodes {
 
 impl Nodes {
     ghost use Rattle.std.specs.Prelude.{◌≡◌, true, false, option_copied, IfOk, OnOk};
-    ghost use Rattle.agent_core.specs.Agents.{StandsFor};
+    ghost use Rattle.agent_turns.specs.Agents.{StandsFor};
     ghost use Rattle.agent_turns.specs.Turning.{IsTurn, said_turn};
     ghost use Rattle.world_history.specs.Driving.{new_node};
     ghost use Rattle.world_nodes.specs.Nodes.{NodesAre, OpensSo, TurnsSo, View, closed, made, node_at, nobody};

@@ -12,7 +12,7 @@ use Rattle.auth_server.specs.Requests as req
 use Rattle.auth_server.specs.Requests.{asked_so, is_served, kind_of}
 use Rattle.auth_server.specs.Standing.{knowledge}
 use Rattle.agent_history.specs.Histories.{History}
-use Rattle.agent_turns.specs.declared.turns.Turned.{Turned}
+use Rattle.world_nodes.specs.Turned.{Turned}
 use Rattle.wire_model.specs.declared.step.Step.{Step}
 use Rattle.wire_model.specs.declared.step.Step.TheVariants as s
 use Rattle.world_scripts.specs.Reading.{line_of}

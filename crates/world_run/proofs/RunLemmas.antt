@@ -11,7 +11,7 @@ use Rattle.auth_server.specs.Answers.{Knowledge}
 use Rattle.auth_server.specs.Requests as server
 use Rattle.auth_server.specs.Standing.{knowledge}
 use Rattle.agent_history.specs.Histories.{History}
-use Rattle.agent_turns.specs.declared.turns.Turned.{Turned}
+use Rattle.world_nodes.specs.Turned.{Turned}
 use Rattle.wire_model.specs.declared.step.Step.{Step}
 use Rattle.world_scripts.specs.Lines as l
 use Rattle.world_scripts.specs.Lines.{ScriptLine}

@@ -3,7 +3,7 @@ use Rattle.std.specs.Prelude.{◌≡◌, ℕ, List, length, Option, Some, None, 
 use Rattle.std.specs.Map.{lookup}
 use Rattle.std.specs.Str.{bytes_eq}
 use Rattle.wire_model.specs.declared.step.Step.{Step}
-use Rattle.agent_turns.specs.declared.turns.Turned.{Turned}
+use Rattle.world_nodes.specs.Turned.{Turned}
 use Rattle.world_history.specs.declared.cause.ScriptCause.{ScriptCause}
 use Rattle.world_history.specs.declared.cause.ScriptCause.TheVariants.{NoSuchMessage, UnknownConv}
 use Rattle.world_history.specs.Scripts.{spelled}

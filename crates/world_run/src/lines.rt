@@ -2,9 +2,8 @@
 use crate::found::take;
 use crate::run::Run;
 use crate::stops::{BAD_LINE, Done, Stop, UNKNOWN_NODE};
-use agent_driver::new_node;
-use agent_turns::Turn;
 use std::vec::Vec;
+use world_nodes::{Turn, new_node};
 
 /// The most nodes.
 const MOST_NODES: usize = 64;

@@ -1,5 +1,5 @@
 use Rattle.std.proofs.Common.{◌≡◌, ◌∷◌, ◌++◌, [], ℕ, List, Bool, true, false, not, refl, sym, ap, subst, ◌∙◌}
-use Rattle.agent_core.specs.Agents.{StandsFor}
+use Rattle.agent_turns.specs.Agents.{StandsFor}
 use Rattle.world_history.specs.Acts.{least_fid}
 use Rattle.world_history.specs.Driving as driving
 use Rattle.world_nodes.specs.Fids.{fids, named}

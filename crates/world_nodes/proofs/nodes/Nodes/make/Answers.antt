@@ -1,5 +1,5 @@
 use Rattle.std.proofs.Common.{subst, sym, ◌∙◌}
-use Rattle.agent_core.specs.Agents.{StandsFor}
+use Rattle.agent_turns.specs.Agents.{StandsFor}
 use Rattle.world_history.specs.Driving.{new_node}
 use Rattle.auth_tables.proofs.MapLemmas.{put_by_query}
 use Rattle.world_nodes.proofs.NodeLemmas.{made_so}
