@@ -16,14 +16,9 @@ help:
 	@echo 'make clean   removes what the others made'
 
 build:
-	@scripts/need rt bash awk
+	@scripts/need rt bash awk python3
 	@mkdir -p bin
-	@cd crates/factotum && ../../scripts/progress bin/factotum.log rt run -- pipe </dev/null
-	@cp crates/factotum/out/factotum bin/factotum
-	@cd crates/authd && ../../scripts/progress bin/authd.log sh -c 'rt run -- --dom x </dev/null || test -x out/authd'
-	@cp crates/authd/out/authd bin/authd
-	@cd crates/nine_show && ../../scripts/progress bin/nine_show.log rt run </dev/null
-	@cp crates/nine_show/out/nine_show bin/nine_show
+	@OF='factotum authd nine_show' scripts/progress bin/build.log scripts/side_by_side factotum authd nine_show -- scripts/programs
 	@echo 'bin/factotum, bin/authd and bin/nine_show are built, each proved'
 
 demo:
