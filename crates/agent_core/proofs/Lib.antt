@@ -2,3 +2,4 @@ pub mod EventSteps
 pub mod AskSteps
 pub mod AgentSteps
 mod KnownSteps
+mod LiveSteps

@@ -27,7 +27,8 @@ use Rattle.agent_requests.specs.Logging.{calls_in, talks_in}
 
 -- ---- connections
 
--- what is known of a number: nothing, what is kept of a connection that wasn't hung up, or that it was
+-- what is known of a number: nothing, what is kept of a connection that wasn't hung up, or that it was, of which no more is
+-- kept (`forgotten`, what holds of all Connections)
 pub data Known : Type 0 where
   Unknown : Known
   Live : (connection : Connection) → Known
@@ -218,11 +219,11 @@ NoneAsked a = Unit {0}
 
 -- ---- memory that is given up
 
--- a connection that was opened is known as hung up now, and no reply and no read that waits is kept of it
+-- a connection that was opened is hung up now: of it nothing is kept but its number, no reply, and no read that waits
 abbrev pub HangsUp : ℕ → (ℕ → Known) → (ℕ → Known) → Shared → Type 0
 HangsUp conn old new s = is_open_at (old conn) ≡ true → (new conn ≡ HungUp) × KeepsNone s.mailboxes conn
 
--- a hang gives up the replies and the reads that wait of its connection
+-- a hang gives up what is kept of its connection
 abbrev pub GivesUp : Event → (ℕ → Known) → (ℕ → Known) → Shared → Type 0
 GivesUp (Hang conn) old new s = HangsUp conn old new s
 GivesUp event old new s = Unit {0}

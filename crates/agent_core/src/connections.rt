@@ -1,6 +1,8 @@
 // The connections of an agent.
-ghost use Rattle.std.specs.Prelude.{◌≤◌};
-ghost use Rattle.std.specs.BTreeMap.{btree_map_len};
+ghost use Rattle.std.specs.Prelude.{◌≡◌, ◌≤◌, ℕ, None, true};
+ghost use Rattle.std.specs.Ordering.{nat_cmp};
+ghost use Rattle.std.specs.BTreeMap.{btree_map_len, get};
+ghost use Rattle.number_ranges.specs.Spans.{has_number};
 
 use agent_requests::Connection;
 use number_ranges::Ranges;
@@ -15,6 +17,8 @@ pub struct Connections {
     pub(crate) gone: Ranges,
     // Each one that lives can be hung up without memory.
     ghost room: { btree_map_len live ≤ gone.room },
+    // Of one that was hung up nothing else is kept.
+    ghost forgotten: { (q : ℕ) → has_number gone.ranges q ≡ true → get nat_cmp live q ≡ None },
 }
 
 impl Connections {
