@@ -143,28 +143,33 @@ fn take_all<R: Wait + Abort>(
     Ok((seat, replies))
 }
 
+// Half a seat writes a key, and the seat that joins both halves reads it.
+fn join_and_read<R: Wait + Abort>(
+    rt: &R,
+    alloc: Global,
+    hub: &Hub,
+    seat: HubSeat,
+) -> Result<(), Fail>
+    requires { IsSeatOf hub.now seat }
+{
+    let (one, other) = hub.split(seat);
+    let one = ask_all(rt, alloc, hub, one, 0, ADD_KEY)?;
+    let (one, replies) = take_all(rt, alloc, hub, one, 0, 5)?;
+    assert_eq!(rt; replies.as_slice(), KEY_ADDED);
+    let both = hub.join(other, one);
+    let both = ask_all(rt, alloc, hub, both, 1, READ_KEYS)?;
+    let (both, replies) = take_all(rt, alloc, hub, both, 1, 5)?;
+    assert_eq!(rt; replies.as_slice(), KEYS_READ);
+    let again = Event::Take { conn: 1 };
+    submit(rt, alloc, hub, both, &again, StepAnswer::NoReply, b"")?;
+    Ok(())
+}
+
 #[test]
 fn a_joined_seat_goes_on_from_both(rt: HostRuntime) -> Result<(), Fail> {
     let alloc = rt.alloc();
     let (hub, seat) = new_hub(alloc)?;
-    let (one, other) = hub.split(seat);
-    let one = ask_all(&rt, alloc, &hub, one, 0, ADD_KEY)?;
-    let (one, replies) = take_all(&rt, alloc, &hub, one, 0, 5)?;
-    assert_eq!(rt; replies.as_slice(), KEY_ADDED);
-    let both = hub.join(other, one);
-    let both = ask_all(&rt, alloc, &hub, both, 1, READ_KEYS)?;
-    let (both, replies) = take_all(&rt, alloc, &hub, both, 1, 5)?;
-    assert_eq!(rt; replies.as_slice(), KEYS_READ);
-    submit(
-        &rt,
-        alloc,
-        &hub,
-        both,
-        &Event::Take { conn: 1 },
-        StepAnswer::NoReply,
-        b"",
-    )?;
-    Ok(())
+    join_and_read(&rt, alloc, &hub, seat)
 }
 
 /// The numbers of the calls that fail, counted from 1.
@@ -207,25 +212,30 @@ fn expect_end<R: Wait + Abort>(
     )
 }
 
+// Inputs that end in each way; the key that was read before the first end stays.
+fn end_inputs<R: Wait + Abort>(rt: &R, alloc: Global, hub: &Hub, seat: HubSeat) -> Result<(), Fail>
+    requires { IsSeatOf hub.now seat }
+{
+    let seat = expect_end(rt, alloc, hub, seat, 0, ADD_KEY, NONE, InEnd::End)?;
+    let torn = InEnd::Torn { at: 85 };
+    let seat = expect_end(rt, alloc, hub, seat, 1, &ADD_KEY[..140], NONE, torn)?;
+    let bad = InEnd::BadFrame { at: 19, size: 4 };
+    let seat = expect_end(rt, alloc, hub, seat, 2, BAD_SIZE, NONE, bad)?;
+    let read = Faults { read: 2, draw: 0 };
+    let seat = expect_end(rt, alloc, hub, seat, 3, VERSION, read, InEnd::ReadFault)?;
+    let draw = Faults { read: 0, draw: 3 };
+    let seat = expect_end(rt, alloc, hub, seat, 4, ADD_KEY, draw, InEnd::WordFault)?;
+    let seat = ask_all(rt, alloc, hub, seat, 5, READ_KEYS)?;
+    let (_seat, replies) = take_all(rt, alloc, hub, seat, 5, 5)?;
+    assert_eq!(rt; replies.as_slice(), KEYS_READ);
+    Ok(())
+}
+
 #[test]
 fn inputs_end_and_are_hung_up(rt: HostRuntime) -> Result<(), Fail> {
     let alloc = rt.alloc();
     let (hub, seat) = new_hub(alloc)?;
-    let seat = expect_end(&rt, alloc, &hub, seat, 0, ADD_KEY, NONE, InEnd::End)?;
-    let torn = InEnd::Torn { at: 85 };
-    let seat = expect_end(&rt, alloc, &hub, seat, 1, &ADD_KEY[..140], NONE, torn)?;
-    let bad = InEnd::BadFrame { at: 19, size: 4 };
-    let seat = expect_end(&rt, alloc, &hub, seat, 2, BAD_SIZE, NONE, bad)?;
-    let read = Faults { read: 2, draw: 0 };
-    let seat = expect_end(&rt, alloc, &hub, seat, 3, VERSION, read, InEnd::ReadFault)?;
-    let draw = Faults { read: 0, draw: 3 };
-    let seat = expect_end(&rt, alloc, &hub, seat, 4, ADD_KEY, draw, InEnd::WordFault)?;
-
-    // The key that was read before the first end stays.
-    let seat = ask_all(&rt, alloc, &hub, seat, 5, READ_KEYS)?;
-    let (_seat, replies) = take_all(&rt, alloc, &hub, seat, 5, 5)?;
-    assert_eq!(rt; replies.as_slice(), KEYS_READ);
-    Ok(())
+    end_inputs(&rt, alloc, &hub, seat)
 }
 
 /// A sink that shows other threads how many bytes it took.
@@ -306,6 +316,15 @@ fn ask_and_stop<R: Wait + Abort>(
     Ok(())
 }
 
+// The replies were written whole until the agent stopped.
+fn expect_replies(rt: &impl Abort, end: OutEnd, sink: &SteadySink) -> Result<(), Fail> {
+    assert_eq!(rt; end, OutEnd::Gone);
+    let replies = sink.content().ok_or("untold")?;
+    assert!(rt; replies.starts_with(KEY_ADDED));
+    assert!(rt; replies.ends_with(AGREED));
+    Ok(())
+}
+
 #[test]
 fn requests_and_a_stop_wake_the_replies(rt: HostRuntime) -> Result<(), Fail> {
     let alloc = rt.alloc();
@@ -318,11 +337,7 @@ fn requests_and_a_stop_wake_the_replies(rt: HostRuntime) -> Result<(), Fail> {
         || ask_and_stop(&rt, alloc, &hub, other, &seen),
     );
     asked?;
-    assert_eq!(rt; end, OutEnd::Gone);
-    let replies = sink.content().ok_or("untold")?;
-    assert!(rt; replies.starts_with(KEY_ADDED));
-    assert!(rt; replies.ends_with(AGREED));
-    Ok(())
+    expect_replies(&rt, end, &sink)
 }
 
 #[test]
@@ -362,16 +377,12 @@ fn log_in<R: Wait + Abort>(rt: &R, alloc: Global, hub: &Hub, seat: HubSeat) -> R
     Ok(replies)
 }
 
-#[test]
-fn a_question_is_asked_and_its_answer_told(rt: HostRuntime) -> Result<(), Fail> {
-    let alloc = rt.alloc();
-    let (hub, seat) = new_hub(alloc)?;
-    let (one, other) = hub.split(seat);
-    let (asked, replies) = join(
-        &rt,
-        || ask_server(&rt, alloc, &hub, one),
-        || log_in(&rt, alloc, &hub, other),
-    );
+// One question was asked, and its answer told.
+fn expect_answer(
+    rt: &impl Abort,
+    asked: Result<(AsksEnd, MemDialer), Fail>,
+    replies: Result<Bytes, Fail>,
+) -> Result<(), Fail> {
     let Ok((end, dialer)) = asked else {
         panic!(rt; "memory is short")
     };
@@ -382,4 +393,17 @@ fn a_question_is_asked_and_its_answer_told(rt: HostRuntime) -> Result<(), Fail> 
     assert!(rt; matches!(made[0], Made::Exchange { conv: 0, .. }));
     assert!(rt; replies.as_slice().starts_with(AGREED));
     Ok(())
+}
+
+#[test]
+fn a_question_is_asked_and_its_answer_told(rt: HostRuntime) -> Result<(), Fail> {
+    let alloc = rt.alloc();
+    let (hub, seat) = new_hub(alloc)?;
+    let (one, other) = hub.split(seat);
+    let (asked, replies) = join(
+        &rt,
+        || ask_server(&rt, alloc, &hub, one),
+        || log_in(&rt, alloc, &hub, other),
+    );
+    expect_answer(&rt, asked, replies)
 }
