@@ -6,8 +6,6 @@ mod events;
 mod nodes;
 mod replies;
 mod takes;
-#[cfg(test)]
-mod tests;
 
 pub use agent_core::{Agent, Event};
 pub use events::{File, clunks, opens, reads, walks, writes};

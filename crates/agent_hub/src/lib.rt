@@ -9,8 +9,6 @@ mod laws;
 mod questions;
 mod replies;
 mod requests;
-#[cfg(test)]
-mod tests;
 
 pub use agent_core::{Agent, Event, StepAnswer};
 pub use held::Held;

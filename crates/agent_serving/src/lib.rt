@@ -6,8 +6,6 @@
 mod accept;
 mod job;
 mod prompts;
-#[cfg(test)]
-mod tests;
 
 pub use accept::{ServeEnd, serve};
 pub use agent_hub::{Agent, Hub, HubSeat};

@@ -7,8 +7,6 @@ mod following;
 mod replies;
 mod starts;
 mod steps;
-#[cfg(test)]
-mod tests;
 mod turns;
 
 pub use agent_driver::{Agent, new_node, open_rpc};

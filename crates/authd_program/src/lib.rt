@@ -4,8 +4,6 @@
 
 mod ending;
 mod task;
-#[cfg(test)]
-mod tests;
 mod words;
 
 pub use ending::Ending;

@@ -7,8 +7,6 @@ mod files;
 mod options;
 mod status;
 mod tables;
-#[cfg(test)]
-mod tests;
 mod words;
 
 pub use authsrv::{serve, status_of_end};

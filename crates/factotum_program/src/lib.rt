@@ -6,8 +6,6 @@ mod asks;
 mod command;
 mod frames;
 mod pipe;
-#[cfg(test)]
-mod tests;
 mod words;
 
 pub use authsrv_program::{AuthsrvWords, Status, print_status};

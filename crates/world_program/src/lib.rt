@@ -6,8 +6,6 @@ mod generated;
 mod nowhere;
 mod played;
 mod summary;
-#[cfg(test)]
-mod tests;
 mod words;
 
 pub use generated::play_gen;

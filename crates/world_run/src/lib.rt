@@ -5,16 +5,10 @@
 mod found;
 mod lines;
 mod play;
-#[cfg(test)]
-mod refusal_tests;
 mod run;
 mod sessions;
 mod stops;
-#[cfg(test)]
-mod tests;
 mod turns;
-#[cfg(test)]
-mod worlds;
 
 pub use play::{WorldEnd, run_world};
 pub use world_history::ScriptCause;

@@ -1,0 +1,409 @@
+// The hub on objects in memory and in threads.
+ghost use Rattle.std.specs.Prelude.{◌<◌, ◌≤◌, length, IfOk};
+ghost use Rattle.nine_messages.specs.Decoding.{IsFrame};
+ghost use Rattle.agent_core.specs.Events.{IsEvent};
+ghost use Rattle.agent_hub.specs.Submits.{IsSeatOf};
+
+mod sessions;
+
+use agent_core::{Agent, Event, StepAnswer};
+use agent_hub::{AsksEnd, Hub, HubSeat, InEnd, OutEnd, serve_asks, serve_in, serve_out};
+use sessions::{ADD_KEY, AGREED, BAD_SIZE, KEY_ADDED, KEYS_READ, LOG_IN, READ_KEYS, VERSION};
+use std::alloc::Global;
+use std::process::Abort;
+use std::sync::Wait;
+use std::sync::atomic::{AtomicU64, Ordering};
+use std::test::Fail;
+use std::thread::{Threads, join};
+use wire_base::{Bytes, get_u32};
+use wire_streams::{Made, MemDialer, MemSink, MemSource, MemWords, Put, Sink, SteadySink};
+
+/// As many words as these tests draw.
+const MANY: usize = 16;
+
+// A hub without keys and connections.
+fn new_hub(alloc: Global) -> Result<(Hub, HubSeat), Fail>
+    ensures { IfOk result (λ made. IsSeatOf made.0 made.1) }
+{
+    Ok(Hub::new(alloc, Agent::new(alloc)?)?)
+}
+
+// These bytes as a frame.
+fn frame_of(rt: &impl Abort, alloc: Global, bytes: &[u8]) -> Result<Bytes, Fail>
+    ensures { IfOk result (λ frame. IsFrame frame) }
+{
+    let frame = Bytes::from_slice(alloc, bytes)?;
+    let size = get_u32(frame.as_slice(), 0).ok_or("no size")?;
+    assert!(rt; size >= 7 && size as usize == frame.len(), "no frame");
+    Ok(frame)
+}
+
+// Where the frame ends that begins at a place.
+fn end_of_frame(frames: &[u8], at: usize) -> Result<usize, Fail> {
+    let size = get_u32(frames, at).ok_or("no size")?;
+    Ok(at.checked_add(size as usize).ok_or("no end")?)
+}
+
+// Submits an event that puts these bytes out.
+fn submit<R: Wait + Abort>(
+    rt: &R,
+    alloc: Global,
+    hub: &Hub,
+    seat: HubSeat,
+    event: &Event,
+    answer: StepAnswer,
+    bytes: &[u8],
+) -> Result<HubSeat, Fail>
+    requires seat { IsSeatOf hub.now seat }
+    requires event { IsEvent event.now }
+    ensures { IfOk result (λ seat. IsSeatOf hub.now seat) }
+{
+    let mut out = Bytes::new(alloc);
+    let (seat, answered) = hub.submit(rt, seat, event, &mut out);
+    assert_eq!(rt; answered?, answer);
+    assert_eq!(rt; out.as_slice(), bytes);
+    Ok(seat)
+}
+
+// Submits one frame on a connection.
+fn ask<R: Wait + Abort>(
+    rt: &R,
+    alloc: Global,
+    hub: &Hub,
+    seat: HubSeat,
+    conn: u64,
+    frame: &[u8],
+) -> Result<HubSeat, Fail>
+    requires { IsSeatOf hub.now seat }
+    ensures { IfOk result (λ seat. IsSeatOf hub.now seat) }
+{
+    let request = Event::Request {
+        conn,
+        frame: frame_of(rt, alloc, frame)?,
+        word: [7; 8],
+    };
+    submit(rt, alloc, hub, seat, &request, StepAnswer::Done, b"")
+}
+
+// Submits frame by frame.
+fn ask_all<R: Wait + Abort>(
+    rt: &R,
+    alloc: Global,
+    hub: &Hub,
+    mut seat: HubSeat,
+    conn: u64,
+    frames: &[u8],
+) -> Result<HubSeat, Fail>
+    requires { IsSeatOf hub.now seat }
+    ensures { IfOk result (λ seat. IsSeatOf hub.now seat) }
+{
+    let mut at = 0;
+    for _ in rt.forever() {
+        if at == frames.len() {
+            break;
+        }
+        let end = end_of_frame(frames, at)?;
+        seat = ask(
+            rt,
+            alloc,
+            hub,
+            seat,
+            conn,
+            frames.get(at..end).ok_or("no frame")?,
+        )?;
+        at = end;
+    }
+    Ok(seat)
+}
+
+// Takes on a connection until so many replies were given, which are these.
+fn take_all<R: Wait + Abort>(
+    rt: &R,
+    alloc: Global,
+    hub: &Hub,
+    mut seat: HubSeat,
+    conn: u64,
+    count: usize,
+) -> Result<(HubSeat, Bytes), Fail>
+    requires { IsSeatOf hub.now seat }
+    ensures { IfOk result (λ r. IsSeatOf hub.now r.0) }
+{
+    let mut replies = Bytes::new(alloc);
+    let mut taken = 0usize;
+    for _ in rt.forever() {
+        if taken == count {
+            break;
+        }
+        let (next, answer) = hub.submit(rt, seat, &Event::Take { conn }, &mut replies);
+        seat = next;
+        if answer? == StepAnswer::Reply {
+            taken = taken.saturating_add(1);
+        }
+    }
+    Ok((seat, replies))
+}
+
+// Half a seat writes a key, and the seat that joins both halves reads it.
+fn join_and_read<R: Wait + Abort>(
+    rt: &R,
+    alloc: Global,
+    hub: &Hub,
+    seat: HubSeat,
+) -> Result<(), Fail>
+    requires { IsSeatOf hub.now seat }
+{
+    let (one, other) = hub.split(seat);
+    let one = ask_all(rt, alloc, hub, one, 0, ADD_KEY)?;
+    let (one, replies) = take_all(rt, alloc, hub, one, 0, 5)?;
+    assert_eq!(rt; replies.as_slice(), KEY_ADDED);
+    let both = hub.join(other, one);
+    let both = ask_all(rt, alloc, hub, both, 1, READ_KEYS)?;
+    let (both, replies) = take_all(rt, alloc, hub, both, 1, 5)?;
+    assert_eq!(rt; replies.as_slice(), KEYS_READ);
+    let again = Event::Take { conn: 1 };
+    submit(rt, alloc, hub, both, &again, StepAnswer::NoReply, b"")?;
+    Ok(())
+}
+
+#[test]
+fn a_joined_seat_goes_on_from_both(rt: HostRuntime) -> Result<(), Fail> {
+    let alloc = rt.alloc();
+    let (hub, seat) = new_hub(alloc)?;
+    join_and_read(&rt, alloc, &hub, seat)
+}
+
+/// The numbers of the calls that fail, counted from 1.
+#[derive(Clone, Copy)]
+struct Faults {
+    read: u64,
+    draw: u64,
+}
+
+/// No call fails.
+const NONE: Faults = Faults { read: 0, draw: 0 };
+
+// Serves an input, which ends so; then the connection is hung up.
+fn expect_end<R: Wait + Abort>(
+    rt: &R,
+    alloc: Global,
+    hub: &Hub,
+    seat: HubSeat,
+    conn: u64,
+    input: &[u8],
+    faults: Faults,
+    wanted: InEnd,
+) -> Result<HubSeat, Fail>
+    requires { IsSeatOf hub.now seat }
+    ensures { IfOk result (λ seat. IsSeatOf hub.now seat) }
+{
+    let mut source = MemSource::new(input.to_vec(alloc)?, [faults.read].to_vec(alloc)?);
+    let words = vec![in alloc; [7_u8; 8]; MANY]?;
+    let mut words = MemWords::new(words, [faults.draw].to_vec(alloc)?);
+    let (seat, end) = serve_in(rt, alloc, hub, seat, conn, &mut source, &mut words);
+    assert_eq!(rt; end, wanted);
+    submit(
+        rt,
+        alloc,
+        hub,
+        seat,
+        &Event::Take { conn },
+        StepAnswer::Gone,
+        b"",
+    )
+}
+
+// Inputs that end in each way; the key that was read before the first end stays.
+fn end_inputs<R: Wait + Abort>(rt: &R, alloc: Global, hub: &Hub, seat: HubSeat) -> Result<(), Fail>
+    requires { IsSeatOf hub.now seat }
+{
+    let seat = expect_end(rt, alloc, hub, seat, 0, ADD_KEY, NONE, InEnd::End)?;
+    let torn = InEnd::Torn { at: 85 };
+    let seat = expect_end(rt, alloc, hub, seat, 1, &ADD_KEY[..140], NONE, torn)?;
+    let bad = InEnd::BadFrame { at: 19, size: 4 };
+    let seat = expect_end(rt, alloc, hub, seat, 2, BAD_SIZE, NONE, bad)?;
+    let read = Faults { read: 2, draw: 0 };
+    let seat = expect_end(rt, alloc, hub, seat, 3, VERSION, read, InEnd::ReadFault)?;
+    let draw = Faults { read: 0, draw: 3 };
+    let seat = expect_end(rt, alloc, hub, seat, 4, ADD_KEY, draw, InEnd::WordFault)?;
+    let seat = ask_all(rt, alloc, hub, seat, 5, READ_KEYS)?;
+    let (_seat, replies) = take_all(rt, alloc, hub, seat, 5, 5)?;
+    assert_eq!(rt; replies.as_slice(), KEYS_READ);
+    Ok(())
+}
+
+#[test]
+fn inputs_end_and_are_hung_up(rt: HostRuntime) -> Result<(), Fail> {
+    let alloc = rt.alloc();
+    let (hub, seat) = new_hub(alloc)?;
+    end_inputs(&rt, alloc, &hub, seat)
+}
+
+/// A sink that shows other threads how many bytes it took.
+#[derive(Drop)]
+struct Watched<'a> {
+    inner: SteadySink,
+    seen: &'a AtomicU64,
+}
+
+impl<'a> Sink for Watched<'a> {
+    ghost use Rattle.wire_streams.specs.Steady.{held_bytes};
+    ghost use Rattle.wire_streams.specs.Causes.{CountsOutcome};
+    ghost use Rattle.wire_streams.specs.Streams.{Writes, write_failed};
+
+    ghost holds = { λ sink. held_bytes sink.inner };
+
+    ghost faults = { λ _. 0 };
+
+    fn write(&mut self, piece: &[u8]) -> Put
+        requires { 0 < length piece.now }
+        ensures bytes { Writes (held_bytes self.old.inner) (held_bytes self.new.inner) result
+            piece.now }
+        ensures counted { 0 ≤ 0 }
+        ensures exact { CountsOutcome 0 0 (write_failed result) }
+    {
+        let put = self.inner.write(piece);
+        self.seen.fetch_add(piece.len() as u64, Ordering::SeqCst);
+        self.seen.wake_all();
+        put
+    }
+}
+
+// Waits until so many bytes were seen.
+fn wait_for<R: Wait>(rt: &R, seen: &AtomicU64, count: u64) {
+    for _ in rt.forever() {
+        let now = seen.load(Ordering::SeqCst);
+        if now >= count {
+            return;
+        }
+        seen.park(rt, (now % (1 << 32)) as u32);
+    }
+    unreachable!()
+}
+
+// Writes the replies of a connection into memory.
+fn write_out<R: Wait>(
+    rt: &R,
+    alloc: Global,
+    hub: &Hub,
+    seat: HubSeat,
+    seen: &AtomicU64,
+) -> (OutEnd, SteadySink)
+    requires { IsSeatOf hub.now seat }
+{
+    let mut sink = Watched {
+        inner: SteadySink::new(alloc),
+        seen,
+    };
+    let (_, end) = serve_out(rt, alloc, hub, seat, 1, &mut sink);
+    (end, sink.inner)
+}
+
+// Asks on connection 1 until its replies were written, and once more; then the agent stops.
+fn ask_and_stop<R: Wait + Abort>(
+    rt: &R,
+    alloc: Global,
+    hub: &Hub,
+    seat: HubSeat,
+    seen: &AtomicU64,
+) -> Result<(), Fail>
+    requires { IsSeatOf hub.now seat }
+{
+    let seat = ask_all(rt, alloc, hub, seat, 1, ADD_KEY)?;
+    wait_for(rt, seen, 109);
+    let seat = ask_all(rt, alloc, hub, seat, 1, VERSION)?;
+    wait_for(rt, seen, 128);
+    submit(rt, alloc, hub, seat, &Event::Stop, StepAnswer::Done, b"")?;
+    Ok(())
+}
+
+// The replies were written whole until the agent stopped.
+fn expect_replies(rt: &impl Abort, end: OutEnd, sink: &SteadySink) -> Result<(), Fail> {
+    assert_eq!(rt; end, OutEnd::Gone);
+    let replies = sink.content().ok_or("untold")?;
+    assert!(rt; replies.starts_with(KEY_ADDED));
+    assert!(rt; replies.ends_with(AGREED));
+    Ok(())
+}
+
+#[test]
+fn requests_and_a_stop_wake_the_replies(rt: HostRuntime) -> Result<(), Fail> {
+    let alloc = rt.alloc();
+    let (hub, seat) = new_hub(alloc)?;
+    let (one, other) = hub.split(seat);
+    let seen = AtomicU64::new(0);
+    let ((end, sink), asked) = join(
+        &rt,
+        || write_out(&rt, alloc, &hub, one, &seen),
+        || ask_and_stop(&rt, alloc, &hub, other, &seen),
+    );
+    asked?;
+    expect_replies(&rt, end, &sink)
+}
+
+#[test]
+fn a_sink_that_fails_ends_the_replies(rt: HostRuntime) -> Result<(), Fail> {
+    let alloc = rt.alloc();
+    let (hub, seat) = new_hub(alloc)?;
+    let seat = ask_all(&rt, alloc, &hub, seat, 0, VERSION)?;
+    let mut sink = MemSink::new(Vec::new(alloc), [1_u64].to_vec(alloc)?);
+    let (_, end) = serve_out(&rt, alloc, &hub, seat, 0, &mut sink);
+    assert_eq!(rt; end, OutEnd::WriteFault);
+    Ok(())
+}
+
+// Serves the questions of a hub by a dialer that answers this.
+fn ask_server<R: Wait>(
+    rt: &R,
+    alloc: Global,
+    hub: &Hub,
+    seat: HubSeat,
+) -> Result<(AsksEnd, MemDialer), Fail>
+    requires { IsSeatOf hub.now seat }
+{
+    let mut answers = Vec::new(alloc);
+    answers.push(Bytes::from_slice(alloc, &[5; 65])?)?;
+    let mut dialer = MemDialer::new(alloc, answers, Vec::new(alloc));
+    let (_, end) = serve_asks(rt, alloc, hub, seat, &mut dialer);
+    Ok((end, dialer))
+}
+
+// Logs in on connection 0 up to the reply that comes of the answer to its question; then the agent stops.
+fn log_in<R: Wait + Abort>(rt: &R, alloc: Global, hub: &Hub, seat: HubSeat) -> Result<Bytes, Fail>
+    requires { IsSeatOf hub.now seat }
+{
+    let seat = ask_all(rt, alloc, hub, seat, 0, LOG_IN)?;
+    let (seat, replies) = take_all(rt, alloc, hub, seat, 0, 13)?;
+    submit(rt, alloc, hub, seat, &Event::Stop, StepAnswer::Done, b"")?;
+    Ok(replies)
+}
+
+// One question was asked, and its answer told.
+fn expect_answer(
+    rt: &impl Abort,
+    asked: Result<(AsksEnd, MemDialer), Fail>,
+    replies: Result<Bytes, Fail>,
+) -> Result<(), Fail> {
+    let Ok((end, dialer)) = asked else {
+        panic!(rt; "memory is short")
+    };
+    let replies = replies?;
+    assert_eq!(rt; end, AsksEnd::Stopped);
+    let made = dialer.made().ok_or("untold")?;
+    assert_eq!(rt; made.len(), 1);
+    assert!(rt; matches!(made[0], Made::Exchange { conv: 0, .. }));
+    assert!(rt; replies.as_slice().starts_with(AGREED));
+    Ok(())
+}
+
+#[test]
+fn a_question_is_asked_and_its_answer_told(rt: HostRuntime) -> Result<(), Fail> {
+    let alloc = rt.alloc();
+    let (hub, seat) = new_hub(alloc)?;
+    let (one, other) = hub.split(seat);
+    let (asked, replies) = join(
+        &rt,
+        || ask_server(&rt, alloc, &hub, one),
+        || log_in(&rt, alloc, &hub, other),
+    );
+    expect_answer(&rt, asked, replies)
+}

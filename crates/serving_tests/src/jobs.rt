@@ -1,0 +1,439 @@
+// Served connections and answered questions in memory.
+ghost use Rattle.std.specs.Prelude.{IfOk};
+ghost use Rattle.nine_messages.specs.Decoding.{IsFrame};
+ghost use Rattle.agent_hub.specs.Submits.{IsSeatOf};
+ghost use Rattle.agent_serving.specs.Jobs.{seat_of};
+
+use agent_hub::{Agent, AsksEnd, Event, Hub, HubSeat, InEnd, OutEnd, StepAnswer};
+use agent_serving::{Job, JobEnd, PromptsEnd, ServeEnd, run_job, serve};
+use attr_tuples::Tuple;
+use listeners::{MemListener, MemSpawner};
+use prompt_agent::{Chain, Deny, Limited, Prompter};
+use std::alloc::Global;
+use std::process::Abort;
+use std::sync::Wait;
+use std::sync::atomic::{AtomicU64, Ordering};
+use std::test::Fail;
+use std::thread::join;
+use wire_base::{Bytes, get_u32};
+use wire_streams::{MemDialer, MemSink, MemSource, MemWords};
+
+type ServedJob = Job<MemSource, MemSink>;
+
+static VERSION: &[u8] = b"\x13\x00\x00\x00d\xff\xff\x18\x20\x00\x00\x06\x009P2000";
+
+// A challenge of RFC 1939, section 7, which a client of APOP answers by a key.
+static CHALLENGE: &[u8] = b"write <1896.697170952@dbc.mtview.ca.us>";
+
+// A line of ctl that adds a key which is used by consent alone.
+static KEY: &[u8] = b"key proto=apop user=ann !password=b confirm";
+
+// As many bytes as a write of ctl may have.
+const MOST_WRITTEN: usize = 8192;
+
+// A hub without keys and connections.
+fn new_hub(alloc: Global) -> Result<(Hub, HubSeat), Fail>
+    ensures { IfOk result (λ made. IsSeatOf made.0 made.1) }
+{
+    Ok(Hub::new(alloc, Agent::new(alloc)?)?)
+}
+
+// A chain that says yes to so many questions, and no to all others.
+fn consenting(alloc: Global, left: u32) -> Result<Chain, Fail> {
+    let template = Tuple::new(alloc);
+    let mut list: Vec<Box<dyn Prompter + Send>> = Vec::new(alloc);
+    list.push(Box::new(alloc, Limited { template, left })?)?;
+    list.push(Box::new(alloc, Deny)?)?;
+    Ok(Chain::new(list))
+}
+
+// A chain of nobody.
+fn nobody(alloc: Global) -> Chain {
+    Chain::new(Vec::new(alloc))
+}
+
+// A frame of this type and tag with these fields.
+fn frame_of(rt: &impl Abort, alloc: Global, kind: u8, tag: u8, fields: &[u8]) -> Result<Bytes, Fail>
+    ensures { IfOk result (λ frame. IsFrame frame) }
+{
+    if fields.len() > MOST_WRITTEN + 16 {
+        return Err("too long".into());
+    }
+    let size = 7_u32.saturating_add(fields.len() as u32);
+    let mut frame = Bytes::new(alloc);
+    frame.append(&size.to_le_bytes())?;
+    frame.append(&[kind, tag, 0])?;
+    frame.append(fields)?;
+    let read = get_u32(frame.as_slice(), 0).ok_or("no size")?;
+    assert!(rt; read >= 7 && read as usize == frame.len(), "no frame");
+    Ok(frame)
+}
+
+// Makes a request of connection 0, and waits for its reply.
+fn exchange<R: Wait + Abort>(
+    rt: &R,
+    alloc: Global,
+    hub: &Hub,
+    seat: HubSeat,
+    frame: Bytes,
+) -> Result<(HubSeat, Bytes), Fail>
+    requires seat { IsSeatOf hub.now seat }
+    requires whole { IsFrame frame }
+    ensures { IfOk result (λ r. IsSeatOf hub.now r.0) }
+{
+    let mut reply = Bytes::new(alloc);
+    let request = Event::Request {
+        conn: 0,
+        frame,
+        word: [7; 8],
+    };
+    let (mut seat, asked) = hub.submit(rt, seat, &request, &mut reply);
+    assert_eq!(rt; asked?, StepAnswer::Done);
+    for _ in rt.forever() {
+        let rung = hub.count_replies(0);
+        let (next, taken) = hub.submit(rt, seat, &Event::Take { conn: 0 }, &mut reply);
+        seat = next;
+        if taken? == StepAnswer::Reply {
+            break;
+        }
+        hub.sleep_for_replies(rt, 0, rung);
+    }
+    Ok((seat, reply))
+}
+
+// The type of a reply.
+fn kind_of(reply: &[u8]) -> u8 {
+    match reply.get(4) {
+        Some(kind) => *kind,
+        None => 0,
+    }
+}
+
+// A write of a fid.
+fn write<R: Wait + Abort>(
+    rt: &R,
+    alloc: Global,
+    hub: &Hub,
+    seat: HubSeat,
+    fid: u8,
+    text: &[u8],
+) -> Result<HubSeat, Fail>
+    requires { IsSeatOf hub.now seat }
+    ensures { IfOk result (λ seat. IsSeatOf hub.now seat) }
+{
+    let mut fields = Bytes::from_slice(alloc, &[fid, 0, 0, 0, 0, 0, 0, 0, 0, 0, 0, 0])?;
+    if text.len() > MOST_WRITTEN {
+        return Err("too long".into());
+    }
+    fields.append(&(text.len() as u32).to_le_bytes())?;
+    fields.append(text)?;
+    let frame = frame_of(rt, alloc, 118, 1, fields.as_slice())?;
+    let (seat, reply) = exchange(rt, alloc, hub, seat, frame)?;
+    assert_eq!(rt; kind_of(reply.as_slice()), 119);
+    Ok(seat)
+}
+
+// What a request of a conversation is answered.
+fn ask<R: Wait + Abort>(
+    rt: &R,
+    alloc: Global,
+    hub: &Hub,
+    seat: HubSeat,
+    fid: u8,
+    text: &[u8],
+) -> Result<(HubSeat, Bytes), Fail>
+    requires { IsSeatOf hub.now seat }
+    ensures { IfOk result (λ r. IsSeatOf hub.now r.0) }
+{
+    let seat = write(rt, alloc, hub, seat, fid, text)?;
+    let fields = [fid, 0, 0, 0, 0, 0, 0, 0, 0, 0, 0, 0, 0, 16, 0, 0];
+    let frame = frame_of(rt, alloc, 116, 1, &fields)?;
+    exchange(rt, alloc, hub, seat, frame)
+}
+
+// Starts a client on a fid of its own.
+fn start<R: Wait + Abort>(
+    rt: &R,
+    alloc: Global,
+    hub: &Hub,
+    seat: HubSeat,
+    fid: u8,
+) -> Result<HubSeat, Fail>
+    requires { IsSeatOf hub.now seat }
+    ensures { IfOk result (λ seat. IsSeatOf hub.now seat) }
+{
+    let seat = open(rt, alloc, hub, seat, fid, b"rpc")?;
+    let (seat, reply) = ask(rt, alloc, hub, seat, fid, b"start proto=apop role=client")?;
+    assert!(rt; reply.as_slice().ends_with(b"ok"));
+    Ok(seat)
+}
+
+// Opens a file of connection 0.
+fn open<R: Wait + Abort>(
+    rt: &R,
+    alloc: Global,
+    hub: &Hub,
+    seat: HubSeat,
+    fid: u8,
+    name: &[u8],
+) -> Result<HubSeat, Fail>
+    requires { IsSeatOf hub.now seat }
+    ensures { IfOk result (λ seat. IsSeatOf hub.now seat) }
+{
+    let mut fields = Bytes::from_slice(alloc, &[0, 0, 0, 0, fid, 0, 0, 0, 2, 0, 8, 0])?;
+    if name.len() > 28 {
+        return Err("too long".into());
+    }
+    fields.append(b"factotum")?;
+    fields.append(&[name.len() as u8, 0])?;
+    fields.append(name)?;
+    let walk = frame_of(rt, alloc, 110, 1, fields.as_slice())?;
+    let (seat, reply) = exchange(rt, alloc, hub, seat, walk)?;
+    assert_eq!(rt; kind_of(reply.as_slice()), 111);
+    let frame = frame_of(rt, alloc, 112, 1, &[fid, 0, 0, 0, 2])?;
+    let (seat, reply) = exchange(rt, alloc, hub, seat, frame)?;
+    assert_eq!(rt; kind_of(reply.as_slice()), 113);
+    Ok(seat)
+}
+
+// Begins connection 0.
+fn begin<R: Wait + Abort>(rt: &R, alloc: Global, hub: &Hub, seat: HubSeat) -> Result<HubSeat, Fail>
+    requires { IsSeatOf hub.now seat }
+    ensures { IfOk result (λ seat. IsSeatOf hub.now seat) }
+{
+    let version = frame_of(rt, alloc, 100, 0, b"\x18\x20\x00\x00\x06\x009P2000")?;
+    let (seat, _) = exchange(rt, alloc, hub, seat, version)?;
+    let attach = b"\x00\x00\x00\x00\xff\xff\xff\xff\x03\x00ann\x00\x00";
+    let (seat, _) = exchange(rt, alloc, hub, seat, frame_of(rt, alloc, 104, 1, attach)?)?;
+    Ok(seat)
+}
+
+// Begins connection 0, and writes a line to ctl.
+fn add_key<R: Wait + Abort>(
+    rt: &R,
+    alloc: Global,
+    hub: &Hub,
+    seat: HubSeat,
+    line: &[u8],
+) -> Result<HubSeat, Fail>
+    requires { IsSeatOf hub.now seat }
+    ensures { IfOk result (λ seat. IsSeatOf hub.now seat) }
+{
+    let seat = begin(rt, alloc, hub, seat)?;
+    let seat = open(rt, alloc, hub, seat, 1, b"ctl")?;
+    write(rt, alloc, hub, seat, 1, line)
+}
+
+// Uses the key twice; then the agent stops. Until confirm is open no use is consented to, so the first is tried again.
+fn use_key<R: Wait + Abort>(rt: &R, alloc: Global, hub: &Hub, seat: HubSeat) -> Result<Bytes, Fail>
+    requires { IsSeatOf hub.now seat }
+{
+    let seat = add_key(rt, alloc, hub, seat, KEY)?;
+    let seat = start(rt, alloc, hub, seat, 2)?;
+    let mut seat = start(rt, alloc, hub, seat, 3)?;
+    for _ in rt.forever() {
+        let (next, reply) = ask(rt, alloc, hub, seat, 2, CHALLENGE)?;
+        seat = next;
+        if reply.as_slice().ends_with(b"ok") {
+            break;
+        }
+        assert!(rt; reply.as_slice().ends_with(b"error confirmation denied"));
+    }
+    let (seat, reply) = ask(rt, alloc, hub, seat, 3, CHALLENGE)?;
+    let mut nothing = Bytes::new(alloc);
+    let (_, stopped) = hub.submit(rt, seat, &Event::Stop, &mut nothing);
+    assert_eq!(rt; stopped?, StepAnswer::Done);
+    Ok(reply)
+}
+
+// Answers a user's questions, of which one is consented to.
+fn answer<R: Wait>(rt: &R, alloc: Global, hub: &Hub, seat: HubSeat) -> Result<(JobEnd, usize), Fail>
+    requires { IsSeatOf hub.now seat }
+{
+    let mut chain = consenting(alloc, 1)?;
+    let job: ServedJob = Job::Prompts { seat, conn: 9 };
+    let mut dialer = MemDialer::new(alloc, Vec::new(alloc), Vec::new(alloc));
+    let mut words = MemWords::new(Vec::new(alloc), Vec::new(alloc));
+    let (_, end) = run_job(rt, alloc, hub, job, &mut dialer, &mut words, &mut chain);
+    Ok((end, chain.len()))
+}
+
+#[test]
+fn one_question_is_consented_to_and_the_next_is_not(rt: HostRuntime) -> Result<(), Fail> {
+    let alloc = rt.alloc();
+    let (hub, seat) = new_hub(alloc)?;
+    let (one, other) = hub.split(seat);
+    let (answered, used) = join(
+        &rt,
+        || answer(&rt, alloc, &hub, one),
+        || use_key(&rt, alloc, &hub, other),
+    );
+    let Ok((end, left)) = answered else {
+        panic!(rt; "memory is short")
+    };
+    let reply = used?;
+    assert_eq!(rt; end, JobEnd::Prompts(PromptsEnd::Gone));
+    assert_eq!(rt; left, 1);
+    assert!(rt; reply.as_slice().ends_with(b"error confirmation denied"));
+    Ok(())
+}
+
+#[test]
+fn a_file_that_another_client_has_open_is_in_use(rt: HostRuntime) -> Result<(), Fail> {
+    let alloc = rt.alloc();
+    let (hub, seat) = new_hub(alloc)?;
+    let seat = begin(&rt, alloc, &hub, seat)?;
+    let seat = open(&rt, alloc, &hub, seat, 1, b"confirm")?;
+    let (end, _) = answer(&rt, alloc, &hub, seat)?;
+    assert_eq!(rt; end, JobEnd::Prompts(PromptsEnd::InUse));
+    Ok(())
+}
+
+// Answers a user's questions, and shows when that ended.
+fn answer_to_the_end<R: Wait>(
+    rt: &R,
+    alloc: Global,
+    hub: &Hub,
+    seat: HubSeat,
+    ended: &AtomicU64,
+) -> Result<(JobEnd, usize), Fail>
+    requires { IsSeatOf hub.now seat }
+{
+    let answered = answer(rt, alloc, hub, seat);
+    ended.store(1, Ordering::SeqCst);
+    answered
+}
+
+// Uses a key whose question is longer than a read may be, until nobody answers questions any more.
+fn use_long_key<R: Wait + Abort>(
+    rt: &R,
+    alloc: Global,
+    hub: &Hub,
+    seat: HubSeat,
+    ended: &AtomicU64,
+) -> Result<(), Fail>
+    requires { IsSeatOf hub.now seat }
+{
+    let mut line = KEY.to_vec(alloc)?;
+    line.extend_from_slice(b" x=")?;
+    line.resize(MOST_WRITTEN, b'x')?;
+    let seat = add_key(rt, alloc, hub, seat, line.as_slice())?;
+    let mut seat = start(rt, alloc, hub, seat, 2)?;
+    for _ in rt.forever() {
+        if ended.load(Ordering::SeqCst) == 1 {
+            break;
+        }
+        let (next, _) = ask(rt, alloc, hub, seat, 2, CHALLENGE)?;
+        seat = next;
+    }
+    Ok(())
+}
+
+#[test]
+fn a_question_longer_than_a_read_ends_the_answers(rt: HostRuntime) -> Result<(), Fail> {
+    let alloc = rt.alloc();
+    let (hub, seat) = new_hub(alloc)?;
+    let (one, other) = hub.split(seat);
+    let ended = AtomicU64::new(0);
+    let (answered, used) = join(
+        &rt,
+        || answer_to_the_end(&rt, alloc, &hub, one, &ended),
+        || use_long_key(&rt, alloc, &hub, other, &ended),
+    );
+    let Ok((end, _)) = answered else {
+        panic!(rt; "memory is short")
+    };
+    used?;
+    assert_eq!(rt; end, JobEnd::Prompts(PromptsEnd::TooLong));
+    Ok(())
+}
+
+// Does a job without prompters, whose end is this.
+fn expect_end<R: Wait + Abort>(
+    rt: &R,
+    alloc: Global,
+    hub: &Hub,
+    job: ServedJob,
+    wanted: JobEnd,
+) -> Result<HubSeat, Fail>
+    requires { IsSeatOf hub.now (seat_of job) }
+    ensures { IfOk result (λ seat. IsSeatOf hub.now seat) }
+{
+    let mut dialer = MemDialer::new(alloc, Vec::new(alloc), Vec::new(alloc));
+    let words = vec![in alloc; [7_u8; 8]; 4]?;
+    let mut words = MemWords::new(words, Vec::new(alloc));
+    let mut chain = nobody(alloc);
+    let (seat, end) = run_job(rt, alloc, hub, job, &mut dialer, &mut words, &mut chain);
+    assert_eq!(rt; end, wanted);
+    Ok(seat)
+}
+
+#[test]
+fn each_job_does_what_it_names(rt: HostRuntime) -> Result<(), Fail> {
+    let alloc = rt.alloc();
+    let (hub, seat) = new_hub(alloc)?;
+    let source = MemSource::new(VERSION.to_vec(alloc)?, Vec::new(alloc));
+    let take = Job::In {
+        seat,
+        conn: 0,
+        source,
+    };
+    let seat = expect_end(&rt, alloc, &hub, take, JobEnd::In(InEnd::End))?;
+    let sink = MemSink::new(Vec::new(alloc), Vec::new(alloc));
+    let write = Job::Out {
+        seat,
+        conn: 0,
+        sink,
+    };
+    let seat = expect_end(&rt, alloc, &hub, write, JobEnd::Out(OutEnd::Gone))?;
+    let prompts = Job::Prompts { seat, conn: 1 };
+    let idle = JobEnd::Prompts(PromptsEnd::Idle);
+    let seat = expect_end(&rt, alloc, &hub, prompts, idle)?;
+    let mut nothing = Bytes::new(alloc);
+    let (seat, stopped) = hub.submit(&rt, seat, &Event::Stop, &mut nothing);
+    assert_eq!(rt; stopped?, StepAnswer::Done);
+    let asks = Job::Asks { seat };
+    expect_end(&rt, alloc, &hub, asks, JobEnd::Asks(AsksEnd::Stopped))?;
+    Ok(())
+}
+
+// The name of a job's kind, and its connection.
+fn name_of(job: &ServedJob) -> (&'static str, u64) {
+    match job {
+        Job::In { conn, .. } => ("in", *conn),
+        Job::Out { conn, .. } => ("out", *conn),
+        Job::Asks { .. } => ("asks", 0),
+        Job::Prompts { conn, .. } => ("prompts", *conn),
+    }
+}
+
+#[test]
+fn each_connection_is_two_jobs(rt: HostRuntime) -> Result<(), Fail> {
+    let alloc = rt.alloc();
+    let (hub, seat) = new_hub(alloc)?;
+    let mut pairs = Vec::new(alloc);
+    for _ in 0..2 {
+        let source = MemSource::new(Vec::new(alloc), Vec::new(alloc));
+        let sink = MemSink::new(Vec::new(alloc), Vec::new(alloc));
+        pairs.push((source, sink))?;
+    }
+    let mut listener = MemListener::new(pairs, Vec::new(alloc));
+    let jobs: Vec<ServedJob> = Vec::new(alloc);
+    let mut spawner = MemSpawner::new(jobs, Vec::new(alloc));
+    let (_, end) = serve(&rt, alloc, &hub, seat, &mut listener, &mut spawner);
+    assert_eq!(rt; end, ServeEnd::ListenFault);
+    let wanted = [
+        ("asks", 0),
+        ("prompts", u64::MAX),
+        ("in", 0),
+        ("out", 0),
+        ("in", 1),
+        ("out", 1),
+    ];
+    let taken = spawner.content();
+    assert_eq!(rt; taken.len(), wanted.len());
+    for (job, want) in taken.iter().zip(wanted.iter()) {
+        assert_eq!(rt; name_of(job), *want);
+    }
+    Ok(())
+}
