@@ -9,16 +9,42 @@ mod requests;
 mod rows;
 mod waits;
 
-use agent_player::{Pair, Steps};
+use agent_player::{Pair, Step, Steps};
 use std::alloc::Global;
 use std::process::Abort;
 use std::str::from_utf8;
 use std::test::Fail;
 use wire_base::Bytes;
 
+// A step of a session comes to what was written down.
+fn hold_step(
+    rt: &impl Abort,
+    alloc: Global,
+    pair: &mut Pair,
+    step: &Step,
+    name: &[u8],
+    place: usize,
+) -> Result<(), Fail> {
+    let name = from_utf8(name).unwrap_or("a session");
+    let played = pair.play(alloc, step);
+    assert!(rt; played.is_ok(), "{name}, step {place}");
+    let came = played?;
+    assert_eq!(rt;
+        came.as_slice(),
+        step.expected.as_slice(),
+        "{name}, step {place}"
+    );
+    Ok(())
+}
+
 // Step by step; each session has two agents of its own, and a name.
-fn hold(rt: &impl Abort, alloc: Global, count: usize, steps: &[u8]) -> Result<(), Fail> {
-    let mut pair = Pair::new(alloc)?;
+fn hold_all(
+    rt: &impl Abort,
+    alloc: Global,
+    pair: &mut Pair,
+    count: usize,
+    steps: &[u8],
+) -> Result<(), Fail> {
     let mut steps = Steps::new(steps);
     let mut session = Bytes::new(alloc);
     let mut begun = 0;
@@ -28,19 +54,17 @@ fn hold(rt: &impl Abort, alloc: Global, count: usize, steps: &[u8]) -> Result<()
             session = Bytes::from_slice(alloc, step.given.as_slice())?;
             begun = number;
         }
-        let name = from_utf8(session.as_slice()).unwrap_or("a session");
         let place = number.saturating_sub(begun);
-        let played = pair.play(alloc, &step);
-        assert!(rt; played.is_ok(), "{name}, step {place}");
-        let came = played?;
-        assert_eq!(rt;
-            came.as_slice(),
-            step.expected.as_slice(),
-            "{name}, step {place}"
-        );
+        hold_step(rt, alloc, pair, &step, session.as_slice(), place)?;
     }
     assert!(rt; steps.is_over());
     Ok(())
+}
+
+// The two agents are owned by a function of one call, since each early return of their owner drops them.
+fn hold(rt: &impl Abort, alloc: Global, count: usize, steps: &[u8]) -> Result<(), Fail> {
+    let mut pair = Pair::new(alloc)?;
+    hold_all(rt, alloc, &mut pair, count, steps)
 }
 
 #[test]

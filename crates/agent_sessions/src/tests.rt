@@ -84,28 +84,40 @@ fn frame_at(alloc: Global, steps: &[u8], at: usize) -> Result<(Bytes, usize), Fa
     Ok((Bytes::from_slice(alloc, frame)?, end))
 }
 
+// The step at a place of the steps, and the place behind it; where a session begins the agent is a new one.
+fn hold_step(
+    rt: &impl Abort,
+    alloc: Global,
+    agent: &mut Agent,
+    steps: &[u8],
+    at: usize,
+) -> Result<usize, Fail> {
+    let begins = steps.get(at).copied().ok_or("no step")?;
+    let conn = steps.get(at.saturating_add(1)).copied().ok_or("no step")?;
+    let (request, behind) = frame_at(alloc, steps, at.saturating_add(2))?;
+    let (reply, end) = frame_at(alloc, steps, behind)?;
+    if begins == 1 {
+        *agent = Agent::new(alloc)?;
+    }
+    let (request, reply) = (request.as_slice(), reply.as_slice());
+    converse(
+        rt,
+        alloc,
+        agent,
+        u64::from(conn),
+        "a step of a session",
+        request,
+        reply,
+    )?;
+    Ok(end)
+}
+
 // Step by step; each session has an agent of its own.
 fn hold(rt: &impl Abort, alloc: Global, count: usize, steps: &[u8]) -> Result<(), Fail> {
     let mut agent = Agent::new(alloc)?;
     let mut at = 0_usize;
     for _ in 0..count {
-        let begins = steps.get(at).copied().ok_or("no step")?;
-        let conn = steps.get(at.saturating_add(1)).copied().ok_or("no step")?;
-        let (request, behind) = frame_at(alloc, steps, at.saturating_add(2))?;
-        let (reply, end) = frame_at(alloc, steps, behind)?;
-        if begins == 1 {
-            agent = Agent::new(alloc)?;
-        }
-        converse(
-            rt,
-            alloc,
-            &mut agent,
-            u64::from(conn),
-            "a step of a session",
-            request.as_slice(),
-            reply.as_slice(),
-        )?;
-        at = end;
+        at = hold_step(rt, alloc, &mut agent, steps, at)?;
     }
     assert_eq!(rt; at, steps.len());
     Ok(())
@@ -159,10 +171,8 @@ fn take(
     expect(rt, alloc, agent, name, &event, answer, reply)
 }
 
-#[test]
-fn replies_come_in_order_until_a_hang(rt: HostRuntime) -> Result<(), Fail> {
-    let alloc = rt.alloc();
-    let mut agent = Agent::new(alloc)?;
+// Requests, of which two have their replies taken before a hang.
+fn ask_until_a_hang(rt: &impl Abort, alloc: Global, agent: &mut Agent) -> Result<(), Fail> {
     let frame = attach(alloc, 0)?;
     let opening = [
         (VERSION.as_slice(), AGREED.as_slice()),
@@ -173,18 +183,25 @@ fn replies_come_in_order_until_a_hang(rt: HostRuntime) -> Result<(), Fail> {
         ),
     ];
     for (request, _) in &opening {
-        ask(&rt, alloc, &mut agent, 0, "request", request)?;
+        ask(rt, alloc, agent, 0, "request", request)?;
     }
     for (_, reply) in &opening[..2] {
-        take(&rt, alloc, &mut agent, "take", StepAnswer::Reply, reply)?;
+        take(rt, alloc, agent, "take", StepAnswer::Reply, reply)?;
     }
     let hang = Event::Hang { conn: 0 };
-    expect(&rt, alloc, &mut agent, "hang", &hang, StepAnswer::Done, b"")?;
-    take(&rt, alloc, &mut agent, "hung", StepAnswer::Gone, b"")?;
+    expect(rt, alloc, agent, "hang", &hang, StepAnswer::Done, b"")?;
+    take(rt, alloc, agent, "hung", StepAnswer::Gone, b"")?;
     for (request, _) in &opening {
-        ask(&rt, alloc, &mut agent, 0, "request, hung", request)?;
+        ask(rt, alloc, agent, 0, "request, hung", request)?;
     }
-    take(&rt, alloc, &mut agent, "still", StepAnswer::Gone, b"")
+    take(rt, alloc, agent, "still", StepAnswer::Gone, b"")
+}
+
+#[test]
+fn replies_come_in_order_until_a_hang(rt: HostRuntime) -> Result<(), Fail> {
+    let alloc = rt.alloc();
+    let mut agent = Agent::new(alloc)?;
+    ask_until_a_hang(&rt, alloc, &mut agent)
 }
 
 // Carries out an event without bytes, which puts nothing out.
@@ -207,10 +224,8 @@ fn carry_out(
     }
 }
 
-#[test]
-fn events_beside_requests(rt: HostRuntime) -> Result<(), Fail> {
-    let alloc = rt.alloc();
-    let mut agent = Agent::new(alloc)?;
+// Events other than requests, up to a stop and behind it.
+fn carry_out_all(rt: &impl Abort, alloc: Global, agent: &mut Agent) -> Result<(), Fail> {
     let bytes = Bytes::new(alloc);
     for (name, event, answer) in [
         (
@@ -232,16 +247,15 @@ fn events_beside_requests(rt: HostRuntime) -> Result<(), Fail> {
         ("take, stopped", Event::Take { conn: 5 }, StepAnswer::Gone),
         ("a question, stopped", Event::TakeAsk, StepAnswer::Stopped),
     ] {
-        carry_out(&rt, alloc, &mut agent, name, &event, answer)?;
+        carry_out(rt, alloc, agent, name, &event, answer)?;
     }
     let answer = Event::Answer { call: 0, bytes };
-    expect(
-        &rt,
-        alloc,
-        &mut agent,
-        "answer",
-        &answer,
-        StepAnswer::Done,
-        b"",
-    )
+    expect(rt, alloc, agent, "answer", &answer, StepAnswer::Done, b"")
+}
+
+#[test]
+fn events_beside_requests(rt: HostRuntime) -> Result<(), Fail> {
+    let alloc = rt.alloc();
+    let mut agent = Agent::new(alloc)?;
+    carry_out_all(&rt, alloc, &mut agent)
 }

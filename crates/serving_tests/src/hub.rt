@@ -143,6 +143,11 @@ fn take_all<R: Wait + Abort>(
     Ok((seat, replies))
 }
 
+// These are the replies.
+fn expect(rt: &impl Abort, replies: &Bytes, wanted: &[u8]) {
+    assert_eq!(rt; replies.as_slice(), wanted);
+}
+
 // Half a seat writes a key, and the seat that joins both halves reads it.
 fn join_and_read<R: Wait + Abort>(
     rt: &R,
@@ -155,11 +160,11 @@ fn join_and_read<R: Wait + Abort>(
     let (one, other) = hub.split(seat);
     let one = ask_all(rt, alloc, hub, one, 0, ADD_KEY)?;
     let (one, replies) = take_all(rt, alloc, hub, one, 0, 5)?;
-    assert_eq!(rt; replies.as_slice(), KEY_ADDED);
+    expect(rt, &replies, KEY_ADDED);
     let both = hub.join(other, one);
     let both = ask_all(rt, alloc, hub, both, 1, READ_KEYS)?;
     let (both, replies) = take_all(rt, alloc, hub, both, 1, 5)?;
-    assert_eq!(rt; replies.as_slice(), KEYS_READ);
+    expect(rt, &replies, KEYS_READ);
     let again = Event::Take { conn: 1 };
     submit(rt, alloc, hub, both, &again, StepAnswer::NoReply, b"")?;
     Ok(())
@@ -227,7 +232,7 @@ fn end_inputs<R: Wait + Abort>(rt: &R, alloc: Global, hub: &Hub, seat: HubSeat) 
     let seat = expect_end(rt, alloc, hub, seat, 4, ADD_KEY, draw, InEnd::WordFault)?;
     let seat = ask_all(rt, alloc, hub, seat, 5, READ_KEYS)?;
     let (_seat, replies) = take_all(rt, alloc, hub, seat, 5, 5)?;
-    assert_eq!(rt; replies.as_slice(), KEYS_READ);
+    expect(rt, &replies, KEYS_READ);
     Ok(())
 }
 

@@ -30,22 +30,47 @@ fn serve(alloc: Global, server: &mut Server, pair: &mut Pair, step: &Step) -> Re
     Ok(came)
 }
 
+// A step of a session comes to what was written down.
+fn hold_step(
+    rt: &impl Abort,
+    alloc: Global,
+    server: &mut Server,
+    pair: &mut Pair,
+    step: &Step,
+    number: usize,
+) -> Result<(), Fail> {
+    let came = if step.kind == b'A' {
+        serve(alloc, server, pair, step)?
+    } else {
+        pair.play(alloc, step)?
+    };
+    assert_eq!(rt; came.as_slice(), step.expected.as_slice(), "step {number}");
+    Ok(())
+}
+
 // Step by step; each session has two agents of its own.
-fn hold(rt: &impl Abort, alloc: Global, count: usize, steps: &[u8]) -> Result<(), Fail> {
-    let mut pair = Pair::new(alloc)?;
-    let mut server = Server::new(alloc)?;
+fn hold_all(
+    rt: &impl Abort,
+    alloc: Global,
+    server: &mut Server,
+    pair: &mut Pair,
+    count: usize,
+    steps: &[u8],
+) -> Result<(), Fail> {
     let mut steps = Steps::new(steps);
     for number in 0..count {
         let step = steps.take(alloc)?;
-        let came = if step.kind == b'A' {
-            serve(alloc, &mut server, &mut pair, &step)?
-        } else {
-            pair.play(alloc, &step)?
-        };
-        assert_eq!(rt; came.as_slice(), step.expected.as_slice(), "step {number}");
+        hold_step(rt, alloc, server, pair, &step, number)?;
     }
     assert!(rt; steps.is_over());
     Ok(())
+}
+
+// Agents and server are owned by a function of one call, since each early return of their owner drops them.
+fn hold(rt: &impl Abort, alloc: Global, count: usize, steps: &[u8]) -> Result<(), Fail> {
+    let mut pair = Pair::new(alloc)?;
+    let mut server = Server::new(alloc)?;
+    hold_all(rt, alloc, &mut server, &mut pair, count, steps)
 }
 
 #[test]
