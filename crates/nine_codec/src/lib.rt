@@ -7,12 +7,8 @@ mod decode_requests;
 mod encode_replies;
 mod encode_requests;
 mod fault;
-#[cfg(test)]
-mod frames;
 mod head;
 mod laws;
-#[cfg(test)]
-mod tests;
 
 pub use decode_replies::decode_r;
 pub use decode_requests::decode_t;

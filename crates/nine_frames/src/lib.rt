@@ -3,8 +3,6 @@
 
 mod framer;
 mod laws;
-#[cfg(test)]
-mod tests;
 
 pub use framer::{Framer, Next};
 pub use laws::{frames_are_all_of_the_front, frames_do_not_depend_on_pieces};

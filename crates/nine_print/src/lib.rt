@@ -5,11 +5,7 @@ mod laws;
 mod line;
 mod reply;
 mod request;
-#[cfg(test)]
-mod shown;
 mod stream;
-#[cfg(test)]
-mod tests;
 mod value;
 
 pub use laws::no_secret_is_shown;

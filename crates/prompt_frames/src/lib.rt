@@ -5,8 +5,6 @@
 mod answers;
 mod first;
 mod replies;
-#[cfg(test)]
-mod tests;
 
 pub use answers::{read_request, write_request};
 pub use first::First;

@@ -1,10 +1,10 @@
 // Requests and replies beside those that were written down elsewhere.
-use super::{
+use attr_tuples::parse_tuple;
+use prompt_agent::Say;
+use prompt_frames::{
     First, IN_USE, TOO_SMALL, file_read, has_tag, is_refusal, is_refused_by, question_read,
     read_request, write_request,
 };
-use attr_tuples::parse_tuple;
-use prompt_agent::Say;
 use side_files::{PromptKind, Question};
 use std::alloc::Global;
 use std::test::Fail;

@@ -1,9 +1,11 @@
 // Lines of frames, of bad frames and of streams that end badly; and what isn't shown.
 ghost use Rattle.nine_messages.specs.Decoding.{IsFrame};
 
-use crate::shown::{LINES, STREAM};
-use crate::{ShowEnd, put_line, show};
+mod shown;
+
 use nine_messages::Bytes;
+use nine_print::{ShowEnd, put_line, show};
+use shown::{LINES, STREAM};
 use std::alloc::Global;
 use std::process::Abort;
 use std::test::Fail;

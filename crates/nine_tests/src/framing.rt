@@ -1,7 +1,7 @@
 // Streams in pieces. The stream is a session over a ctl file, written out from section 5 of the Plan 9 manual.
 ghost use Rattle.std.specs.Prelude.{◌<◌};
 
-use crate::{Framer, Next};
+use nine_frames::{Framer, Next};
 use std::process::Abort;
 use std::test::Fail;
 use wire_base::Bytes;

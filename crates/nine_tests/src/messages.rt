@@ -2,8 +2,10 @@
 // section 5 of the Plan 9 manual.
 ghost use Rattle.nine_messages.specs.Decoding.{IsFrame};
 
-use crate::frames::{COUNT, FRAMES, NO_FAULT};
-use crate::{
+mod frames;
+
+use frames::{COUNT, FRAMES, NO_FAULT};
+use nine_codec::{
     DecodeFault, decode_r, decode_t, encode_r, encode_t, put_attach, put_auth, put_clunk,
     put_create, put_error, put_flush, put_open, put_read, put_remove, put_stat, put_version,
     put_walk, put_write, put_wstat,
@@ -45,7 +47,7 @@ fn decoded(alloc: Global, frame: &[u8]) -> Result<TMsg, DecodeFault> {
 }
 
 #[test]
-fn files_are_asked_for(rt: HostRuntime) -> Result<(), Fail> {
+fn a_version_is_read(rt: HostRuntime) -> Result<(), Fail> {
     let alloc = rt.alloc();
     let frame = b"\x13\x00\x00\x00\x64\xff\xff\x18\x20\x00\x00\x06\x009P2000";
     let TMsg { tag, body } = decoded(alloc, frame)?;
@@ -54,7 +56,12 @@ fn files_are_asked_for(rt: HostRuntime) -> Result<(), Fail> {
     };
     assert_eq!(rt; (tag, msize), (0xffff, 8216));
     assert_eq!(rt; version.as_slice(), b"9P2000".as_slice());
+    Ok(())
+}
 
+#[test]
+fn an_attach_is_read(rt: HostRuntime) -> Result<(), Fail> {
+    let alloc = rt.alloc();
     let frame = b"\x16\x00\x00\x00\x68\x01\x00\x00\x00\x00\x00\xff\xff\xff\xff\x03\x00ann\x00\x00";
     let TMsg { tag, body } = decoded(alloc, frame)?;
     let TBody::Attach {
@@ -69,7 +76,12 @@ fn files_are_asked_for(rt: HostRuntime) -> Result<(), Fail> {
     assert_eq!(rt; (tag, fid, afid), (1, 0, 0xffff_ffff));
     assert_eq!(rt; uname.as_slice(), b"ann".as_slice());
     assert_eq!(rt; aname.as_slice(), b"".as_slice());
+    Ok(())
+}
 
+#[test]
+fn a_walk_is_read(rt: HostRuntime) -> Result<(), Fail> {
+    let alloc = rt.alloc();
     let frame =
         b"\x20\x00\x00\x00\x6e\x02\x00\x00\x00\x00\x00\x01\x00\x00\x00\x02\x00\x08\x00factotum\x03\x00ctl";
     let TMsg { tag, body } = decoded(alloc, frame)?;
@@ -85,14 +97,19 @@ fn files_are_asked_for(rt: HostRuntime) -> Result<(), Fail> {
 }
 
 #[test]
-fn files_are_used(rt: HostRuntime) -> Result<(), Fail> {
+fn an_open_is_read(rt: HostRuntime) -> Result<(), Fail> {
     let alloc = rt.alloc();
     let TMsg { tag, body } = decoded(alloc, b"\x0c\x00\x00\x00\x70\x03\x00\x01\x00\x00\x00\x02")?;
     let TBody::Open { fid, mode } = body else {
         panic!(rt; "no open")
     };
     assert_eq!(rt; (tag, fid, mode), (3, 1, 2));
+    Ok(())
+}
 
+#[test]
+fn a_write_is_read(rt: HostRuntime) -> Result<(), Fail> {
+    let alloc = rt.alloc();
     let frame =
         b"\x38\x00\x00\x00\x76\x04\x00\x01\x00\x00\x00\x00\x00\x00\x00\x00\x00\x00\x00\x21\x00\x00\x00key proto=apop user=a !password=b";
     let TMsg { tag, body } = decoded(alloc, frame)?;
@@ -106,7 +123,12 @@ fn files_are_used(rt: HostRuntime) -> Result<(), Fail> {
     };
     assert_eq!(rt; (tag, fid, offset), (4, 1, 0));
     assert_eq!(rt; content.as_slice(), LINE);
+    Ok(())
+}
 
+#[test]
+fn a_clunk_is_read(rt: HostRuntime) -> Result<(), Fail> {
+    let alloc = rt.alloc();
     let TMsg { tag, body } = decoded(alloc, b"\x0b\x00\x00\x00\x78\x06\x00\x01\x00\x00\x00")?;
     let TBody::Clunk { fid } = body else {
         panic!(rt; "no clunk")
@@ -115,25 +137,30 @@ fn files_are_used(rt: HostRuntime) -> Result<(), Fail> {
     Ok(())
 }
 
-#[test]
-fn reads_are_asked_for(rt: HostRuntime) -> Result<(), Fail> {
-    for (frame, want) in [
-        (
-            b"\x17\x00\x00\x00\x74\x05\x00\x01\x00\x00\x00\x00\x00\x00\x00\x00\x00\x00\x00\x64\x00\x00\x00".as_slice(),
-            (5, 1, 0, 100),
-        ),
-        (
-            b"\x17\x00\x00\x00\x74\x34\x12\x04\x03\x02\x01\x08\x07\x06\x05\x04\x03\x02\x01\xff\xff\xff\xff".as_slice(),
-            (0x1234, 0x0102_0304, 0x0102_0304_0506_0708, 0xffff_ffff),
-        ),
-    ] {
-        let TMsg { tag, body } = decoded(rt.alloc(), frame)?;
-        let TBody::Read { fid, offset, count } = body else {
-            panic!(rt; "no read")
-        };
-        assert_eq!(rt; (tag, fid, offset, count), want);
-    }
+// A read's tag, fid, offset and count.
+fn expect_read(
+    rt: &impl Abort,
+    alloc: Global,
+    frame: &[u8],
+    want: (u16, u32, u64, u32),
+) -> Result<(), Fail> {
+    let TMsg { tag, body } = decoded(alloc, frame)?;
+    let TBody::Read { fid, offset, count } = body else {
+        panic!(rt; "no read")
+    };
+    assert_eq!(rt; (tag, fid, offset, count), want);
     Ok(())
+}
+
+#[test]
+fn reads_are_read(rt: HostRuntime) -> Result<(), Fail> {
+    let small =
+        b"\x17\x00\x00\x00\x74\x05\x00\x01\x00\x00\x00\x00\x00\x00\x00\x00\x00\x00\x00\x64\x00\x00\x00".as_slice();
+    expect_read(&rt, rt.alloc(), small, (5, 1, 0, 100))?;
+    let large =
+        b"\x17\x00\x00\x00\x74\x34\x12\x04\x03\x02\x01\x08\x07\x06\x05\x04\x03\x02\x01\xff\xff\xff\xff".as_slice();
+    let want = (0x1234, 0x0102_0304, 0x0102_0304_0506_0708, 0xffff_ffff);
+    expect_read(&rt, rt.alloc(), large, want)
 }
 
 // Frames that are no requests, and the place of the first fault of each.
