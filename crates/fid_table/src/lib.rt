@@ -7,6 +7,3 @@ mod laws;
 pub use fids::{Fid, Fids};
 pub use file_tree::{FidFault, FidState, Node, Nodes};
 pub use laws::{a_fid_is_what_the_last_change_made_of_it, other_fids_stay};
-
-#[cfg(test)]
-mod tests;

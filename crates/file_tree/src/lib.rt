@@ -20,6 +20,3 @@ pub use refusal::{MOST_FIDS, attach_fault, dir_fault, open_fault, reads, walk_fa
 pub use stat::{put_record, record_size};
 pub use tree::{FidState, Node};
 pub use walk::{Nodes, walk_from};
-
-#[cfg(test)]
-mod tests;

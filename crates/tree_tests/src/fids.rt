@@ -1,6 +1,6 @@
 // Requests on the fids of one connection, one after the other.
 
-use crate::{FidFault, FidState, Fids, Node};
+use fid_table::{FidFault, FidState, Fids, Node};
 use std::alloc::Global;
 use std::process::Abort;
 use std::test::Fail;

@@ -1,5 +1,5 @@
 // The tree and what is told of it, beside records made by another program.
-use crate::{
+use file_tree::{
     FidFault, FidState, Node, attach_fault, dir_fault, open_fault, put_directory, put_record,
     reads, record_size, walk_fault, walk_from, writes,
 };
