@@ -6,14 +6,10 @@ mod compare;
 mod fault;
 mod forms;
 mod giving;
-#[cfg(test)]
-mod grammar_tests;
 mod laws;
 mod merging;
 mod parse;
 mod print;
-#[cfg(test)]
-mod tests;
 mod tuple;
 
 pub use attr::{Attr, Value};

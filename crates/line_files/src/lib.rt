@@ -4,8 +4,6 @@
 mod end_line;
 mod files;
 mod room;
-#[cfg(test)]
-mod tests;
 
 pub use end_line::{EndLine, build_start};
 pub use files::LineFiles;

@@ -6,8 +6,6 @@ mod answer;
 mod print;
 mod request;
 mod size;
-#[cfg(test)]
-mod tests;
 
 pub use answer::RpcAnswer;
 pub use print::print_answer;

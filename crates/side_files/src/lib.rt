@@ -11,8 +11,6 @@ mod prompts;
 mod question;
 mod reply;
 mod ring;
-#[cfg(test)]
-mod tests;
 
 pub use decimal::parse_decimal;
 pub use fault::{PromptFault, TooSmall, UnknownTag};

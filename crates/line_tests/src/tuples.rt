@@ -1,8 +1,6 @@
 // Cases by hand from the rules of printing, and of what a tuple takes.
-use crate::attr::{Attr, Value};
-use crate::grammar_tests::tuple_of;
-use crate::print::{print_public, print_tuple};
-use crate::tuple::Tuple;
+use crate::tuple_words::tuple_of;
+use attr_tuples::{Attr, Tuple, Value, print_public, print_tuple};
 use std::alloc::Global;
 use std::test::Fail;
 use wire_base::{Bytes, Text};

@@ -1,10 +1,8 @@
 // The rules of reading, matching and merging, by hand.
-use crate::fault::{MergeFault, TupleFault};
-use crate::merging::merge;
-use crate::parse::parse_tuple;
-use crate::print::print_tuple;
-use crate::tuple::Tuple;
-use crate::{has_name, is_named, is_secret_name, matches, public_equal, value_of};
+use attr_tuples::{
+    MergeFault, Tuple, TupleFault, has_name, is_named, is_secret_name, matches, merge, parse_tuple,
+    print_tuple, public_equal, value_of,
+};
 use std::alloc::Global;
 use std::process::Abort;
 use std::test::Fail;

@@ -1,9 +1,9 @@
 // Questions and lines, by hand.
-use super::{
+use attr_tuples::print_tuple;
+use side_files::{
     LogRing, PromptFault, PromptKind, Prompts, Question, Reply, TooSmall, UnknownTag,
     parse_decimal, parse_question, parse_reply,
 };
-use attr_tuples::print_tuple;
 use std::alloc::Global;
 use std::marker::Send;
 use std::process::Abort;

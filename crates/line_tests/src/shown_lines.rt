@@ -1,7 +1,7 @@
 // Lines of the log, and questions to users, by hand from the texts of both.
-use super::{EndLine, LineFiles, build_start};
 use attr_tuples::parse_tuple;
 use file_tree::Node;
+use line_files::{EndLine, LineFiles, build_start};
 use roles::{Cause, Outcome};
 use side_files::PromptKind;
 use std::alloc::Global;

@@ -1,6 +1,8 @@
 // The texts of rpc.
-use super::{MOST_REQUEST, Request, RpcAnswer, RpcFault, answer_fits, parse_request, print_answer};
 use attr_tuples::parse_tuple;
+use rpc_file::{
+    MOST_REQUEST, Request, RpcAnswer, RpcFault, answer_fits, parse_request, print_answer,
+};
 use std::alloc::Global;
 use std::process::Abort;
 use std::test::Fail;
