@@ -3,8 +3,6 @@
 
 mod fault;
 mod line;
-#[cfg(test)]
-mod tests;
 mod write;
 
 pub use fault::LineFault;

@@ -7,8 +7,6 @@ mod des;
 mod key;
 mod offer;
 mod ring;
-#[cfg(test)]
-mod tests;
 
 pub use batch::Batch;
 pub use key::Key;

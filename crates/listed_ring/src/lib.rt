@@ -3,8 +3,6 @@
 
 mod listed;
 mod shared_text;
-#[cfg(test)]
-mod tests;
 
 pub use listed::ListedRing;
 pub use shared_text::SharedText;

@@ -1,5 +1,5 @@
 use Rattle.std.proofs.Common.{◌≤◌}
-use Rattle.key_ring.proofs.tests.ring_of.Given as goal
+use Rattle.key_tests.proofs.rings.ring_of.Given as goal
 
 -- at most one key was added for each line so far
 abbrev pub invariant-loop-line : goal.invariant-loop-line

@@ -1,5 +1,5 @@
 use Rattle.std.proofs.Common.{◌+◌, ◌*◌, ◌≤◌}
-use Rattle.ctl_lines.proofs.tests.the_1025th_key_is_refused.Given as goal
+use Rattle.key_tests.proofs.writes.the_1025th_key_is_refused.Given as goal
 
 -- each write adds at most so many keys
 abbrev pub invariant-loop-name : goal.invariant-loop-name

@@ -1,7 +1,7 @@
 // Writes of ctl by hand from factotum(4) of the Plan 9 manual and this project's rules of lines and keys.
 ghost use Rattle.std.specs.Prelude.{◌+◌, ◌≤◌, ◌<◌};
 
-use crate::write_ctl;
+use ctl_lines::write_ctl;
 use key_ring::KeyRing;
 use std::alloc::Global;
 use std::process::Abort;

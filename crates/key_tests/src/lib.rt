@@ -1,0 +1,9 @@
+//! Tests of rings of keys, of their list, and of what is written to ctl.
+#![tactic(auto)]
+
+#[cfg(test)]
+mod lists;
+#[cfg(test)]
+mod rings;
+#[cfg(test)]
+mod writes;
