@@ -3,14 +3,10 @@
 
 mod incoming;
 mod laws;
-#[cfg(test)]
-mod mail_tests;
 mod records;
 mod serve;
 mod server;
 mod session;
-#[cfg(test)]
-mod tests;
 
 pub use laws::{a_stream_has_one_session, every_ticket_request_gets_two_tickets};
 pub use serve::{AuthEnd, serve_auth};

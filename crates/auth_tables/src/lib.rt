@@ -6,8 +6,6 @@ mod keys;
 mod laws;
 mod lines;
 mod speaks;
-#[cfg(test)]
-mod tests;
 
 pub use keys::{AsKey, KeyTable, parse_keys};
 pub use laws::{a_denial_goes_before_every_grant, the_first_bad_line_is_told, who_speaks_for_whom};

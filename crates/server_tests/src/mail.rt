@@ -1,7 +1,7 @@
 // Requests of mail servers: sessions by hand, after authsrv(6), RFC 1939, RFC 2195 and this project's definitions. The
 // digits and the whole answers are those of an independent script (bench/vectors/mail_requests.py).
-use crate::tests::{core_of, expect_end};
-use crate::{AuthCore, AuthEnd, serve_auth};
+use crate::tickets::{core_of, expect_end};
+use auth_server::{AuthCore, AuthEnd, serve_auth};
 use std::alloc::Global;
 use std::process::Abort;
 use std::test::Fail;
@@ -288,26 +288,27 @@ fn answers_to_challenges_are_checked(rt: HostRuntime) -> Result<(), Fail> {
 }
 
 // Each front of a request with digits behind the one for its challenge.
-#[test]
-fn digits_are_cut_short(rt: HostRuntime) -> Result<(), Fail> {
-    let alloc = rt.alloc();
-    let core = core_of(alloc, KEYS, "")?;
+fn expect_torn(rt: &impl Abort, alloc: Global, core: &AuthCore) -> Result<(), Fail> {
     let requests = requests_of(alloc, &[FIRST_APOP, RIGHT_APOP])?;
     for cut in [142, 281, 282, 283, 313] {
         let (end, none) = (AuthEnd::Torn { at: 141 }, (0, 0, 0));
         let Some(front) = requests.as_slice().get(..cut) else {
             return Err("a short session".into());
         };
-        expect_end(&rt, alloc, "torn", &core, front, none, end, CHALLENGE)?;
+        expect_end(rt, alloc, "torn", core, front, none, end, CHALLENGE)?;
     }
     Ok(())
 }
 
-// A challenge is made of the first of a request's words, and the fifth wrong answer ends the session.
 #[test]
-fn a_challenge_is_the_first_word(rt: HostRuntime) -> Result<(), Fail> {
+fn digits_are_cut_short(rt: HostRuntime) -> Result<(), Fail> {
     let alloc = rt.alloc();
     let core = core_of(alloc, KEYS, "")?;
+    expect_torn(&rt, alloc, &core)
+}
+
+// A challenge is made of the first of a request's words, and the fifth wrong answer ends the session.
+fn expect_challenge(rt: &impl Abort, alloc: Global, core: &AuthCore) -> Result<(), Fail> {
     let mut words = Vec::new(alloc);
     words.push([0x01, 0x23, 0x45, 0x67, 0x89, 0xab, 0xcd, 0xef])?;
     words.resize(18, [0xff; 8])?;
@@ -321,8 +322,15 @@ fn a_challenge_is_the_first_word(rt: HostRuntime) -> Result<(), Fail> {
     let mut source = MemSource::new(requests_of(alloc, &asks)?, Vec::new(alloc));
     let mut sink = MemSink::new(Vec::new(alloc), Vec::new(alloc));
     let mut words = MemWords::new(words, Vec::new(alloc));
-    let end = serve_auth(alloc, &core, &mut source, &mut sink, &mut words);
+    let end = serve_auth(alloc, core, &mut source, &mut sink, &mut words);
     assert_eq!(rt; end, AuthEnd::TooManyWrong);
     assert_eq!(rt; sink.content(), written.as_slice());
     Ok(())
+}
+
+#[test]
+fn a_challenge_is_the_first_word(rt: HostRuntime) -> Result<(), Fail> {
+    let alloc = rt.alloc();
+    let core = core_of(alloc, KEYS, "")?;
+    expect_challenge(&rt, alloc, &core)
 }

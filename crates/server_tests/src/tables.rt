@@ -1,6 +1,6 @@
 // Tables by hand, after the forms of lines that this project's definitions say; keys of passwords are those of an
 // independent script (bench/vectors/sealing.py).
-use crate::{AsKey, KeyTable, TableFault, parse_keys, parse_speaks};
+use auth_tables::{AsKey, KeyTable, TableFault, parse_keys, parse_speaks};
 use std::alloc::Global;
 use std::process::Abort;
 use std::test::Fail;

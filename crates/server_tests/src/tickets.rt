@@ -1,7 +1,7 @@
 // Sessions by hand, after authsrv(6) and this project's definitions; whole answers are those of an independent script
 // (bench/vectors/authsrv.py).
-use crate::{AsStep, AuthCore, AuthEnd, Session, serve_auth};
 use attr_tuples::is_dom;
+use auth_server::{AsStep, AuthCore, AuthEnd, Session, serve_auth};
 use auth_tables::{KeyTable, SpeaksTable, parse_keys, parse_speaks};
 use seal_mode::Key7;
 use std::alloc::Global;
@@ -253,21 +253,29 @@ fn expect_session(
     expect_end(rt, alloc, "all", core, &input, none, AuthEnd::End, &output)
 }
 
+// Alone, and one behind the other.
+fn expect_both(rt: &impl Abort, alloc: Global, core: &AuthCore) -> Result<(), Fail> {
+    expect_answers(rt, alloc, core, &ANSWERS)?;
+    expect_session(rt, alloc, core, &ANSWERS)
+}
+
 #[test]
 fn ticket_requests_are_answered(rt: HostRuntime) -> Result<(), Fail> {
     let alloc = rt.alloc();
     let core = core_of(alloc, KEYS, SPEAKS)?;
-    expect_answers(&rt, alloc, &core, &ANSWERS)?;
-    expect_session(&rt, alloc, &core, &ANSWERS)
+    expect_both(&rt, alloc, &core)
 }
 
 #[test]
 fn empty_tables_know_nobody(rt: HostRuntime) -> Result<(), Fail> {
     let alloc = rt.alloc();
     let core = core_of(alloc, "", "")?;
-    let out = answer_of(alloc, &core, ANSWERS[0].1)?;
-    assert_eq!(rt; out.as_slice(), STRANGERS.as_slice());
-    Ok(())
+    expect_answers(
+        &rt,
+        alloc,
+        &core,
+        &[("empty tables", ANSWERS[0].1, STRANGERS)],
+    )
 }
 
 // Whether the first ticket of an answer opens under the key of h.
@@ -283,19 +291,23 @@ fn opens_for_h(answer: &[u8]) -> bool {
 }
 
 // What h asks for eve and for bob is answered alike, but for who can open it.
-#[test]
-fn a_denied_host_gets_what_it_cannot_open(rt: HostRuntime) -> Result<(), Fail> {
-    let alloc = rt.alloc();
-    let core = core_of(alloc, KEYS, "hostid=h uid=!bob uid=*")?;
+fn expect_denied(rt: &impl Abort, alloc: Global, core: &AuthCore) -> Result<(), Fail> {
     let (eve, bob) = (
-        answer_of(alloc, &core, ANSWERS[0].1)?,
-        answer_of(alloc, &core, ANSWERS[4].1)?,
+        answer_of(alloc, core, ANSWERS[0].1)?,
+        answer_of(alloc, core, ANSWERS[4].1)?,
     );
     assert_eq!(rt; eve.as_slice().len(), 145);
     assert_eq!(rt; bob.as_slice().len(), 145);
     assert!(rt; opens_for_h(eve.as_slice()));
     assert!(rt; !opens_for_h(bob.as_slice()));
     Ok(())
+}
+
+#[test]
+fn a_denied_host_gets_what_it_cannot_open(rt: HostRuntime) -> Result<(), Fail> {
+    let alloc = rt.alloc();
+    let core = core_of(alloc, KEYS, "hostid=h uid=!bob uid=*")?;
+    expect_denied(&rt, alloc, &core)
 }
 
 // The first request with this byte in these places.
@@ -322,61 +334,71 @@ static BAD_FIELDS: [(&str, usize, usize, u8); 8] = [
 ];
 
 // A request with a bad field is refused, and the next one is answered.
-#[test]
-fn bad_fields_are_refused(rt: HostRuntime) -> Result<(), Fail> {
-    let alloc = rt.alloc();
-    let core = core_of(alloc, KEYS, SPEAKS)?;
+fn expect_refusals(rt: &impl Abort, alloc: Global, core: &AuthCore) -> Result<(), Fail> {
     let mut output = REFUSAL.as_slice().to_vec(alloc)?;
     output.extend_from_slice(ANSWERS[0].2.as_slice())?;
     for (name, from, to, byte) in BAD_FIELDS {
         let mut input = spoiled(from, to, byte).as_slice().to_vec(alloc)?;
         input.extend_from_slice(ANSWERS[0].1.as_slice())?;
         let none = (0, 0, 0);
-        expect_end(&rt, alloc, name, &core, &input, none, AuthEnd::End, &output)?;
+        expect_end(rt, alloc, name, core, &input, none, AuthEnd::End, &output)?;
     }
     Ok(())
 }
 
-// Each front of a request, alone and behind one that is answered.
 #[test]
-fn requests_are_cut_short(rt: HostRuntime) -> Result<(), Fail> {
+fn bad_fields_are_refused(rt: HostRuntime) -> Result<(), Fail> {
     let alloc = rt.alloc();
     let core = core_of(alloc, KEYS, SPEAKS)?;
+    expect_refusals(&rt, alloc, &core)
+}
+
+// Each front of a request, alone and behind one that is answered.
+fn expect_torn(rt: &impl Abort, alloc: Global, core: &AuthCore) -> Result<(), Fail> {
     let (request, answer) = (ANSWERS[0].1.as_slice(), ANSWERS[0].2.as_slice());
     for cut in 1..141 {
         let (front, none) = (&request[..cut], (0, 0, 0));
         let end = AuthEnd::Torn { at: 0 };
-        expect_end(&rt, alloc, "alone", &core, front, none, end, b"")?;
+        expect_end(rt, alloc, "alone", core, front, none, end, b"")?;
         let mut input = request.to_vec(alloc)?;
         input.extend_from_slice(front)?;
         let end = AuthEnd::Torn { at: 141 };
-        expect_end(&rt, alloc, "behind", &core, &input, none, end, answer)?;
+        expect_end(rt, alloc, "behind", core, &input, none, end, answer)?;
     }
     Ok(())
 }
 
-// The kinds that aren't served, alone and behind one that is answered.
 #[test]
-fn unknown_kinds_end_a_session(rt: HostRuntime) -> Result<(), Fail> {
+fn requests_are_cut_short(rt: HostRuntime) -> Result<(), Fail> {
     let alloc = rt.alloc();
     let core = core_of(alloc, KEYS, SPEAKS)?;
+    expect_torn(&rt, alloc, &core)
+}
+
+// The kinds that aren't served, alone and behind one that is answered.
+fn expect_unknown(rt: &impl Abort, alloc: Global, core: &AuthCore) -> Result<(), Fail> {
     let (request, answer) = (ANSWERS[0].1.as_slice(), ANSWERS[0].2.as_slice());
     for kind in [0, 2, 3, 6, 8, 11, 13, 65, 255] {
         let none = (0, 0, 0);
         let end = AuthEnd::UnknownType { at: 0, kind };
-        expect_end(&rt, alloc, "alone", &core, &[kind], none, end, b"")?;
+        expect_end(rt, alloc, "alone", core, &[kind], none, end, b"")?;
         let mut input = request.to_vec(alloc)?;
         input.push(kind)?;
         let end = AuthEnd::UnknownType { at: 141, kind };
-        expect_end(&rt, alloc, "behind", &core, &input, none, end, answer)?;
+        expect_end(rt, alloc, "behind", core, &input, none, end, answer)?;
     }
     Ok(())
 }
 
 #[test]
-fn calls_fail(rt: HostRuntime) -> Result<(), Fail> {
+fn unknown_kinds_end_a_session(rt: HostRuntime) -> Result<(), Fail> {
     let alloc = rt.alloc();
     let core = core_of(alloc, KEYS, SPEAKS)?;
+    expect_unknown(&rt, alloc, &core)
+}
+
+// Calls that fail, and how the session ends then.
+fn expect_faults(rt: &impl Abort, alloc: Global, core: &AuthCore) -> Result<(), Fail> {
     let (request, answer) = (ANSWERS[0].1.as_slice(), ANSWERS[0].2.as_slice());
     for (name, failing, end, written) in [
         (
@@ -400,7 +422,14 @@ fn calls_fail(rt: HostRuntime) -> Result<(), Fail> {
         ),
         ("no fourth word", (0, 0, 4), AuthEnd::End, answer),
     ] {
-        expect_end(&rt, alloc, name, &core, request, failing, end, written)?;
+        expect_end(rt, alloc, name, core, request, failing, end, written)?;
     }
     Ok(())
+}
+
+#[test]
+fn calls_fail(rt: HostRuntime) -> Result<(), Fail> {
+    let alloc = rt.alloc();
+    let core = core_of(alloc, KEYS, SPEAKS)?;
+    expect_faults(&rt, alloc, &core)
 }
