@@ -5,8 +5,6 @@
 
 mod client;
 mod conv;
-#[cfg(test)]
-mod messages;
 mod moves;
 mod need;
 mod numbers;
@@ -16,8 +14,6 @@ mod server;
 mod stage;
 mod start;
 mod step;
-#[cfg(test)]
-mod tests;
 
 pub use conv::ChConv;
 pub use stage::{MOST_CHALLENGE, Proto, Side, Stage};

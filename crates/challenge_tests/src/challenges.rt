@@ -1,7 +1,9 @@
 // Logins, and every message that is refused.
-use super::ChConv;
-use crate::messages::*;
+mod messages;
+
 use attr_tuples::{parse_tuple, print_tuple};
+use conv_challenge::ChConv;
+use messages::*;
 use roles::{Cause, Gave, Machine, Need, Outcome, PhaseWord, SkKey, StartFault, fits_start};
 use seal_mode::Key7;
 use std::alloc::Global;
@@ -425,42 +427,76 @@ fn check_exchange<M: Machine>(rt: &impl Abort, conv: &M, wanted: &[u8], ends: Sh
     }
 }
 
-#[test]
-fn clients_answer_as_the_rfcs_say(rt: HostRuntime) -> Result<(), Fail> {
-    for login in [Login::ApopClient, Login::CramClient] {
-        let conv = pass(&rt, rt.alloc(), login, calls_of(login))?;
-        assert!(rt; matches!(conv.outcome(), Outcome::Finished));
-        assert!(rt; conv.has_ended());
-    }
+// A login of a client, to its end.
+fn expect_finished(
+    rt: &impl Abort,
+    alloc: Global,
+    login: Login,
+    calls: &[(Call, Gave, &[u8])],
+) -> Result<(), Fail> {
+    let conv = pass(rt, alloc, login, calls)?;
+    assert!(rt; matches!(conv.outcome(), Outcome::Finished) && conv.has_ended());
     Ok(())
 }
 
 #[test]
+fn clients_answer_as_the_rfcs_say(rt: HostRuntime) -> Result<(), Fail> {
+    let alloc = rt.alloc();
+    expect_finished(&rt, alloc, Login::ApopClient, &APOP_CLIENT)?;
+    expect_finished(&rt, alloc, Login::CramClient, &CRAM_CLIENT)
+}
+
+#[test]
 fn a_key_without_a_password_has_the_empty_one(rt: HostRuntime) -> Result<(), Fail> {
-    let conv = pass(&rt, rt.alloc(), Login::ApopClient, &WITHOUT_A_PASSWORD)?;
-    assert!(rt; matches!(conv.outcome(), Outcome::Finished));
+    expect_finished(&rt, rt.alloc(), Login::ApopClient, &WITHOUT_A_PASSWORD)
+}
+
+// A login of a server, to its end.
+fn expect_accepted(rt: &impl Abort, alloc: Global, login: Login) -> Result<(), Fail> {
+    let conv = pass(rt, alloc, login, calls_of(login))?;
+    check_accepted(rt, &conv);
     Ok(())
 }
 
 #[test]
 fn servers_accept_whom_they_are_vouched_for(rt: HostRuntime) -> Result<(), Fail> {
-    for login in [Login::ApopServer, Login::CramServer] {
-        let conv = pass(&rt, rt.alloc(), login, calls_of(login))?;
-        check_accepted(&rt, &conv);
-    }
+    expect_accepted(&rt, rt.alloc(), Login::ApopServer)?;
+    expect_accepted(&rt, rt.alloc(), Login::CramServer)
+}
+
+#[test]
+fn a_server_accepts_nobody_before(rt: HostRuntime) -> Result<(), Fail> {
     let conv = pass(&rt, rt.alloc(), Login::ApopServer, &APOP_SERVER[..5])?;
-    assert!(rt; matches!(conv.outcome(), Outcome::Running));
-    assert!(rt; !conv.has_ended());
+    assert!(rt; matches!(conv.outcome(), Outcome::Running) && !conv.has_ended());
     Ok(())
+}
+
+// The key that is needed behind these calls.
+fn expect_key(
+    rt: &impl Abort,
+    alloc: Global,
+    login: Login,
+    calls: &[(Call, Gave, &[u8])],
+    wanted: &[u8],
+) -> Result<(), Fail> {
+    let conv = pass(rt, alloc, login, calls)?;
+    check_key(rt, alloc, &conv, wanted)
 }
 
 #[test]
 fn what_a_client_needs_is_told(rt: HostRuntime) -> Result<(), Fail> {
     let alloc = rt.alloc();
-    let conv = pass(&rt, alloc, Login::CramClient, &CRAM_CLIENT[..1])?;
-    check_key(&rt, alloc, &conv, b"proto=cram dom=x user=ann".as_slice())?;
+    let key = b"proto=cram dom=x user=ann".as_slice();
+    expect_key(&rt, alloc, Login::CramClient, &CRAM_CLIENT[..1], key)?;
+    let key = b"proto=apop user?".as_slice();
+    expect_key(&rt, alloc, Login::ApopClient, &APOP_CLIENT[..1], key)
+}
+
+// A client whose key isn't found waits for a challenge again.
+#[test]
+fn a_need_is_taken_back(rt: HostRuntime) -> Result<(), Fail> {
+    let alloc = rt.alloc();
     let mut conv = pass(&rt, alloc, Login::ApopClient, &APOP_CLIENT[..1])?;
-    check_key(&rt, alloc, &conv, b"proto=apop user?".as_slice())?;
     conv.undo_need();
     assert!(rt; matches!(conv.need(), Need::Nothing));
     assert_eq!(rt; conv.give(alloc, b"".as_slice()), Gave::TooSmall(1));
@@ -468,22 +504,33 @@ fn what_a_client_needs_is_told(rt: HostRuntime) -> Result<(), Fail> {
     Ok(())
 }
 
+// The exchange that is needed behind so many calls of a login.
+fn expect_exchange(
+    rt: &impl Abort,
+    alloc: Global,
+    login: Login,
+    calls: &[(Call, Gave, &[u8])],
+    (wanted, ends): (&[u8], Shape),
+) -> Result<(), Fail> {
+    let conv = pass(rt, alloc, login, calls)?;
+    check_exchange(rt, &conv, wanted, ends);
+    Ok(())
+}
+
 #[test]
 fn what_a_server_needs_is_told(rt: HostRuntime) -> Result<(), Fail> {
     let alloc = rt.alloc();
-    let conv = pass(&rt, alloc, Login::ApopServer, &[])?;
-    check_key(&rt, alloc, &conv, b"proto=p9sk1 user? dom?".as_slice())?;
-    let conv = pass(&rt, alloc, Login::CramServer, &[])?;
-    check_key(&rt, alloc, &conv, b"proto=p9sk1 dom=x user?".as_slice())?;
-    let conv = pass(&rt, alloc, Login::ApopServer, &APOP_SERVER[..1])?;
-    check_exchange(&rt, &conv, APOP_QUESTION, Shape::Challenge);
-    let conv = pass(&rt, alloc, Login::CramServer, &CRAM_SERVER[..1])?;
-    check_exchange(&rt, &conv, CRAM_QUESTION, Shape::Challenge);
-    let conv = pass(&rt, alloc, Login::ApopServer, &APOP_SERVER[..5])?;
-    check_exchange(&rt, &conv, APOP_VOUCH_QUESTION, Shape::Vouch);
-    let conv = pass(&rt, alloc, Login::CramServer, &CRAM_SERVER[..5])?;
-    check_exchange(&rt, &conv, CRAM_VOUCH_QUESTION, Shape::Vouch);
-    Ok(())
+    let (apop, cram) = (Login::ApopServer, Login::CramServer);
+    expect_key(&rt, alloc, apop, &[], b"proto=p9sk1 user? dom?".as_slice())?;
+    expect_key(&rt, alloc, cram, &[], b"proto=p9sk1 dom=x user?".as_slice())?;
+    let first = (APOP_QUESTION, Shape::Challenge);
+    expect_exchange(&rt, alloc, apop, &APOP_SERVER[..1], first)?;
+    let first = (CRAM_QUESTION, Shape::Challenge);
+    expect_exchange(&rt, alloc, cram, &CRAM_SERVER[..1], first)?;
+    let second = (APOP_VOUCH_QUESTION, Shape::Vouch);
+    expect_exchange(&rt, alloc, apop, &APOP_SERVER[..5], second)?;
+    let second = (CRAM_VOUCH_QUESTION, Shape::Vouch);
+    expect_exchange(&rt, alloc, cram, &CRAM_SERVER[..5], second)
 }
 
 #[test]
