@@ -10,13 +10,9 @@ mod judge;
 mod need;
 mod offers;
 mod own;
-#[cfg(test)]
-mod probe;
 mod spoken;
 mod stage;
 mod step;
-#[cfg(test)]
-mod tests;
 mod texts;
 
 pub use conv::AnyConv;

@@ -19,6 +19,3 @@ pub use stage::{Role, Stage};
 pub use start::{MOST_OTHERS, fits_start, read_role, read_start, says, tells_secret};
 pub use template::{build_asked, find_dom, is_elsewhere, put_attr, put_given};
 pub use tickets::{find_accepted, is_refusal, no_name, proof_in, test_proof, ticket_in};
-
-#[cfg(test)]
-mod tests;

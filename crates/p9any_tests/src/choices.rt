@@ -1,7 +1,9 @@
 // Choices of a domain, and every message that is refused.
-use super::AnyConv;
-use crate::probe::Probe;
+mod probe;
+
 use attr_tuples::{Tuple, parse_tuple, print_tuple};
+use conv_p9any::AnyConv;
+use probe::Probe;
 use roles::{Cause, Gave, Machine, Need, Outcome, PhaseWord, SkKey, StartFault, fits_start};
 use seal_mode::Key7;
 use std::alloc::Global;

@@ -2,8 +2,8 @@
 ghost use Rattle.std.specs.Prelude.{◌≡◌, true};
 ghost use Rattle.roles.specs.Starts.{fits_start};
 
-use super::{Role, StartFault, build_asked, fits_start, read_start};
 use attr_tuples::{Tuple, parse_tuple, print_tuple};
+use roles::{Role, StartFault, build_asked, fits_start, read_start};
 use std::alloc::Global;
 use std::process::Abort;
 use std::test::Fail;
@@ -49,7 +49,7 @@ static REFUSED: [(&[u8], StartFault); 8] = [
 ];
 
 // What is asked in the domain x, or in none.
-#[tactic(auto, using(crate::proofs::ValueLemmas::protocol_is_value, crate::proofs::ValueLemmas::x_is_value))]
+#[tactic(auto, using(roles::proofs::ValueLemmas::protocol_is_value, roles::proofs::ValueLemmas::x_is_value))]
 fn ask(alloc: Global, role: &Role, template: &Tuple, in_x: bool) -> Result<Tuple, NoMemory>
     requires { fits_start template.now ≡ true }
 {
