@@ -4,15 +4,11 @@
 
 mod client;
 mod conv;
-#[cfg(test)]
-mod messages;
 mod moves;
 mod need;
 mod outcome;
 mod own;
 mod server;
 mod step;
-#[cfg(test)]
-mod tests;
 
 pub use conv::SkConv;

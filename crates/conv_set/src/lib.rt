@@ -2,7 +2,5 @@
 #![tactic(auto)]
 
 mod conv;
-#[cfg(test)]
-mod tests;
 
 pub use conv::Conv;

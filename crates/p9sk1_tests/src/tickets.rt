@@ -1,7 +1,9 @@
 // Logins, and every message that is refused.
-use super::SkConv;
-use crate::messages::*;
+mod messages;
+
 use attr_tuples::{parse_tuple, print_tuple};
+use conv_p9sk1::SkConv;
+use messages::*;
 use roles::{Cause, Gave, Machine, Need, Outcome, PhaseWord, SkKey, fits_start};
 use seal_mode::Key7;
 use std::alloc::Global;
@@ -539,31 +541,56 @@ fn a_client_speaks_for_another(rt: HostRuntime) -> Result<(), Fail> {
     Ok(())
 }
 
+// Whether a server that has accepted ann has ended behind these calls.
+fn expect_accepted(
+    rt: &impl Abort,
+    alloc: Global,
+    calls: &[(Call, Gave, &[u8])],
+    ended: bool,
+) -> Result<(), Fail> {
+    let conv = pass(rt, alloc, Side::Server, calls)?;
+    check_accepted(rt, &conv, b"ann".as_slice());
+    assert!(rt; conv.has_ended() == ended);
+    Ok(())
+}
+
 #[test]
 fn a_server_accepts_before_its_last_move(rt: HostRuntime) -> Result<(), Fail> {
-    let conv = pass(&rt, rt.alloc(), Side::Server, &SERVER[..4])?;
-    check_accepted(&rt, &conv, b"ann".as_slice());
-    assert!(rt; !conv.has_ended());
-    let conv = pass(&rt, rt.alloc(), Side::Server, &SERVER)?;
-    check_accepted(&rt, &conv, b"ann".as_slice());
-    assert!(rt; conv.has_ended());
-    Ok(())
+    expect_accepted(&rt, rt.alloc(), &SERVER[..4], false)?;
+    expect_accepted(&rt, rt.alloc(), &SERVER, true)
+}
+
+// What is needed behind these calls.
+fn expect_need(
+    rt: &impl Abort,
+    alloc: Global,
+    side: Side,
+    calls: &[(Call, Gave, &[u8])],
+    wanted: &[u8],
+) -> Result<(), Fail> {
+    let conv = pass(rt, alloc, side, calls)?;
+    check_need(rt, alloc, &conv, wanted)
 }
 
 #[test]
 fn what_is_needed_is_told(rt: HostRuntime) -> Result<(), Fail> {
     let alloc = rt.alloc();
-    let mut conv = pass(&rt, alloc, Side::Client, &CLIENT[..2])?;
-    check_need(&rt, alloc, &conv, b"proto=p9sk1 dom=x user?".as_slice())?;
+    let key = b"proto=p9sk1 dom=x user?".as_slice();
+    expect_need(&rt, alloc, Side::Client, &CLIENT[..2], key)?;
+    expect_need(&rt, alloc, Side::Client, &CLIENT[..3], QUESTION)?;
+    expect_need(&rt, alloc, Side::ForBob, &FOR_BOB[..3], QUESTION_FOR_BOB)?;
+    let key = b"proto=p9sk1 user? dom?".as_slice();
+    expect_need(&rt, alloc, Side::Server, &[], key)
+}
+
+// A client whose key isn't found waits for the request again.
+#[test]
+fn a_need_is_taken_back(rt: HostRuntime) -> Result<(), Fail> {
+    let mut conv = pass(&rt, rt.alloc(), Side::Client, &CLIENT[..2])?;
     conv.undo_need();
     assert!(rt; matches!(conv.need(), Need::Nothing));
-    assert_eq!(rt; conv.give(alloc, REQUEST), Gave::Wait);
-    let conv = pass(&rt, alloc, Side::Client, &CLIENT[..3])?;
-    check_need(&rt, alloc, &conv, QUESTION)?;
-    let conv = pass(&rt, alloc, Side::ForBob, &FOR_BOB[..3])?;
-    check_need(&rt, alloc, &conv, QUESTION_FOR_BOB)?;
-    let conv = pass(&rt, alloc, Side::Server, &[])?;
-    check_need(&rt, alloc, &conv, b"proto=p9sk1 user? dom?".as_slice())
+    assert_eq!(rt; conv.give(rt.alloc(), REQUEST), Gave::Wait);
+    Ok(())
 }
 
 #[test]
