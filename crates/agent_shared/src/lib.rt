@@ -8,8 +8,6 @@ mod holders;
 mod meet;
 mod serve;
 mod shared;
-#[cfg(test)]
-mod tests;
 
 pub use deliver::{read_too_small, spell_told};
 pub use holders::{Holder, Holders};

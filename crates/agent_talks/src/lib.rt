@@ -9,8 +9,6 @@ mod question;
 mod sights;
 mod speaker;
 mod tell;
-#[cfg(test)]
-mod tests;
 
 pub use held::Talks;
 pub use question::Question;

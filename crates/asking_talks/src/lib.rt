@@ -3,7 +3,5 @@
 
 mod asking;
 mod ends;
-#[cfg(test)]
-mod tests;
 
 pub use asking::AskingTalks;

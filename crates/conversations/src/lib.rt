@@ -5,8 +5,6 @@ mod asks;
 mod conversation;
 mod resume;
 mod shown;
-#[cfg(test)]
-mod tests;
 
 pub use asks::Asks;
 pub use conversation::Conversation;

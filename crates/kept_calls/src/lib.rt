@@ -5,8 +5,6 @@
 mod due;
 mod keeping;
 mod kept;
-#[cfg(test)]
-mod tests;
 
 pub use due::Due;
 pub use keeping::KeepingTalks;

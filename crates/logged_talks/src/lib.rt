@@ -6,7 +6,5 @@ mod ends;
 mod log;
 mod logged;
 mod ready;
-#[cfg(test)]
-mod tests;
 
 pub use logged::LoggedTalks;

@@ -6,8 +6,6 @@ mod mailbox;
 mod mailboxes;
 mod reply;
 mod settled_for;
-#[cfg(test)]
-mod tests;
 mod wait;
 
 pub use mailboxes::Mailboxes;

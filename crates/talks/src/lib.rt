@@ -4,8 +4,6 @@
 mod found;
 mod said;
 mod seek;
-#[cfg(test)]
-mod tests;
 
 pub use found::Found;
 pub use said::{Asking, Said};

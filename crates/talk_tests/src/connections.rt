@@ -1,7 +1,7 @@
 // Conversations that come to keep a connection to the authentication server, and how they part with it.
-use crate::{Due, KeepingTalks};
 use attr_tuples::parse_tuple;
 use conversations::Asks;
+use kept_calls::{Due, KeepingTalks};
 use key_ring::KeyRing;
 use rpc_file::Request;
 use std::alloc::Global;

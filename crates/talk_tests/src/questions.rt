@@ -1,6 +1,6 @@
 // Conversations of one agent whose questions for the authentication server come to each of their ends. The messages are
 // those of a login of ann at srv in the domain x, made by bench/vectors over OpenSSL's DES.
-use crate::{Talks, Told};
+use agent_talks::{Talks, Told};
 use attr_tuples::parse_tuple;
 use conversations::Asks;
 use key_ring::KeyRing;

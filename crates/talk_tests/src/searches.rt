@@ -1,11 +1,11 @@
 // A search and a pick, by hand from the rules of searches.
-use super::{Asking, Found, Said, pick_template, search_keys};
 use attr_tuples::{Tuple, parse_tuple};
 use key_ring::KeyRing;
 use roles::Tuples;
 use std::alloc::Global;
 use std::process::Abort;
 use std::test::Fail;
+use talks::{Asking, Found, Said, pick_template, search_keys};
 use wire_base::List;
 
 fn ring_of(alloc: Global, key: Tuple) -> Result<KeyRing, Fail> {

@@ -1,7 +1,7 @@
 // Logins, and each refusal of a request by a short talk. The messages are those of a login of ann at srv in the domain x,
 // made by bench/vectors over OpenSSL's DES.
-use super::{Asks, Conversation};
 use attr_tuples::{parse_tuple, print_tuple};
+use conversations::{Asks, Conversation};
 use key_ring::KeyRing;
 use roles::Outcome;
 use rpc_file::{Request, print_answer};

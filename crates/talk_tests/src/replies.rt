@@ -1,5 +1,5 @@
 // The few calls that no request of the agent makes yet, and the order of replies.
-use crate::{ErrorText, Mailboxes, Read, Reply, SettledFor, ToldAnswer};
+use mailboxes::{ErrorText, Mailboxes, Read, Reply, SettledFor, ToldAnswer};
 use nine_codec::put_flush;
 use rpc_file::{RpcAnswer, answer_fits};
 use std::alloc::Global;

@@ -1,5 +1,5 @@
 // Reads that wait are told the lines and the answers that come.
-use super::Shared;
+use agent_shared::Shared;
 use file_tree::Node;
 use listed_ring::ListedRing;
 use mailboxes::Read;
