@@ -4,8 +4,6 @@
 mod derivation;
 mod reading;
 mod spelling;
-#[cfg(test)]
-mod tests;
 
 pub use derivation::{check_derivation, conclude};
 pub use reading::Reading;

@@ -5,8 +5,6 @@
 mod line;
 mod print;
 mod step;
-#[cfg(test)]
-mod tests;
 mod wire;
 
 pub use print::print_step;

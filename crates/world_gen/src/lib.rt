@@ -4,8 +4,6 @@
 mod line;
 mod round;
 mod script;
-#[cfg(test)]
-mod tests;
 
 pub use round::{Drawn, Kind};
 pub use script::gen_script;

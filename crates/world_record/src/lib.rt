@@ -4,7 +4,5 @@
 
 mod record;
 mod spelling;
-#[cfg(test)]
-mod tests;
 
 pub use record::{Cut, Record};

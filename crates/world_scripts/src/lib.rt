@@ -7,8 +7,6 @@ mod line;
 mod number;
 mod pieces;
 mod script;
-#[cfg(test)]
-mod tests;
 mod words;
 
 pub use laws::lines_are_what_is_written;

@@ -4,8 +4,6 @@
 
 mod laws;
 mod tables;
-#[cfg(test)]
-mod tests;
 mod told;
 
 pub use laws::tables_are_told_in_time;

@@ -2,7 +2,5 @@
 #![tactic(auto)]
 
 mod chacha;
-#[cfg(test)]
-mod tests;
 
 pub use chacha::ChaChaWords;

@@ -1,11 +1,11 @@
 // Messages by their numbers, and the lines of steps.
-use super::{Cut, Record};
 use std::alloc::Global;
 use std::process::Abort;
 use std::test::Fail;
 use wire_base::Bytes;
 use wire_model::Step;
 use wire_streams::MemSink;
+use world_record::{Cut, Record};
 
 fn given(alloc: Global, number: u32, bytes: &[u8]) -> Result<Step, Fail> {
     Ok(Step::Out {

@@ -1,10 +1,10 @@
 // Scripts, and what they tell of the server.
-use crate::read_tables;
 use auth_server::{AsStep, AuthCore, Session};
 use std::alloc::Global;
 use std::process::Abort;
 use std::test::Fail;
 use wire_base::Bytes;
+use world_tables::read_tables;
 
 // A script, the first bad line of each table, and the challenge that the server gives out, which names its domain.
 struct Row {

@@ -1,9 +1,7 @@
 // Lines of scripts, by hand.
-use crate::line::{BadForm, Line, parse_line};
-use crate::pieces::{Piece, Pieces};
-use crate::script::ScriptLines;
 use std::process::Abort;
 use std::test::Fail;
+use world_scripts::{BadForm, Line, Piece, Pieces, ScriptLines, parse_line};
 
 // A line, its verb, its first part and its second.
 static LINES: [(&str, &str, &str, &str); 26] = [

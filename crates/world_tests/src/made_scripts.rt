@@ -1,7 +1,7 @@
 // A script, as an independent script of Python makes it.
-use crate::gen_script;
 use std::process::Abort;
 use std::test::Fail;
+use world_gen::gen_script;
 
 // Of number 7, five rounds: one of each kind, and an honest one again.
 static SEVEN: &[u8] = b"askey user=ann !password=annpass\n\
