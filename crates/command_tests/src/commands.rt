@@ -126,43 +126,43 @@ fn expect_pipe(
     Ok(())
 }
 
-#[test]
-fn inputs_are_answered(rt: HostRuntime) -> Result<(), Fail> {
-    let alloc = rt.alloc();
-    for (name, input, output) in [
-        ("no bytes", "", ""),
-        ("version", VERSION, VERSION_REPLY),
-        ("a key", KEY_CONVERSATION, KEY_REPLIES),
-        ("a stat of ctl", STAT_CONVERSATION, STAT_REPLIES),
-        (
-            "version with a small msize",
-            "13000000 64 ffff 64000000 0600 395032303030",
-            MSIZE_TOO_SMALL,
-        ),
-        (
-            "version of 1999",
-            "13000000 64 ffff 18200000 0600 395031393939",
-            UNKNOWN_VERSION,
-        ),
-        (
-            "version 9P2000.u",
-            "15000000 64 ffff 18200000 0800 3950323030302e75",
-            VERSION_REPLY,
-        ),
-        ("a frame of 7 bytes", "07000000 78 0100", BAD_MESSAGE),
-    ] {
+// A name, an input, and what is written.
+type Answered = (&'static str, &'static str, &'static str);
+
+static ANSWERED: [Answered; 8] = [
+    ("no bytes", "", ""),
+    ("version", VERSION, VERSION_REPLY),
+    ("a key", KEY_CONVERSATION, KEY_REPLIES),
+    ("a stat of ctl", STAT_CONVERSATION, STAT_REPLIES),
+    (
+        "version with a small msize",
+        "13000000 64 ffff 64000000 0600 395032303030",
+        MSIZE_TOO_SMALL,
+    ),
+    (
+        "version of 1999",
+        "13000000 64 ffff 18200000 0600 395031393939",
+        UNKNOWN_VERSION,
+    ),
+    (
+        "version 9P2000.u",
+        "15000000 64 ffff 18200000 0800 3950323030302e75",
+        VERSION_REPLY,
+    ),
+    ("a frame of 7 bytes", "07000000 78 0100", BAD_MESSAGE),
+];
+
+fn expect_answers(rt: &impl Abort, alloc: Global, cases: &[Answered]) -> Result<(), Fail> {
+    for (name, input, output) in cases {
         let (input, output) = (bytes_of(alloc, input)?, bytes_of(alloc, output)?);
-        expect_pipe(
-            &rt,
-            alloc,
-            name,
-            input,
-            (0, 0),
-            Status::Fine,
-            output.as_slice(),
-        )?;
+        expect_pipe(rt, alloc, name, input, (0, 0), Status::Fine, &output)?;
     }
     Ok(())
+}
+
+#[test]
+fn inputs_are_answered(rt: HostRuntime) -> Result<(), Fail> {
+    expect_answers(&rt, rt.alloc(), &ANSWERED)
 }
 
 // Some bytes behind others, and so many zero bytes behind them.
@@ -175,64 +175,86 @@ fn joined(alloc: Global, before: &str, bytes: &str, zeros: usize) -> Result<Vec<
     Ok(all)
 }
 
+// A frame of 8216 bytes behind these, which are answered so.
+fn expect_largest(rt: &impl Abort, alloc: Global, before: &str, replies: &str) -> Result<(), Fail> {
+    let input = joined(alloc, before, "18200000 78 0100", 8209)?;
+    let output = joined(alloc, replies, BAD_MESSAGE, 0)?;
+    expect_pipe(rt, alloc, before, input, (0, 0), Status::Fine, &output)
+}
+
 #[test]
 fn a_frame_has_at_most_8216_bytes(rt: HostRuntime) -> Result<(), Fail> {
-    let alloc = rt.alloc();
-    for (before, replies) in [("", ""), (VERSION, VERSION_REPLY)] {
-        let input = joined(alloc, before, "18200000 78 0100", 8209)?;
-        let output = joined(alloc, replies, BAD_MESSAGE, 0)?;
-        expect_pipe(
-            &rt,
-            alloc,
-            before,
-            input,
-            (0, 0),
-            Status::Fine,
-            output.as_slice(),
-        )?;
+    expect_largest(&rt, rt.alloc(), "", "")?;
+    expect_largest(&rt, rt.alloc(), VERSION, VERSION_REPLY)
+}
+
+// A name, the bytes of a frame and so many zeros behind them, and its size.
+type BadSize = (&'static str, &'static str, usize, u32);
+
+static BAD_SIZES: [BadSize; 5] = [
+    ("8217 bytes", "19200000 78 0100", 8210, 8217),
+    ("one over, alone", "19200000", 0, 8217),
+    ("one under", "06000000 78 01", 0, 6),
+    ("nothing", "00000000", 0, 0),
+    ("the most", "ffffffff 78 0100", 70000, 0xffff_ffff),
+];
+
+// Behind these bytes, which end there and are answered so.
+fn expect_bad_sizes(
+    rt: &impl Abort,
+    alloc: Global,
+    (before, at, replies): (&str, u64, &str),
+    cases: &[BadSize],
+) -> Result<(), Fail> {
+    for (name, input, zeros, size) in cases {
+        let input = joined(alloc, before, input, *zeros)?;
+        let output = bytes_of(alloc, replies)?;
+        let status = Status::BadFrame { at, size: *size };
+        expect_pipe(rt, alloc, name, input, (0, 0), status, &output)?;
     }
     Ok(())
 }
 
 #[test]
 fn a_bad_size_is_told_with_its_place(rt: HostRuntime) -> Result<(), Fail> {
-    let alloc = rt.alloc();
-    for (name, input, zeros, size) in [
-        ("8217 bytes", "19200000 78 0100", 8210, 8217),
-        ("one over, alone", "19200000", 0, 8217),
-        ("one under", "06000000 78 01", 0, 6),
-        ("nothing", "00000000", 0, 0),
-        ("the most", "ffffffff 78 0100", 70000, 0xffff_ffff),
-    ] {
-        for (before, at, replies) in [("", 0, ""), (VERSION, 19, VERSION_REPLY)] {
-            let input = joined(alloc, before, input, zeros)?;
-            let output = bytes_of(alloc, replies)?;
-            let status = Status::BadFrame { at, size };
-            expect_pipe(&rt, alloc, name, input, (0, 0), status, output.as_slice())?;
-        }
+    expect_bad_sizes(&rt, rt.alloc(), ("", 0, ""), &BAD_SIZES)?;
+    let behind = (VERSION, 19, VERSION_REPLY);
+    expect_bad_sizes(&rt, rt.alloc(), behind, &BAD_SIZES)
+}
+
+// A name, and the bytes of a part of a frame and so many zeros behind them.
+type Part = (&'static str, &'static str, usize);
+
+static PARTS: [Part; 6] = [
+    ("a byte", "07", 0),
+    ("3 bytes of a bad size", "060000", 0),
+    ("a size", "07000000", 0),
+    ("5 bytes of 11", "0b000000 78", 0),
+    ("10 bytes of 11", "0b000000 78 0600 010000", 0),
+    ("8215 bytes of 8216", "18200000 78 0100", 8208),
+];
+
+// Behind these bytes, which end there and are answered so.
+fn expect_torn(
+    rt: &impl Abort,
+    alloc: Global,
+    (before, at, replies): (&str, u64, &str),
+    cases: &[Part],
+) -> Result<(), Fail> {
+    for (name, input, zeros) in cases {
+        let input = joined(alloc, before, input, *zeros)?;
+        let output = bytes_of(alloc, replies)?;
+        let status = Status::Torn { at };
+        expect_pipe(rt, alloc, name, input, (0, 0), status, &output)?;
     }
     Ok(())
 }
 
 #[test]
 fn an_input_that_ends_inside_a_frame(rt: HostRuntime) -> Result<(), Fail> {
-    let alloc = rt.alloc();
-    for (name, input, zeros) in [
-        ("a byte", "07", 0),
-        ("3 bytes of a bad size", "060000", 0),
-        ("a size", "07000000", 0),
-        ("5 bytes of 11", "0b000000 78", 0),
-        ("10 bytes of 11", "0b000000 78 0600 010000", 0),
-        ("8215 bytes of 8216", "18200000 78 0100", 8208),
-    ] {
-        for (before, at, replies) in [("", 0, ""), (VERSION, 19, VERSION_REPLY)] {
-            let input = joined(alloc, before, input, zeros)?;
-            let output = bytes_of(alloc, replies)?;
-            let status = Status::Torn { at };
-            expect_pipe(&rt, alloc, name, input, (0, 0), status, output.as_slice())?;
-        }
-    }
-    Ok(())
+    expect_torn(&rt, rt.alloc(), ("", 0, ""), &PARTS)?;
+    let behind = (VERSION, 19, VERSION_REPLY);
+    expect_torn(&rt, rt.alloc(), behind, &PARTS)
 }
 
 // Two pieces, each handed out by reads of its own.
@@ -293,19 +315,28 @@ fn an_input_cut_anywhere_is_answered_alike(rt: HostRuntime) -> Result<(), Fail> 
     expect_cut(&rt, alloc, &input, Status::Fine, &output)
 }
 
+// Bytes behind a version, how the input ends, and what is written behind the version's reply.
+fn expect_cut_behind(
+    rt: &impl Abort,
+    alloc: Global,
+    behind: &str,
+    status: Status,
+    told: &str,
+) -> Result<(), Fail> {
+    let input = joined(alloc, VERSION, behind, 0)?;
+    let output = joined(alloc, VERSION_REPLY, told, 0)?;
+    expect_cut(rt, alloc, &input, status, &output)
+}
+
 #[test]
 fn a_bad_input_cut_anywhere_is_answered_alike(rt: HostRuntime) -> Result<(), Fail> {
     let alloc = rt.alloc();
-    for (behind, status, told) in [
-        ("0c000000 78 0100 00000000 00", Status::Fine, BAD_MESSAGE),
-        ("06000000", Status::BadFrame { at: 19, size: 6 }, ""),
-        ("0b000000 78", Status::Torn { at: 19 }, ""),
-    ] {
-        let input = joined(alloc, VERSION, behind, 0)?;
-        let output = joined(alloc, VERSION_REPLY, told, 0)?;
-        expect_cut(&rt, alloc, &input, status, &output)?;
-    }
-    Ok(())
+    let long = "0c000000 78 0100 00000000 00";
+    expect_cut_behind(&rt, alloc, long, Status::Fine, BAD_MESSAGE)?;
+    let status = Status::BadFrame { at: 19, size: 6 };
+    expect_cut_behind(&rt, alloc, "06000000", status, "")?;
+    let status = Status::Torn { at: 19 };
+    expect_cut_behind(&rt, alloc, "0b000000 78", status, "")
 }
 
 #[test]
@@ -332,25 +363,50 @@ fn an_input_may_be_long(rt: HostRuntime) -> Result<(), Fail> {
     )
 }
 
-#[test]
-fn calls_fail(rt: HostRuntime) -> Result<(), Fail> {
-    let alloc = rt.alloc();
-    // One read gives both frames, and the next one the end; both replies are one write.
-    let mut both = bytes_of(alloc, VERSION_REPLY)?;
-    both.extend_from_slice(&bytes_of(alloc, BAD_MESSAGE)?)?;
-    let none = Vec::new(alloc);
-    for (name, failed, status, output) in [
-        ("the first read", (1, 0), Status::ReadFault, &none),
-        ("the second read", (2, 0), Status::ReadFault, &both),
-        ("no third read", (3, 0), Status::Fine, &both),
-        ("the first write", (0, 1), Status::WriteFault, &none),
-        ("no second write", (0, 2), Status::Fine, &both),
-    ] {
-        let mut input = bytes_of(alloc, VERSION)?;
-        input.extend_from_slice(&bytes_of(alloc, "07000000 78 0100")?)?;
-        expect_pipe(&rt, alloc, name, input, failed, status, output.as_slice())?;
+// A name, the numbers of the read and of the write that fail, the status, and what is written.
+type Failed = (
+    &'static str,
+    (u64, u64),
+    Status,
+    (&'static str, &'static str),
+);
+
+// One read gives both frames, and the next one the end; both replies are one write.
+static FAILED: [Failed; 5] = [
+    ("the first read", (1, 0), Status::ReadFault, ("", "")),
+    (
+        "the second read",
+        (2, 0),
+        Status::ReadFault,
+        (VERSION_REPLY, BAD_MESSAGE),
+    ),
+    (
+        "no third read",
+        (3, 0),
+        Status::Fine,
+        (VERSION_REPLY, BAD_MESSAGE),
+    ),
+    ("the first write", (0, 1), Status::WriteFault, ("", "")),
+    (
+        "no second write",
+        (0, 2),
+        Status::Fine,
+        (VERSION_REPLY, BAD_MESSAGE),
+    ),
+];
+
+fn expect_failed(rt: &impl Abort, alloc: Global, cases: &[Failed]) -> Result<(), Fail> {
+    for (name, failed, status, (first, second)) in cases {
+        let input = joined(alloc, VERSION, "07000000 78 0100", 0)?;
+        let output = joined(alloc, first, second, 0)?;
+        expect_pipe(rt, alloc, name, input, *failed, *status, &output)?;
     }
     Ok(())
+}
+
+#[test]
+fn calls_fail(rt: HostRuntime) -> Result<(), Fail> {
+    expect_failed(&rt, rt.alloc(), &FAILED)
 }
 
 // Where the first write fails, the second read, which would fail too, is still to come.
@@ -414,19 +470,27 @@ static OTHER_WORDS: [&str; 40] = [
     "authsrv --dom 012345678901234567890123456789012345678901234567 --keys k --speaks s",
 ];
 
-#[test]
-fn other_words_leave_all_as_it_was(rt: HostRuntime) -> Result<(), Fail> {
-    let alloc = rt.alloc();
-    for line in OTHER_WORDS {
-        let words = words_of(alloc, line)?;
-        let mut source = SteadySource::new(b"hello".to_vec(alloc)?);
-        let mut sink = MemSink::new(b"so ".to_vec(alloc)?, Vec::new(alloc));
-        let ended = run_alone(alloc, words.as_slice(), &mut source, &mut sink)?;
-        assert_eq!(rt; ended, Status::Usage, "{line}");
-        assert_eq!(rt; sink.content(), b"so ".as_slice(), "{line}");
-        let mut left = [b'-'; 6];
-        source.read(&mut left);
-        assert_eq!(rt; left.as_slice(), b"hello-".as_slice(), "{line}");
+fn expect_usage(rt: &impl Abort, alloc: Global, line: &str) -> Result<(), Fail> {
+    let words = words_of(alloc, line)?;
+    let mut source = SteadySource::new(b"hello".to_vec(alloc)?);
+    let mut sink = MemSink::new(b"so ".to_vec(alloc)?, Vec::new(alloc));
+    let ended = run_alone(alloc, words.as_slice(), &mut source, &mut sink)?;
+    assert_eq!(rt; ended, Status::Usage, "{line}");
+    assert_eq!(rt; sink.content(), b"so ".as_slice(), "{line}");
+    let mut left = [b'-'; 6];
+    source.read(&mut left);
+    assert_eq!(rt; left.as_slice(), b"hello-".as_slice(), "{line}");
+    Ok(())
+}
+
+fn expect_usages(rt: &impl Abort, alloc: Global, lines: &[&str]) -> Result<(), Fail> {
+    for line in lines {
+        expect_usage(rt, alloc, line)?;
     }
     Ok(())
+}
+
+#[test]
+fn other_words_leave_all_as_it_was(rt: HostRuntime) -> Result<(), Fail> {
+    expect_usages(&rt, rt.alloc(), &OTHER_WORDS)
 }

@@ -4,23 +4,30 @@ use super::{
     words_of,
 };
 use factotum_program::Status;
+use std::alloc::Global;
 use std::cell::Cell;
 use std::io::{self, Cursor, ErrorKind, Read, Write};
+use std::process::Abort;
 use std::test::Fail;
 use wire_streams::{ReadSource, WriteSink};
 
+// What is written where the write of this number fails.
+fn expect_written(
+    rt: &impl Abort,
+    alloc: Global,
+    failed: u64,
+    status: Status,
+    written: &str,
+) -> Result<(), Fail> {
+    let input = bytes_of(alloc, KEY_CONVERSATION)?;
+    let written = bytes_of(alloc, written)?;
+    expect_pipe(rt, alloc, "a write", input, (0, failed), status, &written)
+}
+
 #[test]
 fn the_replies_to_one_read_are_one_write(rt: HostRuntime) -> Result<(), Fail> {
-    let alloc = rt.alloc();
-    let (none, all) = (Vec::new(alloc), bytes_of(alloc, KEY_REPLIES)?);
-    for (name, failed, status, written) in [
-        ("the first write", 1, Status::WriteFault, &none),
-        ("no second write", 2, Status::Fine, &all),
-    ] {
-        let input = bytes_of(alloc, KEY_CONVERSATION)?;
-        expect_pipe(&rt, alloc, name, input, (0, failed), status, written)?;
-    }
-    Ok(())
+    expect_written(&rt, rt.alloc(), 1, Status::WriteFault, "")?;
+    expect_written(&rt, rt.alloc(), 2, Status::Fine, KEY_REPLIES)
 }
 
 // A read of ctl, whose reply is longer by 21 bytes, and that reply.
@@ -29,30 +36,36 @@ const READ: &str = "17000000 74 0500 01000000 0000000000000000 64000000";
 const READ_REPLY: &str =
     "2c000000 75 0500 21000000 6b65792070726f746f3d61706f7020757365723d61202170617373776f72643f0a";
 
+// A conversation without its last frame, and 2500 times this frame in its place.
+fn prolonged(alloc: Global, frames: &str, last: usize, frame: &str) -> Result<Vec<u8>, Fail> {
+    let mut all = bytes_of(alloc, frames)?;
+    all.truncate(all.len().saturating_sub(last));
+    let frame = bytes_of(alloc, frame)?;
+    for _ in 0..2500 {
+        all.extend_from_slice(&frame)?;
+    }
+    Ok(all)
+}
+
+// How many bytes at most are written to 2500 reads where the write of this number fails.
+fn expect_writes(
+    rt: &impl Abort,
+    alloc: Global,
+    failed: u64,
+    status: Status,
+    most: usize,
+) -> Result<(), Fail> {
+    let input = prolonged(alloc, KEY_CONVERSATION, 11, READ)?;
+    let mut written = prolonged(alloc, KEY_REPLIES, 7, READ_REPLY)?;
+    written.truncate(most);
+    expect_pipe(rt, alloc, "reads", input, (0, failed), status, &written)
+}
+
+// The reply with which 65,536 bytes are gathered is the last of the first write.
 #[test]
 fn many_replies_to_one_read_are_a_few_writes(rt: HostRuntime) -> Result<(), Fail> {
-    let alloc = rt.alloc();
-    let (read, reply) = (bytes_of(alloc, READ)?, bytes_of(alloc, READ_REPLY)?);
-    for (name, failed, status) in [
-        ("the second write", 2, Status::WriteFault),
-        ("no third write", 3, Status::Fine),
-    ] {
-        let mut input = bytes_of(alloc, KEY_CONVERSATION)?;
-        let mut written = bytes_of(alloc, KEY_REPLIES)?;
-        // The clunk is left out.
-        input.truncate(input.len().saturating_sub(11));
-        written.truncate(written.len().saturating_sub(7));
-        for _ in 0..2500 {
-            input.extend_from_slice(&read)?;
-            written.extend_from_slice(&reply)?;
-        }
-        if failed == 2 {
-            // The reply with which 65,536 bytes are gathered is the last of the first write.
-            written.truncate(65537);
-        }
-        expect_pipe(&rt, alloc, name, input, (0, failed), status, &written)?;
-    }
-    Ok(())
+    expect_writes(&rt, rt.alloc(), 2, Status::WriteFault, 65537)?;
+    expect_writes(&rt, rt.alloc(), 3, Status::Fine, 1_000_000)
 }
 
 #[test]

@@ -56,30 +56,34 @@ fn a_script_has_its_record(rt: HostRuntime) -> Result<(), Fail> {
 }
 
 // A line of the record of the start is written before the line behind it is refused.
+fn expect_refused(
+    rt: &impl Abort,
+    alloc: Global,
+    line: &str,
+    cause: ScriptCause,
+) -> Result<(), Fail> {
+    let script = [
+        b"node a\n\
+        ctl a key proto=apop user=mrose !password=tanstaaf\n\
+        open a c\n\
+        start c 0000000000000000 proto=apop role=client\n"
+            .as_slice(),
+        line.as_bytes(),
+        b"\nnode b\n".as_slice(),
+    ]
+    .concat(alloc)?;
+    let status = Status::BadScript { line: 5, cause };
+    let started = b"start c apop client 0000000000000000\n";
+    expect(rt, alloc, "world", &script, (0, 0), status, started)
+}
+
 #[test]
 fn lines_are_refused(rt: HostRuntime) -> Result<(), Fail> {
     let alloc = rt.alloc();
-    let started = b"start c apop client 0000000000000000\n";
-    for (behind, cause) in [
-        ("fly c", ScriptCause::BadLine),
-        ("open b d", ScriptCause::UnknownNode),
-        ("read d", ScriptCause::UnknownConv),
-        ("write c m0", ScriptCause::NoSuchMessage),
-    ] {
-        let script = [
-            b"node a\n\
-            ctl a key proto=apop user=mrose !password=tanstaaf\n\
-            open a c\n\
-            start c 0000000000000000 proto=apop role=client\n"
-                .as_slice(),
-            behind.as_bytes(),
-            b"\nnode b\n".as_slice(),
-        ]
-        .concat(alloc)?;
-        let status = Status::BadScript { line: 5, cause };
-        expect(&rt, alloc, "world", &script, (0, 0), status, started)?;
-    }
-    Ok(())
+    expect_refused(&rt, alloc, "fly c", ScriptCause::BadLine)?;
+    expect_refused(&rt, alloc, "open b d", ScriptCause::UnknownNode)?;
+    expect_refused(&rt, alloc, "read d", ScriptCause::UnknownConv)?;
+    expect_refused(&rt, alloc, "write c m0", ScriptCause::NoSuchMessage)
 }
 
 #[test]
@@ -113,30 +117,38 @@ fn a_script_has_at_most_4194304_bytes(rt: HostRuntime) -> Result<(), Fail> {
     expect(&rt, alloc, "world", &over, (0, 0), status, b"")
 }
 
+// The words of a command, and the line that it writes.
+static MADE: [(&str, &[u8]); 4] = [
+    (
+        "gen --number 7 --rounds 4",
+        b"rounds 4 accepted 2 failed 3 messages 19\n",
+    ),
+    (
+        "gen --rounds 4 --number 7",
+        b"rounds 4 accepted 2 failed 3 messages 19\n",
+    ),
+    (
+        "gen --number 0 --rounds 1",
+        b"rounds 1 accepted 2 failed 0 messages 6\n",
+    ),
+    (
+        "gen --number 18446744073709551615 --rounds 400",
+        b"rounds 400 accepted 200 failed 300 messages 1900\n",
+    ),
+];
+
 // The input isn't read: its first read would fail.
+fn expect_made(rt: &impl Abort, alloc: Global, cases: &[(&str, &[u8])]) -> Result<(), Fail> {
+    for (line, written) in cases {
+        expect(rt, alloc, line, b"", (1, 0), Status::Fine, written)?;
+    }
+    Ok(())
+}
+
 #[test]
 fn scripts_are_made_and_run(rt: HostRuntime) -> Result<(), Fail> {
     let alloc = rt.alloc();
-    for (line, written) in [
-        (
-            "gen --number 7 --rounds 4",
-            b"rounds 4 accepted 2 failed 3 messages 19\n".as_slice(),
-        ),
-        (
-            "gen --rounds 4 --number 7",
-            b"rounds 4 accepted 2 failed 3 messages 19\n",
-        ),
-        (
-            "gen --number 0 --rounds 1",
-            b"rounds 1 accepted 2 failed 0 messages 6\n",
-        ),
-        (
-            "gen --number 18446744073709551615 --rounds 400",
-            b"rounds 400 accepted 200 failed 300 messages 1900\n",
-        ),
-    ] {
-        expect(&rt, alloc, line, b"", (1, 0), Status::Fine, written)?;
-    }
+    expect_made(&rt, alloc, &MADE)?;
     let line = "gen --number 7 --rounds 4";
     expect(&rt, alloc, line, b"", (0, 1), Status::WriteFault, b"")
 }
