@@ -98,14 +98,13 @@ fn ask(
     check(rt, alloc, agent, number, turn, lines)
 }
 
-// An agent that was told a line, and has a conversation open.
-fn talking(rt: &impl Abort, alloc: Global, line: &[u8]) -> Result<Agent, Fail>
+// An agent is told a line, and opens a conversation.
+fn begin(rt: &impl Abort, alloc: Global, agent: &mut Agent, line: &[u8]) -> Result<(), Fail>
     requires { length line.now < 2 ^ 31 }
 {
-    let mut agent = new_node(alloc)?;
-    tell(rt, alloc, &mut agent, line, "")?;
-    assert!(rt; open_rpc(alloc, &mut agent, FID)?);
-    Ok(agent)
+    tell(rt, alloc, agent, line, "")?;
+    assert!(rt; open_rpc(alloc, agent, FID)?);
+    Ok(())
 }
 
 #[test]
@@ -116,86 +115,108 @@ fn ctl_refuses_a_line(rt: HostRuntime) -> Result<(), Fail> {
     tell(&rt, alloc, &mut agent, b"keys", unknown)
 }
 
-#[test]
-fn a_mail_client_answers_a_challenge(rt: HostRuntime) -> Result<(), Fail> {
-    let alloc = rt.alloc();
+// A client of APOP is given a challenge, and gives its answer.
+fn answer(rt: &impl Abort, alloc: Global, agent: &mut Agent) -> Result<(), Fail> {
     let line = b"key proto=apop user=mrose !password=tanstaaf";
-    let mut agent = talking(&rt, alloc, line)?;
+    begin(rt, alloc, agent, line)?;
     let start = Asks::Start {
         word: [0; 8],
         tuple: b"proto=apop role=client",
     };
     let started = "start c apop client 0000000000000000\n";
-    ask(&rt, alloc, &mut agent, 0, start, started)?;
+    ask(rt, alloc, agent, 0, start, started)?;
     let challenge = Asks::Give {
         bytes: b"<1896.697170952@dbc.mtview.ca.us>",
     };
     let taken = "in c 3c313839362e363937313730393532406462632e6d74766965772e63612e75733e\n";
-    ask(&rt, alloc, &mut agent, 0, challenge, taken)?;
+    ask(rt, alloc, agent, 0, challenge, taken)?;
     let given = "out 0 c 6334633933333462616335363065636339373965353830303162336532326662\n";
-    ask(&rt, alloc, &mut agent, 0, Asks::Get, given)?;
-    ask(&rt, alloc, &mut agent, 1, Asks::Get, "reply c done\n")?;
+    ask(rt, alloc, agent, 0, Asks::Get, given)?;
+    ask(rt, alloc, agent, 1, Asks::Get, "reply c done\n")?;
+    Ok(())
+}
+
+#[test]
+fn a_mail_client_answers_a_challenge(rt: HostRuntime) -> Result<(), Fail> {
+    let alloc = rt.alloc();
+    let mut agent = new_node(alloc)?;
+    answer(&rt, alloc, &mut agent)
+}
+
+// A conversation is asked once it is closed.
+fn ask_closed(rt: &impl Abort, alloc: Global, agent: &mut Agent) -> Result<(), Fail> {
+    let line = b"key proto=apop user=mrose !password=tanstaaf";
+    begin(rt, alloc, agent, line)?;
+    let close = Turn::Close {
+        conv: b"c",
+        fid: FID,
+    };
+    check(rt, alloc, agent, 0, close, "")?;
+    let unknown = "reply c unknown fid\n";
+    ask(rt, alloc, agent, 0, Asks::Get, unknown)?;
     Ok(())
 }
 
 #[test]
 fn a_closed_conversation_is_unknown(rt: HostRuntime) -> Result<(), Fail> {
     let alloc = rt.alloc();
-    let mut agent = talking(&rt, alloc, b"key proto=apop user=mrose !password=tanstaaf")?;
-    let close = Turn::Close {
-        conv: b"c",
-        fid: FID,
-    };
-    check(&rt, alloc, &mut agent, 0, close, "")?;
-    let unknown = "reply c unknown fid\n";
-    ask(&rt, alloc, &mut agent, 0, Asks::Get, unknown)?;
-    Ok(())
+    let mut agent = new_node(alloc)?;
+    ask_closed(&rt, alloc, &mut agent)
 }
 
-// A client that asked for a ticket, and the number of its question.
-fn asking(rt: &impl Abort, alloc: Global) -> Result<(Agent, u64), Fail> {
+// A client asks for a ticket: the number of its question.
+fn ask_for_ticket(rt: &impl Abort, alloc: Global, agent: &mut Agent) -> Result<u64, Fail> {
     let line = b"key proto=p9sk1 dom=x user=ann !password=annpass";
-    let mut agent = talking(rt, alloc, line)?;
+    begin(rt, alloc, agent, line)?;
     let start = Asks::Start {
         word: [0x11; 8],
         tuple: b"proto=p9sk1 role=client",
     };
     let started = "start c p9sk1 client 1111111111111111\n";
-    ask(rt, alloc, &mut agent, 0, start, started)?;
+    ask(rt, alloc, agent, 0, start, started)?;
     let given = "out 0 c 1111111111111111\n";
-    ask(rt, alloc, &mut agent, 0, Asks::Get, given)?;
+    ask(rt, alloc, agent, 0, Asks::Get, given)?;
     let request = Asks::Give { bytes: REQUEST };
-    match ask(rt, alloc, &mut agent, 3, request, ASKED)? {
-        Some(call) => Ok((agent, call)),
-        None => Err("no question".into()),
-    }
+    Ok(ask(rt, alloc, agent, 3, request, ASKED)?.ok_or("no question")?)
 }
 
-#[test]
-fn a_ticket_is_asked_for(rt: HostRuntime) -> Result<(), Fail> {
-    let alloc = rt.alloc();
-    let (mut agent, call) = asking(&rt, alloc)?;
+// It hears the answer, and shows the ticket.
+fn show_ticket(rt: &impl Abort, alloc: Global, agent: &mut Agent) -> Result<(), Fail> {
+    let call = ask_for_ticket(rt, alloc, agent)?;
     let hear = Turn::Hear {
         conv: b"c",
         fid: FID,
         call,
         bytes: ANSWER,
     };
-    assert_eq!(rt; check(&rt, alloc, &mut agent, 6, hear, HEARD)?, None);
-    ask(&rt, alloc, &mut agent, 6, Asks::Get, GIVEN)?;
+    assert_eq!(rt; check(rt, alloc, agent, 6, hear, HEARD)?, None);
+    ask(rt, alloc, agent, 6, Asks::Get, GIVEN)?;
     Ok(())
 }
 
 #[test]
-fn no_server_answers(rt: HostRuntime) -> Result<(), Fail> {
+fn a_ticket_is_asked_for(rt: HostRuntime) -> Result<(), Fail> {
     let alloc = rt.alloc();
-    let (mut agent, call) = asking(&rt, alloc)?;
+    let mut agent = new_node(alloc)?;
+    show_ticket(&rt, alloc, &mut agent)
+}
+
+// It hears nothing.
+fn miss_ticket(rt: &impl Abort, alloc: Global, agent: &mut Agent) -> Result<(), Fail> {
+    let call = ask_for_ticket(rt, alloc, agent)?;
     let miss = Turn::Miss {
         conv: b"c",
         fid: FID,
         call,
     };
     let broken = "unheard c\nfail c no server\n";
-    assert_eq!(rt; check(&rt, alloc, &mut agent, 4, miss, broken)?, None);
+    assert_eq!(rt; check(rt, alloc, agent, 4, miss, broken)?, None);
     Ok(())
+}
+
+#[test]
+fn no_server_answers(rt: HostRuntime) -> Result<(), Fail> {
+    let alloc = rt.alloc();
+    let mut agent = new_node(alloc)?;
+    miss_ticket(&rt, alloc, &mut agent)
 }
