@@ -130,55 +130,69 @@ pub fn answer_length(shape: Shape, heard: &[u8]) -> usize
 #[cfg(test)]
 mod tests {
     use super::*;
+    use std::process::Abort;
 
-    // By authsrv(6): an error's text has 64 bytes, a ticket 72, an authenticator 13, a challenge's length 5.
+    // What is asked for, what was heard so far, and how many bytes the answer has by that. By authsrv(6): an error's text
+    // has 64 bytes, a ticket 72, an authenticator 13, a challenge's length 5.
+    static LENGTHS: [(Shape, &[u8], usize); 17] = [
+        (Shape::Tickets, b"", 1),
+        (Shape::Tickets, b"\x04", 145),
+        (Shape::Tickets, b"\x05", 65),
+        (Shape::Tickets, b"\x0938   ", 1),
+        (Shape::Tickets, b"\x01", 1),
+        (Shape::Vouch, b"", 1),
+        (Shape::Vouch, b"\x04", 86),
+        (Shape::Vouch, b"\x04@", 86),
+        (Shape::Vouch, b"\x05bad", 65),
+        (Shape::Vouch, b"\x0938   ", 1),
+        (Shape::Vouch, b"\x00", 1),
+        (Shape::Challenge, b"", 1),
+        (Shape::Challenge, b"\x04", 1),
+        (Shape::Challenge, b"\x05", 65),
+        (Shape::Challenge, b"\xff", 1),
+        (Shape::Challenge, b"\x09", 6),
+        (Shape::Challenge, b"\x0938  ", 6),
+    ];
+
+    fn expect_lengths(rt: &impl Abort, cases: &[(Shape, &[u8], usize)]) {
+        for (shape, heard, want) in cases {
+            assert_eq!(rt; answer_length(*shape, heard), *want, "{heard:?}");
+        }
+    }
+
     #[test]
     fn answers_end_where_they_tell(rt: HostRuntime) {
-        for (shape, heard, want) in [
-            (Shape::Tickets, b"".as_slice(), 1),
-            (Shape::Tickets, b"\x04".as_slice(), 145),
-            (Shape::Tickets, b"\x05".as_slice(), 65),
-            (Shape::Tickets, b"\x0938   ".as_slice(), 1),
-            (Shape::Tickets, b"\x01".as_slice(), 1),
-            (Shape::Vouch, b"".as_slice(), 1),
-            (Shape::Vouch, b"\x04".as_slice(), 86),
-            (Shape::Vouch, b"\x04@".as_slice(), 86),
-            (Shape::Vouch, b"\x05bad".as_slice(), 65),
-            (Shape::Vouch, b"\x0938   ".as_slice(), 1),
-            (Shape::Vouch, b"\x00".as_slice(), 1),
-            (Shape::Challenge, b"".as_slice(), 1),
-            (Shape::Challenge, b"\x04".as_slice(), 1),
-            (Shape::Challenge, b"\x05".as_slice(), 65),
-            (Shape::Challenge, b"\xff".as_slice(), 1),
-            (Shape::Challenge, b"\x09".as_slice(), 6),
-            (Shape::Challenge, b"\x0938  ".as_slice(), 6),
-        ] {
-            assert_eq!(rt; answer_length(shape, heard), want, "{heard:?}");
+        expect_lengths(&rt, &LENGTHS);
+    }
+
+    static FIELDS: [(&str, usize); 17] = [
+        ("38   ", 38),
+        ("   38", 38),
+        (" 38  ", 38),
+        ("00038", 38),
+        ("0    ", 0),
+        ("1    ", 1),
+        ("128  ", 128),
+        ("129  ", 0),
+        ("00129", 0),
+        ("99999", 0),
+        ("12x45", 0),
+        ("1 2  ", 0),
+        ("     ", 0),
+        ("+38  ", 0),
+        ("-1   ", 0),
+        ("\t38  ", 0),
+        ("38\0\0\0", 0),
+    ];
+
+    fn expect_fields(rt: &impl Abort, cases: &[(&str, usize)]) {
+        for (field, want) in cases {
+            assert_eq!(rt; challenge_length(field.as_bytes()), *want, "{field}");
         }
     }
 
     #[test]
     fn challenges_have_the_length_that_is_spelled(rt: HostRuntime) {
-        for (field, want) in [
-            ("38   ", 38),
-            ("   38", 38),
-            (" 38  ", 38),
-            ("00038", 38),
-            ("0    ", 0),
-            ("1    ", 1),
-            ("128  ", 128),
-            ("129  ", 0),
-            ("00129", 0),
-            ("99999", 0),
-            ("12x45", 0),
-            ("1 2  ", 0),
-            ("     ", 0),
-            ("+38  ", 0),
-            ("-1   ", 0),
-            ("\t38  ", 0),
-            ("38\0\0\0", 0),
-        ] {
-            assert_eq!(rt; challenge_length(field.as_bytes()), want, "{field}");
-        }
+        expect_fields(&rt, &FIELDS);
     }
 }
