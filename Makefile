@@ -7,7 +7,7 @@ DESTDIR =
 
 help:
 	@echo 'make build   proves the programs and leaves them as bin/factotum, bin/authd and bin/nine_show'
-	@echo 'make demo    runs a conversation and logins between two agents, without proofs, and shows each request and reply'
+	@echo 'make demo    runs logins between two agents and a conversation, without proofs, and shows each request and reply'
 	@echo 'make attacks plays the attacks of docs/WEAKNESSES.md, without proofs, and says what happened'
 	@echo 'make test    runs the gate: every proof, wrong body, test and program'
 	@echo 'make bench   measures it and its codec beside plain C programs, the server and the ciphers beside OpenSSL'
@@ -24,8 +24,8 @@ build:
 demo:
 	@scripts/need rt
 	@echo 'The programs are built without their proofs for this demonstration, about a minute each; make build proves them.'
-	@scripts/demo --unproved
 	@if command -v python3 >/dev/null 2>&1; then scripts/login --unproved; fi
+	@scripts/demo --unproved
 
 attacks:
 	@scripts/need rt
