@@ -6,7 +6,7 @@ use Rattle.nine_messages.specs.declared.message.RMsg.{RMsg}
 use Rattle.nine_messages.specs.Messages.{r_frame}
 use Rattle.agent_history.specs.Deeds.{Deed, is_halted, was_hung}
 use Rattle.agent_history.specs.Replies.{untaken}
-use Rattle.mailboxes.specs.Deliveries.{replies_at}
+use Rattle.agent_requests.specs.Deliveries.{replies_at}
 use Rattle.agent_requests.specs.declared.connection.Connection.{Connection}
 use Rattle.agent_requests.specs.Connections.{IsFresh, Keeps, is_opened}
 use Rattle.agent_requests.proofs.KeepLemmas.{keeps_still}

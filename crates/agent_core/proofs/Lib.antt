@@ -1,3 +1,4 @@
+pub use Rattle.agent_requests.proofs.DeliveryLemmas
 pub mod EventSteps
 pub mod AskSteps
 pub mod AgentSteps

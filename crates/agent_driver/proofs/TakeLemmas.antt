@@ -9,7 +9,7 @@ use Rattle.agent_history.specs.declared.event.StepAnswer.TheVariants.{Done, Repl
 use Rattle.agent_history.specs.Deeds.{Deed, Halted, was_opened, was_hung, is_halted}
 use Rattle.agent_history.specs.Replies.{untaken}
 use Rattle.agent_history.specs.Histories.{History, most_events, deeds, entered, taking, answer, first_reply, is_reply}
-use Rattle.mailboxes.proofs.DeliveryLemmas.{untaken_taken}
+use Rattle.agent_core.proofs.DeliveryLemmas.{untaken_taken}
 use Rattle.agent_core.specs.declared.agent.Agent.{Agent}
 use Rattle.agent_core.specs.Agents.{StandsFor}
 use Rattle.agent_core.specs.Events.{Answers}

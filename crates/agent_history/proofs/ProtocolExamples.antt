@@ -25,16 +25,16 @@ use Rattle.key_lists.specs.Listing.{offers, offers_text}
 use Rattle.hex.specs.Hex.{encode_with}
 use Rattle.md5.specs.Md5.{block_words, compress, digest_bytes, hash_after, md5, rounds}
 use Rattle.md5_answers.specs.Answer.{apop_digits}
-use Rattle.ticket_codec.specs.Fields.{before_nul}
-use Rattle.ticket_codec.specs.Request.{request_text}
+use Rattle.roles.specs.Fields.{before_nul}
+use Rattle.roles.specs.Request.{request_text}
 use Rattle.roles.specs.Starts.{fault_of, role_of}
 use Rattle.roles.specs.Templates.{asked, given_as, shown_text}
-use Rattle.conv_p9any.specs.Offers.{is_offered, offers_dom}
-use Rattle.conv_p9any.specs.Texts.{text_in}
-use Rattle.conv_challenge.specs.Numbers.{told_length}
-use Rattle.conv_challenge.specs.Starts as mail
-use Rattle.conv_challenge.specs.Starts.{proto_of, side_of}
-use Rattle.conv_set.specs.Protocols.{protocol_of}
+use Rattle.talks.specs.Offers.{is_offered, offers_dom}
+use Rattle.talks.specs.Texts.{text_in}
+use Rattle.talks.specs.Numbers.{told_length}
+use Rattle.talks.specs.Starts as mail
+use Rattle.talks.specs.Starts.{proto_of, side_of}
+use Rattle.talks.specs.Protocols.{protocol_of}
 use Rattle.rpc_file.specs.Answers.{answer_text}
 use Rattle.rpc_file.specs.declared.answer.RpcAnswer.TheVariants as a
 use Rattle.rpc_file.specs.Requests as rpc

@@ -24,13 +24,13 @@ use Rattle.attr_tuples.specs.Equality.{public_equal}
 use Rattle.attr_tuples.specs.Printing.{printed_text, public_text}
 use Rattle.key_lists.specs.Lists.{KeyEntry}
 use Rattle.key_lists.specs.Edits.{Add, Delete}
-use Rattle.ticket_codec.specs.Fields.{name_in, before_nul}
-use Rattle.ticket_codec.specs.Request as tickets
-use Rattle.ticket_codec.specs.Request.{request_text, request_fields}
+use Rattle.roles.specs.Fields.{name_in, before_nul}
+use Rattle.roles.specs.Request as tickets
+use Rattle.roles.specs.Request.{request_text, request_fields}
 use Rattle.roles.specs.Starts.{role_of, start_fault}
 use Rattle.roles.specs.Templates.{asked, given_as, shown_text}
 use Rattle.rpc_file.specs.Answers.{answer_text}
-use Rattle.conv_set.specs.Protocols.{protocol_of}
+use Rattle.talks.specs.Protocols.{protocol_of}
 use Rattle.side_files.specs.declared.line.PromptKind.TheVariants as k
 use Rattle.side_files.specs.Calls.{Asked, Read, Replied, Withdrawn, Pushed}
 use Rattle.side_files.specs.Calls as side

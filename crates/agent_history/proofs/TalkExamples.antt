@@ -24,9 +24,9 @@ use Rattle.attr_tuples.specs.Equality.{public_equal}
 use Rattle.attr_tuples.specs.Printing.{printed_text}
 use Rattle.key_lists.specs.Lists.{KeyEntry}
 use Rattle.key_lists.specs.Edits.{Add, Delete}
-use Rattle.ticket_codec.specs.Fields.{name_in, before_nul}
-use Rattle.ticket_codec.specs.Request as tickets
-use Rattle.ticket_codec.specs.Request.{request_text, request_fields}
+use Rattle.roles.specs.Fields.{name_in, before_nul}
+use Rattle.roles.specs.Request as tickets
+use Rattle.roles.specs.Request.{request_text, request_fields}
 use Rattle.roles.specs.declared.answer.Cause.{Cause}
 use Rattle.roles.specs.declared.answer.Cause.TheVariants.{NoServer, NoRoom, ServerSaidNo}
 use Rattle.roles.specs.declared.need.Outcome.TheVariants.{Broken, Running}
@@ -35,7 +35,7 @@ use Rattle.roles.specs.Templates.{asked, given_as, shown_text}
 use Rattle.rpc_file.specs.Answers.{answer_text}
 use Rattle.rpc_file.specs.Requests as rpc
 use Rattle.rpc_file.specs.Requests.{starts, reads, writes}
-use Rattle.conv_set.specs.Protocols.{protocol_of}
+use Rattle.talks.specs.Protocols.{protocol_of}
 use Rattle.talks.specs.Calls.{Stored, CarriedOut, Sought, Chosen, NoneServes, Heard, Unheard, Roomless, Took}
 use Rattle.side_files.specs.declared.line.PromptKind.TheVariants as k
 use Rattle.side_files.specs.Calls.{Pushed, Withdrawn}

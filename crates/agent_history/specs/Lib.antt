@@ -1,3 +1,7 @@
+pub use Rattle.talks.specs.Calls
+pub use Rattle.talks.specs.Lines
+pub use Rattle.talks.specs.Standings
+pub use Rattle.talks.specs.declared.said.Asking
 pub mod Deeds
 pub mod Replies
 pub mod SideFiles

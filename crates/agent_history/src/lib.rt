@@ -6,4 +6,5 @@ mod event;
 
 pub use event::{Event, StepAnswer};
 pub use file_tree::{FidFault, FidState, Node};
+pub use talks::Asking;
 pub use wire_base::Shape;

@@ -39,7 +39,7 @@ use Rattle.conv_challenge.specs.Clients.{bounded}
 use Rattle.conv_challenge.specs.Servers.{grants_challenge, grants_vouch, user_tests, vouch_tests}
 use Rattle.conv_challenge.specs.Starts.{side_of}
 use Rattle.conv_challenge.specs.Courses as mail
-use Rattle.conv_set.specs.Protocols.{Protocol, P9sk1, P9any, Mail, answers_by, answers, ends, ends_by, needs, needs_by, p9sk1, protocol_of}
+use Rattle.talks.specs.Protocols.{Protocol, P9sk1, P9any, Mail, answers_by, answers, ends, ends_by, needs, needs_by, p9sk1, protocol_of}
 use Rattle.agent_laws.proofs.KeyedLaws.{Holds, Leads, either_leads, sized_leads, tested_leads, unless_leads}
 use Rattle.agent_laws.proofs.SideLaws.{agrees_false, agrees_true, mail_good, mail_keeps, mail_role, side_serves}
 

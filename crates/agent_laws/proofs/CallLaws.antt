@@ -23,8 +23,8 @@ use Rattle.roles.specs.declared.need.Outcome.TheVariants.{Running, Accepted, Fin
 use Rattle.roles.specs.Answers.{IsExchange, is_sought}
 use Rattle.roles.specs.Talks.{found, get, give, heard, roomless, unheard}
 use Rattle.roles.specs.Talks.{Call as Move}
-use Rattle.conv_set.specs.Protocols.{answers, ends, is_over, needs, puts, refuses}
-use Rattle.conv_set.proofs.Laws.{heard_needs, roomless_needs, unheard_needs}
+use Rattle.talks.specs.Protocols.{answers, ends, is_over, needs, puts, refuses}
+use Rattle.talks.proofs.Laws.{heard_needs, roomless_needs, unheard_needs}
 use Rattle.rpc_file.specs.Answers.{title_of}
 use Rattle.rpc_file.specs.Requests.{RpcRequest, starts, reads, writes, asks_info, asks_attributes}
 use Rattle.rpc_file.specs.declared.answer.RpcAnswer.{RpcAnswer}
@@ -44,7 +44,7 @@ use Rattle.agent_laws.proofs.LeadLaws.{Next, NextNeed, NoNeed, KeyNeed, OffersNe
 use Rattle.agent_laws.proofs.PutLaws.{IsAsked, Wants, waits_with_question}
 use Rattle.agent_laws.proofs.SeekLaws.{ShownFound, FindsNone, HasOffers, HasPick, found_hidden, offered_hidden, shown_found, value_hidden}
 use Rattle.agent_laws.proofs.SideLaws.{Sought, began_next, began_so, is_any, moved_next, moved_so, next_named}
-use Rattle.conv_set.proofs.EndLaws.{none_at_the_end}
+use Rattle.talks.proofs.EndLaws.{none_at_the_end}
 use Rattle.conversations.proofs.WaitLaws.{waits_idle}
 use Rattle.agent_laws.proofs.AloneLaws.{began_not_alone, given_alone, gives_digits, got_alone, heard_not_alone, is_alone, is_got}
 use Rattle.agent_laws.proofs.ShownLaws.{Ending, EndsNot, EndsBy, EndsAlone, EndsBroken, ending_of, endings, led_after, led_of, Shown, ShownPhase, Idle, Waits, Seeks, AtConfirm, AtNeedkey, AtServer, behind, in_shown, moved_shown, refused_shown, settled, shown, shown_at, shown_phase, standing_at, told_in}

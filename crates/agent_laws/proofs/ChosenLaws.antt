@@ -13,7 +13,7 @@ use Rattle.roles.specs.Talks.{Call as Move}
 use Rattle.rpc_file.specs.Requests.{RpcRequest, starts, reads, writes, asks_info, asks_attributes}
 use Rattle.rpc_file.specs.declared.answer.RpcAnswer.TheVariants as a
 use Rattle.talks.specs.Answers.{attributes, told_key}
-use Rattle.conv_set.specs.Protocols.{needs, puts, refuses}
+use Rattle.talks.specs.Protocols.{needs, puts, refuses}
 use Rattle.talks.specs.Calls as calls
 use Rattle.talks.specs.Calls.{Found, Chosen, AsksConsent, AsksKey, Denied, NoneServes, Offered, Picked}
 use Rattle.talks.specs.Standings.{Begun, Phase, Resting, Waiting, Seeking, OnConfirm, OnNeedkey, OnServer, Kept, Standing, answered, begin_once, carried_out, chosen_for, if_begun, is_for, kept_key, key_of, made, make_move, need_in, sought, sought_if, standing, start_by, started, taken_back, then_stands, told_of_key, with_key, with_move}

@@ -8,7 +8,7 @@ use Rattle.attr_tuples.specs.declared.attr.Attr.{Attr}
 use Rattle.key_lists.specs.CtlLines.{few_of}
 use Rattle.roles.specs.declared.answer.StartFault.{StartFault}
 use Rattle.roles.specs.Talks.{get, give}
-use Rattle.conv_set.specs.Protocols.{answers, needs, puts, refuses}
+use Rattle.talks.specs.Protocols.{answers, needs, puts, refuses}
 use Rattle.rpc_file.specs.Requests.{RpcRequest, starts, reads, writes, asks_info, asks_attributes}
 use Rattle.rpc_file.specs.declared.answer.RpcAnswer.TheVariants as a
 use Rattle.rpc_file.specs.declared.request.RpcFault.{RpcFault}

@@ -33,7 +33,7 @@ use Rattle.conv_challenge.specs.declared.stage.Stage.TheVariants as m
 use Rattle.conv_challenge.specs.Clients.{bounded}
 use Rattle.conv_challenge.specs.Servers.{grants_challenge, grants_vouch, user_tests, vouch_tests}
 use Rattle.conv_challenge.specs.Courses as mail
-use Rattle.conv_set.specs.Protocols.{Protocol, P9sk1, P9any, Mail, needs, needs_by, p9sk1, protocol_of}
+use Rattle.talks.specs.Protocols.{Protocol, P9sk1, P9any, Mail, needs, needs_by, p9sk1, protocol_of}
 use Rattle.roles.specs.Servers.{shown_tests}
 
 -- ---- any role

@@ -41,7 +41,7 @@ use Rattle.conv_challenge.specs.declared.stage.Stage.TheVariants as m
 use Rattle.conv_challenge.specs.Courses as mail
 use Rattle.conv_challenge.proofs.NeedLaws as mail_needs
 use Rattle.agent_laws.specs.Shown.{asks_in_public, shown_need}
-use Rattle.conv_set.specs.Protocols.{Protocol, P9sk1, P9any, Mail, ends, ends_by, needs, needs_by, p9sk1, protocol_of}
+use Rattle.talks.specs.Protocols.{Protocol, P9sk1, P9any, Mail, ends, ends_by, needs, needs_by, p9sk1, protocol_of}
 
 -- ---- what is needed, and what a key leads to
 

@@ -8,8 +8,8 @@ use Rattle.roles.specs.Talks.{get, give}
 use Rattle.roles.specs.Talks.{Call as Move}
 use Rattle.rpc_file.specs.Requests.{RpcRequest, starts, reads, writes, asks_info, asks_attributes}
 use Rattle.rpc_file.specs.declared.answer.RpcAnswer.TheVariants as a
-use Rattle.conv_set.specs.Protocols.{ends, is_over, puts}
-use Rattle.conv_set.proofs.EndLaws.{none_at_the_end, stays_at_the_end}
+use Rattle.talks.specs.Protocols.{ends, is_over, puts}
+use Rattle.talks.proofs.EndLaws.{none_at_the_end, stays_at_the_end}
 use Rattle.talks.specs.Answers.{attributes}
 use Rattle.talks.specs.Calls as calls
 use Rattle.talks.specs.Calls.{Found, Chosen, AsksConsent, AsksKey, Denied, NoneServes, Offered, Picked}

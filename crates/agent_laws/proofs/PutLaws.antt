@@ -17,7 +17,7 @@ use Rattle.rpc_file.specs.Requests.{RpcRequest, starts, reads, writes, asks_info
 use Rattle.rpc_file.specs.declared.answer.RpcAnswer.{RpcAnswer}
 use Rattle.rpc_file.specs.declared.answer.RpcAnswer.TheVariants as a
 use Rattle.talks.specs.Answers.{attributes, move_answer}
-use Rattle.conv_set.specs.Protocols.{answers, needs, puts, refuses}
+use Rattle.talks.specs.Protocols.{answers, needs, puts, refuses}
 use Rattle.talks.specs.Calls as calls
 use Rattle.talks.specs.Calls.{Found, Chosen, AsksConsent, AsksKey, Denied, NoneServes, Offered, Picked}
 use Rattle.talks.specs.Standings.{Begun, Phase, Resting, Waiting, Seeking, OnConfirm, OnNeedkey, OnServer, Kept, Standing, answered, begin, begin_once, carried_out, chosen_for, made, if_begun, is_for, make_move, moved, need_in, phase_after, question_of, sought, sought_if, standing, start_by, started, then_stands, told_of_key, with_key, with_move}

@@ -19,8 +19,8 @@ use Rattle.rpc_file.specs.Requests.{RpcRequest}
 use Rattle.rpc_file.specs.Requests as rpc
 use Rattle.rpc_file.specs.declared.answer.RpcAnswer.{RpcAnswer}
 use Rattle.rpc_file.specs.declared.request.RpcFault.{RpcFault}
-use Rattle.conv_set.specs.Protocols.{needs}
-use Rattle.conv_set.proofs.Laws.{heard_needs, roomless_needs, unheard_needs}
+use Rattle.talks.specs.Protocols.{needs}
+use Rattle.talks.proofs.Laws.{heard_needs, roomless_needs, unheard_needs}
 use Rattle.talks.specs.Calls as calls
 use Rattle.talks.specs.Standings.{Begun, Phase, Resting, Waiting, Seeking, OnConfirm, OnNeedkey, OnServer, Kept, Standing, made, need_in, phase_after, question_of, standing, then_stands, finds}
 use Rattle.agent_history.specs.declared.event.Event.{Event}

@@ -8,7 +8,7 @@ use Rattle.roles.specs.declared.need.Need.{Need}
 use Rattle.roles.specs.declared.need.Need.TheVariants as n
 use Rattle.roles.specs.Talks.{heard, offered, picked, roomless, unheard}
 use Rattle.roles.specs.Talks.{Call as Move}
-use Rattle.conv_set.specs.Protocols.{answers, needs}
+use Rattle.talks.specs.Protocols.{answers, needs}
 use Rattle.rpc_file.specs.declared.answer.RpcAnswer.{RpcAnswer}
 use Rattle.rpc_file.specs.declared.answer.RpcAnswer.TheVariants as a
 use Rattle.side_files.specs.Calls as side

@@ -12,7 +12,7 @@ use Rattle.roles.specs.declared.need.Outcome.TheVariants.{Running, Accepted, Fin
 use Rattle.roles.specs.Answers.{is_sought}
 use Rattle.roles.specs.Talks.{found, offered, picked, undone}
 use Rattle.roles.specs.Talks.{Call as Move}
-use Rattle.conv_set.specs.Protocols.{answers, ends, needs}
+use Rattle.talks.specs.Protocols.{answers, ends, needs}
 use Rattle.rpc_file.specs.declared.answer.RpcAnswer.{RpcAnswer}
 use Rattle.rpc_file.specs.declared.answer.RpcAnswer.TheVariants as a
 use Rattle.talks.specs.declared.said.Said.{Said}

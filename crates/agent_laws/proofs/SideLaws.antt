@@ -48,7 +48,7 @@ use Rattle.conv_challenge.specs.Clients.{bounded}
 use Rattle.conv_challenge.specs.Servers.{grants_challenge, grants_vouch, user_tests, vouch_tests}
 use Rattle.conv_challenge.specs.Starts.{names_proto, side_of}
 use Rattle.conv_challenge.specs.Courses as mail
-use Rattle.conv_set.specs.Protocols.{Protocol, P9sk1, P9any, Mail, needs, needs_by, p9sk1, protocol_of}
+use Rattle.talks.specs.Protocols.{Protocol, P9sk1, P9any, Mail, needs, needs_by, p9sk1, protocol_of}
 use Rattle.agent_laws.proofs.KeyedLaws.{Holds, Leads, course_leads, either_leads, request_leads, sized_leads, tested_leads, ticket_leads, unless_leads}
 use Rattle.agent_laws.proofs.LeadLaws.{Next, ToAnswer, ToServer, any_key, any_need, any_then, next_of}
 

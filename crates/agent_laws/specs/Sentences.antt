@@ -17,7 +17,7 @@ use Rattle.key_lists.specs.Listing.{list_text}
 use Rattle.key_lists.specs.CtlLines.{after_lines, carried_out, lines_fault}
 use Rattle.roles.specs.Starts.{Start}
 use Rattle.roles.specs.Talks.{Call as Move}
-use Rattle.conv_set.specs.Protocols.{needs}
+use Rattle.talks.specs.Protocols.{needs}
 use Rattle.agent_laws.specs.Shown.{asks_in_public, shown_need}
 use Rattle.talks.specs.Calls.{AsksConsent, AsksKey, Found, Sought}
 use Rattle.talks.specs.Standings.{finds}

@@ -13,7 +13,7 @@ use Rattle.roles.specs.declared.need.Need.{Need}
 use Rattle.roles.specs.declared.need.Need.TheVariants.{Nothing, Key, Offers, Pick, Exchange}
 use Rattle.roles.specs.declared.need.Outcome.{Outcome}
 use Rattle.roles.specs.declared.need.Outcome.TheVariants.{Running, Accepted, Finished, Broken}
-use Rattle.conv_set.specs.Protocols.{ends}
+use Rattle.talks.specs.Protocols.{ends}
 use Rattle.talks.specs.Standings.{Begun, Phase, Waiting, Seeking, OnServer, Kept, Standing, carried_out, need_in}
 
 -- ---- requests

@@ -1,3 +1,8 @@
+pub use Rattle.agent_shared.proofs.DeedLemmas
+pub use Rattle.agent_shared.proofs.FidLemmas
+pub use Rattle.agent_shared.proofs.OwnDeeds
+pub use Rattle.agent_shared.proofs.ShareLemmas
+pub use Rattle.mailboxes.proofs.DeliveryLemmas
 pub mod OwnRequests
 pub mod KeepLemmas
 pub mod SwitchLemmas
@@ -6,7 +11,3 @@ pub mod RequestSteps
 pub mod RpcSteps
 pub mod LineSteps
 pub mod FrameSteps
-pub use Rattle.agent_shared.proofs.DeedLemmas
-pub use Rattle.agent_shared.proofs.FidLemmas
-pub use Rattle.agent_shared.proofs.OwnDeeds
-pub use Rattle.agent_shared.proofs.ShareLemmas

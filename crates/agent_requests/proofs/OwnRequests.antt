@@ -18,8 +18,8 @@ use Rattle.side_files.specs.declared.reply.Reply.{Reply as Answer}
 use Rattle.side_files.specs.Lines.{Found, Nothing, TooLong, First, found}
 use Rattle.side_files.specs.Questions.{asker_of}
 use Rattle.side_files.specs.Replies as prompt
-use Rattle.talks.specs.Calls as calls
-use Rattle.talks.specs.Standings.{Phase, Resting, Waiting, Seeking, OnConfirm, OnNeedkey, OnServer, Kept}
+use Rattle.agent_history.specs.Calls as calls
+use Rattle.agent_history.specs.Standings.{Phase, Resting, Waiting, Seeking, OnConfirm, OnNeedkey, OnServer, Kept}
 use Rattle.agent_history.specs.Deeds.{Deed, FidDeed, KeyDeed, OfFids, OfKeys, OfPrompts, OfConnection, Versioned, Walked, Listed, Clunked, Answered, Awaited, Entered, msize_of, fid_of, keys_of, was_opened}
 use Rattle.agent_history.specs.Conversations.{conv_of, standing_of}
 use Rattle.agent_history.specs.SideFiles.{is_line_file, kind_at, lines_in, prompts_of}

@@ -6,9 +6,9 @@ use Rattle.nine_messages.specs.declared.message.RBody.TheVariants as r
 use Rattle.nine_messages.specs.Messages.{r_frame}
 use Rattle.file_tree.specs.declared.tree.Node.{Node}
 use Rattle.side_files.specs.Lines.{Found, Nothing, TooLong, First, found}
-use Rattle.agent_history.specs.Deeds.{Deed, OfReplies, Settled, was_hung}
-use Rattle.agent_history.specs.Replies.{Wait, reader, too_small}
-use Rattle.agent_history.specs.SideFiles.{line_read, lines_in, serve_first, serve_read, serve_reads}
+use Rattle.mailboxes.specs.Deeds.{Deed, OfReplies, Settled, was_hung}
+use Rattle.mailboxes.specs.Replies.{Wait, reader, too_small}
+use Rattle.mailboxes.specs.SideFiles.{line_read, lines_in, serve_first, serve_read, serve_reads}
 use Rattle.mailboxes.specs.declared.mailboxes.Mailboxes.{Mailboxes}
 use Rattle.mailboxes.specs.declared.reply.Reply.{Reply}
 use Rattle.mailboxes.specs.declared.wait.Read.{Read}

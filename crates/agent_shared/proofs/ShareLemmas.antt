@@ -3,12 +3,12 @@ use Rattle.std.proofs.Common.{◌≡◌, ℕ, List, [], ◌∷◌, Bool, true, f
 use Rattle.std.specs.Prelude.{find}
 use Rattle.key_lists.specs.Lists.{KeyList}
 use Rattle.talks.specs.Standings.{Phase, Resting, Waiting, Seeking, OnConfirm, OnNeedkey, OnServer, Kept}
-use Rattle.agent_history.specs.Deeds.{Deed, KeyDeed, ReplyDeed, OfKeys, OfReplies, Switched, keys_of, was_hung}
-use Rattle.agent_history.specs.Replies.{swept}
-use Rattle.agent_history.specs.Conversations.{Speaker, speaker_of, speakers, then_took}
-use Rattle.agent_talks.specs.declared.tell.Told.{Told as Telling}
-use Rattle.agent_talks.specs.Speaks.{stands}
-use Rattle.agent_talks.specs.Tells.{TellsBy}
+use Rattle.mailboxes.specs.Deeds.{Deed, KeyDeed, ReplyDeed, OfKeys, OfReplies, Switched, keys_of, was_hung}
+use Rattle.mailboxes.specs.Replies.{swept}
+use Rattle.mailboxes.specs.Conversations.{Speaker, speaker_of, speakers, then_took}
+use Rattle.logged_talks.specs.Told.{Told as Telling}
+use Rattle.logged_talks.specs.Speaks.{stands}
+use Rattle.logged_talks.specs.Tells.{TellsBy}
 use Rattle.mailboxes.specs.declared.mailboxes.Mailboxes.{Mailboxes}
 use Rattle.mailboxes.specs.Deliveries.{Delivers, SameMail}
 use Rattle.mailboxes.proofs.DeliveryLemmas as mail

@@ -2,16 +2,16 @@
 use Rattle.std.proofs.Common.{◌≡◌, ℕ, ◌+◌, ◌≤◌, List, [], ◌∷◌, ◌++◌, Bool, true, false, cond, eqb, Option, Some, None, refl, sym, ap, subst, ◌∙◌, inl, inr}
 use Rattle.std.proofs.lemmas.Bool.{cases_Bool, eq-eqb, eqb-true, false≢true}
 use Rattle.key_lists.specs.Lists.{KeyList}
-use Rattle.talks.specs.Calls.{AsksConsent, AsksKey, Call, CarriedOut, Chosen, Consented, Denied, Found, Heard, KeyTold, NoneServes, Offered, Picked, Roomless, Shut, Sought, Stored, Took, Unheard}
-use Rattle.talks.specs.declared.said.Asking.{Asking}
-use Rattle.talks.specs.Standings.{Phase, Resting, Waiting, Seeking, OnConfirm, OnNeedkey, OnServer, Kept, Standing, finds, standing}
+use Rattle.agent_history.specs.Calls.{AsksConsent, AsksKey, Call, CarriedOut, Chosen, Consented, Denied, Found, Heard, KeyTold, NoneServes, Offered, Picked, Roomless, Shut, Sought, Stored, Took, Unheard}
+use Rattle.agent_history.specs.Asking.{Asking}
+use Rattle.agent_history.specs.Standings.{Phase, Resting, Waiting, Seeking, OnConfirm, OnNeedkey, OnServer, Kept, Standing, finds, standing}
 use Rattle.conversations.specs.declared.conversation.Conversation.{Conversation}
 use Rattle.conversations.specs.declared.asks.Asks.{Asks}
 use Rattle.conversations.specs.Asking.{IsReady as Made, ReadyIn, asks_that}
 use Rattle.agent_talks.specs.declared.carry.Step.{Step}
 use Rattle.agent_talks.specs.declared.carry.Step.TheVariants as p
 use Rattle.conversations.specs.Fits.{Holds, with_answer, with_request, with_search, with_search_once}
-use Rattle.begun_talks.specs.Shown.{asks_user, has_request, is_seeking, waits_for_server}
+use Rattle.conversations.specs.Shown.{asks_user, has_request, is_seeking, waits_for_server}
 use Rattle.agent_history.specs.Deeds.{Deed, OfTalk, Raised, keys_of}
 use Rattle.agent_history.specs.Conversations.{Question, Speaker, opened_talks, prompting, questions, raised, raising, seeking, seeking_all, sought, sought_once, speakers, standing_of, talk, then_sought}
 use Rattle.agent_history.specs.Conversations as told

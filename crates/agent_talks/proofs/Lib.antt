@@ -1,3 +1,4 @@
+pub use Rattle.conversations.proofs.WaitLaws
 pub mod LeaveLemmas
 pub mod StandLemmas
 pub mod SpeakLemmas

@@ -2,11 +2,11 @@
 use Rattle.std.proofs.Common.{◌≡◌, ℕ, List, Bool, true, false, ◌==◌, ◌&&◌, Option, Some, None, refl, sym, subst, ◌∙◌}
 use Rattle.std.proofs.lemmas.Bool.{false≢true}
 use Rattle.key_lists.specs.Lists.{KeyEntry}
-use Rattle.roles.specs.declared.need.Outcome.{Outcome}
-use Rattle.talks.specs.Standings.{Phase, Resting, Waiting, Seeking, OnConfirm, OnNeedkey, OnServer, Kept, key_of, outcome_of}
+use Rattle.rpc_file.specs.Outcome.{Outcome}
+use Rattle.agent_history.specs.Standings.{Phase, Resting, Waiting, Seeking, OnConfirm, OnNeedkey, OnServer, Kept, key_of, outcome_of}
 use Rattle.conversations.specs.declared.conversation.Conversation.{Conversation}
 use Rattle.conversations.specs.Fits.{Shows}
-use Rattle.begun_talks.specs.Shown as shown
+use Rattle.conversations.specs.Shown as shown
 use Rattle.agent_history.specs.Deeds.{Deed}
 use Rattle.agent_history.specs.Conversations.{chosen_in, conv_of, outcome_in, speakers, standing_of, talk}
 use Rattle.agent_history.specs.Requests.{has_answer, is_resting, phase_in}

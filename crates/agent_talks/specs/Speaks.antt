@@ -2,9 +2,9 @@
 use Rattle.std.specs.Prelude.{◌≡◌, ℕ, ◌≤◌, List, [], ◌∷◌, Bool, true, false, ◌==◌, Option, Some, None}
 use Rattle.std.specs.List.{list_any}
 use Rattle.key_lists.specs.Lists.{KeyList}
-use Rattle.talks.specs.Calls.{Call, CarriedOut}
-use Rattle.talks.specs.Standings.{OnServer, Phase, Waiting, standing}
-use Rattle.talks.specs.declared.said.Asking.{Asking}
+use Rattle.agent_history.specs.Calls.{Call, CarriedOut}
+use Rattle.agent_history.specs.Standings.{OnServer, Phase, Waiting, standing}
+use Rattle.agent_history.specs.Asking.{Asking}
 use Rattle.agent_history.specs.Deeds.{Deed, OfTalk, keys_of}
 use Rattle.agent_history.specs.Conversations as told
 use Rattle.agent_history.specs.Conversations.{Question, Speaker, opened_talks, standing_of, talk, then_raised, then_sought}
@@ -12,7 +12,7 @@ use Rattle.conversations.specs.declared.conversation.Conversation.{Conversation}
 use Rattle.conversations.specs.declared.asks.Asks.{Asks}
 use Rattle.conversations.specs.Asking as C
 use Rattle.conversations.specs.Fits.{Holds, with_search}
-use Rattle.begun_talks.specs.Shown.{has_request}
+use Rattle.conversations.specs.Shown.{has_request}
 use Rattle.agent_talks.specs.declared.held.Talks.{Talks}
 use Rattle.agent_talks.specs.Kept.{kept_at, questions_in, speakers_in}
 

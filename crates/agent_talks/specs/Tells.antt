@@ -4,10 +4,10 @@ use Rattle.nine_messages.specs.declared.message.RBody.{RBody}
 use Rattle.nine_messages.specs.declared.message.RBody.TheVariants as r
 use Rattle.rpc_file.specs.Answers.{answer_text}
 use Rattle.rpc_file.specs.declared.answer.RpcAnswer.{RpcAnswer}
-use Rattle.talks.specs.Standings.{Phase, Resting, Waiting, Seeking, OnConfirm, OnNeedkey, OnServer, Kept}
+use Rattle.agent_history.specs.Standings.{Phase, Resting, Waiting, Seeking, OnConfirm, OnNeedkey, OnServer, Kept}
 use Rattle.conversations.specs.declared.conversation.Conversation.{Conversation}
 use Rattle.conversations.specs.Fits.{answer_held}
-use Rattle.begun_talks.specs.Shown.{answer_in}
+use Rattle.conversations.specs.Shown.{answer_in}
 use Rattle.agent_history.specs.Deeds.{Deed}
 use Rattle.agent_history.specs.Conversations.{standing_of, then_took, told}
 use Rattle.agent_talks.specs.declared.tell.Told.{Told}

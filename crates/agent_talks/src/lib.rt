@@ -10,6 +10,7 @@ mod sights;
 mod speaker;
 mod tell;
 
+pub use conversations::Conversation;
 pub use held::Talks;
 pub use question::Question;
 pub use speaker::{Leaving, Speaker, leaves};

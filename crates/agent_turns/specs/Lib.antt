@@ -1,3 +1,3 @@
+pub use Rattle.agent_driver.specs.Agents
 pub mod Frames
 pub mod Turning
-pub use Rattle.agent_driver.specs.Agents

@@ -19,18 +19,18 @@ use Rattle.roles.specs.declared.need.Need.{Need}
 use Rattle.roles.specs.declared.need.Need.TheVariants.{Nothing, Key, Offers, Pick, Exchange}
 use Rattle.rpc_file.specs.Requests.{RpcRequest, starts, reads, writes, asks_info, asks_attributes}
 use Rattle.rpc_file.specs.declared.answer.RpcAnswer.{RpcAnswer}
-use Rattle.conv_set.specs.Protocols.{refuses}
+use Rattle.talks.specs.Protocols.{refuses}
 use Rattle.talks.specs.Standings.{Begun, Phase, Resting, Waiting, Seeking, OnConfirm, OnNeedkey, OnServer, Kept, Standing, begin_once, carried_out, finds, if_begun, phase_after, standing, start_by, started, template_of, then_stands}
-use Rattle.begun_talks.specs.Shown.{has_request}
-use Rattle.conversations.specs.declared.asks.Asks.{Asks}
-use Rattle.conversations.specs.declared.conversation.Conversation.{Conversation}
-use Rattle.conversations.specs.Asking as C
-use Rattle.conversations.specs.Asking.{IsMade, ReadyIn, SameAsks, asked_kind}
-use Rattle.conversations.specs.Fits.{Shows}
-use Rattle.agent_history.specs.Deeds.{Deed, OfPrompts, OfTalk, is_debug, keys_of}
-use Rattle.agent_history.specs.Conversations as told
-use Rattle.agent_history.specs.Conversations.{prompting, raising, seeking, seeking_all, sought_once, standing_of, talk, then_sought}
-use Rattle.agent_history.specs.SideFiles.{askers, log_of, prompts_of}
+use Rattle.agent_talks.specs.Shown.{has_request}
+use Rattle.agent_talks.specs.Asks.{Asks}
+use Rattle.agent_talks.specs.Conversation.{Conversation}
+use Rattle.agent_talks.specs.Asking as C
+use Rattle.agent_talks.specs.Asking.{IsMade, ReadyIn, SameAsks, asked_kind}
+use Rattle.agent_talks.specs.Fits.{Shows}
+use Rattle.agent_talks.specs.Deeds.{Deed, OfPrompts, OfTalk, is_debug, keys_of}
+use Rattle.agent_talks.specs.Conversations as told
+use Rattle.agent_talks.specs.Conversations.{prompting, raising, seeking, seeking_all, sought_once, standing_of, talk, then_sought}
+use Rattle.agent_talks.specs.SideFiles.{askers, log_of, prompts_of}
 use Rattle.agent_talks.specs.Speaks.{IsKept, IsReady, Readied, carried_in, carried_talk, stands, talked}
 use Rattle.agent_talks.proofs.CarryLemmas.{talked_talk}
 use Rattle.agent_talks.proofs.GrowLemmas as grow

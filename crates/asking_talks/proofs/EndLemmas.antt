@@ -6,10 +6,10 @@ use Rattle.side_files.specs.declared.line.PromptKind.TheVariants as k
 use Rattle.side_files.specs.Calls as side
 use Rattle.talks.specs.Calls.{Call}
 use Rattle.talks.specs.Standings.{standing}
-use Rattle.conversations.specs.Asking.{asked_kind}
-use Rattle.agent_history.specs.Deeds.{Clunked, Deed, Hung, OfConnection, OfFids, OfPrompts, Versioned}
-use Rattle.agent_history.specs.Conversations.{Speaker, all_withdrawn, ended_by, speakers, talk}
-use Rattle.agent_history.specs.SideFiles.{askers, prompts_of}
+use Rattle.agent_talks.specs.Asking.{asked_kind}
+use Rattle.agent_talks.specs.Deeds.{Clunked, Deed, Hung, OfConnection, OfFids, OfPrompts, Versioned}
+use Rattle.agent_talks.specs.Conversations.{Speaker, all_withdrawn, ended_by, speakers, talk}
+use Rattle.agent_talks.specs.SideFiles.{askers, prompts_of}
 use Rattle.agent_talks.specs.declared.speaker.Speaker.{Speaker as HeldSpeaker}
 use Rattle.agent_talks.specs.declared.speaker.Leaving.{Leaving}
 use Rattle.agent_talks.specs.declared.speaker.Leaving.TheVariants as l

@@ -3,9 +3,9 @@ use Rattle.std.proofs.Common.{◌≡◌, ℕ, List, ◌∷◌, Bool, true, false
 use Rattle.rpc_file.specs.declared.answer.RpcAnswer.{RpcAnswer}
 use Rattle.talks.specs.Calls.{Call, Took}
 use Rattle.talks.specs.Standings.{Phase, Resting, Waiting, Seeking, OnConfirm, OnNeedkey, OnServer, Kept, standing}
-use Rattle.agent_history.specs.Deeds.{Deed, OfTalk}
-use Rattle.agent_history.specs.Conversations as told
-use Rattle.agent_history.specs.Conversations.{fits, standing_of, talk, then_took}
+use Rattle.agent_talks.specs.Deeds.{Deed, OfTalk}
+use Rattle.agent_talks.specs.Conversations as told
+use Rattle.agent_talks.specs.Conversations.{fits, standing_of, talk, then_took}
 use Rattle.agent_talks.specs.declared.tell.Told.{Told}
 use Rattle.agent_talks.specs.Speaks.{talked, talked_by}
 use Rattle.agent_talks.specs.Tells.{TellsBy}

@@ -10,10 +10,10 @@ use Rattle.side_files.specs.declared.fault.TooSmall.{TooSmall}
 use Rattle.side_files.specs.declared.line.PromptKind.{PromptKind}
 use Rattle.side_files.specs.declared.line.PromptKind.TheVariants as k
 use Rattle.side_files.specs.Lines.{if_handed}
-use Rattle.agent_history.specs.Deeds.{Deed, FidDeed, ReplyDeed, OfFids, OfKeys, OfLog, OfReplies, OfConnection, DropTaken, HandedOut, Swept, Attached, Walked, Opened, Listed, Browsed, Edited, Entered, Switched, fid_of, names, is_debug, was_opened}
-use Rattle.agent_history.specs.Histories.{entered}
-use Rattle.agent_history.specs.Replies.{has_settled, swept}
-use Rattle.agent_history.specs.SideFiles.{askers, line_read, log_of, prompts_of}
+use Rattle.agent_talks.specs.Deeds.{Deed, FidDeed, ReplyDeed, OfFids, OfKeys, OfLog, OfReplies, OfConnection, DropTaken, HandedOut, Swept, Attached, Walked, Opened, Listed, Browsed, Edited, Entered, Switched, fid_of, names, is_debug, was_opened}
+use Rattle.agent_talks.specs.Histories.{entered}
+use Rattle.agent_talks.specs.Replies.{has_settled, swept}
+use Rattle.agent_talks.specs.SideFiles.{askers, line_read, log_of, prompts_of}
 use Rattle.kept_calls.specs.Keeps.{Converses, SameConverses}
 use Rattle.kept_calls.specs.declared.keeping.KeepingTalks.{KeepingTalks}
 use Rattle.kept_calls.proofs.OtherLemmas as kept

@@ -9,13 +9,13 @@ use Rattle.side_files.specs.Calls as side
 use Rattle.side_files.specs.Questions.{asker_of, replied}
 use Rattle.talks.specs.declared.said.Asking.{Asking}
 use Rattle.talks.specs.Standings.{Phase, Resting, Waiting, Seeking, OnConfirm, OnNeedkey, OnServer, Kept, Standing, then_stands}
-use Rattle.begun_talks.specs.Shown.{asks_user}
-use Rattle.conversations.specs.Asking.{SameAsks, asked_kind, asks_that}
-use Rattle.agent_history.specs.Deeds.{Deed, OfPrompts, OfTalk, keys_of}
-use Rattle.agent_history.specs.Conversations as told
-use Rattle.agent_history.specs.Conversations.{standing_of}
-use Rattle.agent_history.specs.Requests.{said_by}
-use Rattle.agent_history.specs.SideFiles.{askers, prompts_of}
+use Rattle.agent_talks.specs.Shown.{asks_user}
+use Rattle.agent_talks.specs.Asking.{SameAsks, asked_kind, asks_that}
+use Rattle.agent_talks.specs.Deeds.{Deed, OfPrompts, OfTalk, keys_of}
+use Rattle.agent_talks.specs.Conversations as told
+use Rattle.agent_talks.specs.Conversations.{standing_of}
+use Rattle.agent_talks.specs.Requests.{said_by}
+use Rattle.agent_talks.specs.SideFiles.{askers, prompts_of}
 use Rattle.agent_talks.specs.Speaks.{IsReady, Readied, stands, talked}
 use Rattle.agent_talks.proofs.GrowLemmas as grow
 use Rattle.agent_talks.proofs.StandLemmas.{same}

@@ -11,10 +11,10 @@ use Rattle.side_files.specs.Askers.{without_asked, without_conv}
 use Rattle.side_files.specs.Questions.{Questions, asker, first_conv, standing as waiting, withdrawn}
 use Rattle.talks.specs.Calls.{Call, Shut}
 use Rattle.talks.specs.Standings.{standing}
-use Rattle.conversations.specs.Asking.{asked_kind}
-use Rattle.agent_history.specs.Deeds.{Deed, OfPrompts, OfTalk}
-use Rattle.agent_history.specs.Conversations.{standing_of, talk}
-use Rattle.agent_history.specs.SideFiles.{askers, prompts_of}
+use Rattle.agent_talks.specs.Asking.{asked_kind}
+use Rattle.agent_talks.specs.Deeds.{Deed, OfPrompts, OfTalk}
+use Rattle.agent_talks.specs.Conversations.{standing_of, talk}
+use Rattle.agent_talks.specs.SideFiles.{askers, prompts_of}
 use Rattle.agent_talks.proofs.StandLemmas.{other_way}
 use Rattle.kept_calls.specs.Keeps.{Converses}
 use Rattle.kept_calls.specs.declared.keeping.KeepingTalks.{KeepingTalks}

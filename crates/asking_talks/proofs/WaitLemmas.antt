@@ -7,10 +7,10 @@ use Rattle.side_files.specs.Calls as side
 use Rattle.talks.specs.Calls.{Call, Heard, Roomless, Stored, Took, Unheard}
 use Rattle.talks.specs.Standings.{Phase, Resting, Waiting, Seeking, OnConfirm, OnNeedkey, OnServer, Kept, Standing, standing, then_stands}
 use Rattle.file_tree.specs.declared.tree.Node.TheVariants.{Rpc}
-use Rattle.conversations.specs.Asking.{asked_kind}
-use Rattle.agent_history.specs.Deeds.{Deed, OfFids, OfLog, OfPrompts, OfTalk, Opened, fid_of, names}
-use Rattle.agent_history.specs.Conversations.{opened_talks, speakers, talk}
-use Rattle.agent_history.specs.SideFiles.{askers, prompts_of}
+use Rattle.agent_talks.specs.Asking.{asked_kind}
+use Rattle.agent_talks.specs.Deeds.{Deed, OfFids, OfLog, OfPrompts, OfTalk, Opened, fid_of, names}
+use Rattle.agent_talks.specs.Conversations.{opened_talks, speakers, talk}
+use Rattle.agent_talks.specs.SideFiles.{askers, prompts_of}
 use Rattle.agent_talks.specs.Speaks.{is_among, stands}
 use Rattle.agent_talks.proofs.StandLemmas.{among_last}
 use Rattle.asking_talks.specs.Asking.{AllWait, Waits, is_asker, times}

@@ -3,8 +3,8 @@ use Rattle.std.proofs.Common.{◌≡◌, ◌<◌, ◌+◌, ℕ, List, ◌∷◌,
 use Rattle.std.proofs.lemmas.List.{drop_more}
 use Rattle.side_files.specs.declared.line.PromptKind.TheVariants as k
 use Rattle.side_files.specs.Calls as side
-use Rattle.agent_history.specs.Deeds.{Deed, OfPrompts}
-use Rattle.agent_history.specs.Conversations.{all_withdrawn}
+use Rattle.agent_talks.specs.Deeds.{Deed, OfPrompts}
+use Rattle.agent_talks.specs.Conversations.{all_withdrawn}
 use Rattle.agent_talks.specs.declared.speaker.Speaker.{Speaker}
 use Rattle.agent_talks.specs.declared.speaker.Leaving.{Leaving}
 use Rattle.agent_talks.specs.Kept.{leaves}

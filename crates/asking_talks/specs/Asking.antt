@@ -4,11 +4,11 @@ use Rattle.std.specs.Prelude.{◌≡◌, ◌≤◌, ◌+◌, ℕ, List, [], ◌�
 use Rattle.std.specs.List.{list_any}
 use Rattle.side_files.specs.declared.line.PromptKind.{PromptKind}
 use Rattle.side_files.specs.Calls as side
-use Rattle.conversations.specs.Asking.{IsMade, asked_kind}
-use Rattle.agent_history.specs.Deeds.{Deed, OfPrompts}
-use Rattle.agent_history.specs.Conversations.{all_withdrawn, ended_by, standing_of}
-use Rattle.agent_history.specs.Requests.{said_by}
-use Rattle.agent_history.specs.SideFiles.{askers}
+use Rattle.agent_talks.specs.Asking.{IsMade, asked_kind}
+use Rattle.agent_talks.specs.Deeds.{Deed, OfPrompts}
+use Rattle.agent_talks.specs.Conversations.{all_withdrawn, ended_by, standing_of}
+use Rattle.agent_talks.specs.Requests.{said_by}
+use Rattle.agent_talks.specs.SideFiles.{askers}
 use Rattle.agent_talks.specs.declared.speaker.Speaker.{Speaker}
 use Rattle.agent_talks.specs.declared.speaker.Leaving.{Leaving}
 use Rattle.agent_talks.specs.Kept.{leaves}

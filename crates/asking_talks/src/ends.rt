@@ -1,7 +1,7 @@
 // Conversations end, and their questions to users are withdrawn.
 ghost use Rattle.std.specs.Prelude.{List, ℕ, Option};
-ghost use Rattle.agent_history.specs.Deeds.{Clunked, Deed, Hung, OfConnection, OfFids, Versioned};
-ghost use Rattle.agent_history.specs.Conversations.{all_withdrawn};
+ghost use Rattle.agent_talks.specs.Deeds.{Clunked, Deed, Hung, OfConnection, OfFids, Versioned};
+ghost use Rattle.agent_talks.specs.Conversations.{all_withdrawn};
 ghost use Rattle.line_files.specs.Files.{Files};
 ghost use Rattle.asking_talks.specs.Asking.{Tells, convs_leaving, ended};
 

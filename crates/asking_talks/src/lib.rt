@@ -5,3 +5,4 @@ mod asking;
 mod ends;
 
 pub use asking::AskingTalks;
+pub use line_files::{EndLine, build_start};

@@ -26,3 +26,4 @@ pub use merging::merge;
 pub use parse::parse_tuple;
 pub use print::{print_public, print_tuple};
 pub use tuple::Tuple;
+pub use wire_base::{NoMemory, Text};

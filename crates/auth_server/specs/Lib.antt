@@ -1,3 +1,6 @@
+pub use Rattle.auth_tables.specs.Keys
+pub use Rattle.auth_tables.specs.Lines
+pub use Rattle.auth_tables.specs.Speaks
 pub mod Requests
 pub mod Answers
 pub mod Standing

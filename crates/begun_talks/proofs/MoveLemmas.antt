@@ -11,8 +11,8 @@ use Rattle.roles.specs.Talks.{Call as Move}
 use Rattle.rpc_file.specs.declared.answer.RpcAnswer.{RpcAnswer}
 use Rattle.rpc_file.specs.declared.answer.RpcAnswer.TheVariants as a
 use Rattle.talks.specs.Answers.{move_answer, told_key}
-use Rattle.conv_set.specs.Protocols.{answers, needs}
-use Rattle.conv_set.specs.Standing.{Stands}
+use Rattle.talks.specs.Protocols.{answers, needs}
+use Rattle.talks.specs.Standing.{Stands}
 use Rattle.talks.specs.Standings.{Begun, chosen_for, kept_key, phase_after, told_of_key, with_move}
 use Rattle.begun_talks.specs.declared.begun.Begun.{Begun as Held}
 use Rattle.begun_talks.specs.declared.phase.Phase.{Phase}

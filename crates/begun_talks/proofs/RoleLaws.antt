@@ -7,8 +7,8 @@ use Rattle.roles.specs.Starts.{Start}
 use Rattle.roles.specs.Talks.{Call, offered, picked}
 use Rattle.rpc_file.specs.declared.answer.RpcAnswer.TheVariants as a
 use Rattle.talks.specs.Answers.{move_answer}
-use Rattle.conv_set.specs.Protocols.{answers, needs}
-use Rattle.conv_set.proofs.Laws.{IsWell, offered_well, picked_well}
+use Rattle.talks.specs.Protocols.{answers, needs}
+use Rattle.talks.proofs.Laws.{IsWell, offered_well, picked_well}
 
 well : (gave : Gave) (key : Option KeyEntry) → IsWell gave → move_answer a.Ok key gave ≡ a.Ok
 well gave key (inl ok) = ap (λ (g : Gave). move_answer a.Ok key g) ok

@@ -10,9 +10,9 @@ use Rattle.roles.specs.declared.need.Need.TheVariants.{Nothing, Key, Offers, Pic
 use Rattle.roles.specs.Starts.{Start}
 use Rattle.roles.specs.Talks.{get}
 use Rattle.roles.specs.Talks.{Call as Move}
-use Rattle.conv_set.specs.declared.conv.Conv.{Conv}
-use Rattle.conv_set.specs.Protocols.{answers, needs, puts, refuses}
-use Rattle.conv_set.specs.Standing.{Stands}
+use Rattle.talks.specs.Conv.{Conv}
+use Rattle.talks.specs.Protocols.{answers, needs, puts, refuses}
+use Rattle.talks.specs.Standing.{Stands}
 use Rattle.rpc_file.specs.declared.answer.RpcAnswer.{RpcAnswer}
 use Rattle.rpc_file.specs.declared.answer.RpcAnswer.TheVariants as a
 use Rattle.talks.specs.Answers.{move_answer, start_answer}

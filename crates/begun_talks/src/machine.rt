@@ -3,9 +3,9 @@ ghost use Rattle.std.specs.Prelude.{◌≡◌, [], IfOk, OnErr, option_map};
 ghost use Rattle.roles.specs.Talks.{found, get, give, heard};
 ghost use Rattle.begun_talks.specs.Begins.{Made, Got};
 
-use conv_set::Conv;
 use roles::{Gave, Machine, SkKey};
 use std::alloc::Global;
+use talks::Conv;
 use wire_base::{Bytes, NoMemory, Text};
 
 pub fn give_message(machine: &mut Conv, alloc: Global, bytes: &[u8]) -> Result<Gave, NoMemory>

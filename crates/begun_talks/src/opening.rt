@@ -7,10 +7,10 @@ ghost use Rattle.begun_talks.specs.Begins.{Opens};
 
 use crate::begun::Begun;
 use attr_tuples::{Tuple, TupleFault, parse_tuple};
-use conv_set::Conv;
 use roles::{Machine, StartFault};
 use rpc_file::RpcAnswer;
 use std::alloc::Global;
+use talks::Conv;
 use wire_base::NoMemory;
 
 const MOST_ATTRIBUTES: usize = 32;

@@ -8,7 +8,7 @@ use Rattle.roles.specs.Talks.{Call}
 use Rattle.conv_challenge.specs.Starts.{proto_of, side_of}
 use Rattle.conv_p9any.specs.Offers.{dom_in}
 use Rattle.conv_p9any.specs.Texts.{text_with_nul}
-use Rattle.conv_set.specs.Protocols.{P9any, P9sk1, protocol_of}
+use Rattle.talks.specs.Protocols.{P9any, P9sk1, protocol_of}
 use Rattle.talks.specs.Lines.{cause_text}
 use Rattle.wire_model.specs.declared.step.Protocol.TheVariants as protocol
 use Rattle.wire_model.specs.declared.step.Role.TheVariants as part

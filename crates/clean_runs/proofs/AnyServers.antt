@@ -20,7 +20,7 @@ use Rattle.conv_p9any.specs.Courses as choice
 use Rattle.conv_p9any.specs.Offers.{is_offered}
 use Rattle.conv_p9any.specs.Talks.{Standing, choosing, within}
 use Rattle.conv_p9any.specs.Texts.{text_with_nul, with_text}
-use Rattle.conv_set.specs.Protocols.{p9sk1}
+use Rattle.talks.specs.Protocols.{p9sk1}
 use Rattle.talks.specs.Lines.{cause_text}
 use Rattle.wire_histories.specs.Histories.{Act, gave, took, failed}
 use Rattle.wire_histories.specs.Conversations.{asks_by, end_by, is_taken}

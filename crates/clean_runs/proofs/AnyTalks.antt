@@ -27,7 +27,7 @@ use Rattle.conv_p9any.specs.declared.stage.TheConstants.{MOST_TEXT}
 use Rattle.conv_p9any.specs.Courses as choice
 use Rattle.conv_p9any.specs.Talks.{Standing, within}
 use Rattle.conv_p9any.specs.Texts.{ended_text, text_in, text_with_nul}
-use Rattle.conv_set.specs.Protocols.{P9any, P9sk1, p9sk1}
+use Rattle.talks.specs.Protocols.{P9any, P9sk1, p9sk1}
 use Rattle.wire_histories.specs.Histories.{Act, took}
 use Rattle.wire_histories.specs.Conversations.{acts_by, acts_from, asks_by, end_by, if_found, is_taken, meets, met_by, speaks, waiting}
 use Rattle.clean_runs.proofs.LeftLemmas.{acts_above, at, left_at}

@@ -12,7 +12,7 @@ use Rattle.wire_model.specs.declared.step.Role.{Role as Part}
 use Rattle.wire_model.specs.declared.step.Step.{Step}
 use Rattle.wire_model.specs.declared.step.Step.TheVariants.{Start}
 use Rattle.conv_challenge.specs.Starts.{proto_of, side_of}
-use Rattle.conv_set.specs.Protocols.{protocol_of}
+use Rattle.talks.specs.Protocols.{protocol_of}
 use Rattle.roles.specs.Starts.{role_of}
 use Rattle.symbolic_runs.specs.Moves.{Role, Move, Own}
 use Rattle.symbolic_runs.specs.Runs.{Setting as Symbolic, Run, IsRun, begins as begins_run, then_starts, known, own_of, started as started_run, given as labels_given}

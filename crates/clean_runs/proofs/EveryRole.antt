@@ -21,7 +21,7 @@ use Rattle.roles.specs.Starts.{fault_of, is_some_user, names_role, role_of, rule
 use Rattle.conv_challenge.specs.declared.stage.Side.{Side}
 use Rattle.conv_challenge.specs.declared.stage.Side.TheVariants as side
 use Rattle.conv_challenge.specs.Starts.{side_of}
-use Rattle.conv_set.specs.Protocols.{Mail, P9any, P9sk1, Protocol, protocol_of, refuses_by}
+use Rattle.talks.specs.Protocols.{Mail, P9any, P9sk1, Protocol, protocol_of, refuses_by}
 use Rattle.wire_histories.specs.Legal.{MayBe, Spoken}
 use Rattle.clean_runs.proofs.AnyClientLaw.{any_client_is_lawful}
 use Rattle.clean_runs.proofs.AnyServerLaw.{any_server_is_lawful}

@@ -11,7 +11,7 @@ use Rattle.roles.specs.Talks.{Call, Progress, Verdict, give, get, found, heard, 
 use Rattle.conv_p9any.specs.Talks.{needs_any}
 use Rattle.conv_challenge.specs.declared.stage.Stage.{Stage as MailStage}
 use Rattle.conv_challenge.specs.Courses as mail
-use Rattle.conv_set.specs.Protocols.{P9sk1, Mail}
+use Rattle.talks.specs.Protocols.{P9sk1, Mail}
 use Rattle.wire_histories.specs.Histories.{Act, gave, took, answered, unanswered}
 use Rattle.wire_histories.specs.Conversations.{Speaker, acts_by, acts_from, asks_by, end_by, if_found, is_asked, is_given, is_taken, speaks, waiting}
 

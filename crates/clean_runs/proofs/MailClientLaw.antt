@@ -12,7 +12,7 @@ use Rattle.conv_challenge.specs.declared.stage.Proto.TheVariants.{Apop, Cram}
 use Rattle.conv_challenge.specs.declared.stage.Side.TheVariants.{Client}
 use Rattle.conv_challenge.specs.Clients.{digits_by}
 use Rattle.conv_challenge.specs.Starts.{proto_of, side_of}
-use Rattle.conv_set.specs.Protocols.{Mail, protocol_of}
+use Rattle.talks.specs.Protocols.{Mail, protocol_of}
 use Rattle.wire_model.specs.declared.step.Role.{Role as Part}
 use Rattle.wire_model.specs.declared.step.Role.TheVariants as part
 use Rattle.symbolic_runs.specs.Moves.{Role, mail_client, takes, gives, Own, mail_client_challenge, mail_client_answer}

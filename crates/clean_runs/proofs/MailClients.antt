@@ -14,7 +14,7 @@ use Rattle.conv_challenge.specs.declared.stage.TheConstants.{MOST_CHALLENGE}
 use Rattle.conv_challenge.specs.Clients.{bounded, digits_by}
 use Rattle.conv_challenge.specs.Courses as mail
 use Rattle.conv_challenge.specs.Starts.{proto_of, side_of}
-use Rattle.conv_set.specs.Protocols.{Mail}
+use Rattle.talks.specs.Protocols.{Mail}
 use Rattle.wire_histories.specs.Histories.{Act, gave, took}
 use Rattle.wire_histories.specs.Conversations.{acts_from, meets, met_by, speaks, waiting}
 use Rattle.clean_runs.proofs.LeftLemmas.{at, left_at, mail_goes, mail_left}

@@ -23,7 +23,7 @@ use Rattle.conv_challenge.specs.declared.stage.Proto.TheVariants.{Apop, Cram}
 use Rattle.conv_challenge.specs.declared.stage.Side.TheVariants.{Server}
 use Rattle.conv_challenge.specs.Servers.{challenge_question, request_about, request_kind, vouch_question}
 use Rattle.conv_challenge.specs.Starts.{proto_of, side_of}
-use Rattle.conv_set.specs.Protocols.{Mail, protocol_of}
+use Rattle.talks.specs.Protocols.{Mail, protocol_of}
 use Rattle.talks.specs.Lines.{cause_text}
 use Rattle.wire_model.specs.declared.step.Role.TheVariants as part
 use Rattle.symbolic_runs.specs.Forms.{by_client, for_server, mail_request, Fields, authenticator, name_text, pair, request, ticket, vouch}

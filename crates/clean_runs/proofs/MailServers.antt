@@ -28,7 +28,7 @@ use Rattle.conv_challenge.specs.declared.stage.Stage.TheVariants.{ServerKey, Ser
 use Rattle.conv_challenge.specs.Courses as mail
 use Rattle.conv_challenge.specs.Servers.{challenge_came, challenge_question, grants_challenge, grants_vouch, user_came, user_tests, vouch_came, vouch_opened, vouch_question, vouch_tests}
 use Rattle.conv_challenge.specs.Starts.{side_of}
-use Rattle.conv_set.specs.Protocols.{Mail}
+use Rattle.talks.specs.Protocols.{Mail}
 use Rattle.talks.specs.Lines.{cause_text}
 use Rattle.wire_histories.specs.Histories.{Act, gave, took, asked, answered, unanswered, accepted, failed}
 use Rattle.wire_histories.specs.Conversations.{acts_from, end_by, is_taken, meets, met_by, speaks, waiting}

@@ -27,7 +27,7 @@ use Rattle.roles.specs.Starts.{Start, role_of}
 use Rattle.roles.specs.Talks.{Call, found}
 use Rattle.roles.specs.Tickets.{challenge_in, rest_part, ticket_part, ticket_under}
 use Rattle.conv_challenge.specs.Starts.{proto_of, side_of}
-use Rattle.conv_set.specs.Protocols.{P9sk1, protocol_of}
+use Rattle.talks.specs.Protocols.{P9sk1, protocol_of}
 use Rattle.talks.specs.Lines.{cause_text}
 use Rattle.wire_model.specs.declared.step.Protocol.TheVariants as protocol
 use Rattle.symbolic_runs.specs.Forms.{Fields, by_client, for_client, ticket_request, authenticator, client_message, request, server_message, ticket, tickets}

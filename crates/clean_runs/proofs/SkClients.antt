@@ -28,7 +28,7 @@ use Rattle.roles.specs.Courses as sk
 use Rattle.roles.specs.Starts.{Start, role_of}
 use Rattle.roles.specs.Talks.{Call, Verdict, give, get, found, heard, unheard, roomless, undone, offered, picked, goes, stays, breaks, sized, tested, unless_told}
 use Rattle.roles.specs.Tickets.{proof_under, ticket_part, ticket_under, with_request, with_ticket}
-use Rattle.conv_set.specs.Protocols.{P9sk1}
+use Rattle.talks.specs.Protocols.{P9sk1}
 use Rattle.talks.specs.Lines.{cause_text}
 use Rattle.wire_histories.specs.Histories.{Act, gave, took, asked, answered, unanswered, accepted, failed}
 use Rattle.wire_histories.specs.Conversations.{asks_by, end_by, if_found, is_asked, is_taken, meets, speaks, waiting}

@@ -22,7 +22,7 @@ use Rattle.roles.specs.Talks.{Call, found}
 use Rattle.roles.specs.Tickets.{ticket_part, ticket_under}
 use Rattle.roles.proofs.StartLemmas.{nobody_is_name}
 use Rattle.conv_challenge.specs.Starts.{proto_of, side_of}
-use Rattle.conv_set.specs.Protocols.{P9sk1, protocol_of}
+use Rattle.talks.specs.Protocols.{P9sk1, protocol_of}
 use Rattle.talks.specs.Lines.{cause_text}
 use Rattle.wire_model.specs.declared.step.Protocol.TheVariants as protocol
 use Rattle.wire_model.specs.declared.step.Role.TheVariants as part

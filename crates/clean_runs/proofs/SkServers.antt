@@ -22,7 +22,7 @@ use Rattle.roles.specs.Servers.{server_request, shown_came, shown_tests}
 use Rattle.roles.specs.Starts.{Start, role_of}
 use Rattle.roles.specs.Talks.{Call, Progress, Verdict, give, get, found, heard, unheard, roomless, undone, offered, picked, goes, stays, breaks, sized, tested, unless_told}
 use Rattle.roles.specs.Tickets.{proof_for, proof_under, rest_part, ticket_part, ticket_under, with_ticket}
-use Rattle.conv_set.specs.Protocols.{P9sk1}
+use Rattle.talks.specs.Protocols.{P9sk1}
 use Rattle.talks.specs.Lines.{cause_text}
 use Rattle.wire_histories.specs.Histories.{Act, gave, took, accepted, failed}
 use Rattle.wire_histories.specs.Conversations.{end_by, is_taken, meets, met_by, speaks, waiting}

@@ -1,5 +1,8 @@
-pub use Rattle.wire_histories.specs.Legal
 pub use Rattle.symbolic_agreement.specs.Agreement
+pub use Rattle.talks.specs.Protocols
+pub use Rattle.wire_histories.specs.Conversations
+pub use Rattle.wire_histories.specs.Histories
+pub use Rattle.wire_histories.specs.Legal
 pub mod Labels
 pub mod Runs
 pub mod Forms

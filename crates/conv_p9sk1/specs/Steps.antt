@@ -1,6 +1,6 @@
 -- Words for the steps of the machine. No public contract cites them.
 use Rattle.std.specs.Prelude.{◌≡◌, true, ℕ, List, [], length, Result, Ok, Err}
-use Rattle.attr_tuples.specs.Forms.{is_dom}
+use Rattle.roles.specs.Forms.{is_dom}
 use Rattle.ticket_codec.specs.Request.{request_of}
 use Rattle.ticket_codec.specs.declared.fault.FieldFault.{FieldFault}
 use Rattle.ticket_codec.specs.declared.request.TicketReq.{TicketReq}

@@ -1,7 +1,7 @@
 -- What the role of a conversation says, whatever its protocol: each question is asked of the role that the start's template
 -- names. p9any chooses a domain of p9sk1, which is spoken then.
 use Rattle.std.specs.Prelude.{ℕ, List, codes, Bool, true, false, Option, if◌then◌else◌}
-use Rattle.attr_tuples.specs.declared.attr.Attr.{Attr}
+use Rattle.roles.specs.Attr.{Attr}
 use Rattle.roles.specs.declared.answer.Gave.{Gave}
 use Rattle.roles.specs.declared.answer.StartFault.{StartFault}
 use Rattle.roles.specs.declared.need.Need.{Need}

@@ -4,11 +4,10 @@ ghost use Rattle.conv_set.specs.Standing.{KeepsOffered, KeepsPicked, TellsOffere
 ghost use Rattle.conv_set.specs.Meanings.{meant};
 ghost use Rattle.conv_set.specs.Protocols.{protocol_of};
 
-use attr_tuples::Tuple;
 use conv_challenge::ChConv;
 use conv_p9any::AnyConv;
 use conv_p9sk1::SkConv;
-use roles::{Gave, Machine, Need, Outcome, SkKey, StartFault, says};
+use roles::{Gave, Machine, Need, Outcome, SkKey, StartFault, Tuple, says};
 use std::alloc::Global;
 use wire_base::{Bytes, Text};
 

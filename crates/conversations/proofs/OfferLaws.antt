@@ -15,7 +15,7 @@ use Rattle.conv_p9any.specs.declared.stage.Stage.TheVariants.{ServerOffers, Serv
 use Rattle.conv_p9any.specs.Standing as any
 use Rattle.conv_p9any.specs.Talks.{Standing, choosing, within}
 use Rattle.conv_p9any.specs.Courses.{chosen_start, course, need_of, verdict}
-use Rattle.conv_challenge.proofs.NeedLaws as mail
+use Rattle.conv_set.proofs.NeedLaws as mail
 use Rattle.conv_p9sk1.specs.Standing as sk
 use Rattle.conv_set.specs.declared.conv.Conv.{Conv}
 use Rattle.conv_set.specs.declared.conv.Conv.TheVariants as c

@@ -1,2 +1,3 @@
+pub use Rattle.begun_talks.specs.Shown
 pub mod Fits
 pub mod Asking

@@ -23,12 +23,11 @@ use attr_tuples::Tuple;
 use begun_talks::{
     Begun, Opening, Phase, Stored as Request, Wanted, open, phase, read_template, store_request,
 };
-use key_ring::{Key, KeyRing};
 use roles::Outcome;
 use rpc_file::{Request as Written, RpcAnswer};
 use std::alloc::Global;
 use std::mem;
-use talks::{Asking, Found, Said, search_keys};
+use talks::{Asking, Found, Key, KeyRing, Said, search_keys};
 use wire_base::{List, NoMemory, Shape};
 
 /// A conversation of rpc. It has no Debug, which would print secrets.

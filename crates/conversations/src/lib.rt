@@ -8,3 +8,4 @@ mod shown;
 
 pub use asks::Asks;
 pub use conversation::Conversation;
+pub use talks::{Key, KeyRing};

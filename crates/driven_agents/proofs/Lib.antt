@@ -1,3 +1,7 @@
+pub use Rattle.agent_laws.proofs.ConversationLaws
+pub use Rattle.agent_laws.proofs.GrowLaws
+pub use Rattle.agent_laws.proofs.KindLaws
+pub use Rattle.agent_laws.proofs.MetLaws
 pub mod KeyFits
 pub mod EditGrows
 pub mod KeyLaws

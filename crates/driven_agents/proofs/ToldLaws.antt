@@ -9,7 +9,7 @@ use Rattle.roles.specs.declared.answer.StartFault.{StartFault}
 use Rattle.roles.specs.declared.need.Need.{Need}
 use Rattle.roles.specs.declared.need.Need.TheVariants.{Nothing, Key, Offers, Pick, Exchange}
 use Rattle.roles.specs.Talks.{Call as Move, heard, offered, picked, roomless, unheard}
-use Rattle.conv_set.specs.Protocols.{refuses}
+use Rattle.talks.specs.Protocols.{refuses}
 use Rattle.rpc_file.specs.Requests.{RpcRequest}
 use Rattle.rpc_file.specs.Requests as rpc
 use Rattle.talks.specs.declared.said.Said.{Said}

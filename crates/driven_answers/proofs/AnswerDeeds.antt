@@ -20,13 +20,13 @@ use Rattle.agent_history.specs.Deeds.{Deed, OfLog, OfReplies, OfTalk, Settled, S
 use Rattle.agent_history.specs.Replies.{Wait, has_settled, is_unsettled, reader, swept, waits}
 use Rattle.agent_history.specs.SideFiles.{all_served}
 use Rattle.agent_history.specs.Conversations.{Speaker, deliver_to, delivered, fits, give_to, logged, met, questions, raising, resumed, seeking, seeking_all, sought_once, speaker_of, standing_of, talk, then_logged, then_raised, then_sought, then_took, told}
-use Rattle.lawful_roles.proofs.AllRoles.{all_roles}
+use Rattle.world_legality.proofs.AllRoles.{all_roles}
 use Rattle.wire_histories.specs.Conversations.{is_asked}
-use Rattle.recorded_talks.specs.Telling.{on_server}
-use Rattle.driven_agents.specs.Quiet.{NamesNoLines, leads_away}
+use Rattle.world_legality.specs.Telling.{on_server}
+use Rattle.world_legality.specs.Quiet.{NamesNoLines, leads_away}
 use Rattle.idle_agents.specs.Idle.{read_of}
 use Rattle.idle_agents.proofs.CallLemmas.{logged_same, nobody_served, own_talk}
-use Rattle.agent_laws.proofs.KindLaws.{same_number}
+use Rattle.idle_agents.proofs.KindLaws.{same_number}
 use Rattle.driven_answers.proofs.FoundLemmas.{found_first, found_later}
 
 -- what a conversation meets by an answer or by its absence, the move that its role makes by it, and what becomes of its questions

@@ -17,10 +17,10 @@ use Rattle.agent_history.specs.Conversations.{Speaker, asker, conv_of, fits, nex
 use Rattle.agent_history.specs.Histories.{History, deeds, does}
 use Rattle.world_history.specs.Driving.{drive, questions_to, replies_to}
 use Rattle.world_history.specs.Talking.{came}
-use Rattle.recorded_talks.specs.Telling.{on_server}
-use Rattle.recorded_talks.proofs.TellLemmas.{move_told}
+use Rattle.world_legality.specs.Telling.{on_server}
+use Rattle.world_legality.proofs.TellLemmas.{move_told}
 use Rattle.world_legality.specs.Agents.{Answers, Comes, reads_all, reads_none}
-use Rattle.driven_agents.proofs.TakeLaws.{takes_change_none}
+use Rattle.world_legality.proofs.TakeLaws.{takes_change_none}
 use Rattle.idle_agents.specs.Idle.{AreOf, AreRead, IsCalm, IsIdle, IsRead, Runs, read_of}
 use Rattle.idle_agents.proofs.HandedLaws.{none_unhanded, put_by, questions_so}
 use Rattle.idle_agents.proofs.IdleLaws.{asker_behind, idle_behind, seats_behind}

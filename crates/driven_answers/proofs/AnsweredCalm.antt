@@ -11,7 +11,7 @@ use Rattle.rpc_file.specs.declared.answer.RpcAnswer.{RpcAnswer}
 use Rattle.agent_history.specs.Deeds.{Deed, OfTalk, fid_of, msize_of, was_hung, was_opened}
 use Rattle.agent_history.specs.Replies.{waits}
 use Rattle.agent_history.specs.Conversations.{Speaker, fits, speakers, standing_of, talk, told}
-use Rattle.driven_agents.specs.Quiet.{leads_away}
+use Rattle.world_legality.specs.Quiet.{leads_away}
 use Rattle.idle_agents.specs.Idle.{AreRead, IsCalm, IsRead, read_of}
 use Rattle.idle_agents.proofs.UnsettledLaws.{waits_at}
 use Rattle.idle_agents.proofs.CallLemmas.{logged_same, other_talk, own_talk}

@@ -9,10 +9,10 @@ use Rattle.talks.specs.declared.said.Said.{Said}
 use Rattle.talks.specs.Standings.{Begun, Phase, OnServer, Standing, need_in}
 use Rattle.agent_history.specs.Conversations.{asker, questions, standing_of, stands, talk}
 use Rattle.agent_history.specs.Histories.{History, deeds}
-use Rattle.agent_laws.specs.Laws.{asks_server}
-use Rattle.agent_laws.proofs.GrowLaws.{all_are_asked}
+use Rattle.idle_agents.specs.Laws.{asks_server}
+use Rattle.idle_agents.proofs.GrowLaws.{all_are_asked}
 use Rattle.wire_histories.specs.Conversations.{is_asked}
-use Rattle.recorded_talks.specs.Telling.{on_server}
+use Rattle.world_legality.specs.Telling.{on_server}
 use Rattle.idle_agents.proofs.AskedLemmas.{needs_exchange}
 use Rattle.idle_agents.proofs.HandedLaws.{on_server as waits_there}
 use Rattle.driven_answers.proofs.FoundLemmas.{number_passes}

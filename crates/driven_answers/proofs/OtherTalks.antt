@@ -14,8 +14,8 @@ use Rattle.agent_history.specs.Replies.{Wait, has_settled, reader, swept, waits}
 use Rattle.agent_history.specs.SideFiles.{all_served, line_read, lines_in, serve_first, serve_read, serve_reads, served, served_to}
 use Rattle.agent_history.specs.Conversations.{Speaker, asking, deliver_to, delivered, fits, give_to, met, prompting, raising, reader_of, resumed, seeking, seeking_all, sought_once, speaker_of, standing_of, talk, then_logged, then_raised, then_sought}
 use Rattle.agent_history.specs.Histories.{deeds}
-use Rattle.agent_laws.proofs.GrowLaws.{last_or_not}
-use Rattle.driven_agents.proofs.EditGrows.{where_so}
+use Rattle.idle_agents.proofs.GrowLaws.{last_or_not}
+use Rattle.world_legality.proofs.EditGrows.{where_so}
 use Rattle.idle_agents.proofs.CallLemmas.{logged_same, other_talk}
 use Rattle.driven_answers.specs.Answers.{AbsencesLeave, AnswersLeave}
 

@@ -5,8 +5,8 @@ use Rattle.std.specs.List.{list_all, AllByRecursion, IsDistinct}
 use Rattle.std.proofs.lemmas.Bool.{and_from, and_parts, cases_Bool, eq-eqb, eqb-true, ltb-true}
 use Rattle.agent_history.specs.Conversations.{Speaker, conv_of, opened_talks, speaker_of, speakers}
 use Rattle.agent_history.specs.Histories.{History, deeds}
-use Rattle.agent_laws.specs.Laws.{is_same_place}
-use Rattle.agent_laws.proofs.ConversationLaws.{Rise, number, rise_parts, speak_once, speakers_rise}
+use Rattle.idle_agents.specs.Laws.{is_same_place}
+use Rattle.idle_agents.proofs.ConversationLaws.{Rise, number, rise_parts, speak_once, speakers_rise}
 use Rattle.idle_agents.proofs.SeatLaws.{is_at}
 use Rattle.driven_answers.proofs.FoundLemmas.{all_numbers, first_found, number_passes, later_found}
 use Rattle.driven_answers.proofs.OtherTalks.{apart}

@@ -9,7 +9,7 @@ use Rattle.idle_agents.specs.Idle.{read_of}
 use Rattle.idle_agents.proofs.UnsettledLaws.{AreUnsettled, none_given, unsettled_none, waits_at}
 use Rattle.idle_agents.proofs.StillLaws.{kept_all, settled_all}
 use Rattle.idle_agents.proofs.FoundLemmas.{found_stays}
-use Rattle.agent_laws.proofs.KindLaws.{same_number}
+use Rattle.idle_agents.proofs.KindLaws.{same_number}
 use Rattle.driven_answers.proofs.FoundLemmas.{first_found, found_first, found_later, later_found}
 use Rattle.driven_answers.proofs.OtherTalks.{apart}
 

@@ -27,8 +27,8 @@ use Rattle.talks.specs.Answers.{cause_answer, move_answer, start_answer}
 use Rattle.talks.specs.Calls.{Found, Chosen, AsksConsent, AsksKey, Denied, NoneServes, Offered, Picked}
 use Rattle.talks.specs.Standings.{Begun, Phase, Kept, Standing, carried_out, made, phase_after, sought, start_by, started, told_of_key, with_key}
 use Rattle.world_history.specs.Talking.{leaves_untaken}
-use Rattle.recorded_talks.specs.Begun.{BegunWith}
-use Rattle.recorded_talks.specs.Telling.{Searches, finds, idle, is_driven, rests, told_acts}
+use Rattle.world_legality.specs.Begun.{BegunWith}
+use Rattle.world_legality.specs.Telling.{Searches, finds, idle, is_driven, rests, told_acts}
 use Rattle.driven_requests.specs.Requests.{IsWorded}
 use Rattle.driven_requests.proofs.AnySizes.{any_good, any_small}
 use Rattle.driven_requests.proofs.MailSizes.{mail_good, mail_small}

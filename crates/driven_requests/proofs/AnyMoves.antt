@@ -25,7 +25,7 @@ use Rattle.conv_set.specs.Protocols.{p9sk1}
 use Rattle.driven_requests.proofs.SkSizes.{sk_good, sk_small}
 use Rattle.driven_requests.proofs.VerdictForms.{FitMoves, FitsMove, Good, is_bad, tested_so}
 use Rattle.driven_requests.proofs.OffersServe.{dom_short}
-use Rattle.lawful_roles.proofs.RoleForms.{either}
+use Rattle.world_legality.proofs.RoleForms.{either}
 
 -- what stands of a stage: a list that is to be given is short
 abbrev pub StoodAt : Type 0 → Stage → Type 0

@@ -8,7 +8,7 @@ use Rattle.rpc_file.specs.declared.answer.RpcAnswer.{RpcAnswer}
 use Rattle.conv_set.specs.Protocols.{needs}
 use Rattle.talks.specs.Calls.{Found, Chosen, AsksConsent, AsksKey, Denied, NoneServes, Offered, Picked}
 use Rattle.talks.specs.Standings.{Phase, Seeking, OnServer, Kept, Standing, carried_out, phase_after, sought}
-use Rattle.recorded_talks.specs.Telling.{Searches, asks_nobody, finds, rests}
+use Rattle.world_legality.specs.Telling.{Searches, asks_nobody, finds, rests}
 use Rattle.idle_agents.proofs.StandLemmas.{Stands, carried_so, key_so, made_so}
 
 abbrev pub IsUp : Phase → Type 0

@@ -10,7 +10,7 @@ use Rattle.agent_history.specs.Requests.{Call, after_frame, after_granted, answe
 use Rattle.agent_history.specs.Conversations.{asker, opened_talks, speakers, standing_of}
 use Rattle.agent_history.specs.Histories.{History, deeds}
 use Rattle.world_history.specs.Driving.{drive, questions_to, reads, replies_to}
-use Rattle.driven_agents.proofs.TakeLaws.{takes_change_none}
+use Rattle.world_legality.proofs.TakeLaws.{takes_change_none}
 use Rattle.idle_agents.specs.Idle.{IsCalm, IsIdle, Runs}
 use Rattle.idle_agents.proofs.RunLaws.{event_runs}
 use Rattle.idle_agents.proofs.TakenLaws.{replies_so}

@@ -8,9 +8,9 @@ use Rattle.talks.specs.Standings.{Phase, Resting, Waiting, Seeking, OnConfirm, O
 use Rattle.agent_history.specs.Deeds.{Deed, OfTalk, is_debug, keys_of}
 use Rattle.agent_history.specs.SideFiles.{all_served}
 use Rattle.agent_history.specs.Conversations.{Question, asking, met, questions, raised, raising, seeking_all, standing_of, talk, then_logged, then_raised, then_sought}
-use Rattle.driven_agents.specs.Quiet.{NamesNoLines}
-use Rattle.driven_agents.proofs.QuietLaws.{holder_none}
-use Rattle.recorded_talks.specs.Telling.{Searches}
+use Rattle.world_legality.specs.Quiet.{NamesNoLines}
+use Rattle.world_legality.proofs.QuietLaws.{holder_none}
+use Rattle.world_legality.specs.Telling.{Searches}
 use Rattle.idle_agents.proofs.CallLemmas.{nobody_served}
 use Rattle.driven_requests.proofs.SearchDeeds.{IsShut, Rests, SearchedOn, searched_on, times}
 use Rattle.driven_requests.proofs.TalkSides.{Going, all_logged_on, raised_going, same_going, stands_here, talk_going}

@@ -14,8 +14,8 @@ use Rattle.agent_history.specs.Conversations.{standing_of, talk}
 use Rattle.agent_history.specs.Histories.{History, deeds}
 use Rattle.agent_laws.proofs.ConversationLaws.{all_searched}
 use Rattle.wire_histories.specs.Legal.{IsMet}
-use Rattle.driven_agents.specs.Keys.{AreMet}
-use Rattle.driven_agents.proofs.ToldLaws.{told_ring_keys}
+use Rattle.world_legality.specs.Keys.{AreMet}
+use Rattle.world_legality.proofs.ToldLaws.{told_ring_keys}
 use Rattle.driven_requests.proofs.VerdictForms.{FitMoves, FitsMove}
 use Rattle.driven_requests.proofs.OfferedFound.{AreTalked, IsFound, IsTalked, talked}
 

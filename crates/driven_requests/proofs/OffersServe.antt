@@ -13,7 +13,7 @@ use Rattle.key_lists.specs.Listing.{doms_of, each_once, fitting, most_offered, o
 use Rattle.key_ring.proofs.KeyLemmas.{good_dom, has_dom}
 use Rattle.roles.specs.Templates.{given_as}
 use Rattle.talks.specs.Searches.{offered_by, serving}
-use Rattle.driven_agents.specs.Keys.{AreKeys}
+use Rattle.world_legality.specs.Keys.{AreKeys}
 
 -- a template that asks for a key of p9sk1
 abbrev pub for_p9sk1 : List Attr → List Attr

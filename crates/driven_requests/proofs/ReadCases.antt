@@ -19,8 +19,8 @@ use Rattle.agent_history.specs.Requests.{Call, after_frame, answer_read, body_to
 use Rattle.agent_history.specs.Histories.{History, deeds}
 use Rattle.agent_laws.proofs.ConversationLaws.{speakers_rise}
 use Rattle.agent_laws.proofs.GrowLaws.{met_any, none_refuses, not_first}
-use Rattle.driven_agents.proofs.KeyLaws.{keys_are_keys}
-use Rattle.recorded_talks.specs.Telling.{idle, is_driven}
+use Rattle.world_legality.proofs.KeyLaws.{keys_are_keys}
+use Rattle.world_legality.specs.Telling.{idle, is_driven}
 use Rattle.idle_agents.specs.Idle.{IsCalm, IsIdle}
 use Rattle.idle_agents.proofs.StillLaws.{IsStill, still_met, still_of}
 use Rattle.driven_requests.proofs.CarriedLaws.{kept_calm, waiting_calm}

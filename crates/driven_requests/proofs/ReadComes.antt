@@ -18,8 +18,8 @@ use Rattle.agent_history.specs.Histories.{History, deeds}
 use Rattle.world_history.specs.Driving.{drive, reads, replies_to}
 use Rattle.world_history.specs.Talking.{Asks, came, gets, gives, starts, is_taken, word_of}
 use Rattle.wire_histories.specs.Conversations.{is_asked}
-use Rattle.recorded_talks.specs.Begun.{BegunWith}
-use Rattle.recorded_talks.specs.Telling.{answer_acts, idle, is_driven, is_taken_in}
+use Rattle.world_legality.specs.Begun.{BegunWith}
+use Rattle.world_legality.specs.Telling.{answer_acts, idle, is_driven, is_taken_in}
 use Rattle.world_legality.specs.Agents.{Answers, IsCarried, IsUnread, answers_in, asked_as, asked_in, begun_in, bodies, question_in, questions_in, reads_all, reads_none}
 use Rattle.idle_agents.specs.Idle.{IsIdle, Runs}
 use Rattle.idle_agents.proofs.HandedLaws.{bytes_of}

@@ -18,8 +18,8 @@ use Rattle.talks.specs.Answers.{attributes, move_answer}
 use Rattle.talks.specs.Calls.{Call, Found, Chosen, AsksConsent, AsksKey, Denied, NoneServes, Offered, Picked, Stored, CarriedOut, Sought, Consented, KeyTold, Shut, Heard, Unheard, Roomless, Took}
 use Rattle.talks.specs.Standings.{Begun, Phase, Resting, Waiting, Seeking, OnConfirm, OnNeedkey, OnServer, Kept, Standing, answered, begin, begin_once, carried_out, chosen_for, if_begun, is_for, made, make_move, moved, need_in, phase_after, sought, sought_if, standing, start_by, started, taken_back, then_stands, told_of_key, with_key, with_move}
 use Rattle.wire_histories.specs.Conversations.{is_asked, meets}
-use Rattle.lawful_roles.proofs.AllRoles.{all_roles}
-use Rattle.recorded_talks.proofs.SearchSteps.{chosen_meets, offers_meet, pick_meets}
+use Rattle.world_legality.proofs.AllRoles.{all_roles}
+use Rattle.world_legality.proofs.SearchSteps.{chosen_meets, offers_meet, pick_meets}
 use Rattle.driven_requests.proofs.RoomlessLaws.{roomless_rests}
 
 -- a write came last, before which nothing was needed

@@ -21,10 +21,10 @@ use Rattle.talks.specs.declared.said.Asking.{Asking}
 use Rattle.talks.specs.Calls.{Found, Chosen, AsksConsent, AsksKey, Denied, NoneServes, Offered, Picked}
 use Rattle.talks.specs.Searches.{found_among, found_by, is_denied, offered_by, serving}
 use Rattle.talks.specs.Standings.{Begun, Phase, Seeking, Kept, Standing, carried_out, finds, found_for, is_for, need_in, phase_after, role_in, role_name, sought, start_by, started, told_of_key, with_move}
-use Rattle.lawful_roles.proofs.AllRoles.{all_roles}
-use Rattle.recorded_talks.specs.Telling.{idle, is_driven}
-use Rattle.recorded_talks.proofs.SearchSteps.{chosen_meets, offers_meet, pick_meets}
-use Rattle.driven_agents.specs.Keys.{AreKeys}
+use Rattle.world_legality.proofs.AllRoles.{all_roles}
+use Rattle.world_legality.specs.Telling.{idle, is_driven}
+use Rattle.world_legality.proofs.SearchSteps.{chosen_meets, offers_meet, pick_meets}
+use Rattle.world_legality.specs.Keys.{AreKeys}
 use Rattle.driven_requests.proofs.MetDeeds.{most_searches}
 use Rattle.driven_requests.proofs.OffersServe.{for_p9sk1, none_serves}
 use Rattle.driven_requests.proofs.SearchDeeds.{Rests, finds_for, rests_so}

@@ -11,10 +11,10 @@ use Rattle.agent_history.specs.Conversations.{conv_of, standing_of, talk}
 use Rattle.agent_history.specs.Requests.{Call, after_frame, answered, body_for, granted}
 use Rattle.agent_history.specs.Histories.{History, deeds}
 use Rattle.agent_laws.proofs.GrowLaws.{none_refuses}
-use Rattle.driven_agents.proofs.TakeLaws.{takes_change_none}
+use Rattle.world_legality.proofs.TakeLaws.{takes_change_none}
 use Rattle.world_history.specs.Driving.{drive, is_refused, no_word, replies_to, writes}
 use Rattle.world_history.specs.Talking.{Asks, request_text}
-use Rattle.recorded_talks.specs.Telling.{idle}
+use Rattle.world_legality.specs.Telling.{idle}
 use Rattle.world_legality.specs.Agents.{asked_as, begun_in, write_of}
 use Rattle.idle_agents.specs.Idle.{IsIdle, Runs}
 use Rattle.idle_agents.proofs.RunLaws.{event_runs}

@@ -7,7 +7,7 @@ use Rattle.talks.specs.Standings.{Standing, standing, then_stands}
 use Rattle.agent_history.specs.Deeds.{Deed, OfTalk, Raised, is_halted, keys_of, msize_of, was_hung, was_opened}
 use Rattle.agent_history.specs.Replies.{Wait, has_settled, replies, taken, waits}
 use Rattle.agent_history.specs.Conversations.{Speaker, logged, opened_talks, questions, raised, speakers, standing_of, talk}
-use Rattle.driven_agents.specs.Quiet.{leads_away}
+use Rattle.world_legality.specs.Quiet.{leads_away}
 use Rattle.idle_agents.proofs.CallLemmas.{logged_same, other_talk, own_talk}
 
 -- what is looked at of deeds

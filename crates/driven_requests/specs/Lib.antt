@@ -1,1 +1,2 @@
+pub use Rattle.idle_agents.specs.Idle
 pub mod Requests

@@ -5,7 +5,7 @@ use Rattle.agent_history.specs.Conversations.{conv_of}
 use Rattle.agent_history.specs.Histories.{History, deeds}
 use Rattle.world_history.specs.Talking.{Asks, request_questions, requested}
 use Rattle.world_history.specs.Turns.{asks}
-use Rattle.recorded_talks.specs.Begun.{BegunWith}
+use Rattle.world_legality.specs.Begun.{BegunWith}
 use Rattle.world_legality.specs.Agents.{EventsLeave, RequestDoes, begun_in}
 use Rattle.idle_agents.specs.Idle.{AreOf, IsIdle, KeepsAskers, Runs, SameSeats}
 

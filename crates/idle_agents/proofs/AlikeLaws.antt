@@ -10,7 +10,7 @@ use Rattle.agent_history.specs.Deeds.{Deed, Answered, OfReplies, Swept, fid_of, 
 use Rattle.agent_history.specs.Replies.{has_settled, is_unsettled, reply_in, swept, waits}
 use Rattle.agent_history.specs.Conversations.{Speaker, opened_talks, questions, speakers, standing_of}
 use Rattle.agent_history.specs.Requests.{Call, after, after_granted, body_for, replied, reply_of}
-use Rattle.agent_laws.specs.Laws.{gives_content}
+use Rattle.driven_agents.specs.Laws.{gives_content}
 use Rattle.driven_agents.specs.Quiet.{NamesNoLines}
 use Rattle.driven_agents.proofs.EditGrows.{OkIs}
 use Rattle.idle_agents.specs.Idle.{AreRead, IsCalm}

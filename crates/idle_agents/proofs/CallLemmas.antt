@@ -8,7 +8,7 @@ use Rattle.talks.specs.Calls as calls
 use Rattle.agent_history.specs.Deeds.{Deed, OfLog, OfTalk}
 use Rattle.agent_history.specs.SideFiles.{all_served, is_line_file, served, served_to}
 use Rattle.agent_history.specs.Conversations.{logged, talk}
-use Rattle.agent_laws.proofs.KindLaws.{same_number}
+use Rattle.driven_agents.proofs.KindLaws.{same_number}
 use Rattle.driven_agents.specs.Quiet.{NamesNoLines}
 use Rattle.driven_agents.proofs.QuietLaws.{holder_none}
 

@@ -12,7 +12,7 @@ use Rattle.agent_history.specs.Replies.{Wait, has_settled, is_unsettled, reply_i
 use Rattle.agent_history.specs.Conversations.{Speaker, asker, conv_of, opened_talks, speakers}
 use Rattle.agent_history.specs.Requests.{Call, after, after_frame, answered, body_to, call_of, granted, replied, reply_of}
 use Rattle.agent_history.specs.Histories.{History, deeds}
-use Rattle.world_history.specs.Driving.{clunks, drive, no_word, replies_to}
+use Rattle.driven_agents.specs.Driving.{clunks, drive, no_word, replies_to}
 use Rattle.idle_agents.specs.Idle.{AreRead, IsCalm, IsIdle, Runs}
 use Rattle.idle_agents.proofs.AlikeLaws.{GivesNone, IsBare, body_bare, granted_keeps, own_gives_none, read_answered}
 use Rattle.idle_agents.proofs.ClunkLaws.{EndsSo, clunk_ends, ends_not}

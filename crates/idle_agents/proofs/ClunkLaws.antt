@@ -13,7 +13,7 @@ use Rattle.agent_history.specs.SideFiles.{askers, file_of, is_of, prompt_calls}
 use Rattle.agent_history.specs.Conversations.{Speaker, all_shut, all_withdrawn, asker, closed, conv_of, ended_by, given_up_by, opened_talks, questions, speakers}
 use Rattle.agent_history.specs.Requests.{Call, after}
 use Rattle.agent_history.specs.Histories.{History, deeds}
-use Rattle.agent_laws.proofs.ConversationLaws.{speak_once}
+use Rattle.driven_agents.proofs.ConversationLaws.{speak_once}
 use Rattle.driven_agents.proofs.QuietLaws.{NoneAsked, nobody_waits, one_call}
 use Rattle.driven_agents.proofs.WriteLaws.{quiet_deeds}
 use Rattle.idle_agents.specs.Idle.{AreRead, IsCalm}

@@ -11,8 +11,8 @@ use Rattle.agent_history.specs.Deeds.{Answered, Deed, OfReplies, Swept, fid_of}
 use Rattle.agent_history.specs.Conversations.{asker, opened_talks, speakers, talk}
 use Rattle.agent_history.specs.Requests.{Call, after, after_frame, after_granted, answered, body_for, body_to, call_of, granted, refusal}
 use Rattle.agent_history.specs.Histories.{History, deeds}
-use Rattle.agent_laws.proofs.GrowLaws.{none_refuses}
-use Rattle.world_history.specs.Driving.{drive, is_refused, replies_to}
+use Rattle.driven_agents.proofs.GrowLaws.{none_refuses}
+use Rattle.driven_agents.specs.Driving.{drive, is_refused, replies_to}
 use Rattle.idle_agents.specs.Idle.{IsCalm, IsIdle, Runs}
 use Rattle.idle_agents.proofs.AlikeLaws.{answered_same, calm_answered}
 use Rattle.idle_agents.proofs.ExactLaws.{granted_only}

@@ -14,10 +14,10 @@ use Rattle.agent_history.specs.declared.event.StepAnswer.TheVariants.{Ask, Stopp
 use Rattle.agent_history.specs.Deeds.{Deed, DropTaken, HandedOut, was_opened}
 use Rattle.agent_history.specs.Conversations.{Drop, Due, DropDue, NoneDue, Question, QuestionDue, drops, due, due_of, hand_first, next_question, questions, standing_of, stands, talk}
 use Rattle.agent_history.specs.Histories.{Answer, History, answer, asks, deeds, handing, put_out}
-use Rattle.agent_laws.specs.Laws.{asks_server, is_on_server}
-use Rattle.agent_laws.proofs.GrowLaws.{all_are_asked}
-use Rattle.world_history.specs.declared.question.Question.{Question as Put}
-use Rattle.world_history.specs.Driving.{all_taken, ask_up, asked_up, asks_of, drive, hands_out, left_to_hand, question_in, questions_to}
+use Rattle.driven_agents.specs.Laws.{asks_server, is_on_server}
+use Rattle.driven_agents.proofs.GrowLaws.{all_are_asked}
+use Rattle.driven_agents.specs.Question.{Question as Put}
+use Rattle.driven_agents.specs.Driving.{all_taken, ask_up, asked_up, asks_of, drive, hands_out, left_to_hand, question_in, questions_to}
 use Rattle.idle_agents.specs.Idle.{Runs}
 use Rattle.idle_agents.proofs.AskedLemmas.{needs_exchange}
 use Rattle.idle_agents.proofs.FoundLemmas.{found_passes}

@@ -5,7 +5,7 @@ use Rattle.agent_history.specs.declared.event.Event.{Event}
 use Rattle.agent_history.specs.Deeds.{Deed, DropTaken, HandedOut, OfReplies, Taken, was_opened}
 use Rattle.agent_history.specs.Conversations.{Question, Speaker, asker, hand_first, opened_talks, questions, speakers}
 use Rattle.agent_history.specs.Histories.{History, deeds}
-use Rattle.world_history.specs.Driving.{drive}
+use Rattle.driven_agents.specs.Driving.{drive}
 use Rattle.idle_agents.specs.Idle.{AreRead, IsCalm, IsIdle, Runs, SameSeats}
 use Rattle.idle_agents.proofs.HandedLaws.{none_dropped, none_handed}
 use Rattle.idle_agents.proofs.KeptLaws.{KeepsTaken, behind_takes}

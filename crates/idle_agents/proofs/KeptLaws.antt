@@ -7,7 +7,7 @@ use Rattle.agent_history.specs.Deeds.{Deed, DropTaken, Entered, HandedOut, OfCon
 use Rattle.agent_history.specs.Replies.{untaken}
 use Rattle.agent_history.specs.Conversations.{Due, NoneDue, DropDue, QuestionDue, due}
 use Rattle.agent_history.specs.Histories.{History, answer, deeds, entered, handing, is_reply, taking}
-use Rattle.world_history.specs.Driving.{all_taken, ask_up, asks_of, drive, hands_out, take_up, takes_of}
+use Rattle.driven_agents.specs.Driving.{all_taken, ask_up, asks_of, drive, hands_out, take_up, takes_of}
 use Rattle.driven_agents.proofs.EditGrows.{where_so}
 use Rattle.idle_agents.specs.Idle.{Runs}
 use Rattle.idle_agents.proofs.RunLaws.{ask_runs, going, take_runs, taken_runs}

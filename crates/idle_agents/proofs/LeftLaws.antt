@@ -13,8 +13,8 @@ use Rattle.agent_history.specs.Replies.{has_settled, replies, reply_in, swept, t
 use Rattle.agent_history.specs.Conversations.{asker, resumed}
 use Rattle.agent_history.specs.Requests.{Call, after_frame, answered, body_to, call_of, replied}
 use Rattle.agent_history.specs.Histories.{History, deeds, entered}
-use Rattle.agent_laws.proofs.GrowLaws.{KeepsAny, frame_grows, resumed_any}
-use Rattle.agent_laws.proofs.KindLaws.{KeepsIf, is_asked, is_met}
+use Rattle.driven_agents.proofs.GrowLaws.{KeepsAny, frame_grows, resumed_any}
+use Rattle.driven_agents.proofs.KindLaws.{KeepsIf, is_asked, is_met}
 use Rattle.idle_agents.specs.Idle.{Runs}
 use Rattle.idle_agents.proofs.RunLaws.{going}
 

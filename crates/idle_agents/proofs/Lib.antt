@@ -1,3 +1,6 @@
+pub use Rattle.driven_agents.proofs.ConversationLaws
+pub use Rattle.driven_agents.proofs.GrowLaws
+pub use Rattle.driven_agents.proofs.KindLaws
 pub mod RunLaws
 pub mod KeptLaws
 pub mod TakenLaws

@@ -20,7 +20,7 @@ use Rattle.agent_history.specs.Conversations.{opened_talks, speakers, talk}
 use Rattle.agent_history.specs.Requests.{Call, after, after_frame, after_granted, body_to, call_of, granted, granted_body, is_over, lacks_version, refusal, repeats_tag, replied}
 use Rattle.agent_history.specs.Histories.{History, deeds}
 use Rattle.driven_agents.proofs.NamesLaws.{to_ctl}
-use Rattle.world_history.specs.Driving.{agrees, attaches, drive, new_node, no_word, opens, walks}
+use Rattle.driven_agents.specs.Driving.{agrees, attaches, drive, new_node, no_word, opens, walks}
 use Rattle.driven_agents.specs.Quiet.{NamesNoLines}
 use Rattle.idle_agents.specs.Idle.{AreRead, IsCalm, IsIdle, Runs}
 use Rattle.idle_agents.proofs.AlikeLaws.{answered_same, calm_answered}

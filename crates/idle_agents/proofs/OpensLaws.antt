@@ -15,10 +15,10 @@ use Rattle.agent_history.specs.Deeds.{Deed, OfFids, Opened, fid_of, names}
 use Rattle.agent_history.specs.Conversations.{Question, Speaker, asker, conv_of, opened_talks, questions, speakers, standing_of, talk}
 use Rattle.agent_history.specs.Requests.{Call, after, after_frame, call_of, granted}
 use Rattle.agent_history.specs.Histories.{History, deeds}
-use Rattle.agent_laws.proofs.KindLaws.{same_number}
+use Rattle.driven_agents.proofs.KindLaws.{same_number}
 use Rattle.driven_agents.proofs.NamesLaws.{to_rpc}
-use Rattle.world_history.specs.Driving.{drive, is_refused, no_word, opens, refuses_open, replies_to, walked, walks}
-use Rattle.world_history.specs.Driving as driving
+use Rattle.driven_agents.specs.Driving.{drive, is_refused, no_word, opens, refuses_open, replies_to, walked, walks}
+use Rattle.driven_agents.specs.Driving as driving
 use Rattle.idle_agents.specs.Idle.{AreRead, IsCalm, IsIdle, IsRead, Runs}
 use Rattle.idle_agents.proofs.AlikeLaws.{granted_keeps}
 use Rattle.idle_agents.proofs.AskedLemmas.{needs_exchange}

@@ -4,7 +4,7 @@ use Rattle.agent_history.specs.declared.event.Event.{Event}
 use Rattle.agent_history.specs.declared.event.Event.TheVariants.{Take, TakeAsk}
 use Rattle.agent_history.specs.Deeds.{Deed, Halted, is_halted}
 use Rattle.agent_history.specs.Histories.{History, answer, deeds, does, is_reply, most_events}
-use Rattle.world_history.specs.Driving.{all_taken, ask_up, asks_of, drive, hands_out, take_up, takes_of}
+use Rattle.driven_agents.specs.Driving.{all_taken, ask_up, asks_of, drive, hands_out, take_up, takes_of}
 use Rattle.idle_agents.specs.Idle.{Runs}
 
 pub record Going (e : Event) (h : History) : Type 0 where

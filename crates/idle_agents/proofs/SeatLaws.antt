@@ -9,9 +9,9 @@ use Rattle.file_tree.specs.Calls.{is_open}
 use Rattle.agent_history.specs.Deeds.{Deed, names}
 use Rattle.agent_history.specs.Conversations.{Question, Speaker, conv_of, questions, speakers}
 use Rattle.agent_history.specs.Histories.{History, deeds}
-use Rattle.agent_laws.specs.Laws.{asks_server, is_same_place}
-use Rattle.agent_laws.proofs.ConversationLaws.{openers_speak}
-use Rattle.agent_laws.proofs.GrowLaws.{all_are_asked}
+use Rattle.driven_agents.specs.Laws.{asks_server, is_same_place}
+use Rattle.driven_agents.proofs.ConversationLaws.{openers_speak}
+use Rattle.driven_agents.proofs.GrowLaws.{all_are_asked}
 use Rattle.idle_agents.specs.Idle.{IsCalm}
 use Rattle.idle_agents.proofs.FoundLemmas.{found_by, found_passes}
 

@@ -8,8 +8,8 @@ use Rattle.file_tree.specs.Calls.{attached}
 use Rattle.agent_history.specs.Deeds.{Deed, OfFids, OfKeys, OfReplies, OfConnection, OfTalk, OfPrompts, OfLog, Raised, HandedOut, DropTaken, Swept, Halted, Answered, Awaited, Settled, Flushed, Taken, fid_of, msize_of, was_hung, was_opened}
 use Rattle.agent_history.specs.Replies.{Wait, has_settled, is_unsettled, settle_tag, settled_by, swept, waits}
 use Rattle.agent_history.specs.Conversations.{speakers}
-use Rattle.agent_laws.proofs.GrowLaws.{KeepsAny}
-use Rattle.agent_laws.proofs.KindLaws.{is_met, same_number}
+use Rattle.driven_agents.proofs.GrowLaws.{KeepsAny}
+use Rattle.driven_agents.proofs.KindLaws.{is_met, same_number}
 use Rattle.driven_agents.specs.Quiet.{NamesNoLines}
 use Rattle.idle_agents.specs.Idle.{AreRead, IsCalm}
 

@@ -9,7 +9,7 @@ use Rattle.agent_history.specs.declared.event.StepAnswer.TheVariants.{Gone}
 use Rattle.agent_history.specs.Deeds.{Deed, Entered, OfConnection, was_hung, was_opened}
 use Rattle.agent_history.specs.Replies.{replies, taken, untaken}
 use Rattle.agent_history.specs.Histories.{History, answer, deeds, entered, first_reply, is_reply, taking}
-use Rattle.world_history.specs.Driving.{drive, first_left, replies_to, take_up, taken_up, takes_of}
+use Rattle.driven_agents.specs.Driving.{drive, first_left, replies_to, take_up, taken_up, takes_of}
 use Rattle.idle_agents.specs.Idle.{Runs}
 use Rattle.idle_agents.proofs.RunLaws.{going, runs_before, take_runs, taken_runs}
 use Rattle.idle_agents.proofs.KeptLaws.{KeepsAsks, behind_asks}

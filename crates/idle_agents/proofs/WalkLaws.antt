@@ -20,10 +20,10 @@ use Rattle.agent_history.specs.SideFiles.{is_line_file}
 use Rattle.agent_history.specs.Conversations.{asker, conv_of, speakers, talk}
 use Rattle.agent_history.specs.Requests.{Call, after, after_frame, call_of, granted, refusal, walking}
 use Rattle.agent_history.specs.Histories.{History, deeds}
-use Rattle.agent_laws.proofs.ConversationLaws.{openers_speak}
-use Rattle.agent_laws.proofs.MetLaws.{no_walk_fault}
-use Rattle.agent_laws.proofs.KindLaws.{same_number}
-use Rattle.world_history.specs.Driving.{drive, is_refused, no_word, replies_to, walks}
+use Rattle.driven_agents.proofs.ConversationLaws.{openers_speak}
+use Rattle.driven_agents.proofs.MetLaws.{no_walk_fault}
+use Rattle.driven_agents.proofs.KindLaws.{same_number}
+use Rattle.driven_agents.specs.Driving.{drive, is_refused, no_word, replies_to, walks}
 use Rattle.driven_agents.specs.Quiet.{NamesNoLines, leads_away}
 use Rattle.idle_agents.specs.Idle.{IsCalm, IsIdle, Runs, SameSeats}
 use Rattle.idle_agents.proofs.AlikeLaws.{Alike, alike_calm, alike_itself, granted_keeps}

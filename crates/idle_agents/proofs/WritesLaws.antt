@@ -22,8 +22,8 @@ use Rattle.agent_history.specs.SideFiles.{kind_at}
 use Rattle.agent_history.specs.Conversations.{asker, conv_of, talk}
 use Rattle.agent_history.specs.Requests.{Call, after, after_frame, answered, body_to, call_of, granted, is_rpc, line_deed, lines_done, replying, reply_of, stored, written}
 use Rattle.agent_history.specs.Histories.{History, deeds}
-use Rattle.agent_laws.specs.Laws.{gives_content}
-use Rattle.world_history.specs.Driving.{drive, no_word, replies_to, writes}
+use Rattle.driven_agents.specs.Laws.{gives_content}
+use Rattle.driven_agents.specs.Driving.{drive, no_word, replies_to, writes}
 use Rattle.driven_agents.proofs.EditGrows.{granted_so, where_so}
 use Rattle.driven_agents.proofs.FrameKinds.{frame_read, write_so}
 use Rattle.driven_agents.proofs.QuietLaws.{fid_plain, no_kind}

@@ -10,8 +10,8 @@ use Rattle.agent_history.specs.Replies.{Wait, has_settled, reader, untaken, wait
 use Rattle.agent_history.specs.Conversations.{Speaker, asker, conv_of, drops, next_question, opened_talks, speakers, standing_of}
 use Rattle.agent_history.specs.Histories.{History, deeds, does, has_stopped}
 use Rattle.driven_agents.specs.Quiet.{NamesNoLines}
-use Rattle.world_history.specs.declared.question.Question.{Question}
-use Rattle.world_history.specs.Driving.{clunks, drive, new_node, opened, refuses_open, replies_to, writes}
+use Rattle.driven_agents.specs.Question.{Question}
+use Rattle.driven_agents.specs.Driving.{clunks, drive, new_node, opened, refuses_open, replies_to, writes}
 
 -- the agent didn't stop
 abbrev pub Runs : History → Type 0

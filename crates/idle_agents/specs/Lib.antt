@@ -1,1 +1,2 @@
+pub use Rattle.driven_agents.specs.Laws
 pub mod Idle

@@ -1,7 +1,7 @@
 -- The conversations that keep a connection, after each change.
 use Rattle.std.proofs.Common.{◌≡◌, ℕ, ◌+◌, ◌≤◌, List, [], ◌∷◌, ◌++◌, length, Bool, true, false, cond, eqb, not, ◌&&◌, ◌||◌, refl, ap, ◌∙◌, arith}
 use Rattle.std.proofs.lemmas.Bool.{eq-eqb, eqb-true, false≢true}
-use Rattle.agent_history.specs.Conversations.{Drop}
+use Rattle.agent_talks.specs.Conversations.{Drop}
 use Rattle.kept_calls.specs.Calls.{Calls, begun, ended, ended_if, is_kept, others}
 
 pub same : (n : ℕ) → eqb n n ≡ true

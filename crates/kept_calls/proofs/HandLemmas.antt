@@ -3,8 +3,8 @@ use Rattle.std.proofs.Common.{◌≡◌, ◌<◌, ℕ, List, [], ◌∷◌, leng
 use Rattle.std.specs.Prelude.{find, nat_lt}
 use Rattle.std.proofs.lemmas.Bool.{eq-eqb, eqb-true, false≢true}
 use Rattle.talks.specs.Standings.{question_of}
-use Rattle.agent_history.specs.Deeds.{Deed, HandedOut}
-use Rattle.agent_history.specs.Conversations.{Drop, DropDue, Question, QuestionDue, asks_challenge, drops, due, due_of, first_due, keeps, kept_by, next_question, questions, stands, standing_of}
+use Rattle.agent_talks.specs.Deeds.{Deed, HandedOut}
+use Rattle.agent_talks.specs.Conversations.{Drop, DropDue, Question, QuestionDue, asks_challenge, drops, due, due_of, first_due, keeps, kept_by, next_question, questions, stands, standing_of}
 use Rattle.agent_talks.specs.declared.held.Talks.{Talks}
 use Rattle.agent_talks.specs.Speaks.{Speak, asks_for}
 use Rattle.kept_calls.specs.Calls.{Calls, first_of, handed, is_kept}

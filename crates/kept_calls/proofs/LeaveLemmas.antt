@@ -2,8 +2,8 @@
 use Rattle.std.proofs.Common.{◌≡◌, ℕ, List, [], ◌∷◌, ◌++◌, map, filter, Bool, true, false, cond, eqb, not, ◌&&◌, ◌||◌, Option, refl, sym, ap, subst, ◌∙◌, append-nil, append_assoc}
 use Rattle.std.specs.List.{list_any}
 use Rattle.std.proofs.lemmas.Bool.{eqb-true, false≢true}
-use Rattle.agent_history.specs.Deeds.{Deed, OfFids, OfConnection, Versioned, Clunked, Hung}
-use Rattle.agent_history.specs.Conversations.{Drop, Speaker, drop_of, drops, keeps, raised, speakers, stands, talk}
+use Rattle.agent_talks.specs.Deeds.{Deed, OfFids, OfConnection, Versioned, Clunked, Hung}
+use Rattle.agent_talks.specs.Conversations.{Drop, Speaker, drop_of, drops, keeps, raised, speakers, stands, talk}
 use Rattle.agent_talks.specs.declared.speaker.Speaker.{Speaker as HeldSpeaker}
 use Rattle.agent_talks.specs.declared.speaker.Leaving.{Leaving}
 use Rattle.agent_talks.specs.declared.speaker.Leaving.TheVariants as l

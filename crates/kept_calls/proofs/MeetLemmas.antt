@@ -3,11 +3,11 @@ use Rattle.std.proofs.Common.{◌≡◌, ℕ, List, ◌∷◌, true, Option, Som
 use Rattle.rpc_file.specs.declared.answer.RpcAnswer.{RpcAnswer}
 use Rattle.talks.specs.Calls as calls
 use Rattle.talks.specs.Calls.{Call}
-use Rattle.begun_talks.specs.Shown.{asks_user}
+use Rattle.conversations.specs.Shown.{asks_user}
 use Rattle.talks.specs.Standings.{Phase, Resting, Waiting, Seeking, OnConfirm, OnNeedkey, OnServer, Kept, standing}
-use Rattle.agent_history.specs.Deeds.{Deed, OfTalk}
-use Rattle.agent_history.specs.Conversations as told
-use Rattle.agent_history.specs.Conversations.{raised, stands, standing_of, talk}
+use Rattle.agent_talks.specs.Deeds.{Deed, OfTalk}
+use Rattle.agent_talks.specs.Conversations as told
+use Rattle.agent_talks.specs.Conversations.{raised, stands, standing_of, talk}
 use Rattle.agent_talks.specs.declared.held.Talks.{Talks}
 use Rattle.agent_talks.specs.declared.tell.Told.{Told}
 use Rattle.agent_talks.specs.Speaks.{Speak, carried_talk, talked, talked_by}

@@ -6,11 +6,11 @@ use Rattle.file_tree.specs.declared.tree.Node.TheVariants.{Rpc}
 use Rattle.key_lists.specs.CtlLines.{CtlLine}
 use Rattle.side_files.specs.Calls as side
 use Rattle.side_files.specs.declared.line.PromptKind.{PromptKind}
-use Rattle.agent_history.specs.Deeds.{Deed, FidDeed, KeyDeed, ReplyDeed, OfFids, OfKeys, OfReplies, OfConnection, OfPrompts, OfLog, DropTaken, Swept, Attached, Walked, Opened, Listed, Browsed, Entered, fid_of, names, was_opened}
-use Rattle.agent_history.specs.Conversations.{Drop, Speaker, drop_of, drops, keeps, opened_talks, speakers, stands, talk}
-use Rattle.agent_history.specs.Histories.{entered}
-use Rattle.agent_history.specs.Replies.{has_settled, swept}
-use Rattle.agent_history.specs.Requests.{line_deed, lines_done}
+use Rattle.agent_talks.specs.Deeds.{Deed, FidDeed, KeyDeed, ReplyDeed, OfFids, OfKeys, OfReplies, OfConnection, OfPrompts, OfLog, DropTaken, Swept, Attached, Walked, Opened, Listed, Browsed, Entered, fid_of, names, was_opened}
+use Rattle.agent_talks.specs.Conversations.{Drop, Speaker, drop_of, drops, keeps, opened_talks, speakers, stands, talk}
+use Rattle.agent_talks.specs.Histories.{entered}
+use Rattle.agent_talks.specs.Replies.{has_settled, swept}
+use Rattle.agent_talks.specs.Requests.{line_deed, lines_done}
 use Rattle.agent_talks.specs.Speaks.{is_among}
 use Rattle.agent_talks.proofs.OtherLemmas as talks
 use Rattle.agent_talks.proofs.StandLemmas.{among_last}

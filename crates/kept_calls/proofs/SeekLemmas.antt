@@ -15,12 +15,12 @@ use Rattle.roles.specs.Talks.{Call as Move}
 use Rattle.rpc_file.specs.Requests.{RpcRequest, starts, reads, writes, asks_info, asks_attributes}
 use Rattle.rpc_file.specs.declared.answer.RpcAnswer.{RpcAnswer}
 use Rattle.rpc_file.specs.declared.answer.RpcAnswer.TheVariants as a
-use Rattle.conv_set.specs.Protocols.{answers, ends, needs, puts, refuses}
-use Rattle.conv_set.proofs.EndLaws.{none_at_the_end}
+use Rattle.talks.specs.Protocols.{answers, ends, needs, puts, refuses}
+use Rattle.talks.proofs.EndLaws.{none_at_the_end}
 use Rattle.talks.specs.Answers.{attributes, move_answer}
 use Rattle.talks.specs.Calls.{Call, Found, Chosen, AsksConsent, AsksKey, Consented, Denied, KeyTold, NoneServes, Offered, Picked, Stored, Sought, Took}
 use Rattle.talks.specs.Standings.{Begun, Phase, Resting, Waiting, Seeking, OnConfirm, OnNeedkey, OnServer, Kept, Standing, answered, begin, begin_once, carried_out, if_begun, is_for, made, make_move, moved, need_in, outcome_of, outcome_unless, phase_after, sought, sought_if, start_by, started, then_stands, waits_for_user, with_key, with_move}
-use Rattle.begun_talks.specs.Shown.{is_seeking}
+use Rattle.conversations.specs.Shown.{is_seeking}
 use Rattle.talks.specs.Lines.{is_end}
 
 -- ---- at its end it needs nothing

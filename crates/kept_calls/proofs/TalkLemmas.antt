@@ -7,9 +7,9 @@ use Rattle.roles.specs.Answers.{IsKey}
 use Rattle.talks.specs.Calls as calls
 use Rattle.talks.specs.Calls.{Call, Sought}
 use Rattle.talks.specs.Standings.{Begun, Phase, Resting, Waiting, Seeking, OnConfirm, OnNeedkey, OnServer, Kept, Standing, finds, need_in, outcome_of, then_stands}
-use Rattle.begun_talks.specs.Shown.{asks_user, is_seeking}
-use Rattle.agent_history.specs.Deeds.{Deed, OfTalk, OfPrompts, keys_of}
-use Rattle.agent_history.specs.Conversations.{Drop, asking, drop_of, drops, fits, gives_up, keeps, prompting, raised, raising, seeking, seeking_all, sought, sought_once, standing_of, talk, then_sought, then_took}
+use Rattle.conversations.specs.Shown.{asks_user, is_seeking}
+use Rattle.agent_talks.specs.Deeds.{Deed, OfTalk, OfPrompts, keys_of}
+use Rattle.agent_talks.specs.Conversations.{Drop, asking, drop_of, drops, fits, gives_up, keeps, prompting, raised, raising, seeking, seeking_all, sought, sought_once, standing_of, talk, then_sought, then_took}
 use Rattle.talks.specs.Lines.{is_end}
 use Rattle.agent_talks.specs.Speaks.{carried_in, carried_talk, talked}
 use Rattle.side_files.specs.Calls as side

@@ -3,7 +3,7 @@
 -- ends with its fid. That one keeps its connection between a challenge and the answer to it is authsrv(6).
 use Rattle.std.specs.Prelude.{ℕ, List, [], ◌∷◌, ◌++◌, drop, filter, Bool, not, ◌==◌, Option, Some, None, if◌then◌else◌}
 use Rattle.std.specs.List.{list_any}
-use Rattle.agent_history.specs.Conversations.{Drop}
+use Rattle.agent_talks.specs.Conversations.{Drop}
 use Rattle.agent_talks.specs.declared.speaker.Speaker.{Speaker as HeldSpeaker}
 use Rattle.agent_talks.specs.declared.speaker.Leaving.{Leaving}
 use Rattle.agent_talks.specs.Kept.{leaves}

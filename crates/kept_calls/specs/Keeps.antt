@@ -1,8 +1,8 @@
 -- When the connections that are kept, and those that are to be given up, are those that a list of deeds tells of.
 use Rattle.std.specs.Prelude.{◌≡◌, ◌<◌, ℕ, List, [], length, Bool, true, false, Option, Some, None}
 use Rattle.talks.specs.Standings.{outcome_of}
-use Rattle.agent_history.specs.Deeds.{Deed}
-use Rattle.agent_history.specs.Conversations.{Due, NoneDue, DropDue, QuestionDue, drops, keeps, stands, standing_of}
+use Rattle.agent_talks.specs.Deeds.{Deed}
+use Rattle.agent_talks.specs.Conversations.{Due, NoneDue, DropDue, QuestionDue, drops, keeps, stands, standing_of}
 use Rattle.talks.specs.Lines.{is_end}
 use Rattle.agent_talks.specs.Kept.{question_of, unasked}
 use Rattle.agent_talks.specs.Speaks.{Speak}

@@ -1,8 +1,8 @@
 // What is due to be handed out next.
 ghost use Rattle.std.specs.Prelude.{◌≡◌, ◌<◌, [], List, length, nat_lt, is_some, option_map};
-ghost use Rattle.agent_history.specs.Deeds.{Deed};
-ghost use Rattle.agent_history.specs.Conversations.{due, first_due};
-ghost use Rattle.agent_history.specs.Conversations as told;
+ghost use Rattle.agent_talks.specs.Deeds.{Deed};
+ghost use Rattle.agent_talks.specs.Conversations.{due, first_due};
+ghost use Rattle.agent_talks.specs.Conversations as told;
 ghost use Rattle.agent_talks.specs.Kept.{question_of, unasked};
 ghost use Rattle.kept_calls.specs.Calls.{drop_of};
 ghost use Rattle.kept_calls.specs.Keeps.{Converses, IsLeft, due_of};

@@ -3,8 +3,8 @@ ghost use Rattle.std.specs.Prelude.{◌≡◌, true, is_some, IfSome, option_map
 ghost use Rattle.attr_tuples.specs.Forms.{is_hex_key};
 ghost use Rattle.key_digits.specs.Digits.{digits_or_password, spelled};
 
+use attr_tuples::Text;
 use seal_mode::{Key7, pass_to_key};
-use wire_base::Text;
 
 /// The key that 14 hexadecimal digits spell, in either case; None exactly where the text isn't such digits. It takes no
 /// memory.

@@ -6,3 +6,4 @@ mod digits;
 mod tests;
 
 pub use digits::{choose_key, decode_key};
+pub use seal_mode::Key7;

@@ -1,8 +1,8 @@
 // Digits and passwords by hand; the passwords' keys are those of an independent script (bench/vectors/sealing.py).
 use crate::{choose_key, decode_key};
+use attr_tuples::Text;
 use std::process::Abort;
 use std::test::Fail;
-use wire_base::Text;
 
 // Digits, and the key that they spell.
 static DIGITS: [(&str, Option<[u8; 7]>); 9] = [

@@ -2,7 +2,7 @@
 -- refused; those before it stand. After factotum(4) of the Plan 9 manual; the texts of the refusals are this project's.
 use Rattle.std.specs.Prelude.{ℕ, List, [], ◌∷◌, length, take, drop, filter, nat_lt, nat_le, Option, Some, None, Result, Ok, Err, option_map, codes, if◌then◌else◌}
 use Rattle.std.specs.Str.{bytes_eq}
-use Rattle.attr_words.specs.Cutting.{text_lines}
+use Rattle.attr_tuples.specs.Cutting.{text_lines}
 use Rattle.attr_tuples.specs.declared.attr.Attr.{Attr}
 use Rattle.attr_tuples.specs.Grammar.{tuple_of}
 use Rattle.key_lists.specs.declared.fault.AddFault.{AddFault}

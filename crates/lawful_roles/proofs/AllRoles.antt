@@ -1,7 +1,7 @@
 -- Each role is as a role should be.
 use Rattle.roles.specs.Starts.{Start}
-use Rattle.conv_set.specs.Protocols.{Mail, P9any, P9sk1, Protocol, protocol_of}
-use Rattle.wire_histories.specs.Conversations.{speaker, speaks}
+use Rattle.clean_runs.specs.Protocols.{Mail, P9any, P9sk1, Protocol, protocol_of}
+use Rattle.clean_runs.specs.Conversations.{speaker, speaks}
 use Rattle.lawful_roles.specs.Roles.{IsRole}
 use Rattle.lawful_roles.proofs.AnyRole.{any_role}
 use Rattle.lawful_roles.proofs.MailRole.{mail_role}

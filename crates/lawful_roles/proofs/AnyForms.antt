@@ -10,7 +10,7 @@ use Rattle.conv_p9any.specs.declared.stage.TheConstants.{MOST_TEXT}
 use Rattle.conv_p9any.specs.Courses.{waits}
 use Rattle.conv_p9any.specs.Talks.{needs_any}
 use Rattle.conv_p9any.specs.Texts.{ended_text, text_in, with_text}
-use Rattle.wire_histories.specs.Conversations.{is_taken}
+use Rattle.clean_runs.specs.Conversations.{is_taken}
 
 pub text_by : {S : Type 0} (P : Verdict S → Type 0) (text : Result (List ℕ) Gave) (whole : List ℕ → Verdict S) → ((answer : Gave) → P (stays answer)) → ((t : List ℕ) → P (whole t)) → P (with_text text whole)
 text_by P (Ok text) whole small so = so text

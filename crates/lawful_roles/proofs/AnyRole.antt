@@ -20,8 +20,8 @@ use Rattle.conv_p9any.specs.Courses.{asked_each, choice_need, choice_tests, choi
 use Rattle.conv_p9any.specs.Offers.{consents, dom_in}
 use Rattle.conv_p9any.specs.Talks.{Standing, choosing, needs_any, within}
 use Rattle.conv_p9any.specs.Texts.{text_in}
-use Rattle.conv_set.specs.Protocols.{P9any, P9sk1, is_over, p9sk1}
-use Rattle.wire_histories.specs.Conversations.{end_by, ended_as, is_asked, is_given, is_taken, meets, speaks}
+use Rattle.clean_runs.specs.Protocols.{P9any, P9sk1, is_over, p9sk1}
+use Rattle.clean_runs.specs.Conversations.{end_by, ended_as, is_asked, is_given, is_taken, meets, speaks}
 use Rattle.clean_runs.proofs.AnyLemmas.{inner_role}
 use Rattle.lawful_roles.specs.Roles.{IsRole}
 use Rattle.lawful_roles.proofs.AnyForms.{plain_by, text_by, text_plain, waits_room, waits_taken, no_wait}

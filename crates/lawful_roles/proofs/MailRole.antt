@@ -21,8 +21,8 @@ use Rattle.conv_challenge.specs.Courses.{course, first_stage, move, need_at, nee
 use Rattle.conv_challenge.specs.Servers.{grants_challenge, grants_vouch, user_tests, vouch_opened, vouch_tests}
 use Rattle.conv_challenge.specs.Starts.{asked_by_client, side_of}
 use Rattle.roles.specs.Clients.{is_refusal}
-use Rattle.conv_set.specs.Protocols.{Mail, is_over}
-use Rattle.wire_histories.specs.Conversations.{end_by, is_asked, is_given, is_taken, meets, speaks}
+use Rattle.clean_runs.specs.Protocols.{Mail, is_over}
+use Rattle.clean_runs.specs.Conversations.{end_by, is_asked, is_given, is_taken, meets, speaks}
 use Rattle.lawful_roles.specs.Roles.{IsRole}
 use Rattle.lawful_roles.proofs.RoleForms.{bounded_by, either, refusal_room, sized_by, tested_by, ticket_by}
 

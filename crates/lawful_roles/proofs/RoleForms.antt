@@ -19,7 +19,7 @@ use Rattle.roles.specs.Talks.{Call, Verdict, breaks, found, get, give, heard, of
 use Rattle.roles.specs.Tickets.{with_request, with_ticket}
 use Rattle.conv_p9any.specs.Talks.{needs_any}
 use Rattle.conv_challenge.specs.Clients.{bounded}
-use Rattle.wire_histories.specs.Conversations.{end_by, is_asked, meets}
+use Rattle.clean_runs.specs.Conversations.{end_by, is_asked, meets}
 
 pub either : {S : Type 0} (P : Verdict S → Type 0) (b : Bool) (x y : Verdict S) → P x → P y → P (if b then x else y)
 either P true x y first second = first

@@ -24,8 +24,8 @@ use Rattle.roles.specs.Templates.{asked_first, asked_in}
 use Rattle.roles.specs.Talks.{Call, Progress, Verdict, found, get, give, goes, heard, offered, picked, roomless, undone, unheard}
 use Rattle.roles.specs.Tickets.{proof_for, proof_under, rest_part, ticket_part, ticket_under, with_ticket}
 use Rattle.conv_p9any.specs.Talks.{needs_any}
-use Rattle.conv_set.specs.Protocols.{P9sk1, is_over}
-use Rattle.wire_histories.specs.Conversations.{end_by, is_asked, is_given, is_taken, meets, speaks}
+use Rattle.clean_runs.specs.Protocols.{P9sk1, is_over}
+use Rattle.clean_runs.specs.Conversations.{end_by, is_asked, is_given, is_taken, meets, speaks}
 use Rattle.lawful_roles.specs.Roles.{IsRole}
 use Rattle.lawful_roles.proofs.RoleForms.{either, meets_key, none_any, none_met, none_sought, refusal_room, request_by, same_end, sized_by, tested_by, ticket_by}
 

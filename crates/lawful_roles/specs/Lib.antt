@@ -1,1 +1,3 @@
+pub use Rattle.clean_runs.specs.Conversations
+pub use Rattle.clean_runs.specs.Histories
 pub mod Roles

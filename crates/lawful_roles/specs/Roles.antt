@@ -5,9 +5,9 @@ use Rattle.roles.specs.declared.need.Need.TheVariants.{Nothing}
 use Rattle.roles.specs.declared.need.Outcome.TheVariants.{Running}
 use Rattle.roles.specs.Answers.{is_sought}
 use Rattle.roles.specs.Talks.{Call, give, get, heard, unheard, undone}
-use Rattle.conv_set.specs.Protocols.{is_over}
+use Rattle.clean_runs.specs.Protocols.{is_over}
 use Rattle.conv_p9any.specs.Talks.{needs_any}
-use Rattle.wire_histories.specs.Conversations.{Speaker, end_by, is_asked, is_given, is_taken, meets}
+use Rattle.clean_runs.specs.Conversations.{Speaker, end_by, is_asked, is_given, is_taken, meets}
 
 pub record IsRole (s : Speaker) : Type 0 where
   -- a start neither ends nor asks the authentication server

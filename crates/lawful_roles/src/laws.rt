@@ -1,6 +1,6 @@
 // Laws of roles, each the contract of a function that does nothing.
 ghost use Rattle.roles.specs.Starts.{Start};
-ghost use Rattle.wire_histories.specs.Conversations.{speaker};
+ghost use Rattle.clean_runs.specs.Conversations.{speaker};
 ghost use Rattle.lawful_roles.specs.Roles.{IsRole};
 
 /// Each conversation speaks as a role should, whatever it was started with: an end stays, what searches hasn't ended, a message

@@ -15,8 +15,8 @@ use Rattle.side_files.specs.declared.line.PromptKind.{PromptKind}
 use Rattle.side_files.specs.declared.line.PromptKind.TheVariants as k
 use Rattle.roles.specs.Talks.{Call as Move}
 use Rattle.conversations.specs.Asking.{asked_kind}
-use Rattle.agent_history.specs.Deeds.{Deed, OfTalk, keys_of}
-use Rattle.agent_history.specs.Conversations.{asking, prompting, raising, seeking, seeking_all, sought, sought_once, standing_of, then_sought}
+use Rattle.agent_talks.specs.Deeds.{Deed, OfTalk, keys_of}
+use Rattle.agent_talks.specs.Conversations.{asking, prompting, raising, seeking, seeking_all, sought, sought_once, standing_of, then_sought}
 use Rattle.agent_talks.specs.Speaks.{talked}
 use Rattle.line_files.specs.Asked.{Asked, AskedIn, NoneAsked, asks_about}
 

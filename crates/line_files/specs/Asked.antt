@@ -9,9 +9,9 @@ use Rattle.side_files.specs.Questions.{Questions, asked_by, next_line}
 use Rattle.talks.specs.Calls.{AsksConsent}
 use Rattle.talks.specs.Standings.{Standing, finds, template_of}
 use Rattle.conversations.specs.Asking.{asked_kind}
-use Rattle.agent_history.specs.Deeds.{Deed, keys_of}
-use Rattle.agent_history.specs.Conversations.{asking, standing_of}
-use Rattle.agent_history.specs.SideFiles.{prompts_of}
+use Rattle.agent_talks.specs.Deeds.{Deed, keys_of}
+use Rattle.agent_talks.specs.Conversations.{asking, standing_of}
+use Rattle.agent_talks.specs.SideFiles.{prompts_of}
 
 -- a conversation asks about this
 abbrev pub asks_about : ℕ → List ℕ → Questions → Questions

@@ -6,8 +6,8 @@ use Rattle.side_files.specs.declared.line.PromptKind.TheVariants as k
 use Rattle.side_files.specs.Questions.{Questions}
 use Rattle.conversations.specs.declared.asks.Asks.{Asks}
 use Rattle.conversations.specs.Asking.{unmade}
-use Rattle.agent_history.specs.Deeds.{Deed, is_debug}
-use Rattle.agent_history.specs.SideFiles.{log_of, prompts_of}
+use Rattle.agent_talks.specs.Deeds.{Deed, is_debug}
+use Rattle.agent_talks.specs.SideFiles.{log_of, prompts_of}
 use Rattle.line_files.specs.declared.files.LineFiles.{LineFiles}
 
 -- the questions of a kind

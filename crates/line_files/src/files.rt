@@ -5,8 +5,8 @@ ghost use Rattle.side_files.specs.Lines.{Hands, found, if_handed};
 ghost use Rattle.side_files.specs.Questions.{asked_by, asker_of, first_conv, next_line, standing};
 ghost use Rattle.side_files.specs.declared.line.PromptKind.TheVariants as k;
 ghost use Rattle.conversations.specs.Asking.{IsMade};
-ghost use Rattle.agent_history.specs.Deeds.{Deed, OfKeys, OfLog, OfPrompts, Switched, is_debug};
-ghost use Rattle.agent_history.specs.SideFiles.{line_read, lines_in, prompts_of};
+ghost use Rattle.agent_talks.specs.Deeds.{Deed, OfKeys, OfLog, OfPrompts, Switched, is_debug};
+ghost use Rattle.agent_talks.specs.SideFiles.{line_read, lines_in, prompts_of};
 ghost use Rattle.line_files.specs.Files.{Files, asked_in};
 
 use conversations::Asks;

@@ -4,10 +4,10 @@ use Rattle.std.proofs.lemmas.Bool.{false≢true}
 use Rattle.file_tree.specs.declared.tree.Node.{Node}
 use Rattle.file_tree.specs.declared.tree.Node.TheVariants.{Rpc}
 use Rattle.key_lists.specs.Edits.{KeyEdit}
-use Rattle.agent_history.specs.Deeds.{Deed, ReplyDeed, OfFids, OfKeys, OfReplies, OfConnection, Swept, Attached, Walked, Opened, Listed, Browsed, Edited, Switched, Entered, fid_of, names, was_opened}
-use Rattle.agent_history.specs.Conversations.{Speaker, opened_talks, speakers}
-use Rattle.agent_history.specs.Histories.{entered}
-use Rattle.agent_history.specs.Replies.{has_settled, swept}
+use Rattle.agent_talks.specs.Deeds.{Deed, ReplyDeed, OfFids, OfKeys, OfReplies, OfConnection, Swept, Attached, Walked, Opened, Listed, Browsed, Edited, Switched, Entered, fid_of, names, was_opened}
+use Rattle.agent_talks.specs.Conversations.{Speaker, opened_talks, speakers}
+use Rattle.agent_talks.specs.Histories.{entered}
+use Rattle.agent_talks.specs.Replies.{has_settled, swept}
 use Rattle.agent_talks.specs.Speaks.{is_among, stands}
 use Rattle.asking_talks.proofs.OtherLemmas as asking
 use Rattle.logged_talks.specs.declared.logged.LoggedTalks.{LoggedTalks}

@@ -9,8 +9,8 @@ use Rattle.roles.specs.Talks.{Call as Move}
 use Rattle.rpc_file.specs.Requests.{RpcRequest, starts, reads, writes, asks_info, asks_attributes}
 use Rattle.rpc_file.specs.declared.answer.RpcAnswer.{RpcAnswer}
 use Rattle.rpc_file.specs.declared.answer.RpcAnswer.TheVariants as a
-use Rattle.conv_set.specs.Protocols.{answers, ends, is_over, puts}
-use Rattle.conv_set.proofs.EndLaws.{none_at_the_end, stays_at_the_end}
+use Rattle.talks.specs.Protocols.{answers, ends, is_over, puts}
+use Rattle.talks.proofs.EndLaws.{none_at_the_end, stays_at_the_end}
 use Rattle.talks.specs.Answers.{attributes, move_answer}
 use Rattle.talks.specs.Calls.{Call, Found, Chosen, AsksConsent, AsksKey, CarriedOut, Consented, Denied, Heard, KeyTold, NoneServes, Offered, Picked, Roomless, Shut, Stored, Sought, Took, Unheard}
 use Rattle.talks.specs.Lines.{is_end}

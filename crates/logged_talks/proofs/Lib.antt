@@ -1,3 +1,4 @@
+pub use Rattle.agent_talks.proofs.GrowLemmas
 pub mod EndedLaws
 pub mod TemplateLaws
 pub mod SearchedLaws

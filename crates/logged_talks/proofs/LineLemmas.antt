@@ -7,10 +7,10 @@ use Rattle.std.specs.BTreeMap.{is_at}
 use Rattle.std.proofs.lemmas.Bool.{cases_Bool, eqb-true, false≢true}
 use Rattle.attr_tuples.specs.declared.attr.Attr.{Attr}
 use Rattle.roles.specs.declared.need.Outcome.{Outcome}
-use Rattle.conv_set.specs.Protocols.{ends}
+use Rattle.talks.specs.Protocols.{ends}
 use Rattle.talks.specs.Lines.{end_line, end_part, is_end, log_lines, start_line, start_part, start_template}
 use Rattle.talks.specs.Standings.{Begun, Phase, Standing, outcome_of, outcome_unless, waits_for_user}
-use Rattle.conversations.specs.Asking.{template_begun}
+use Rattle.agent_talks.specs.Asking.{template_begun}
 use Rattle.logged_talks.specs.declared.ready.ReadyLine.{ReadyLine}
 use Rattle.logged_talks.specs.Ahead.{IsMadeFor, coming_by, goes_on, new_by, new_template, start_by, template_coming, told_of}
 use Rattle.logged_talks.proofs.TemplateLaws.{IsOf}

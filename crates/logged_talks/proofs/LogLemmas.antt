@@ -7,8 +7,8 @@ use Rattle.side_files.specs.Calls as side
 use Rattle.talks.specs.Calls.{Call}
 use Rattle.talks.specs.Lines.{is_end, log_lines, start_template}
 use Rattle.talks.specs.Standings.{Standing, outcome_of, standing}
-use Rattle.agent_history.specs.Deeds.{Deed, OfLog, is_debug}
-use Rattle.agent_history.specs.Conversations.{Speaker, logged, speakers, standing_of, talk}
+use Rattle.agent_talks.specs.Deeds.{Deed, OfLog, is_debug}
+use Rattle.agent_talks.specs.Conversations.{Speaker, logged, speakers, standing_of, talk}
 use Rattle.agent_talks.specs.Speaks.{is_among, stands, talked}
 use Rattle.agent_talks.proofs.GrowLemmas as grow
 use Rattle.asking_talks.specs.Asking.{Tells}

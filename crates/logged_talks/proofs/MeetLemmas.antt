@@ -8,16 +8,16 @@ use Rattle.roles.specs.declared.need.Outcome.{Outcome}
 use Rattle.side_files.specs.Calls as side
 use Rattle.side_files.specs.declared.line.PromptKind.{PromptKind}
 use Rattle.side_files.specs.declared.line.PromptKind.TheVariants as k
-use Rattle.conv_set.specs.Protocols.{ends}
+use Rattle.talks.specs.Protocols.{ends}
 use Rattle.talks.specs.Calls.{Call, CarriedOut}
 use Rattle.talks.specs.Lines.{is_end}
 use Rattle.talks.specs.Standings.{Begun, Phase, Resting, Waiting, Seeking, OnConfirm, OnNeedkey, OnServer, Kept, Standing, outcome_of, outcome_unless, waits_for_user}
 use Rattle.begun_talks.specs.Shown.{has_request}
-use Rattle.conversations.specs.Asking.{template_begun}
-use Rattle.agent_history.specs.Deeds.{Deed, OfPrompts, is_debug}
-use Rattle.agent_history.specs.Conversations as told
-use Rattle.agent_history.specs.Conversations.{standing_of}
-use Rattle.agent_history.specs.Requests.{said_by}
+use Rattle.agent_talks.specs.Asking.{template_begun}
+use Rattle.agent_talks.specs.Deeds.{Deed, OfPrompts, is_debug}
+use Rattle.agent_talks.specs.Conversations as told
+use Rattle.agent_talks.specs.Conversations.{standing_of}
+use Rattle.agent_talks.specs.Requests.{said_by}
 use Rattle.agent_talks.specs.Speaks.{carried_in, carried_talk, stands, talked, talked_by}
 use Rattle.agent_talks.proofs.AskLemmas.{is_asked}
 use Rattle.asking_talks.specs.declared.asking.AskingTalks.{AskingTalks}

@@ -8,8 +8,8 @@ use Rattle.side_files.specs.declared.line.PromptKind.TheVariants as k
 use Rattle.rpc_file.specs.declared.answer.RpcAnswer.{RpcAnswer}
 use Rattle.talks.specs.Calls.{Call, Took}
 use Rattle.talks.specs.Standings.{Phase, Resting, Waiting, Seeking, OnConfirm, OnNeedkey, OnServer, Kept, Standing, then_stands}
-use Rattle.agent_history.specs.Deeds.{Deed, OfFids, OfPrompts, OfTalk, Opened, fid_of, names}
-use Rattle.agent_history.specs.Conversations.{Speaker, all_withdrawn, fits, opened_talks, speakers, standing_of, talk, then_took}
+use Rattle.agent_talks.specs.Deeds.{Deed, OfFids, OfPrompts, OfTalk, Opened, fid_of, names}
+use Rattle.agent_talks.specs.Conversations.{Speaker, all_withdrawn, fits, opened_talks, speakers, standing_of, talk, then_took}
 use Rattle.agent_talks.specs.Speaks.{Speak, is_among, stands}
 use Rattle.agent_talks.specs.declared.tell.Told.{Told}
 use Rattle.agent_talks.specs.Tells.{TellsBy}

@@ -8,11 +8,11 @@ use Rattle.talks.specs.declared.said.Asking.{Asking}
 use Rattle.talks.specs.Lines.{is_end}
 use Rattle.talks.specs.Standings.{Standing, Waiting, finds, outcome_of, standing, then_stands}
 use Rattle.begun_talks.specs.Shown.{is_seeking}
-use Rattle.conversations.specs.Asking.{template_begun}
-use Rattle.conversations.specs.Fits.{with_search, with_search_once}
-use Rattle.agent_history.specs.Deeds.{Deed, keys_of}
-use Rattle.agent_history.specs.Conversations as told
-use Rattle.agent_history.specs.Conversations.{standing_of, talk}
+use Rattle.agent_talks.specs.Asking.{template_begun}
+use Rattle.agent_talks.specs.Fits.{with_search, with_search_once}
+use Rattle.agent_talks.specs.Deeds.{Deed, keys_of}
+use Rattle.agent_talks.specs.Conversations as told
+use Rattle.agent_talks.specs.Conversations.{standing_of, talk}
 use Rattle.agent_talks.specs.Speaks.{talked}
 use Rattle.agent_talks.proofs.CarryLemmas.{talked_talk}
 use Rattle.logged_talks.specs.Ahead.{template_coming}

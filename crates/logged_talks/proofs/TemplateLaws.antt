@@ -9,9 +9,9 @@ use Rattle.roles.specs.declared.answer.StartFault.{StartFault}
 use Rattle.roles.specs.Talks.{heard, unheard, roomless, offered, picked}
 use Rattle.roles.specs.Talks.{Call as Move}
 use Rattle.rpc_file.specs.Requests.{RpcRequest, starts, reads, writes, asks_info, asks_attributes}
-use Rattle.conv_set.specs.Protocols.{refuses}
+use Rattle.talks.specs.Protocols.{refuses}
 use Rattle.talks.specs.Calls.{Call, Found, Chosen, AsksConsent, AsksKey, CarriedOut, Consented, Denied, Heard, KeyTold, NoneServes, Offered, Picked, Roomless, Shut, Stored, Sought, Took, Unheard}
-use Rattle.conversations.specs.Asking.{template_begun}
+use Rattle.agent_talks.specs.Asking.{template_begun}
 use Rattle.logged_talks.specs.Ahead.{coming_by}
 use Rattle.talks.specs.Standings.{Begun, Phase, Resting, Waiting, Seeking, OnConfirm, OnNeedkey, OnServer, Kept, Standing, carried_out, is_for, made, need_in, sought, sought_if, start_by, started, taken_back, then_stands, with_key}
 

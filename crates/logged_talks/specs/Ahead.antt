@@ -9,12 +9,12 @@ use Rattle.key_lists.specs.CtlLines.{few_of}
 use Rattle.roles.specs.declared.need.Outcome.{Outcome}
 use Rattle.talks.specs.Lines.{end_line, is_end, start_line}
 use Rattle.talks.specs.Standings.{Begun, Phase, Standing, outcome_of}
-use Rattle.conversations.specs.Asking.{start_text}
-use Rattle.agent_history.specs.Deeds.{Deed}
-use Rattle.agent_history.specs.Conversations.{standing_of}
+use Rattle.agent_talks.specs.Asking.{start_text}
+use Rattle.agent_talks.specs.Deeds.{Deed}
+use Rattle.agent_talks.specs.Conversations.{standing_of}
 use Rattle.agent_talks.specs.declared.held.Talks.{Talks}
 use Rattle.agent_talks.specs.Speaks.{Speak, stands}
-use Rattle.line_files.specs.Ends.{EndsFor}
+use Rattle.asking_talks.specs.Ends.{EndsFor}
 use Rattle.logged_talks.specs.declared.ready.ReadyLine.{ReadyLine}
 
 -- ---- by what it starts

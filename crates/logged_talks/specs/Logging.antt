@@ -4,12 +4,12 @@
 use Rattle.std.specs.Prelude.{◌≡◌, ℕ, List, Bool, true, false, not, ◌&&◌, Option, Some, None}
 use Rattle.attr_tuples.specs.declared.attr.Attr.{Attr}
 use Rattle.roles.specs.declared.need.Outcome.{Outcome}
-use Rattle.conv_set.specs.Protocols.{is_over}
+use Rattle.talks.specs.Protocols.{is_over}
 use Rattle.talks.specs.Calls.{Call, CarriedOut}
 use Rattle.talks.specs.Lines.{end_line, is_end, start_template}
 use Rattle.talks.specs.Standings.{Phase, Waiting, outcome_of}
-use Rattle.agent_history.specs.Deeds.{Deed}
-use Rattle.agent_history.specs.Conversations.{logged, standing_of, then_logged}
+use Rattle.agent_talks.specs.Deeds.{Deed}
+use Rattle.agent_talks.specs.Conversations.{logged, standing_of, then_logged}
 use Rattle.agent_talks.specs.declared.held.Talks.{Talks}
 use Rattle.agent_talks.specs.Speaks.{stands, talked}
 use Rattle.asking_talks.specs.Calls.{Calls}

@@ -2,17 +2,16 @@
 ghost use Rattle.std.specs.Prelude.{◌≡◌, List, false, true, is_some, IfOk, Some};
 ghost use Rattle.talks.specs.Lines.{is_end};
 ghost use Rattle.talks.specs.Standings.{outcome_of};
-ghost use Rattle.agent_history.specs.Deeds.{Deed};
+ghost use Rattle.agent_talks.specs.Deeds.{Deed};
 ghost use Rattle.agent_talks.specs.Speaks.{Speak, stands};
 ghost use Rattle.logged_talks.specs.Ahead.{ShowsOf, new_template, start_by};
-ghost use Rattle.conversations.specs.Asking.{template_begun};
-ghost use Rattle.conversations.specs.Fits.{Shows};
+ghost use Rattle.agent_talks.specs.Asking.{template_begun};
+ghost use Rattle.agent_talks.specs.Fits.{Shows};
 
-use agent_talks::Talks;
+use agent_talks::{Conversation, Talks};
+use asking_talks::build_start;
 use attr_tuples::Tuple;
 use begun_talks::read_template;
-use conversations::Conversation;
-use line_files::build_start;
 use roles::Outcome;
 use std::alloc::Global;
 use wire_base::{Bytes, NoMemory};

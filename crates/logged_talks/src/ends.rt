@@ -2,17 +2,17 @@
 ghost use Rattle.std.specs.Prelude.{◌≡◌, List, ℕ, false, true, None, Some, OnErr, OnOk, if◌then◌else◌};
 ghost use Rattle.std.specs.Option.{option_to_list};
 ghost use Rattle.attr_tuples.specs.declared.attr.Attr.{Attr};
-ghost use Rattle.conv_set.specs.Protocols.{is_over};
+ghost use Rattle.talks.specs.Protocols.{is_over};
 ghost use Rattle.talks.specs.Lines.{end_line};
-ghost use Rattle.agent_history.specs.Deeds.{Deed};
+ghost use Rattle.agent_talks.specs.Deeds.{Deed};
 ghost use Rattle.agent_talks.specs.Speaks.{Speak, stands};
-ghost use Rattle.line_files.specs.Ends.{EndsFor};
+ghost use Rattle.asking_talks.specs.Ends.{EndsFor};
 ghost use Rattle.logged_talks.specs.Ahead.{IsMadeFor, SameLines, line_in};
 
 use crate::ahead::stands;
 use crate::ready::ReadyLine;
 use agent_talks::Talks;
-use line_files::EndLine;
+use asking_talks::EndLine;
 use roles::Outcome;
 use std::collections::BTreeMap;
 use wire_base::{Bytes, NoMemory};

@@ -7,4 +7,6 @@ mod log;
 mod logged;
 mod ready;
 
+pub use agent_talks::{Speaker, Told};
+pub use asking_talks::AskingTalks;
 pub use logged::LoggedTalks;

@@ -1,7 +1,7 @@
 // The line of an end that is made ahead.
 ghost use Rattle.std.specs.Prelude.{◌≡◌};
 
-use line_files::EndLine;
+use asking_talks::EndLine;
 
 /// The line by which the end of a conversation is to be told, with all of its room.
 #[derive(Drop)]

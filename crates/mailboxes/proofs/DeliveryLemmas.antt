@@ -11,7 +11,7 @@ use Rattle.nine_messages.specs.Messages.{r_frame}
 use Rattle.side_files.specs.Calls as side
 use Rattle.side_files.specs.declared.line.PromptKind.{PromptKind}
 use Rattle.agent_history.specs.Deeds.{Deed, OfFids, OfKeys, OfReplies, OfConnection, OfTalk, OfPrompts, OfLog, Raised, HandedOut, DropTaken, Swept, Halted, Entered, Versioned, Attached, Walked, Opened, Listed, Browsed, KeyDeed, Clunked, Answered, Awaited, Settled, Flushed, Taken, Hung, was_hung}
-use Rattle.talks.specs.Calls.{Call}
+use Rattle.agent_history.specs.Calls.{Call}
 use Rattle.agent_history.specs.Replies as told
 use Rattle.agent_history.specs.Replies.{Wait, waits, waits_under, waits_for, has_settled, replies, taken, untaken, fid_given_up, reply_in}
 use Rattle.mailboxes.specs.declared.mailboxes.Mailboxes.{Mailboxes}

@@ -12,7 +12,7 @@ use Rattle.key_lists.specs.Lists.{KeyEntry}
 use Rattle.roles.specs.declared.answer.StartFault.{StartFault}
 use Rattle.roles.specs.Talks.{Call as Move, heard, offered, picked, roomless, unheard}
 use Rattle.begun_talks.proofs.TemplateLemmas.{few_fit}
-use Rattle.conv_set.specs.Protocols.{refuses}
+use Rattle.talks.specs.Protocols.{refuses}
 use Rattle.rpc_file.specs.Requests.{RpcRequest}
 use Rattle.rpc_file.specs.Requests as rpc
 use Rattle.talks.specs.Calls.{Call, Found, Chosen, AsksConsent, AsksKey, Denied, NoneServes, Offered, Picked, Stored, CarriedOut, Sought, Consented, KeyTold, Shut, Heard, Unheard, Roomless, Took}

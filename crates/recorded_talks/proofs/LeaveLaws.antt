@@ -4,7 +4,7 @@ use Rattle.std.proofs.Common.{ℕ, List}
 use Rattle.roles.specs.Talks.{heard, unheard}
 use Rattle.rpc_file.specs.Requests as rpc
 use Rattle.talks.specs.Standings.{Waiting}
-use Rattle.wire_histories.specs.Histories.{answered, unanswered}
+use Rattle.lawful_roles.specs.Histories.{answered, unanswered}
 use Rattle.recorded_talks.specs.Telling.{AnswersLeave, RequestsLeave}
 use Rattle.recorded_talks.proofs.StartLaws.{start_left}
 use Rattle.recorded_talks.proofs.RequestLaws.{heard_left, read_left, unheard_left}

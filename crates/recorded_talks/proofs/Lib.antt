@@ -1,3 +1,6 @@
+pub use Rattle.lawful_roles.proofs.AllRoles
+pub use Rattle.lawful_roles.proofs.RoleForms
+pub use Rattle.lawful_roles.proofs.SkRole
 pub mod TellLemmas
 pub mod SearchSteps
 pub mod StartLaws

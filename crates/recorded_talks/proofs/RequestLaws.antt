@@ -11,12 +11,12 @@ use Rattle.rpc_file.specs.Answers.{answer_text}
 use Rattle.rpc_file.specs.Requests as rpc
 use Rattle.rpc_file.specs.declared.answer.RpcAnswer.{RpcAnswer}
 use Rattle.rpc_file.specs.declared.answer.RpcAnswer.TheVariants as a
-use Rattle.conv_set.specs.Protocols.{answers, ends, needs, puts}
+use Rattle.talks.specs.Protocols.{answers, ends, needs, puts}
 use Rattle.talks.specs.declared.said.Said.{Said}
 use Rattle.talks.specs.Answers.{move_answer}
 use Rattle.talks.specs.Standings.{Begun, Phase, Kept, Seeking, Standing, carried_out, made, need_in, outcome_of, phase_after, with_move}
-use Rattle.wire_histories.specs.Histories.{Act, answered, gave, unanswered}
-use Rattle.wire_histories.specs.Conversations.{asked_now, asks_by, end_by, is_asked, is_given}
+use Rattle.lawful_roles.specs.Histories.{Act, answered, gave, unanswered}
+use Rattle.lawful_roles.specs.Conversations.{asked_now, asks_by, end_by, is_asked, is_given}
 use Rattle.lawful_roles.proofs.AllRoles.{all_roles}
 use Rattle.recorded_talks.specs.Telling.{Searches, acts_in, answer_acts, answer_recorded, end_acts, idle, on_server, question_acts, request_acts, told_acts}
 use Rattle.recorded_talks.proofs.TellLemmas.{got_told, move_told, not_started_told}

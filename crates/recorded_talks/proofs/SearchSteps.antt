@@ -11,8 +11,8 @@ use Rattle.rpc_file.specs.Answers.{answer_text}
 use Rattle.rpc_file.specs.declared.answer.RpcAnswer.{RpcAnswer}
 use Rattle.talks.specs.Calls.{Chosen, Offered, Picked}
 use Rattle.talks.specs.Standings.{Seeking, Standing, is_for, phase_after, waits_for_user}
-use Rattle.wire_histories.specs.Histories.{Act}
-use Rattle.wire_histories.specs.Conversations.{Speaker, acts_from, asked_now, asks_by, done_by, end_by, ended_as, if_found, is_asked, meets, seeks, waiting}
+use Rattle.lawful_roles.specs.Histories.{Act}
+use Rattle.lawful_roles.specs.Conversations.{Speaker, acts_from, asked_now, asks_by, done_by, end_by, ended_as, if_found, is_asked, meets, seeks, waiting}
 use Rattle.lawful_roles.specs.Roles.{IsRole}
 use Rattle.recorded_talks.specs.Telling.{Searches, rests, finds, answer_acts, question_acts, told_acts}
 

@@ -12,8 +12,8 @@ use Rattle.attr_tuples.specs.declared.attr.Attr.{Attr}
 use Rattle.rpc_file.specs.Answers.{answer_text}
 use Rattle.rpc_file.specs.declared.answer.RpcAnswer.TheVariants as a
 use Rattle.talks.specs.Answers.{cause_answer, move_answer, start_answer}
-use Rattle.wire_histories.specs.Histories.{gave}
-use Rattle.wire_histories.specs.Conversations.{is_given, is_taken}
+use Rattle.lawful_roles.specs.Histories.{gave}
+use Rattle.lawful_roles.specs.Conversations.{is_given, is_taken}
 use Rattle.world_history.specs.Talking.{leaves_untaken}
 use Rattle.recorded_talks.specs.Telling.{told_acts}
 

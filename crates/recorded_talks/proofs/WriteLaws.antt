@@ -16,13 +16,13 @@ use Rattle.rpc_file.specs.Answers.{answer_text}
 use Rattle.rpc_file.specs.Requests as rpc
 use Rattle.rpc_file.specs.declared.answer.RpcAnswer.{RpcAnswer}
 use Rattle.rpc_file.specs.declared.answer.RpcAnswer.TheVariants as a
-use Rattle.conv_set.specs.Protocols.{answers, ends, is_over, needs}
+use Rattle.talks.specs.Protocols.{answers, ends, is_over, needs}
 use Rattle.talks.specs.declared.said.Said.{Said}
 use Rattle.talks.specs.Answers.{move_answer}
 use Rattle.talks.specs.Calls.{Chosen, AsksConsent, AsksKey, Denied, NoneServes, Offered, Picked}
 use Rattle.talks.specs.Standings.{Begun, Phase, Kept, Seeking, Standing, carried_out, is_for, kept_key, need_in, phase_after, sought, template_of, told_of_key}
-use Rattle.wire_histories.specs.Histories.{Act, took}
-use Rattle.wire_histories.specs.Conversations.{acts_from, asked_now, done_by, end_by, ended_as, if_found, is_taken, meets, seeks, speaker, started_by, waiting}
+use Rattle.lawful_roles.specs.Histories.{Act, took}
+use Rattle.lawful_roles.specs.Conversations.{acts_from, asked_now, done_by, end_by, ended_as, if_found, is_taken, meets, seeks, speaker, started_by, waiting}
 use Rattle.world_history.specs.Talking.{leaves_untaken}
 use Rattle.lawful_roles.specs.Roles.{IsRole}
 use Rattle.lawful_roles.proofs.AllRoles.{all_roles}

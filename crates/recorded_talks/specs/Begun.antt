@@ -3,7 +3,7 @@ use Rattle.std.specs.Prelude.{◌≡◌, List, true, Option, Some, None}
 use Rattle.attr_tuples.specs.declared.attr.Attr.{Attr}
 use Rattle.attr_tuples.specs.Attributes.{is_tuple}
 use Rattle.roles.specs.Starts.{Start, fits_start}
-use Rattle.conv_set.specs.Protocols.{refuses}
+use Rattle.talks.specs.Protocols.{refuses}
 use Rattle.talks.specs.Standings.{Begun}
 
 -- a template is a tuple, leaves room for what is asked of a key, and isn't refused

@@ -8,7 +8,7 @@ use Rattle.roles.specs.declared.need.Need.TheVariants.{Nothing}
 use Rattle.roles.specs.declared.need.Outcome.{Outcome}
 use Rattle.roles.specs.Starts.{start_with}
 use Rattle.roles.specs.Talks.{Call as Move}
-use Rattle.conv_set.specs.Protocols.{needs}
+use Rattle.talks.specs.Protocols.{needs}
 use Rattle.rpc_file.specs.Answers.{answer_text}
 use Rattle.rpc_file.specs.Requests.{RpcRequest}
 use Rattle.rpc_file.specs.Requests as rpc
@@ -16,8 +16,8 @@ use Rattle.talks.specs.declared.said.Said.{Said}
 use Rattle.talks.specs.Calls.{Found, AsksConsent, AsksKey}
 use Rattle.talks.specs.Lines.{is_end}
 use Rattle.talks.specs.Standings.{Begun, Phase, Standing, Waiting, Seeking, OnServer, Kept, carried_out, is_for, made, need_in, outcome_of, sought}
-use Rattle.wire_histories.specs.Histories.{Act, gave, took}
-use Rattle.wire_histories.specs.Conversations.{asked_now, ended_as, is_asked, started_by, talk_acts}
+use Rattle.lawful_roles.specs.Histories.{Act, gave, took}
+use Rattle.lawful_roles.specs.Conversations.{asked_now, ended_as, is_asked, started_by, talk_acts}
 use Rattle.world_history.specs.Talking.{begins, leaves_untaken, tuple_in}
 
 -- all that a conversation's talk leaves; nothing before it has started

@@ -3,7 +3,7 @@ ghost use Rattle.std.specs.Prelude.{ℕ, List};
 ghost use Rattle.roles.specs.Talks.{heard, unheard};
 ghost use Rattle.talks.specs.Calls.{Call};
 ghost use Rattle.talks.specs.Standings.{standing};
-ghost use Rattle.wire_histories.specs.Histories.{answered, unanswered};
+ghost use Rattle.lawful_roles.specs.Histories.{answered, unanswered};
 ghost use Rattle.recorded_talks.specs.Begun.{StartsWell};
 ghost use Rattle.recorded_talks.specs.Telling.{AnswersLeave, RequestsLeave};
 

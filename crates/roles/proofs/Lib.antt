@@ -1,3 +1,4 @@
+pub use Rattle.key_lists.proofs.FindLaws
 pub mod StartLemmas
 pub mod TemplateLemmas
 pub mod ValueLemmas

@@ -3,7 +3,7 @@
 use Rattle.std.specs.Prelude.{ℕ, List, [], ◌∷◌, Bool, true, false, Option, Some, None, Result, Ok, Err}
 use Rattle.wire_base.specs.declared.name.AuthInfo.{AuthInfo}
 use Rattle.wire_base.specs.declared.shape.Shape.TheVariants.{Tickets}
-use Rattle.seal_mode.specs.Keys.{expanded}
+use Rattle.ticket_codec.specs.Keys.{expanded}
 use Rattle.ticket_codec.specs.Request.{request_of}
 use Rattle.ticket_codec.specs.declared.fault.FieldFault.{FieldFault}
 use Rattle.ticket_codec.specs.declared.request.TicketReq.{TicketReq}

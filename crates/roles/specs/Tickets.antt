@@ -1,6 +1,6 @@
 -- The messages of p9sk1 as its roles make and open them (authsrv(6) of the Plan 9 manual).
 use Rattle.std.specs.Prelude.{ℕ, List, take, drop, Result, Ok, Err}
-use Rattle.seal_mode.specs.Sealing.{opened, sealed}
+use Rattle.ticket_codec.specs.Sealing.{opened, sealed}
 use Rattle.ticket_codec.specs.Authenticator.{authenticator_of, authenticator_text}
 use Rattle.ticket_codec.specs.Fields.{field}
 use Rattle.ticket_codec.specs.Ticket.{ticket_of}

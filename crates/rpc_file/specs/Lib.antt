@@ -1,3 +1,4 @@
+pub use Rattle.roles.specs.declared.need.Outcome
 pub mod Requests
 pub mod Answers
 pub mod Sizes

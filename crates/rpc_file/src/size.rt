@@ -3,7 +3,7 @@ ghost use Rattle.std.specs.Prelude.{◌≡◌, [], nat_le, length, map};
 ghost use Rattle.std.specs.Fmt.{decimal};
 ghost use Rattle.std.specs.Int.{w16};
 ghost use Rattle.std.specs.List.{list_any};
-ghost use Rattle.attr_words.specs.Words.{ends_unquoted, needs_quotes, quoted, quoted_byte, value_text};
+ghost use Rattle.attr_tuples.specs.Words.{ends_unquoted, needs_quotes, quoted, quoted_byte, value_text};
 ghost use Rattle.attr_tuples.specs.Printing.{attr_text, ending_text, printed_text, public_text};
 ghost use Rattle.wire_base.specs.Readers.{counted};
 ghost use Rattle.ticket_codec.specs.Info.{info_text};

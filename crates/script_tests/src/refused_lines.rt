@@ -3,7 +3,7 @@ use std::alloc::Global;
 use std::process::Abort;
 use std::test::Fail;
 use wire_streams::MemSink;
-use world_run::{ScriptCause, WorldEnd, run_world};
+use world_program::{ScriptCause, WorldEnd, run_world};
 
 struct Row {
     script: &'static str,

@@ -1,5 +1,5 @@
 // Scripts with their records, and how each ends. Those that are Done are of docs/worlds.
-use world_run::{ScriptCause, WorldEnd};
+use world_program::{ScriptCause, WorldEnd};
 
 pub(crate) struct World {
     pub(crate) name: &'static str,

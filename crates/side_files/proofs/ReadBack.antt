@@ -12,8 +12,8 @@ use lib.Utf8.{encode}
 use Rattle.std.proofs.lemmas.List.{get_or_at, take_at}
 use Rattle.wire_base.specs.Texts.{is_text}
 use Rattle.wire_base.proofs.TextLemmas.{is_text-without_nul}
-use Rattle.attr_words.specs.Lines.{is_line_byte}
-use Rattle.attr_words.specs.Words.{ends_unquoted, value_text}
+use Rattle.attr_tuples.specs.Lines.{is_line_byte}
+use Rattle.attr_tuples.specs.Words.{ends_unquoted, value_text}
 use Rattle.attr_tuples.specs.declared.attr.Attr.{Attr}
 use Rattle.attr_tuples.specs.declared.attr.Value.TheVariants.{Is}
 use Rattle.attr_tuples.specs.Attributes.{is_name, is_value, is_attr, is_tuple}

@@ -1,6 +1,6 @@
 // Conversations that ask their users for a key, and what becomes of them when they are told, or end.
+use agent_shared::AskingTalks;
 use agent_talks::Told;
-use asking_talks::AskingTalks;
 use file_tree::Node;
 use key_ring::KeyRing;
 use rpc_file::{Request, print_answer};

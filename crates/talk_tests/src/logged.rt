@@ -1,8 +1,8 @@
 // What becomes of conversations, as the log tells it.
+use agent_shared::LoggedTalks;
 use attr_tuples::parse_tuple;
 use file_tree::Node;
 use key_ring::KeyRing;
-use logged_talks::LoggedTalks;
 use rpc_file::Request;
 use side_files::PromptKind;
 use std::alloc::Global;

@@ -6,17 +6,17 @@ use Rattle.std.specs.Str.{is_utf8, chars}
 use Rattle.std.specs.Str.Lossy.{utf8_valid_len}
 use lib.Utf8.{encode}
 use Rattle.wire_base.specs.Texts.{is_text}
-use Rattle.attr_words.specs.Lines.{line_len}
-use Rattle.attr_words.specs.Words.{first_word, gap_len}
+use Rattle.attr_tuples.specs.Lines.{line_len}
+use Rattle.attr_tuples.specs.Words.{first_word, gap_len}
 use Rattle.attr_tuples.specs.declared.attr.Attr.{Attr}
 use Rattle.attr_tuples.specs.declared.attr.Value.TheVariants.{Bare}
 use Rattle.attr_tuples.specs.Grammar.{attr_of, words_from, tuple_of}
 use Rattle.attr_tuples.specs.Matching.{matches, value_of}
 use Rattle.attr_tuples.specs.Printing.{printed_text}
-use Rattle.key_lists.specs.Lists.{KeyEntry, KeyList, no_keys}
-use Rattle.key_lists.specs.CtlLines.{few_of}
-use Rattle.ticket_codec.specs.Fields.{name_in, before_nul}
-use Rattle.ticket_codec.specs.Request.{request_of, request_fields, request_text}
+use Rattle.roles.specs.Lists.{KeyEntry, KeyList, no_keys}
+use Rattle.roles.specs.CtlLines.{few_of}
+use Rattle.roles.specs.Fields.{name_in, before_nul}
+use Rattle.roles.specs.Request.{request_of, request_fields, request_text}
 use Rattle.roles.specs.Starts.{role_of, start_fault}
 use Rattle.roles.specs.Talks.{give, get}
 use Rattle.roles.specs.Templates.{asked, given_as, asked_as, shown_text}

@@ -1,3 +1,11 @@
+pub use Rattle.conv_set.specs.Numbers
+pub use Rattle.conv_set.specs.Offers
+pub use Rattle.conv_set.specs.Protocols
+pub use Rattle.conv_set.specs.Standing
+pub use Rattle.conv_set.specs.Starts
+pub use Rattle.conv_set.specs.Talks
+pub use Rattle.conv_set.specs.Texts
+pub use Rattle.conv_set.specs.declared.conv.Conv
 pub mod Calls
 pub mod Meanings
 pub mod Searches

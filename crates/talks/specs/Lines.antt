@@ -2,7 +2,7 @@
 -- whom it accepted, and why it broke. After factotum(4) of the Plan 9 manual (log); the exact texts are this project's.
 use Rattle.std.specs.Prelude.{ℕ, List, [], ◌∷◌, ◌++◌, drop, length, Bool, false, not, ◌&&◌, codes, Option, Some, None, is_some, if◌then◌else◌}
 use Rattle.std.specs.Fmt.{decimal}
-use Rattle.attr_words.specs.Words.{value_text}
+use Rattle.attr_tuples.specs.Words.{value_text}
 use Rattle.attr_tuples.specs.declared.attr.Attr.{Attr}
 use Rattle.attr_tuples.specs.Matching.{value_of}
 use Rattle.conv_set.specs.Protocols.{is_over}

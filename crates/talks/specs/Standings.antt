@@ -4,8 +4,8 @@
 use Rattle.std.specs.Prelude.{ℕ, List, [], ◌∷◌, ◌++◌, Bool, true, false, Option, Some, None, codes, option_map}
 use Rattle.attr_tuples.specs.declared.attr.Attr.{Attr}
 use Rattle.attr_tuples.specs.Matching.{value_of}
-use Rattle.key_lists.specs.Lists.{KeyEntry, KeyList}
-use Rattle.key_lists.specs.CtlLines.{few_of}
+use Rattle.roles.specs.Lists.{KeyEntry, KeyList}
+use Rattle.roles.specs.CtlLines.{few_of}
 use Rattle.roles.specs.declared.need.Need.{Need}
 use Rattle.roles.specs.declared.need.Need.TheVariants.{Nothing, Key, Offers, Pick, Exchange}
 use Rattle.roles.specs.declared.need.Outcome.{Outcome}

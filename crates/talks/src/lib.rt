@@ -5,6 +5,8 @@ mod found;
 mod said;
 mod seek;
 
+pub use conv_set::Conv;
 pub use found::Found;
+pub use key_ring::{Key, KeyRing};
 pub use said::{Asking, Said};
 pub use seek::{pick_template, search_keys};

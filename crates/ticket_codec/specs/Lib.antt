@@ -1,5 +1,6 @@
-pub use Rattle.wire_base.specs.Names
+pub use Rattle.seal_mode.specs.Keys
 pub use Rattle.seal_mode.specs.Sealing
+pub use Rattle.wire_base.specs.Names
 pub mod Fields
 pub mod Fitting
 pub mod Request

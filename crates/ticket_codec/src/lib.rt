@@ -21,6 +21,7 @@ pub use kind::{
 };
 pub use laws::{kinds_are_those_of_the_manual, what_is_asked_is_read, what_is_sealed_is_opened};
 pub use request::{TicketReq, read_req, write_req};
+pub use seal_mode::{Key7, expand56};
 pub use ticket::{Ticket, open_ticket, seal_ticket};
 pub use wire_base::{AuthInfo, Name};
 pub use writer::RecordWriter;

@@ -13,7 +13,7 @@ use Rattle.ticket_codec.specs.Fitting.{IsBlock}
 use Rattle.roles.specs.Starts.{role_of}
 use Rattle.roles.specs.Talks.{Call, give, get, found}
 use Rattle.conv_challenge.specs.Starts.{proto_of, side_of, start_fault}
-use Rattle.conv_set.specs.Protocols.{protocol_of}
+use Rattle.talks.specs.Protocols.{protocol_of}
 use Rattle.wire_histories.specs.Histories.{Act, started, took, gave}
 use Rattle.wire_histories.specs.Conversations.{met_in, talk_acts}
 use Rattle.wire_histories.specs.Legal.{IsConversation, IsLegal, IsMet, IsRingKey, IsServed, IsTalk, MayBe, known_to}

@@ -16,13 +16,13 @@ use Rattle.roles.specs.declared.stage.Role.TheVariants.{Client, Server, Speakfor
 use Rattle.roles.specs.Answers.{is_sought}
 use Rattle.roles.specs.Starts.{Start, role_of}
 use Rattle.roles.specs.Talks.{Call, give, get, found, heard, unheard, roomless, undone, offered, picked}
-use Rattle.conv_p9any.specs.Talks.{needs_any}
+use Rattle.talks.specs.Talks.{needs_any}
 use Rattle.conv_challenge.specs.declared.stage.Proto.{Proto}
 use Rattle.conv_challenge.specs.declared.stage.Proto.TheVariants.{Apop, Cram}
 use Rattle.conv_challenge.specs.declared.stage.Side.{Side}
 use Rattle.conv_challenge.specs.declared.stage.Side.TheVariants as side
 use Rattle.conv_challenge.specs.Starts.{proto_of, side_of}
-use Rattle.conv_set.specs.Protocols.{Protocol as Spoken, P9sk1, P9any, Mail, answers_by, ends_by, is_over, needs_by, protocol_of, puts_by}
+use Rattle.talks.specs.Protocols.{Protocol as Spoken, P9sk1, P9any, Mail, answers_by, ends_by, is_over, needs_by, protocol_of, puts_by}
 use Rattle.talks.specs.Lines.{cause_text}
 use Rattle.wire_histories.specs.Histories.{Act, started, gave, took, asked, answered, unanswered, accepted, failed}
 

@@ -12,7 +12,7 @@ use Rattle.auth_server.specs.Standing.{Server, knowledge}
 use Rattle.roles.specs.declared.key.SkKey.{SkKey}
 use Rattle.roles.specs.Starts.{Start, fits_start}
 use Rattle.roles.specs.Talks.{Call, found}
-use Rattle.conv_set.specs.Protocols.{refuses}
+use Rattle.talks.specs.Protocols.{refuses}
 use Rattle.wire_histories.specs.Histories.{History, Act, Deal, acts_of, deals_of, IsNumbered}
 use Rattle.wire_histories.specs.Conversations.{met_in, talk_acts}
 use Rattle.wire_histories.specs.Sessions.{IsSession, session_deals}

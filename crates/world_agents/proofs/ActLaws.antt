@@ -6,18 +6,18 @@ use Rattle.std.proofs.lemmas.Bool.{or_parts}
 use Rattle.talks.specs.Standings.{Begun}
 use Rattle.agent_history.specs.Conversations.{conv_of}
 use Rattle.agent_history.specs.Histories.{deeds}
-use Rattle.agent_laws.proofs.GrowLaws.{not_false}
+use Rattle.driven_requests.proofs.GrowLaws.{not_false}
 use Rattle.world_history.specs.Acts.{Act, Talk, Domain, KeyLine, SpeakLine, Made, Told, Opened, Started, Got, Given, Answered, Unanswered, Asked, Closed, talk_of}
 use Rattle.world_history.specs.Scripts.{call_now, call_or, is_unfit}
 use Rattle.world_history.specs.Talking.{Asks, gets, gives, starts}
 use Rattle.world_history.specs.Turns.{Turn, after, asks, closes, hears, misses}
 use Rattle.world_history.specs.Worlds.{done_by, history, history_by, on_talk, outstanding}
-use Rattle.recorded_talks.specs.Begun.{BegunWith}
+use Rattle.world_legality.specs.Begun.{BegunWith}
 use Rattle.world_legality.specs.Agents.{AgentDoes, AgentsDo, begun_in}
 use Rattle.world_legality.specs.Conditions.{AreDone}
 use Rattle.world_legality.specs.Settings.{Place}
 use Rattle.world_legality.proofs.WordLaws.{Word, words_so}
-use Rattle.idle_agents.specs.Idle.{IsIdle, Runs}
+use Rattle.driven_requests.specs.Idle.{IsIdle, Runs}
 use Rattle.driven_requests.specs.Requests.{IsWorded}
 use Rattle.world_agents.specs.Worlds.{AllRun}
 use Rattle.world_agents.proofs.KnownLaws.{IsSame, Known, does_nothing, not_both, same_known}

@@ -10,18 +10,18 @@ use Rattle.agent_history.specs.Replies.{has_settled, swept, untaken}
 use Rattle.agent_history.specs.Conversations.{drops, next_question, questions}
 use Rattle.agent_history.specs.Requests.{Call, after, after_frame, answered, body_to, call_of, granted, replied}
 use Rattle.agent_history.specs.Histories.{History, deeds}
-use Rattle.agent_laws.proofs.GrowLaws.{KeepsAny, frame_grows}
-use Rattle.agent_laws.proofs.KindLaws.{KeepsIf, is_asked, is_met}
+use Rattle.driven_requests.proofs.GrowLaws.{KeepsAny, frame_grows}
+use Rattle.driven_requests.proofs.KindLaws.{KeepsIf, is_asked, is_met}
 use Rattle.world_history.specs.Driving.{drive, left_to_hand}
-use Rattle.driven_agents.specs.Quiet.{NamesNoLines}
-use Rattle.driven_agents.proofs.EditGrows.{granted_so}
-use Rattle.idle_agents.specs.Idle.{IsIdle, Runs}
-use Rattle.idle_agents.proofs.AlikeLaws.{granted_keeps}
-use Rattle.idle_agents.proofs.HandedLaws.{none_dropped, none_handed, none_unhanded}
-use Rattle.idle_agents.proofs.LeftLaws.{request_deeds}
-use Rattle.idle_agents.proofs.RunLaws.{event_runs}
-use Rattle.idle_agents.proofs.KeptLaws.{behind_takes}
-use Rattle.idle_agents.proofs.TakenLaws.{none_left}
+use Rattle.world_legality.specs.Quiet.{NamesNoLines}
+use Rattle.world_legality.proofs.EditGrows.{granted_so}
+use Rattle.driven_requests.specs.Idle.{IsIdle, Runs}
+use Rattle.driven_requests.proofs.AlikeLaws.{granted_keeps}
+use Rattle.driven_requests.proofs.HandedLaws.{none_dropped, none_handed, none_unhanded}
+use Rattle.driven_requests.proofs.LeftLaws.{request_deeds}
+use Rattle.driven_requests.proofs.RunLaws.{event_runs}
+use Rattle.driven_requests.proofs.KeptLaws.{behind_takes}
+use Rattle.driven_requests.proofs.TakenLaws.{none_left}
 use Rattle.world_agents.proofs.HandCounts.{AtMost}
 use Rattle.world_agents.proofs.ShortLaws.{IsLittle}
 use Rattle.world_agents.proofs.WaitCounts.{request_few}

@@ -16,9 +16,9 @@ use Rattle.agent_history.specs.Replies.{Wait, has_settled, swept}
 use Rattle.agent_history.specs.Conversations.{Drop, Question, Speaker, asking, deliver_to, delivered, drop_of, drops, fits, give_to, given_up, gives_up, logged, met, prompting, questions, raised, raising, reader_of, resumed, seeking, seeking_all, sought_once, speaker_of, speakers, standing_of, then_logged, then_raised, then_sought, then_took}
 use Rattle.agent_history.specs.Requests.{carrying_out, line_deed, lines_done, stored}
 use Rattle.world_history.specs.Driving.{left_to_hand}
-use Rattle.driven_agents.specs.Quiet.{NamesNoLines}
-use Rattle.idle_agents.proofs.CallLemmas.{nobody_served}
-use Rattle.idle_agents.proofs.HandedLaws.{unhanded}
+use Rattle.world_legality.specs.Quiet.{NamesNoLines}
+use Rattle.driven_requests.proofs.CallLemmas.{nobody_served}
+use Rattle.driven_requests.proofs.HandedLaws.{unhanded}
 use Rattle.world_agents.proofs.FidLemmas.{filter_few}
 
 -- no more than so much, of an agent of whose fids none came to name a file of lines

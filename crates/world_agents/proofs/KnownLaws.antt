@@ -9,7 +9,7 @@ use Rattle.world_history.specs.Turns.{Turn, asks, closes, hears, lets_open, miss
 use Rattle.world_history.specs.Worlds.{call_behind, done_by, history, last_call, outstanding}
 use Rattle.world_legality.specs.Agents.{AgentDoes, begun_in, conv_in}
 use Rattle.world_legality.specs.Settings.{Place, place_of}
-use Rattle.idle_agents.specs.Idle.{IsIdle}
+use Rattle.driven_requests.specs.Idle.{IsIdle}
 use Rattle.driven_answers.proofs.OtherTalks.{apart}
 use Rattle.world_agents.proofs.FidLemmas.{not_same}
 use Rattle.world_agents.specs.Worlds.{AreSeated, IsSeated}

@@ -17,13 +17,13 @@ use Rattle.world_history.specs.Talking.{gets, gives, request_text, starts, word_
 use Rattle.world_history.specs.Turns.{Turn, after, asks, closes, hears, lets_open, misses, tells}
 use Rattle.world_history.specs.Worlds.{Done, done_by, fid_for, history, history_by, on_talk}
 use Rattle.world_legality.specs.Conditions.{AreDone}
-use Rattle.idle_agents.specs.Idle.{IsIdle, Runs}
-use Rattle.idle_agents.proofs.HandedLaws.{none_dropped, none_handed}
-use Rattle.idle_agents.proofs.KeptLaws.{behind_takes}
-use Rattle.idle_agents.proofs.NewLaws.{agreed_deeds, first_deeds, version_call, version_reply}
-use Rattle.idle_agents.proofs.RunLaws.{event_runs}
-use Rattle.idle_agents.proofs.TakenLaws.{none_left}
-use Rattle.idle_agents.proofs.WritesLaws.{write_is}
+use Rattle.driven_requests.specs.Idle.{IsIdle, Runs}
+use Rattle.driven_requests.proofs.HandedLaws.{none_dropped, none_handed}
+use Rattle.driven_requests.proofs.KeptLaws.{behind_takes}
+use Rattle.driven_requests.proofs.NewLaws.{agreed_deeds, first_deeds, version_call, version_reply}
+use Rattle.driven_requests.proofs.RunLaws.{event_runs}
+use Rattle.driven_requests.proofs.TakenLaws.{none_left}
+use Rattle.driven_requests.proofs.WritesLaws.{write_is}
 use Rattle.world_agents.specs.Worlds.{AllRun}
 use Rattle.world_agents.proofs.ActLaws.{all_go}
 use Rattle.world_agents.proofs.EventCounts.{IsTaken, left_none, request_taken, taken_idle}

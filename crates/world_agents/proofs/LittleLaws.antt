@@ -24,16 +24,16 @@ use Rattle.agent_history.specs.SideFiles.{is_line_file, kind_at, lines_in}
 use Rattle.agent_history.specs.Conversations.{asker, conv_of, ended_by, resumed, speakers, standing_of}
 use Rattle.agent_history.specs.Requests.{Call, after, call_of, carried, effective, is_rpc, lines_done, reading, reading_answer, reading_line, reading_talk, replying, walking}
 use Rattle.agent_history.specs.Histories.{History, deeds}
-use Rattle.agent_laws.proofs.ConversationLaws.{few_speak}
-use Rattle.agent_laws.proofs.GrowLaws.{resumed_any}
+use Rattle.driven_requests.proofs.ConversationLaws.{few_speak}
+use Rattle.driven_requests.proofs.GrowLaws.{resumed_any}
 use Rattle.world_history.specs.Driving.{attaches, clunks, left_to_hand, no_word, opens, reads, walks, writes}
-use Rattle.driven_agents.specs.Quiet.{NamesNoLines}
-use Rattle.driven_agents.proofs.FrameKinds.{attach_so, clunk_so, frame_read, open_so, read_so, walk_so, write_so}
-use Rattle.driven_agents.proofs.QuietLaws.{fid_plain, no_kind}
-use Rattle.driven_agents.proofs.WriteLaws.{quiet_deeds}
-use Rattle.idle_agents.specs.Idle.{Runs}
-use Rattle.idle_agents.proofs.ClunkLaws.{clunk_is, gone_by, withdrawn_keeps}
-use Rattle.idle_agents.proofs.LeftLaws.{absence_deeds, answer_deeds}
+use Rattle.world_legality.specs.Quiet.{NamesNoLines}
+use Rattle.world_legality.proofs.FrameKinds.{attach_so, clunk_so, frame_read, open_so, read_so, walk_so, write_so}
+use Rattle.world_legality.proofs.QuietLaws.{fid_plain, no_kind}
+use Rattle.world_legality.proofs.WriteLaws.{quiet_deeds}
+use Rattle.driven_requests.specs.Idle.{Runs}
+use Rattle.driven_requests.proofs.ClunkLaws.{clunk_is, gone_by, withdrawn_keeps}
+use Rattle.driven_requests.proofs.LeftLaws.{absence_deeds, answer_deeds}
 use Rattle.world_agents.proofs.HandCounts.{AtMost, carried_adds, fid_adds, lines_add, more_room, resumed_adds, stored_adds, swept_adds, took_adds}
 use Rattle.world_agents.proofs.ShortLaws.{IsLittle}
 use Rattle.world_agents.proofs.WaitCounts.{resumed_few}

@@ -9,14 +9,14 @@ use Rattle.world_history.specs.Acts.{Act, Made, Talk, Told, is_node, talk_of}
 use Rattle.world_history.specs.Driving.{new_node, told}
 use Rattle.world_history.specs.Turns.{after, tells}
 use Rattle.world_history.specs.Worlds.{Done, history}
-use Rattle.driven_agents.proofs.NamesLaws.{names_no_lines}
+use Rattle.world_legality.proofs.NamesLaws.{names_no_lines}
 use Rattle.world_legality.specs.Agents.{AgentDoes, DoesTo, begun_in, conv_in}
 use Rattle.world_legality.specs.Conditions.{AreDone}
 use Rattle.world_legality.specs.Settings.{Place, place_of}
 use Rattle.world_legality.proofs.LeaveLemmas.{events_leave}
 use Rattle.world_legality.proofs.PlaceLemmas.{not_made}
-use Rattle.idle_agents.specs.Idle.{IsIdle, Runs}
-use Rattle.idle_agents.proofs.NewLaws.{IsNew, new_is}
+use Rattle.driven_requests.specs.Idle.{IsIdle, Runs}
+use Rattle.driven_requests.proofs.NewLaws.{IsNew, new_is}
 use Rattle.world_agents.specs.Worlds.{AllRun, IsSeated}
 use Rattle.world_agents.proofs.KnownLaws.{Known, same_some}
 use Rattle.world_agents.proofs.RunLemmas.{itself, same_name}

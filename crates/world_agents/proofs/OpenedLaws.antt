@@ -7,7 +7,7 @@ use Rattle.std.proofs.lemmas.List.{length-map}
 use Rattle.talks.specs.Standings.{standing}
 use Rattle.agent_history.specs.Conversations.{Speaker, asker, conv_of, opened_talks, speakers}
 use Rattle.agent_history.specs.Histories.{History, deeds}
-use Rattle.agent_laws.proofs.ConversationLaws.{few_speak}
+use Rattle.driven_requests.proofs.ConversationLaws.{few_speak}
 use Rattle.world_history.specs.Acts.{Act, Opened, Talk, fids_on, has_name, is_held, is_node, opened_names, talk_of, talks}
 use Rattle.world_history.specs.Driving.{opened, refuses_open}
 use Rattle.world_history.specs.Scripts.{is_unfit}
@@ -17,8 +17,8 @@ use Rattle.world_legality.specs.Agents.{AgentDoes, DoesTo, begun_in, conv_in}
 use Rattle.world_legality.specs.Conditions.{AreDone}
 use Rattle.world_legality.specs.Settings.{Place, place_of}
 use Rattle.world_legality.proofs.PlaceLemmas.{placed, unplaced}
-use Rattle.idle_agents.specs.Idle.{IsIdle, Runs}
-use Rattle.idle_agents.proofs.OpensLaws.{SeatSo, seat_is}
+use Rattle.driven_requests.specs.Idle.{IsIdle, Runs}
+use Rattle.driven_requests.proofs.OpensLaws.{SeatSo, seat_is}
 use Rattle.world_agents.specs.Worlds.{AllRun, IsSeated}
 use Rattle.world_agents.proofs.FidLemmas.{least_free, least_off, least_small, not_same}
 use Rattle.world_agents.proofs.KnownLaws.{Known, none_some, not_both, same_some, unequal}

@@ -14,8 +14,8 @@ use Rattle.world_history.specs.Turns.{Turn, after, asks, closes, hears, lets_ope
 use Rattle.world_history.specs.Worlds.{Done, done_by, fid_for, history, history_by, on_talk}
 use Rattle.world_legality.specs.Conditions.{AreDone}
 use Rattle.world_legality.proofs.PlaceLemmas.{on_node, placed}
-use Rattle.idle_agents.specs.Idle.{Runs}
-use Rattle.idle_agents.proofs.RunLaws.{drive_runs, runs_either}
+use Rattle.driven_requests.specs.Idle.{Runs}
+use Rattle.driven_requests.proofs.RunLaws.{drive_runs, runs_either}
 use Rattle.world_agents.specs.Worlds.{AllRun}
 
 pub same_name : (a b : List ℕ) → bytes_eq a b ≡ true → a ≡ b

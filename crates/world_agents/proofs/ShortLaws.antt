@@ -12,11 +12,11 @@ use Rattle.agent_history.specs.Replies.{has_settled, swept, untaken}
 use Rattle.agent_history.specs.Conversations.{Due, NoneDue, DropDue, QuestionDue, asker, due, resumed}
 use Rattle.agent_history.specs.Requests.{Call, after_frame, answered, body_to, call_of, replied}
 use Rattle.agent_history.specs.Histories.{History, answer, deeds, does, entered, handing, is_reply, most_events, taking}
-use Rattle.agent_laws.proofs.GrowLaws.{KeepsAny, frame_grows, resumed_any}
-use Rattle.agent_laws.proofs.KindLaws.{KeepsIf, is_asked, is_met}
+use Rattle.driven_requests.proofs.GrowLaws.{KeepsAny, frame_grows, resumed_any}
+use Rattle.driven_requests.proofs.KindLaws.{KeepsIf, is_asked, is_met}
 use Rattle.world_history.specs.Driving.{all_taken, ask_up, asks_of, drive, hands_out, left_to_hand, take_up, takes_of}
-use Rattle.idle_agents.specs.Idle.{Runs}
-use Rattle.idle_agents.proofs.KeptLaws.{KeepsTakes, takes_keep}
+use Rattle.driven_requests.specs.Idle.{Runs}
+use Rattle.driven_requests.proofs.KeptLaws.{KeepsTakes, takes_keep}
 
 -- ---- what doesn't stop it
 

@@ -7,7 +7,7 @@ use Rattle.world_history.specs.Acts.{Act, Talk, Domain, KeyLine, SpeakLine, Made
 use Rattle.world_history.specs.Scripts.{is_unfit}
 use Rattle.world_legality.specs.Conditions.{AreDone}
 use Rattle.world_legality.proofs.PlaceLemmas.{placed, was_opened}
-use Rattle.idle_agents.proofs.FoundLemmas.{found_kept, found_last, found_stays}
+use Rattle.driven_requests.proofs.FoundLemmas.{found_kept, found_last, found_stays}
 use Rattle.world_agents.proofs.RunLemmas.{itself, same_name}
 
 -- ---- all of a list

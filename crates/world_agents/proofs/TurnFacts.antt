@@ -14,11 +14,11 @@ use Rattle.world_history.specs.Driving.{clunks, drive, questions_to, replies_to,
 use Rattle.world_history.specs.Talking.{Asks, request_questions, requested}
 use Rattle.world_history.specs.Turns.{Turn, after, asks, closes, hears, misses, turn_questions}
 use Rattle.world_history.specs.Worlds.{call_behind, last_call}
-use Rattle.recorded_talks.specs.Begun.{BegunWith}
+use Rattle.world_legality.specs.Begun.{BegunWith}
 use Rattle.world_legality.specs.Agents.{EventsLeave, TurnDoes, begun_in}
-use Rattle.idle_agents.specs.Idle.{AreOf, IsIdle, KeepsAskers, Runs, SameSeats}
-use Rattle.idle_agents.proofs.ClosesLaws.{close_is}
-use Rattle.idle_agents.proofs.WritesLaws.{write_is}
+use Rattle.driven_requests.specs.Idle.{AreOf, IsIdle, KeepsAskers, Runs, SameSeats}
+use Rattle.driven_requests.proofs.ClosesLaws.{close_is}
+use Rattle.driven_requests.proofs.WritesLaws.{write_is}
 use Rattle.driven_requests.specs.Requests.{IsWorded, RequestsDo, RequestsLeave}
 use Rattle.driven_requests.proofs.RequestsLaws.{give_nothing}
 use Rattle.driven_answers.specs.Answers.{AbsencesDo, AbsencesLeave, AnswersDo, AnswersLeave}

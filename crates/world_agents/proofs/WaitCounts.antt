@@ -12,10 +12,10 @@ use Rattle.agent_history.specs.Replies.{Wait, fid_given_up, has_settled, is_unse
 use Rattle.agent_history.specs.Conversations.{resumed}
 use Rattle.agent_history.specs.Requests.{Call, after_frame, answered, body_to, call_of, replied}
 use Rattle.agent_history.specs.Histories.{History, deeds}
-use Rattle.agent_laws.proofs.GrowLaws.{KeepsAny, all_are_known, frame_grows, history_grows, resumed_any}
-use Rattle.agent_laws.proofs.KindLaws.{Fits, is_met}
-use Rattle.idle_agents.specs.Idle.{Runs}
-use Rattle.idle_agents.proofs.LeftLaws.{own_reply, request_left, resumed_left, swept_replies}
+use Rattle.driven_requests.proofs.GrowLaws.{KeepsAny, all_are_known, frame_grows, history_grows, resumed_any}
+use Rattle.driven_requests.proofs.KindLaws.{Fits, is_met}
+use Rattle.driven_requests.specs.Idle.{Runs}
+use Rattle.driven_requests.proofs.LeftLaws.{own_reply, request_left, resumed_left, swept_replies}
 use Rattle.world_agents.proofs.FidLemmas.{filter_few}
 
 -- ---- reads that wait

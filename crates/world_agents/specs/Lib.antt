@@ -1,1 +1,2 @@
+pub use Rattle.world_legality.specs.Settings
 pub mod Worlds

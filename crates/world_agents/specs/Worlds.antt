@@ -9,7 +9,7 @@ use Rattle.world_history.specs.Worlds.{history, outstanding}
 use Rattle.world_legality.specs.Agents.{AgentsDo}
 use Rattle.world_legality.specs.Conditions.{AreDone}
 use Rattle.world_legality.specs.Settings.{Place, place_of, setting}
-use Rattle.idle_agents.specs.Idle.{IsIdle, Runs}
+use Rattle.driven_requests.specs.Idle.{IsIdle, Runs}
 
 -- no agent stopped, which each does with the event of number 2^50
 abbrev pub AllRun : List Act → Type 0

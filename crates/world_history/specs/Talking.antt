@@ -12,7 +12,7 @@ use Rattle.key_lists.specs.CtlLines.{few_of}
 use Rattle.roles.specs.Starts.{says}
 use Rattle.roles.specs.declared.need.Outcome.{Outcome}
 use Rattle.roles.specs.declared.need.Outcome.TheVariants.{Running, Accepted, Finished, Broken}
-use Rattle.talks.specs.Lines.{cause_text, is_end}
+use Rattle.agent_history.specs.Lines.{cause_text, is_end}
 use Rattle.agent_history.specs.declared.event.Event.{Event}
 use Rattle.agent_history.specs.Conversations.{outcome_at}
 use Rattle.agent_history.specs.Histories.{History, deeds}

@@ -4,9 +4,9 @@
 use Rattle.std.specs.Prelude.{ℕ, List, [], ◌∷◌, ◌++◌, length, Bool, true, false, Option, Some, None, if◌then◌else◌}
 use Rattle.std.specs.List.{filter_map}
 use Rattle.std.specs.Str.{bytes_eq}
-use Rattle.auth_tables.specs.Lines.{counted}
-use Rattle.auth_tables.specs.Keys.{key_of, keys_in}
-use Rattle.auth_tables.specs.Speaks.{may_speak, names_in, speaks_in}
+use Rattle.auth_server.specs.Lines.{counted}
+use Rattle.auth_server.specs.Keys.{key_of, keys_in}
+use Rattle.auth_server.specs.Speaks.{may_speak, names_in, speaks_in}
 use Rattle.auth_server.specs.Requests as req
 use Rattle.auth_server.specs.Requests.{asked_so, is_served, kind_of}
 use Rattle.auth_server.specs.Answers.{Knowledge, is_over}

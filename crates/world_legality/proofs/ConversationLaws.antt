@@ -6,7 +6,7 @@ use Rattle.std.proofs.lemmas.Slice.Eq.{bytes_eq-Decides}
 use Rattle.auth_server.specs.Requests.{asked_so}
 use Rattle.agent_history.specs.Conversations.{opened_talks}
 use Rattle.agent_history.specs.Histories.{History, deeds}
-use Rattle.wire_histories.specs.Histories.{Act as Does, acts_of}
+use Rattle.driven_agents.specs.Histories.{Act as Does, acts_of}
 use Rattle.world_history.specs.Acts.{Act, Talk, Domain, KeyLine, SpeakLine, Made, Told, Opened, Started, Got, Given, Answered, Unanswered, Asked, Closed, talk_of}
 use Rattle.world_history.specs.Driving.{new_node, replies_to, writes}
 use Rattle.world_history.specs.Talking.{gets, gives, starts}

@@ -5,9 +5,9 @@ use Rattle.std.specs.Prelude.{if◌then◌else◌}
 use Rattle.std.proofs.lemmas.List.Elements.{All-cons, All-nil}
 use Rattle.roles.specs.Talks.{Call as Move}
 use Rattle.talks.specs.Standings.{Begun}
-use Rattle.wire_histories.specs.Histories.{acts_of}
-use Rattle.wire_histories.specs.Conversations.{Speaker, meets, met_by, speaker}
-use Rattle.wire_histories.specs.Legal.{IsConversation, IsLegal, IsMet, MayBe}
+use Rattle.driven_agents.specs.Histories.{acts_of}
+use Rattle.driven_agents.specs.Conversations.{Speaker, meets, met_by, speaker}
+use Rattle.driven_agents.specs.Legal.{IsConversation, IsLegal, IsMet, MayBe}
 use Rattle.world_history.specs.Acts.{Act}
 use Rattle.world_history.specs.Scripts.{play, world}
 use Rattle.world_history.specs.Worlds.{history}

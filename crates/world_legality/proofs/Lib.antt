@@ -1,3 +1,16 @@
+pub use Rattle.driven_agents.proofs.EditGrows
+pub use Rattle.driven_agents.proofs.FrameKinds
+pub use Rattle.driven_agents.proofs.KeyLaws
+pub use Rattle.driven_agents.proofs.NamesLaws
+pub use Rattle.driven_agents.proofs.QuietLaws
+pub use Rattle.driven_agents.proofs.TakeLaws
+pub use Rattle.driven_agents.proofs.ToldLaws
+pub use Rattle.driven_agents.proofs.WriteLaws
+pub use Rattle.recorded_talks.proofs.AllRoles
+pub use Rattle.recorded_talks.proofs.RoleForms
+pub use Rattle.recorded_talks.proofs.SearchSteps
+pub use Rattle.recorded_talks.proofs.SkRole
+pub use Rattle.recorded_talks.proofs.TellLemmas
 pub mod NumberLaws
 pub mod StepLemmas
 pub mod PlayLaws

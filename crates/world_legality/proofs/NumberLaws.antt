@@ -18,7 +18,7 @@ use Rattle.auth_server.specs.Answers as server
 use Rattle.agent_history.specs.declared.event.Event.TheVariants.{NoAnswer}
 use Rattle.agent_history.specs.declared.event.Event.TheVariants as events
 use Rattle.agent_history.specs.Histories.{History}
-use Rattle.wire_histories.specs.Histories.{IsNext, IsNumbered, counted, message_number, messages}
+use Rattle.driven_agents.specs.Histories.{IsNext, IsNumbered, counted, message_number, messages}
 use Rattle.world_history.specs.declared.question.Question.{Question}
 use Rattle.world_history.specs.Acts.{Act, Asked}
 use Rattle.world_history.specs.Driving.{clunks, drive, is_refused, reads, replies_to, writes}

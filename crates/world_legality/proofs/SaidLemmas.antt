@@ -16,8 +16,8 @@ use Rattle.wire_model.specs.declared.step.Step.{Step}
 use Rattle.wire_model.specs.declared.step.Step.TheVariants as s
 use Rattle.talks.specs.Lines.{is_end}
 use Rattle.talks.specs.Standings.{Phase, Resting, Waiting, Seeking, OnConfirm, OnNeedkey, OnServer, Kept, Standing, need_in, outcome_of}
-use Rattle.wire_histories.specs.Histories.{Act, acts_of, act_in, asked, gave, if_named, took}
-use Rattle.wire_histories.specs.Conversations.{asked_now, started_by}
+use Rattle.driven_agents.specs.Histories.{Act, acts_of, act_in, asked, gave, if_named, took}
+use Rattle.driven_agents.specs.Conversations.{asked_now, started_by}
 use Rattle.auth_server.specs.Requests as req
 use Rattle.auth_server.specs.Requests.{is_served, kind_of}
 use Rattle.auth_server.specs.Answers.{Knowledge, is_over}

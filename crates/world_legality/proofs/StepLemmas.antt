@@ -13,8 +13,8 @@ use Rattle.talks.specs.Lines.{is_end}
 use Rattle.agent_history.specs.declared.event.Event.TheVariants.{NoAnswer}
 use Rattle.agent_history.specs.declared.event.Event.TheVariants as events
 use Rattle.agent_history.specs.Histories.{History}
-use Rattle.wire_histories.specs.Histories.{Act as Does, Deal, act_in, acts_of, deal_in, deals_of}
-use Rattle.wire_histories.specs.Histories as w
+use Rattle.driven_agents.specs.Histories.{Act as Does, Deal, act_in, acts_of, deal_in, deals_of}
+use Rattle.driven_agents.specs.Histories as w
 use Rattle.world_history.specs.declared.question.Question.{Question}
 use Rattle.world_history.specs.Driving.{clunks, drive, is_refused, reads, replies_to, writes}
 use Rattle.world_history.specs.Talking.{Asks, Came, all_reply_steps, answer_steps, ask_steps, begins, breaks, came, end_of, end_steps, following, gets, gives, is_out, is_taken, own_steps, reply_steps, request_steps, request_text, start_step, starts, word_of}

@@ -4,12 +4,12 @@ use Rattle.std.specs.Str.{bytes_eq}
 use Rattle.key_lists.specs.CtlLines.{few_of}
 use Rattle.roles.specs.Starts.{start_with}
 use Rattle.roles.specs.Talks.{Call as Move, heard, unheard}
-use Rattle.conv_set.specs.Protocols.{refuses}
+use Rattle.talks.specs.Protocols.{refuses}
 use Rattle.talks.specs.Standings.{Begun, Waiting, carried_out, made, outcome_of}
 use Rattle.wire_model.specs.declared.step.Step.{Step}
 use Rattle.wire_model.specs.declared.step.Step.TheVariants as s
-use Rattle.wire_histories.specs.Histories.{Act, act_in, answered, if_named, unanswered}
-use Rattle.wire_histories.specs.Conversations.{started_by}
+use Rattle.driven_agents.specs.Histories.{Act, act_in, answered, if_named, unanswered}
+use Rattle.driven_agents.specs.Conversations.{started_by}
 use Rattle.agent_history.specs.declared.event.Event.{Event}
 use Rattle.agent_history.specs.declared.event.Event.TheVariants.{NoAnswer}
 use Rattle.agent_history.specs.declared.event.Event.TheVariants as events

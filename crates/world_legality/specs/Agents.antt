@@ -8,7 +8,7 @@ use Rattle.nine_messages.specs.declared.message.RBody.TheVariants as r
 use Rattle.roles.specs.declared.need.Need.{Need}
 use Rattle.roles.specs.declared.need.Need.TheVariants.{Nothing, Key, Offers, Pick, Exchange}
 use Rattle.roles.specs.Talks.{Call as Move, heard, unheard}
-use Rattle.conv_set.specs.Protocols.{needs}
+use Rattle.talks.specs.Protocols.{needs}
 use Rattle.rpc_file.specs.Answers.{answer_text}
 use Rattle.rpc_file.specs.Requests.{RpcRequest}
 use Rattle.rpc_file.specs.Requests as rpc
@@ -19,7 +19,7 @@ use Rattle.agent_history.specs.declared.event.Event.TheVariants as events
 use Rattle.agent_history.specs.declared.event.Event.TheVariants.{NoAnswer}
 use Rattle.agent_history.specs.Conversations.{opened_talks, standing_of}
 use Rattle.agent_history.specs.Histories.{History, deeds}
-use Rattle.wire_histories.specs.Conversations.{is_asked}
+use Rattle.driven_agents.specs.Conversations.{is_asked}
 use Rattle.world_history.specs.Acts.{Act}
 use Rattle.world_history.specs.Driving.{clunks, drive, is_refused, reads, replies_to, writes}
 use Rattle.world_history.specs.Talking.{Asks, Came, came, gets, gives, is_taken, request_text, starts, word_of}

@@ -6,7 +6,7 @@ use Rattle.wire_histories.specs.Legal.{Setting}
 use Rattle.clean_runs.specs.Labels.{Labelling}
 use Rattle.clean_runs.specs.Statements.{OfEveryCleanHistory}
 use Rattle.world_history.specs.Scripts.{play, world}
-use Rattle.world_legality.specs.Settings.{setting}
+use Rattle.world_agents.specs.Settings.{setting}
 use Rattle.world_agents.proofs.ScriptLaws.{scripts_are_legal}
 use Rattle.world_promises.specs.Statements.{OfEveryCleanScript}
 

@@ -10,7 +10,7 @@ use Rattle.clean_runs.specs.Statements.{IsBridged, IsSecret}
 use Rattle.clean_agreement.specs.Statements.{ClientsAreAnswered, ClientsAreHosts, ClientsMatch, EachByATicket, OneByAMatch, OneByAText, OneByATicket, OneUnderAGrant, ServersAgree, ServersNameTheUser}
 use Rattle.world_history.specs.Scripts.{play, world}
 use Rattle.world_agents.specs.Worlds.{most_script}
-use Rattle.world_legality.specs.Settings.{setting}
+use Rattle.world_agents.specs.Settings.{setting}
 
 -- this holds of the record of a script that is no longer than one may be, where it is clean
 abbrev pub OfCleanScript : (History → Setting → Atoms → Labelling → Type 0) → List ℕ → Type 0

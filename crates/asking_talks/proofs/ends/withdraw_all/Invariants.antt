@@ -1,5 +1,5 @@
 use Rattle.std.proofs.Common.{List, drop}
-use Rattle.agent_history.specs.Deeds.{Deed}
+use Rattle.agent_talks.specs.Deeds.{Deed}
 use Rattle.line_files.specs.Files.{Files}
 use Rattle.asking_talks.proofs.WithdrawLemmas.{Withdrawing}
 use Rattle.asking_talks.proofs.ends.withdraw_all.Given as goal

@@ -1,7 +1,7 @@
 use Rattle.std.proofs.Common.{ℕ, List, ◌∷◌, [], Option, ap, ◌∙◌, arith}
 use Rattle.std.specs.List.{flat_map}
 use Rattle.std.proofs.lemmas.List.{take_all}
-use Rattle.attr_words.specs.Words.{quoted_byte}
+use Rattle.attr_tuples.specs.Words.{quoted_byte}
 use Rattle.rpc_file.specs.Sizes.{behind}
 use Rattle.rpc_file.proofs.SizeLemmas.{behind_both, item_behind}
 use Rattle.rpc_file.proofs.size.spend_quoted.Goals as goal

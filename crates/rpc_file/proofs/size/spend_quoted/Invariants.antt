@@ -1,6 +1,6 @@
 use Rattle.std.proofs.Common.{◌≡◌, ◌∷◌, take}
 use Rattle.std.specs.List.{flat_map}
-use Rattle.attr_words.specs.Words.{quoted_byte}
+use Rattle.attr_tuples.specs.Words.{quoted_byte}
 use Rattle.rpc_file.specs.Sizes.{behind}
 use Rattle.rpc_file.proofs.size.spend_quoted.Given as goal
 

@@ -1,6 +1,6 @@
 use Rattle.std.proofs.Common.{◌≡◌, map, true, Some, ap}
 use Rattle.std.specs.Prelude.{option_map}
-use Rattle.begun_talks.specs.Shown.{answer_in}
+use Rattle.conversations.specs.Shown.{answer_in}
 use Rattle.agent_history.specs.Conversations.{fits, standing_of}
 use Rattle.agent_talks.specs.Kept.{question_of}
 use Rattle.agent_talks.specs.Tells.{answer_at}

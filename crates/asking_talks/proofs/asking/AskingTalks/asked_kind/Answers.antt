@@ -1,6 +1,6 @@
 use Rattle.std.proofs.Common.{ap}
 use Rattle.std.specs.Prelude.{option_copied}
-use Rattle.agent_history.specs.Conversations.{talk}
+use Rattle.agent_talks.specs.Conversations.{talk}
 use Rattle.agent_talks.specs.Speaks.{stands}
 use Rattle.asking_talks.proofs.AskLemmas.{no_kind, shown_kind}
 use Rattle.asking_talks.proofs.asking.AskingTalks.asked_kind.Goals as goal

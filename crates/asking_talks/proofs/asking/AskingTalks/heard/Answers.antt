@@ -1,7 +1,7 @@
 use Rattle.std.proofs.lemmas.Result.{on_err_weaker, on_ok_weaker}
 use Rattle.talks.specs.Calls.{Heard}
-use Rattle.conversations.proofs.WaitLaws.{heard_rests}
-use Rattle.agent_history.specs.Conversations.{talk}
+use Rattle.agent_talks.proofs.WaitLaws.{heard_rests}
+use Rattle.agent_talks.specs.Conversations.{talk}
 use Rattle.asking_talks.proofs.MeetLemmas.{over_tells}
 use Rattle.asking_talks.proofs.OtherLemmas.{same_talks}
 use Rattle.asking_talks.proofs.WaitLemmas.{heard_leaves}

@@ -1,7 +1,7 @@
 use Rattle.rpc_file.specs.declared.answer.RpcAnswer.TheVariants.{NoRoom}
 use Rattle.talks.specs.Calls.{Roomless}
-use Rattle.conversations.proofs.WaitLaws.{roomless_rests}
-use Rattle.agent_history.specs.Conversations.{talk}
+use Rattle.agent_talks.proofs.WaitLaws.{roomless_rests}
+use Rattle.agent_talks.specs.Conversations.{talk}
 use Rattle.asking_talks.proofs.MeetLemmas.{over_tells}
 use Rattle.asking_talks.proofs.WaitLemmas.{roomless_leaves}
 use Rattle.asking_talks.proofs.asking.AskingTalks.roomless.Goals as goal

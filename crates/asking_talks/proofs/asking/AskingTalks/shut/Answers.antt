@@ -1,6 +1,6 @@
 use Rattle.kept_calls.proofs.OtherLemmas.{prompts_converses}
 use Rattle.side_files.specs.Calls as side
-use Rattle.agent_history.specs.Deeds.{OfPrompts}
+use Rattle.agent_talks.specs.Deeds.{OfPrompts}
 use Rattle.std.proofs.Common.{◌∷◌}
 use Rattle.asking_talks.proofs.ShutLemmas.{shut_tells}
 use Rattle.asking_talks.proofs.asking.AskingTalks.shut.Goals as goal

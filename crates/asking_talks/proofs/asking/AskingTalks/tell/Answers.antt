@@ -1,4 +1,4 @@
-use Rattle.agent_history.specs.Conversations.{standing_of}
+use Rattle.agent_talks.specs.Conversations.{standing_of}
 use Rattle.asking_talks.proofs.MeetLemmas.{told_tells}
 use Rattle.asking_talks.proofs.asking.AskingTalks.tell.Goals as goal
 

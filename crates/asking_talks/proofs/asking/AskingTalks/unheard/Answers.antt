@@ -1,7 +1,7 @@
 use Rattle.rpc_file.specs.declared.answer.RpcAnswer.TheVariants.{NoServer}
 use Rattle.talks.specs.Calls.{Unheard}
-use Rattle.conversations.proofs.WaitLaws.{unheard_rests}
-use Rattle.agent_history.specs.Conversations.{talk}
+use Rattle.agent_talks.proofs.WaitLaws.{unheard_rests}
+use Rattle.agent_talks.specs.Conversations.{talk}
 use Rattle.asking_talks.proofs.MeetLemmas.{over_tells}
 use Rattle.asking_talks.proofs.WaitLemmas.{unheard_leaves}
 use Rattle.asking_talks.proofs.asking.AskingTalks.unheard.Goals as goal

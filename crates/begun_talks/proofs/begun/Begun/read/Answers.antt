@@ -2,7 +2,7 @@ use Rattle.std.proofs.Common.{ℕ, List, refl, subst}
 use Rattle.roles.specs.Talks.{get}
 use Rattle.rpc_file.specs.declared.answer.RpcAnswer.TheVariants as a
 use Rattle.talks.specs.Answers.{move_answer}
-use Rattle.conv_set.specs.Protocols.{answers}
+use Rattle.talks.specs.Protocols.{answers}
 use Rattle.talks.specs.Standings.{with_move}
 use Rattle.begun_talks.specs.Begins.{Becomes}
 use Rattle.begun_talks.proofs.MoveLemmas.{moves}

@@ -1,7 +1,7 @@
 use Rattle.std.proofs.Common.{◌≡◌, ◌∷◌, Some, None, sym, subst}
 use Rattle.std.proofs.lemmas.Result.{on_ok_weaker}
-use Rattle.agent_history.specs.Deeds.{HandedOut}
-use Rattle.agent_history.specs.Conversations.{Question, next_question}
+use Rattle.agent_talks.specs.Deeds.{HandedOut}
+use Rattle.agent_talks.specs.Conversations.{Question, next_question}
 use Rattle.agent_talks.specs.Kept as kept
 use Rattle.kept_calls.specs.Calls.{Calls}
 use Rattle.kept_calls.specs.Keeps.{Keeps}

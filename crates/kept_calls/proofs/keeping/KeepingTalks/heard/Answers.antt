@@ -1,6 +1,6 @@
 use Rattle.talks.specs.Calls as calls
 use Rattle.conversations.proofs.WaitLaws.{heard_rests}
-use Rattle.agent_history.specs.Conversations.{talk}
+use Rattle.agent_talks.specs.Conversations.{talk}
 use Rattle.kept_calls.proofs.MeetLemmas.{met_converses}
 use Rattle.kept_calls.proofs.keeping.KeepingTalks.heard.Goals as goal
 

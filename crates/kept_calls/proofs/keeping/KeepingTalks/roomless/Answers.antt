@@ -1,7 +1,7 @@
 use Rattle.rpc_file.specs.declared.answer.RpcAnswer.TheVariants.{NoRoom}
 use Rattle.talks.specs.Calls as calls
 use Rattle.conversations.proofs.WaitLaws.{roomless_rests}
-use Rattle.agent_history.specs.Conversations.{talk}
+use Rattle.agent_talks.specs.Conversations.{talk}
 use Rattle.kept_calls.proofs.MeetLemmas.{met_converses}
 use Rattle.kept_calls.proofs.keeping.KeepingTalks.roomless.Goals as goal
 

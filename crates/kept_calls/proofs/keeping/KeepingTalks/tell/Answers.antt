@@ -1,4 +1,4 @@
-use Rattle.agent_history.specs.Conversations.{standing_of}
+use Rattle.agent_talks.specs.Conversations.{standing_of}
 use Rattle.kept_calls.specs.declared.keeping.KeepingTalks.{KeepingTalks}
 use Rattle.kept_calls.proofs.MeetLemmas.{told_converses}
 use Rattle.kept_calls.proofs.keeping.KeepingTalks.tell.Goals as goal

@@ -1,7 +1,7 @@
 use Rattle.std.proofs.Common.{◌≡◌, List, Some, sym, subst, ◌∙◌}
 use Rattle.attr_tuples.specs.declared.attr.Attr.{Attr}
-use Rattle.agent_history.specs.Conversations.{standing_of}
-use Rattle.line_files.specs.Ends.{EndsFor}
+use Rattle.agent_talks.specs.Conversations.{standing_of}
+use Rattle.asking_talks.specs.Ends.{EndsFor}
 use Rattle.logged_talks.specs.Ahead.{new_template}
 use Rattle.logged_talks.proofs.LineLemmas.{new_is}
 use Rattle.logged_talks.proofs.logged.LoggedTalks.prepare.Goals as goal

@@ -1,7 +1,7 @@
 use Rattle.std.proofs.Common.{◌∷◌, refl}
 use Rattle.side_files.specs.Calls as side
 use Rattle.talks.specs.Calls.{Shut}
-use Rattle.agent_history.specs.Deeds.{OfPrompts}
+use Rattle.agent_talks.specs.Deeds.{OfPrompts}
 use Rattle.logged_talks.proofs.OtherLemmas.{met_have}
 use Rattle.logged_talks.proofs.logged.LoggedTalks.shut.Goals as goal
 

@@ -1,4 +1,4 @@
-use Rattle.agent_history.specs.Conversations.{standing_of}
+use Rattle.agent_talks.specs.Conversations.{standing_of}
 use Rattle.logged_talks.proofs.OtherLemmas.{told_logs}
 use Rattle.logged_talks.proofs.logged.LoggedTalks.tell.Goals as goal
 

@@ -1,6 +1,6 @@
 use Rattle.std.proofs.Common.{List, ◌∷◌, ◌==◌, not, refl}
-use Rattle.agent_history.specs.Deeds.{Deed, OfFids, Versioned}
-use Rattle.agent_history.specs.Conversations.{all_withdrawn, ended_by}
+use Rattle.agent_talks.specs.Deeds.{Deed, OfFids, Versioned}
+use Rattle.agent_talks.specs.Conversations.{all_withdrawn, ended_by}
 use Rattle.logged_talks.proofs.OtherLemmas.{left_have}
 use Rattle.logged_talks.proofs.logged.LoggedTalks.version.Goals as goal
 
