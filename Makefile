@@ -18,7 +18,7 @@ help:
 build:
 	@scripts/need rt bash awk python3
 	@mkdir -p bin
-	@OF='factotum authd nine_show' scripts/progress bin/build.log scripts/side_by_side factotum authd nine_show -- scripts/programs
+	@OF='factotum authd nine_show' scripts/progress bin/build.log scripts/programs factotum authd nine_show
 	@echo 'bin/factotum, bin/authd and bin/nine_show are built, each proved'
 
 demo:
