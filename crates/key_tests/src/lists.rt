@@ -1,4 +1,5 @@
 // A list is kept while it is read, and a write of ctl leaves it to those that read it.
+use crate::expect::expect;
 use listed_ring::ListedRing;
 use std::test::Fail;
 
@@ -16,11 +17,11 @@ fn a_write_leaves_the_list_that_is_read(rt: HostRuntime) -> Result<(), Fail> {
     assert!(rt; empty.as_slice().is_empty());
     let text = ring.text(alloc)?;
     let again = ring.text(alloc)?;
-    assert_eq!(rt; text.as_slice(), ANN_SHOWN);
-    assert_eq!(rt; again.as_slice(), ANN_SHOWN);
+    expect(&rt, &text.as_slice(), &ANN_SHOWN);
+    expect(&rt, &again.as_slice(), &ANN_SHOWN);
     ring.forget();
     let kept = text.share()?;
-    assert_eq!(rt; kept.as_slice(), ANN_SHOWN);
-    assert_eq!(rt; ring.keys().len(), 1);
+    expect(&rt, &kept.as_slice(), &ANN_SHOWN);
+    expect(&rt, &ring.keys().len(), &1);
     Ok(())
 }

@@ -1,6 +1,7 @@
 // Cases by hand from the rules of keys; the DES keys are what bench/vectors/ring_keys.py prints.
 ghost use Rattle.std.specs.Prelude.{◌+◌, ◌≤◌, ◌<◌, length, IfOk};
 
+use crate::expect::{expect, expect_at};
 use attr_tuples::{Attr, Tuple, Value};
 use key_lists::{Edit, EditFault, EditList};
 use key_ring::{AddFault, DeleteFault, Key, KeyRing};
@@ -299,8 +300,8 @@ fn check_keys(rt: &impl Abort, alloc: Global, cases: &[KeyCase]) -> Result<(), F
             Some(fault) => Err(fault),
             None => Ok(1),
         };
-        assert_eq!(rt; answer, expected, "{case}");
-        assert_eq!(rt; ring.len(), if fault.is_some() { 0 } else { 1 }, "{case}");
+        expect_at(rt, &answer, &expected, &case);
+        expect_at(rt, &ring.len(), &if fault.is_some() { 0 } else { 1 }, &case);
     }
     Ok(())
 }
@@ -313,12 +314,12 @@ fn keys_are_taken_or_refused(rt: HostRuntime) -> Result<(), Fail> {
 // What ctl shows of the ring.
 fn expect_list(rt: &impl Abort, alloc: Global, ring: &KeyRing, shown: &[u8]) -> Result<(), Fail> {
     let list = list_of(alloc, ring)?;
-    assert_eq!(rt; list.as_slice(), shown);
+    expect(rt, &list.as_slice(), &shown);
     Ok(())
 }
 
 fn expect_bytes(rt: &impl Abort, found: &[u8], wanted: &[u8]) {
-    assert_eq!(rt; found, wanted);
+    expect(rt, &found, &wanted);
 }
 
 // The key that stands in place of an equal one.
@@ -328,7 +329,7 @@ fn expect_replaced(rt: &impl Abort, alloc: Global, ring: &KeyRing) -> Result<(),
     expect_bytes(rt, key.user().as_slice(), b"ann");
     expect_bytes(rt, key.dom().ok_or("no domain")?.as_slice(), b"x");
     expect_bytes(rt, key.password().ok_or("no password")?.as_slice(), b"new");
-    assert_eq!(rt; (key.serial(), key.tuple().attrs().len()), (3, 4));
+    expect(rt, &(key.serial(), key.tuple().attrs().len()), &(3, 4));
     Ok(())
 }
 
@@ -386,9 +387,9 @@ fn check_deletion(rt: &impl Abort, alloc: Global, deletion: &Deletion) -> Result
     let mut ring = ring_of(alloc, &DELETED_FROM)?;
     let before = ring.len();
     let template = tuple_of(alloc, template)?;
-    assert_eq!(rt; ring.delete(&template), answer, "{case}");
+    expect_at(rt, &ring.delete(&template), &answer, &case);
     let gone = before.checked_sub(ring.len());
-    assert_eq!(rt; gone, Some(answer.unwrap_or(0)), "{case}");
+    expect_at(rt, &gone, &Some(answer.unwrap_or(0)), &case);
     Ok(())
 }
 
@@ -409,7 +410,7 @@ fn the_other_keys_stay(rt: HostRuntime) -> Result<(), Fail> {
     let alloc = rt.alloc();
     let mut ring = ring_of(alloc, &DELETED_FROM)?;
     let template = tuple_of(alloc, "user=a")?;
-    assert_eq!(rt; ring.delete(&template), Ok(2));
+    expect(&rt, &ring.delete(&template), &Ok(2));
     let shown =
         b"key proto=apop user=b !password? x=''\nkey proto=apop user=c !password? x=y\n".as_slice();
     expect_list(&rt, alloc, &ring, shown)
@@ -493,7 +494,7 @@ fn check_search(
         Some(behind) => ring.next_after(&template, role.as_bytes(), behind),
         None => ring.find(&template, role.as_bytes()),
     };
-    assert_eq!(rt; serial_of(found), serial, "{case}");
+    expect_at(rt, &serial_of(found), &serial, &case);
     Ok(())
 }
 
@@ -551,11 +552,12 @@ fn check_offer(rt: &impl Abort, alloc: Global, ring: &KeyRing, offer: &Offer) ->
     let template = tuple_of(alloc, template)?;
     let mut out = Bytes::from_slice(alloc, b">".as_slice())?;
     let offered = ring.offers(&template, role.as_bytes(), &mut out)?;
-    assert_eq!(rt; offered, count, "{case}");
-    assert_eq!(rt;
-        out.as_slice().strip_prefix(b">".as_slice()),
-        Some(text.as_bytes()),
-        "{case}"
+    expect_at(rt, &offered, &count, &case);
+    expect_at(
+        rt,
+        &out.as_slice().strip_prefix(b">".as_slice()),
+        &Some(text.as_bytes()),
+        &case,
     );
     Ok(())
 }
@@ -615,7 +617,7 @@ fn check_long_offers(
     let mut out = Bytes::new(alloc);
     let template = tuple_of(alloc, "proto=p9sk1")?;
     let offered = ring.offers(&template, b"client", &mut out)?;
-    assert_eq!(rt; (offered, out.len()), (count, size), "{line}");
+    expect_at(rt, &(offered, out.len()), &(count, size), &line);
     Ok(())
 }
 
@@ -643,8 +645,8 @@ fn expect_added(
     ensures { ring.new.ever_added ≤ ring.old.ever_added + 1 }
 {
     let tuple = tuple_of(alloc, line)?;
-    assert_eq!(rt; add_tuple(ring, tuple), answer, "{line}");
-    assert_eq!(rt; ring.len(), 1024, "{line}");
+    expect_at(rt, &add_tuple(ring, tuple), &answer, &line);
+    expect_at(rt, &ring.len(), &1024, &line);
     Ok(())
 }
 
@@ -662,7 +664,7 @@ fn expect_full(rt: &impl Abort, alloc: Global, ring: &mut KeyRing) -> Result<(),
     expect_added(rt, alloc, ring, replaced, Ok(1025))?;
     let template = tuple_of(alloc, "user=u5")?;
     let last = ring.find(&template, b"client");
-    assert_eq!(rt; serial_of(last), Some(1025));
+    expect(rt, &serial_of(last), &Some(1025));
     Ok(())
 }
 
@@ -717,7 +719,7 @@ fn check_des(rt: &impl Abort, alloc: Global, line: &str, des: [u8; 7]) -> Result
     let ring = ring_of(alloc, &[line])?;
     let any = tuple_of(alloc, "user?")?;
     let key = ring.find(&any, b"client").ok_or("no key")?;
-    assert_eq!(rt; key.des().0, des, "{line}");
+    expect_at(rt, &key.des().0, &des, &line);
     Ok(())
 }
 
@@ -743,11 +745,11 @@ fn edits_are_carried_out_up_to_the_refused_one(rt: HostRuntime) -> Result<(), Fa
     edits.push(Edit::Delete(tuple_of(alloc, "user=a")?))?;
     edits.push(Edit::Delete(tuple_of(alloc, "user=a")?))?;
     edits.push(Edit::Delete(tuple_of(alloc, "user=b")?))?;
-    assert_eq!(rt; edits.additions(), 2);
+    expect(&rt, &edits.additions(), &2);
     let mut ring = KeyRing::new(alloc);
     let none_matched = EditFault::Delete(DeleteFault::NoneMatched);
     let batch = ring.edit_all(edits)?;
-    assert_eq!(rt; (batch.count, batch.refused), (3, Some(none_matched)));
+    expect(&rt, &(batch.count, batch.refused), &(3, Some(none_matched)));
     let shown = b"key proto=apop user=b !password?\n".as_slice();
     expect_list(&rt, alloc, &ring, shown)
 }

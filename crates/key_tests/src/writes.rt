@@ -1,6 +1,7 @@
 // Writes of ctl by hand from factotum(4) of the Plan 9 manual and this project's rules of lines and keys.
 ghost use Rattle.std.specs.Prelude.{◌+◌, ◌≤◌, ◌<◌};
 
+use crate::expect::{expect, expect_at};
 use ctl_lines::write_ctl;
 use key_ring::KeyRing;
 use std::alloc::Global;
@@ -350,11 +351,11 @@ fn check_write(rt: &impl Abort, alloc: Global, case: &Write) -> Result<(), Fail>
     let (name, before, content, answer, shown) = *case;
     let mut ring = KeyRing::new(alloc);
     let first = write(alloc, &mut ring, before.as_bytes())?;
-    assert_eq!(rt; first, b"".as_slice(), "{name}");
+    expect_at(rt, &first, &b"".as_slice(), &name);
     let told = write(alloc, &mut ring, content.as_bytes())?;
-    assert_eq!(rt; told, answer.as_bytes(), "{name}");
+    expect_at(rt, &told, &answer.as_bytes(), &name);
     let list = list_of(alloc, &ring)?;
-    assert_eq!(rt; list.as_slice(), shown.as_bytes(), "{name}");
+    expect_at(rt, &list.as_slice(), &shown.as_bytes(), &name);
     Ok(())
 }
 
@@ -387,11 +388,12 @@ fn the_1025th_key_is_refused(rt: HostRuntime) -> Result<(), Fail> {
     let alloc = rt.alloc();
     let mut ring = KeyRing::new(alloc);
     let lines = many_lines(alloc, 1025)?;
-    assert_eq!(rt;
-        write(alloc, &mut ring, lines.as_slice())?,
-        b"ring full".as_slice()
+    expect(
+        &rt,
+        &write(alloc, &mut ring, lines.as_slice())?,
+        &b"ring full".as_slice(),
     );
-    assert_eq!(rt; ring.len(), 1024);
+    expect(&rt, &ring.len(), &1024);
     for (name, content, answer, count) in [
         (
             "bad digits and a full ring",
@@ -419,12 +421,13 @@ fn the_1025th_key_is_refused(rt: HostRuntime) -> Result<(), Fail> {
         ),
         ("all are deleted", "delkey proto=apop", "", 0),
     ] {
-        assert_eq!(rt;
-            write(alloc, &mut ring, content.as_bytes())?,
-            answer.as_bytes(),
-            "{name}"
+        expect_at(
+            &rt,
+            &write(alloc, &mut ring, content.as_bytes())?,
+            &answer.as_bytes(),
+            &name,
         );
-        assert_eq!(rt; ring.len(), count, "{name}");
+        expect_at(&rt, &ring.len(), &count, &name);
     }
     Ok(())
 }
@@ -447,7 +450,7 @@ fn check_switches(rt: &impl Abort, alloc: Global, cases: &[(&str, bool)]) -> Res
         let mut ring = KeyRing::new(alloc);
         if content.len() < 1000 {
             let written = write_ctl(alloc, &mut ring, content.as_bytes())?;
-            assert_eq!(rt; written.switches, switches, "{content}");
+            expect_at(rt, &written.switches, &switches, &content);
         }
     }
     Ok(())

@@ -1,4 +1,5 @@
 // The texts of rpc.
+use crate::expect::expect;
 use attr_tuples::parse_tuple;
 use rpc_file::{
     MOST_REQUEST, Request, RpcAnswer, RpcFault, answer_fits, parse_request, print_answer,
@@ -86,7 +87,7 @@ fn a_request_has_at_most_4096_bytes(rt: HostRuntime) -> Result<(), Fail> {
 fn check(rt: &impl Abort, alloc: Global, answer: RpcAnswer, wanted: &[u8]) -> Result<(), Fail> {
     let mut out = Bytes::new(alloc);
     print_answer(&answer, &mut out)?;
-    assert_eq!(rt; out.as_slice(), wanted);
+    expect(rt, &out.as_slice(), &wanted);
     Ok(())
 }
 

@@ -1,4 +1,5 @@
 // Questions and lines, by hand.
+use crate::expect::{expect, expect_at};
 use attr_tuples::print_tuple;
 use side_files::{
     LogRing, PromptFault, PromptKind, Prompts, Question, Reply, TooSmall, UnknownTag,
@@ -16,18 +17,23 @@ static KEY: &[u8] = b"proto=p9sk1 dom=x user=ann confirm !password?";
 fn a_question_is_asked_read_and_replied_to(rt: HostRuntime) -> Result<(), Fail> {
     let mut prompts = Prompts::new(rt.alloc(), PromptKind::Confirm);
     let mut out = Bytes::new(rt.alloc());
-    assert_eq!(rt; prompts.read_one(8192, &mut out), Ok(false));
-    assert_eq!(rt; prompts.ask(7, KEY)?, 1);
-    assert_eq!(rt; prompts.reply(1), Err(UnknownTag));
-    assert_eq!(rt; prompts.read_one(59, &mut out), Err(PromptFault::TooSmall));
-    assert_eq!(rt; prompts.read_one(60, &mut out), Ok(true));
-    assert_eq!(rt;
-        out.as_slice(),
-        b"confirm tag=1 proto=p9sk1 dom=x user=ann confirm !password?\n".as_slice()
+    expect(&rt, &prompts.read_one(8192, &mut out), &Ok(false));
+    expect(&rt, &prompts.ask(7, KEY)?, &1);
+    expect(&rt, &prompts.reply(1), &Err(UnknownTag));
+    expect(
+        &rt,
+        &prompts.read_one(59, &mut out),
+        &Err(PromptFault::TooSmall),
     );
-    assert_eq!(rt; prompts.reply(2), Err(UnknownTag));
-    assert_eq!(rt; prompts.reply(1), Ok(7));
-    assert_eq!(rt; prompts.reply(1), Err(UnknownTag));
+    expect(&rt, &prompts.read_one(60, &mut out), &Ok(true));
+    expect(
+        &rt,
+        &out.as_slice(),
+        &b"confirm tag=1 proto=p9sk1 dom=x user=ann confirm !password?\n".as_slice(),
+    );
+    expect(&rt, &prompts.reply(2), &Err(UnknownTag));
+    expect(&rt, &prompts.reply(1), &Ok(7));
+    expect(&rt, &prompts.reply(1), &Err(UnknownTag));
     Ok(())
 }
 
@@ -39,14 +45,14 @@ fn is_handed(handed: Result<Option<Bytes>, TooSmall>, line: &[u8]) -> bool {
 fn questions_are_read_in_order(rt: HostRuntime) -> Result<(), Fail> {
     let mut prompts = Prompts::new(rt.alloc(), PromptKind::Needkey);
     prompts.reserve(b"a?")?;
-    assert_eq!(rt; prompts.ask_reserved(3), 1);
-    assert_eq!(rt; prompts.ask(4, b"b?")?, 2);
-    assert_eq!(rt; prompts.first_asker(), Some(3));
+    expect(&rt, &prompts.ask_reserved(3), &1);
+    expect(&rt, &prompts.ask(4, b"b?")?, &2);
+    expect(&rt, &prompts.first_asker(), &Some(3));
     assert!(rt; matches!(prompts.hand_out(16), Err(TooSmall)));
     assert!(rt; is_handed(prompts.hand_out(17), b"needkey tag=1 a?\n"));
     assert!(rt; is_handed(prompts.hand_out(17), b"needkey tag=2 b?\n"));
     assert!(rt; matches!(prompts.hand_out(17), Ok(None)));
-    assert_eq!(rt; prompts.reply(2), Ok(4));
+    expect(&rt, &prompts.reply(2), &Ok(4));
     Ok(())
 }
 
@@ -56,14 +62,14 @@ fn questions_are_withdrawn(rt: HostRuntime) -> Result<(), Fail> {
     let mut out = Bytes::new(rt.alloc());
     prompts.ask(3, b"a?")?;
     prompts.ask(4, b"b?")?;
-    assert_eq!(rt; prompts.read_one(8192, &mut out), Ok(true));
+    expect(&rt, &prompts.read_one(8192, &mut out), &Ok(true));
     prompts.withdraw(3);
-    assert_eq!(rt; prompts.reply(1), Err(UnknownTag));
-    assert_eq!(rt; prompts.first_asker(), Some(4));
+    expect(&rt, &prompts.reply(1), &Err(UnknownTag));
+    expect(&rt, &prompts.first_asker(), &Some(4));
     prompts.withdraw(4);
-    assert_eq!(rt; prompts.first_asker(), None);
-    assert_eq!(rt; prompts.read_one(8192, &mut out), Ok(false));
-    assert_eq!(rt; prompts.ask(4, b"c?")?, 3);
+    expect(&rt, &prompts.first_asker(), &None);
+    expect(&rt, &prompts.read_one(8192, &mut out), &Ok(false));
+    expect(&rt, &prompts.ask(4, b"c?")?, &3);
     Ok(())
 }
 
@@ -78,11 +84,11 @@ fn fill(alloc: Global, log: &mut LogRing, count: u8) -> Result<(), Fail> {
 fn a_full_log_loses_its_oldest_line(rt: HostRuntime) -> Result<(), Fail> {
     let mut log = LogRing::new(rt.alloc())?;
     let mut out = Bytes::new(rt.alloc());
-    assert_eq!(rt; log.take(8192, &mut out), Ok(false));
+    expect(&rt, &log.take(8192, &mut out), &Ok(false));
     fill(rt.alloc(), &mut log, 66)?;
-    assert_eq!(rt; log.take(1, &mut out), Err(PromptFault::TooSmall));
-    assert_eq!(rt; log.take(2, &mut out), Ok(true));
-    assert_eq!(rt; out.as_slice(), b"\x02\n".as_slice());
+    expect(&rt, &log.take(1, &mut out), &Err(PromptFault::TooSmall));
+    expect(&rt, &log.take(2, &mut out), &Ok(true));
+    expect(&rt, &out.as_slice(), &b"\x02\n".as_slice());
     assert!(rt; is_handed(log.hand_out(8192), b"\x03\n"));
     assert!(rt; matches!(log.hand_out(0), Err(TooSmall)));
     Ok(())
@@ -179,7 +185,7 @@ fn check_replies(
 ) -> Result<(), Fail> {
     for (text, wanted) in replies {
         let wanted = wanted.map(|(tag, agrees)| Reply { tag, agrees });
-        assert_eq!(rt; parse_reply(alloc, text)?, wanted, "{text:?}");
+        expect_at(rt, &parse_reply(alloc, text)?, &wanted, &text);
     }
     Ok(())
 }
@@ -191,10 +197,14 @@ fn replies_name_their_tags(rt: HostRuntime) -> Result<(), Fail> {
 
 #[test]
 fn numbers_are_decimal_and_below_two_to_the_64th(rt: HostRuntime) {
-    assert_eq!(rt; parse_decimal(b"00020"), Some(20));
-    assert_eq!(rt; parse_decimal(b"18446744073709551615"), Some(u64::MAX));
-    assert_eq!(rt; parse_decimal(b"18446744073709551616"), None);
-    assert_eq!(rt; parse_decimal(b"99999999999999999999"), None);
-    assert_eq!(rt; parse_decimal(b"1a"), None);
-    assert_eq!(rt; parse_decimal(b""), None);
+    expect(&rt, &parse_decimal(b"00020"), &Some(20));
+    expect(
+        &rt,
+        &parse_decimal(b"18446744073709551615"),
+        &Some(u64::MAX),
+    );
+    expect(&rt, &parse_decimal(b"18446744073709551616"), &None);
+    expect(&rt, &parse_decimal(b"99999999999999999999"), &None);
+    expect(&rt, &parse_decimal(b"1a"), &None);
+    expect(&rt, &parse_decimal(b""), &None);
 }

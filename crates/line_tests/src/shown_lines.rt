@@ -1,4 +1,5 @@
 // Lines of the log, and questions to users, by hand from the texts of both.
+use crate::expect::expect;
 use attr_tuples::parse_tuple;
 use file_tree::Node;
 use line_files::{EndLine, LineFiles, build_start};
@@ -19,7 +20,7 @@ fn check_end(
     let template = parse_tuple(alloc, template)?;
     let line = EndLine::new(alloc, 3, &template)?;
     match line.tell(outcome) {
-        Some(told) => assert_eq!(rt; told.as_slice(), wanted),
+        Some(told) => expect(rt, &told.as_slice(), &wanted),
         None => assert!(rt; wanted.is_empty()),
     }
     Ok(())
@@ -63,16 +64,17 @@ fn starts_are_told(rt: HostRuntime) -> Result<(), Fail> {
     let alloc = rt.alloc();
     let template = parse_tuple(alloc, b"role=client proto=p9sk1")?;
     let line = build_start(alloc, 255, &template)?;
-    assert_eq!(rt;
-        line.as_slice(),
-        b"255 start proto=p9sk1 role=client\n".as_slice()
+    expect(
+        &rt,
+        &line.as_slice(),
+        &b"255 start proto=p9sk1 role=client\n".as_slice(),
     );
     Ok(())
 }
 
 fn take(rt: &impl Abort, files: &mut LineFiles, node: Node, wanted: &[u8]) -> Result<(), Fail> {
     match files.hand_out(node, 8192) {
-        Ok(Some(line)) => assert_eq!(rt; line.as_slice(), wanted),
+        Ok(Some(line)) => expect(rt, &line.as_slice(), &wanted),
         Ok(None) => assert!(rt; wanted.is_empty()),
         Err(_) => return Err("too small".into()),
     }
@@ -91,7 +93,7 @@ fn a_question_is_read_once_and_replied_to_once(rt: HostRuntime) -> Result<(), Fa
     assert!(rt; files.hand_out(Node::Confirm, 22).is_err());
     take(&rt, &mut files, Node::Confirm, b"confirm tag=1 user=ann\n")?;
     take(&rt, &mut files, Node::Confirm, b"")?;
-    assert_eq!(rt; files.asker(PromptKind::Confirm, 1), Some(7));
+    expect(&rt, &files.asker(PromptKind::Confirm, 1), &Some(7));
     assert!(rt; matches!(files.reply(PromptKind::Confirm, 1), Ok(7)));
     assert!(rt; files.reply(PromptKind::Confirm, 1).is_err());
     Ok(())

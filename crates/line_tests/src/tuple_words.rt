@@ -1,4 +1,5 @@
 // The rules of reading, matching and merging, by hand.
+use crate::expect::{expect, expect_at};
 use attr_tuples::{
     MergeFault, Tuple, TupleFault, has_name, is_named, is_secret_name, matches, merge, parse_tuple,
     print_tuple, public_equal, value_of,
@@ -207,11 +208,11 @@ fn check_texts(rt: &impl Abort, alloc: Global, cases: &[Reading]) -> Result<(), 
         match parse_tuple(alloc, text) {
             Ok(tuple) => {
                 let out = printed(alloc, &tuple)?;
-                assert_eq!(rt; Ok(out.as_slice()), read, "{case}");
+                expect_at(rt, &Ok(out.as_slice()), &read, &case);
                 let again = tuple_of(alloc, out.as_slice())?;
-                assert_eq!(rt; printed(alloc, &again)?.as_slice(), out.as_slice());
+                expect(rt, &printed(alloc, &again)?.as_slice(), &out.as_slice());
             }
-            Err(fault) => assert_eq!(rt; Err(fault), read, "{case}"),
+            Err(fault) => expect_at(rt, &Err(fault), &read, &case),
         }
     }
     Ok(())
@@ -255,7 +256,7 @@ fn check_templates(rt: &impl Abort, alloc: Global, cases: &[Matching]) -> Result
         let (case, template, tuple, met) = *case;
         let template = tuple_of(alloc, template.as_bytes())?;
         let tuple = tuple_of(alloc, tuple.as_bytes())?;
-        assert_eq!(rt; matches(&template, &tuple), met, "{case}");
+        expect_at(rt, &matches(&template, &tuple), &met, &case);
     }
     Ok(())
 }
@@ -280,7 +281,7 @@ fn attributes_are_asked_for_their_names(rt: HostRuntime) -> Result<(), Fail> {
     let tuple = tuple_of(rt.alloc(), b"user=ann !password=b")?;
     for case in &NAMES {
         let (name, held) = *case;
-        assert_eq!(rt; has_name(tuple.attrs(), name.as_bytes()), held, "{name}");
+        expect_at(&rt, &has_name(tuple.attrs(), name.as_bytes()), &held, &name);
     }
     let user = tuple.attrs().first().ok_or("no attribute")?;
     assert!(rt; is_named(user, b"user") && !is_named(user, b"ann") && !is_named(user, b""));
@@ -308,8 +309,8 @@ fn tuples_are_compared_in_public(rt: HostRuntime) -> Result<(), Fail> {
     for (case, a, b, same) in cases {
         let a = tuple_of(alloc, a.as_bytes())?;
         let b = tuple_of(alloc, b.as_bytes())?;
-        assert_eq!(rt; public_equal(&a, &b), same, "{case}");
-        assert_eq!(rt; public_equal(&b, &a), same, "{case}");
+        expect_at(&rt, &public_equal(&a, &b), &same, &case);
+        expect_at(&rt, &public_equal(&b, &a), &same, &case);
     }
     Ok(())
 }
@@ -339,15 +340,19 @@ fn tuples_are_merged_and_asked(rt: HostRuntime) -> Result<(), Fail> {
         match merge(&a, &b) {
             Ok(tuple) => {
                 let out = printed(alloc, &tuple)?;
-                assert_eq!(rt; Ok(out.as_slice()), both.map(|text| text.as_bytes()));
+                expect(&rt, &Ok(out.as_slice()), &both.map(|text| text.as_bytes()));
             }
-            Err(fault) => assert_eq!(rt; Some(fault), both.err()),
+            Err(fault) => expect(&rt, &Some(fault), &both.err()),
         }
     }
     let tuple = tuple_of(alloc, b"a a? a=1 a=2 !b=''".as_slice())?;
     for (name, value) in [("a", Some("1")), ("!b", Some("")), ("b", None), ("", None)] {
         match value_of(&tuple, name.as_bytes()) {
-            Some(text) => assert_eq!(rt; Some(text.as_slice()), value.map(|text| text.as_bytes())),
+            Some(text) => expect(
+                &rt,
+                &Some(text.as_slice()),
+                &value.map(|text| text.as_bytes()),
+            ),
             None => assert!(rt; value.is_none(), "{name}"),
         }
     }

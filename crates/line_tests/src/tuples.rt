@@ -1,4 +1,5 @@
 // Cases by hand from the rules of printing, and of what a tuple takes.
+use crate::expect::{expect, expect_at};
 use crate::tuple_words::tuple_of;
 use attr_tuples::{Attr, Tuple, Value, print_public, print_tuple};
 use std::alloc::Global;
@@ -23,9 +24,10 @@ fn secrets_are_hidden(rt: HostRuntime) -> Result<(), Fail> {
     let copy = key.copy()?;
     let mut out = Bytes::from_slice(alloc, b"key ".as_slice())?;
     print_public(&copy, &mut out)?;
-    assert_eq!(rt;
-        out.as_slice(),
-        b"key proto=apop user=a !password?".as_slice()
+    expect(
+        &rt,
+        &out.as_slice(),
+        &b"key proto=apop user=a !password?".as_slice(),
     );
     Ok(())
 }
@@ -49,20 +51,20 @@ fn values_are_quoted(rt: HostRuntime) -> Result<(), Fail> {
         assert!(rt; tuple.push(attr_of(alloc, b"n".as_slice(), value)?)?);
         let mut out = Bytes::new(alloc);
         print_public(&tuple, &mut out)?;
-        assert_eq!(rt; out.as_slice(), printed.as_bytes());
+        expect(&rt, &out.as_slice(), &printed.as_bytes());
     }
     let mut tuple = Tuple::new(alloc);
     let mut out = Bytes::new(alloc);
     print_tuple(&tuple, &mut out)?;
-    assert_eq!(rt; out.len(), 0);
+    expect(&rt, &out.len(), &0);
     assert!(rt; tuple.push(attr_of(alloc, b"!s".as_slice(), Value::Bare)?)?);
     assert!(rt; tuple.push(attr_of(alloc, b"user".as_slice(), Value::Ask)?)?);
     assert!(rt; tuple.push(attr_of(alloc, b"confirm".as_slice(), Value::Bare)?)?);
     print_tuple(&tuple, &mut out)?;
-    assert_eq!(rt; out.as_slice(), b"!s user? confirm".as_slice());
+    expect(&rt, &out.as_slice(), &b"!s user? confirm".as_slice());
     out.clear();
     print_public(&tuple, &mut out)?;
-    assert_eq!(rt; out.as_slice(), b"!s? user? confirm".as_slice());
+    expect(&rt, &out.as_slice(), &b"!s? user? confirm".as_slice());
     Ok(())
 }
 
@@ -87,19 +89,23 @@ fn tuples_take_what_a_line_can_give(rt: HostRuntime) -> Result<(), Fail> {
     for (name, taken) in cases {
         let mut tuple = Tuple::new(alloc);
         let attr = attr_of(alloc, name.as_bytes(), Value::Ask)?;
-        assert_eq!(rt; tuple.push(attr)?, taken, "{name}");
-        assert_eq!(rt; tuple.attrs().is_empty(), !taken, "{name}");
+        expect_at(&rt, &tuple.push(attr)?, &taken, &name);
+        expect_at(&rt, &tuple.attrs().is_empty(), &(!taken), &name);
     }
     for (value, taken) in [("\t \x7f'=?", true), ("\n", false), ("\x1f", false)] {
         let mut tuple = Tuple::new(alloc);
         let value = Value::Is(text_of(alloc, value.as_bytes())?);
-        assert_eq!(rt; tuple.push(attr_of(alloc, b"a".as_slice(), value)?)?, taken);
+        expect(
+            &rt,
+            &tuple.push(attr_of(alloc, b"a".as_slice(), value)?)?,
+            &taken,
+        );
     }
     let mut tuple = Tuple::new(alloc);
     for count in 0..38 {
         let attr = attr_of(alloc, b"a".as_slice(), Value::Bare)?;
-        assert_eq!(rt; tuple.push(attr)?, count < 36);
+        expect(&rt, &tuple.push(attr)?, &(count < 36));
     }
-    assert_eq!(rt; tuple.attrs().len(), 36);
+    expect(&rt, &tuple.attrs().len(), &36);
     Ok(())
 }

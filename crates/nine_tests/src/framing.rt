@@ -1,6 +1,7 @@
 // Streams in pieces. The stream is a session over a ctl file, written out from section 5 of the Plan 9 manual.
 ghost use Rattle.std.specs.Prelude.{◌<◌};
 
+use crate::expect::{expect, expect_at};
 use nine_frames::{Framer, Next};
 use std::process::Abort;
 use std::test::Fail;
@@ -68,7 +69,7 @@ fn joined(rt: &HostRuntime, mark: &[u8]) -> Result<Bytes, Fail> {
 fn a_stream_cut_anywhere_has_the_same_frames(rt: HostRuntime) -> Result<(), Fail> {
     let stream = joined(&rt, b"")?;
     let want = joined(&rt, b"|")?;
-    assert_eq!(rt; stream.len(), 175);
+    expect(&rt, &stream.len(), &175);
     for cut in 0..stream.len() {
         let (front, back) = stream.as_slice().split_at(cut);
         let mut framer = Framer::new(rt.alloc(), 8216);
@@ -77,9 +78,9 @@ fn a_stream_cut_anywhere_has_the_same_frames(rt: HostRuntime) -> Result<(), Fail
         take_all(&mut framer, &mut taken)?;
         feed(&rt, &mut framer, back)?;
         take_all(&mut framer, &mut taken)?;
-        assert_eq!(rt; taken.as_slice(), want.as_slice(), "cut at {cut}");
-        assert_eq!(rt; framer.held(), 0, "cut at {cut}");
-        assert_eq!(rt; framer.place(), 175, "cut at {cut}");
+        expect_at(&rt, &taken.as_slice(), &want.as_slice(), &cut);
+        expect_at(&rt, &framer.held(), &0, &cut);
+        expect_at(&rt, &framer.place(), &175, &cut);
     }
     Ok(())
 }
@@ -93,7 +94,7 @@ fn a_stream_byte_by_byte_has_the_same_frames(rt: HostRuntime) -> Result<(), Fail
         feed(&rt, &mut framer, &[*byte])?;
         take_all(&mut framer, &mut taken)?;
     }
-    assert_eq!(rt; taken.as_slice(), joined(&rt, b"|")?.as_slice());
+    expect(&rt, &taken.as_slice(), &joined(&rt, b"|")?.as_slice());
     Ok(())
 }
 
@@ -104,10 +105,10 @@ fn frames_wait_until_they_are_asked_for(rt: HostRuntime) -> Result<(), Fail> {
     for byte in stream.as_slice() {
         feed(&rt, &mut framer, &[*byte])?;
     }
-    assert_eq!(rt; framer.held(), 175);
+    expect(&rt, &framer.held(), &175);
     let mut taken = Bytes::new(rt.alloc());
     take_all(&mut framer, &mut taken)?;
-    assert_eq!(rt; taken.as_slice(), joined(&rt, b"|")?.as_slice());
+    expect(&rt, &taken.as_slice(), &joined(&rt, b"|")?.as_slice());
     Ok(())
 }
 
@@ -148,17 +149,13 @@ fn a_bad_size_is_told_from_then_on(rt: HostRuntime) -> Result<(), Fail> {
         let (front, last) = size.split_at(3);
         feed(&rt, &mut framer, front)?;
         assert!(rt; take_one(&mut framer, &mut taken)?, "{name}");
-        assert_eq!(rt;
-            bad_size(&mut framer)?,
-            None,
-            "{name}: three bytes of the size"
-        );
+        expect_at(&rt, &bad_size(&mut framer)?, &None, &name);
         feed(&rt, &mut framer, last)?;
-        assert_eq!(rt; bad_size(&mut framer)?, want, "{name}");
+        expect_at(&rt, &bad_size(&mut framer)?, &want, &name);
         feed(&rt, &mut framer, b"\x00")?;
-        assert_eq!(rt; bad_size(&mut framer)?, want, "{name}: and again");
-        assert_eq!(rt; framer.held(), 5, "{name}");
-        assert_eq!(rt; framer.place(), 19, "{name}");
+        expect_at(&rt, &bad_size(&mut framer)?, &want, &name);
+        expect_at(&rt, &framer.held(), &5, &name);
+        expect_at(&rt, &framer.place(), &19, &name);
     }
     Ok(())
 }

@@ -4,6 +4,7 @@ ghost use Rattle.nine_messages.specs.Decoding.{IsFrame};
 
 mod frames;
 
+use crate::expect::{expect, expect_at};
 use frames::{COUNT, FRAMES, NO_FAULT};
 use nine_codec::{
     DecodeFault, decode_r, decode_t, encode_r, encode_t, put_attach, put_auth, put_clunk,
@@ -54,8 +55,8 @@ fn a_version_is_read(rt: HostRuntime) -> Result<(), Fail> {
     let TBody::Version { msize, version } = body else {
         panic!(rt; "no version")
     };
-    assert_eq!(rt; (tag, msize), (0xffff, 8216));
-    assert_eq!(rt; version.as_slice(), b"9P2000".as_slice());
+    expect(&rt, &(tag, msize), &(0xffff, 8216));
+    expect(&rt, &version.as_slice(), &b"9P2000".as_slice());
     Ok(())
 }
 
@@ -73,9 +74,9 @@ fn an_attach_is_read(rt: HostRuntime) -> Result<(), Fail> {
     else {
         panic!(rt; "no attach")
     };
-    assert_eq!(rt; (tag, fid, afid), (1, 0, 0xffff_ffff));
-    assert_eq!(rt; uname.as_slice(), b"ann".as_slice());
-    assert_eq!(rt; aname.as_slice(), b"".as_slice());
+    expect(&rt, &(tag, fid, afid), &(1, 0, 0xffff_ffff));
+    expect(&rt, &uname.as_slice(), &b"ann".as_slice());
+    expect(&rt, &aname.as_slice(), &b"".as_slice());
     Ok(())
 }
 
@@ -88,10 +89,10 @@ fn a_walk_is_read(rt: HostRuntime) -> Result<(), Fail> {
     let TBody::Walk { fid, newfid, wname } = body else {
         panic!(rt; "no walk")
     };
-    assert_eq!(rt; (tag, fid, newfid), (2, 0, 1));
-    assert_eq!(rt; wname.as_slice().len(), 2);
+    expect(&rt, &(tag, fid, newfid), &(2, 0, 1));
+    expect(&rt, &wname.as_slice().len(), &2);
     for (name, want) in wname.as_slice().iter().zip(["factotum", "ctl"]) {
-        assert_eq!(rt; name.as_slice(), want.as_bytes());
+        expect(&rt, &name.as_slice(), &want.as_bytes());
     }
     Ok(())
 }
@@ -103,7 +104,7 @@ fn an_open_is_read(rt: HostRuntime) -> Result<(), Fail> {
     let TBody::Open { fid, mode } = body else {
         panic!(rt; "no open")
     };
-    assert_eq!(rt; (tag, fid, mode), (3, 1, 2));
+    expect(&rt, &(tag, fid, mode), &(3, 1, 2));
     Ok(())
 }
 
@@ -121,8 +122,8 @@ fn a_write_is_read(rt: HostRuntime) -> Result<(), Fail> {
     else {
         panic!(rt; "no write")
     };
-    assert_eq!(rt; (tag, fid, offset), (4, 1, 0));
-    assert_eq!(rt; content.as_slice(), LINE);
+    expect(&rt, &(tag, fid, offset), &(4, 1, 0));
+    expect(&rt, &content.as_slice(), &LINE);
     Ok(())
 }
 
@@ -133,7 +134,7 @@ fn a_clunk_is_read(rt: HostRuntime) -> Result<(), Fail> {
     let TBody::Clunk { fid } = body else {
         panic!(rt; "no clunk")
     };
-    assert_eq!(rt; (tag, fid), (6, 1));
+    expect(&rt, &(tag, fid), &(6, 1));
     Ok(())
 }
 
@@ -148,7 +149,7 @@ fn expect_read(
     let TBody::Read { fid, offset, count } = body else {
         panic!(rt; "no read")
     };
-    assert_eq!(rt; (tag, fid, offset, count), want);
+    expect(rt, &(tag, fid, offset, count), &want);
     Ok(())
 }
 
@@ -383,7 +384,7 @@ fn other_replies_are_appended(rt: HostRuntime) -> Result<(), Fail> {
     for reply in OTHER_REPLIES {
         want.append(reply)?;
     }
-    assert_eq!(rt; out.as_slice(), want.as_slice());
+    expect(&rt, &out.as_slice(), &want.as_slice());
     Ok(())
 }
 
@@ -411,12 +412,12 @@ fn check_request(
     check_whole(rt, frame, number);
     match decode_t(alloc, frame) {
         Ok(message) => {
-            assert_eq!(rt; at, None, "{number}");
+            expect_at(rt, &at, &None, &number);
             let mut out = Bytes::new(alloc);
             encode_t(&message, &mut out)?;
-            assert_eq!(rt; out.as_slice(), frame, "{number}");
+            expect_at(rt, &out.as_slice(), &frame, &number);
         }
-        Err(DecodeFault::Bad { at: fault }) => assert_eq!(rt; at, Some(fault), "{number}"),
+        Err(DecodeFault::Bad { at: fault }) => expect_at(rt, &at, &Some(fault), &number),
         Err(DecodeFault::NoMemory) => panic!(rt; "{number}: no memory"),
     }
     Ok(())
@@ -433,12 +434,12 @@ fn check_a_reply(
     check_whole(rt, frame, number);
     match decode_r(alloc, frame) {
         Ok(message) => {
-            assert_eq!(rt; at, None, "{number}");
+            expect_at(rt, &at, &None, &number);
             let mut out = Bytes::new(alloc);
             encode_r(&message, &mut out)?;
-            assert_eq!(rt; out.as_slice(), frame, "{number}");
+            expect_at(rt, &out.as_slice(), &frame, &number);
         }
-        Err(DecodeFault::Bad { at: fault }) => assert_eq!(rt; at, Some(fault), "{number}"),
+        Err(DecodeFault::Bad { at: fault }) => expect_at(rt, &at, &Some(fault), &number),
         Err(DecodeFault::NoMemory) => panic!(rt; "{number}: no memory"),
     }
     Ok(())
@@ -476,6 +477,6 @@ fn frames_from_outside_are_read(rt: HostRuntime) -> Result<(), Fail> {
         rest = behind;
     }
     assert!(rt; rest.is_empty());
-    assert_eq!(rt; COUNT, 160);
+    expect(&rt, &COUNT, &160);
     Ok(())
 }

@@ -3,6 +3,7 @@ ghost use Rattle.nine_messages.specs.Decoding.{IsFrame};
 
 mod shown;
 
+use crate::expect::expect;
 use nine_messages::Bytes;
 use nine_print::{ShowEnd, put_line, show};
 use shown::{LINES, STREAM};
@@ -29,7 +30,7 @@ fn check_line(rt: &impl Abort, alloc: Global, frame: &[u8], line: &[u8]) -> Resu
     put_line(alloc, 1000, frame, &mut out)?;
     let mut want = Bytes::from_slice(alloc, b"- ")?;
     want.append(line)?;
-    assert_eq!(rt; out.as_slice(), want.as_slice());
+    expect(rt, &out.as_slice(), &want.as_slice());
     Ok(())
 }
 
@@ -127,8 +128,8 @@ const CLUNK: &[u8] = b"\x0b\x00\x00\x00\x78\x06\x00\x01\x00\x00\x00";
 #[test]
 fn a_stream_is_shown_line_by_line(rt: HostRuntime) -> Result<(), Fail> {
     let (end, text) = shown_of(rt.alloc(), STREAM, &[], &[])?;
-    assert_eq!(rt; end, ShowEnd::Fine);
-    assert_eq!(rt; text.as_slice(), LINES);
+    expect(&rt, &end, &ShowEnd::Fine);
+    expect(&rt, &text.as_slice(), &LINES);
     Ok(())
 }
 
@@ -145,8 +146,8 @@ fn check_end(
     let (how, text) = shown_of(alloc, stream.as_slice(), &[], &[])?;
     let mut want = Bytes::from_slice(alloc, b"Tclunk tag 6 fid 1\n")?;
     want.append(line)?;
-    assert_eq!(rt; how, end);
-    assert_eq!(rt; text.as_slice(), want.as_slice());
+    expect(rt, &how, &end);
+    expect(rt, &text.as_slice(), &want.as_slice());
     Ok(())
 }
 
@@ -192,8 +193,8 @@ fn check_fault(
     text: &[u8],
 ) -> Result<(), Fail> {
     let (how, written) = shown_of(alloc, CLUNK, reads, writes)?;
-    assert_eq!(rt; how, end);
-    assert_eq!(rt; written.as_slice(), text);
+    expect(rt, &how, &end);
+    expect(rt, &written.as_slice(), &text);
     Ok(())
 }
 
@@ -222,6 +223,6 @@ fn ends_have_numbers(rt: HostRuntime) {
         (ShowEnd::NoMemory, 10),
         (ShowEnd::Flood, 11),
     ] {
-        assert_eq!(rt; end.number(), number);
+        expect(&rt, &end.number(), &number);
     }
 }

@@ -1,4 +1,5 @@
 // Requests and replies beside those that were written down elsewhere.
+use crate::expect::expect;
 use attr_tuples::parse_tuple;
 use prompt_agent::Say;
 use prompt_frames::{
@@ -25,20 +26,23 @@ fn only_yes_is_consent(rt: HostRuntime) -> Result<(), Fail> {
     let alloc = rt.alloc();
     let asked = question(alloc, true)?;
     let yes = write_request(alloc, PromptKind::Confirm, &asked, Say::Yes)?;
-    assert_eq!(rt;
-        yes.as_slice(),
-        b"\x28\x00\x00\x00v\x03\x00\x01\x00\x00\x00\x00\x00\x00\x00\x00\x00\x00\x00\x11\x00\x00\x00tag=12 answer=yes".as_slice()
+    expect(
+        &rt,
+        &yes.as_slice(),
+        &b"\x28\x00\x00\x00v\x03\x00\x01\x00\x00\x00\x00\x00\x00\x00\x00\x00\x00\x00\x11\x00\x00\x00tag=12 answer=yes".as_slice(),
     );
     let no = write_request(alloc, PromptKind::Confirm, &asked, Say::Pass)?;
-    assert_eq!(rt;
-        no.as_slice(),
-        b"\x27\x00\x00\x00v\x03\x00\x01\x00\x00\x00\x00\x00\x00\x00\x00\x00\x00\x00\x10\x00\x00\x00tag=12 answer=no".as_slice()
+    expect(
+        &rt,
+        &no.as_slice(),
+        &b"\x27\x00\x00\x00v\x03\x00\x01\x00\x00\x00\x00\x00\x00\x00\x00\x00\x00\x00\x10\x00\x00\x00tag=12 answer=no".as_slice(),
     );
     let wanted = question(alloc, false)?;
     let key = write_request(alloc, PromptKind::Needkey, &wanted, Say::Yes)?;
-    assert_eq!(rt;
-        key.as_slice(),
-        b"\x1d\x00\x00\x00v\x03\x00\x02\x00\x00\x00\x00\x00\x00\x00\x00\x00\x00\x00\x06\x00\x00\x00tag=12".as_slice()
+    expect(
+        &rt,
+        &key.as_slice(),
+        &b"\x1d\x00\x00\x00v\x03\x00\x02\x00\x00\x00\x00\x00\x00\x00\x00\x00\x00\x00\x06\x00\x00\x00tag=12".as_slice(),
     );
     Ok(())
 }
@@ -50,15 +54,15 @@ fn replies_are_told_apart(rt: HostRuntime) -> Result<(), Fail> {
     assert!(rt; is_refusal(refused));
     assert!(rt; is_refused_by(IN_USE, refused));
     assert!(rt; !is_refused_by(TOO_SMALL, refused));
-    assert_eq!(rt; file_read(refused), None);
+    expect(&rt, &file_read(refused), &None);
     let line =
         b"\x2f\x00\x00\x00u\x01\x00\x24\x00\x00\x00confirm tag=7 proto=apop user=ann \n".as_slice();
-    assert_eq!(rt; file_read(line), Some(PromptKind::Confirm));
+    expect(&rt, &file_read(line), &Some(PromptKind::Confirm));
     match question_read(rt.alloc(), line)? {
-        Some(question) => assert_eq!(rt; question.tag, 7),
+        Some(question) => expect(&rt, &question.tag, &7),
         None => return Err("no question".into()),
     }
-    assert_eq!(rt; read_request(PromptKind::Needkey).len(), 23);
+    expect(&rt, &read_request(PromptKind::Needkey).len(), &23);
     Ok(())
 }
 
@@ -70,8 +74,8 @@ fn the_first_requests_come_in_order(rt: HostRuntime) -> Result<(), Fail> {
         bytes = bytes.saturating_add(first.frame().len());
         first = first.next().ok_or("too few")?;
     }
-    assert_eq!(rt; bytes, 130);
-    assert_eq!(rt; first, First::OpenNeedkey);
+    expect(&rt, &bytes, &130);
+    expect(&rt, &first, &First::OpenNeedkey);
     assert!(rt; first.is_open());
     Ok(())
 }

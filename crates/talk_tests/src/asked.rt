@@ -1,4 +1,5 @@
 // Conversations that ask their users for a key, and what becomes of them when they are told, or end.
+use crate::expect::expect;
 use agent_shared::AskingTalks;
 use agent_talks::Told;
 use file_tree::Node;
@@ -45,7 +46,7 @@ fn check_line(
     wanted: &[u8],
 ) -> Result<(), Fail> {
     match talks.hand_out_line(node, 8192) {
-        Ok(Some(line)) => assert_eq!(rt; line.as_slice(), wanted),
+        Ok(Some(line)) => expect(rt, &line.as_slice(), &wanted),
         Ok(None) => assert!(rt; wanted.is_empty()),
         Err(_) => return Err("too small".into()),
     }
@@ -65,7 +66,7 @@ fn check_told(
         Some(Told::TooSmall) => panic!(rt; "too small"),
         None => panic!(rt; "no answer"),
     }
-    assert_eq!(rt; out.as_slice(), wanted);
+    expect(rt, &out.as_slice(), &wanted);
     Ok(())
 }
 
@@ -80,9 +81,9 @@ fn one_that_is_told_of_no_key_is_refused(rt: HostRuntime) -> Result<(), Fail> {
     assert!(rt; talks.tell(0, 8192).is_none());
     check_line(&rt, &mut talks, Node::Needkey, NEEDED)?;
     check_line(&rt, &mut talks, Node::Needkey, b"")?;
-    assert_eq!(rt; talks.asker(PromptKind::Needkey, 1), Some(0));
+    expect(&rt, &talks.asker(PromptKind::Needkey, 1), &Some(0));
     talks.reply(alloc, PromptKind::Needkey, 1, 0, false, &ring, OPEN)?;
-    assert_eq!(rt; talks.asker(PromptKind::Needkey, 1), None);
+    expect(&rt, &talks.asker(PromptKind::Needkey, 1), &None);
     check_told(
         &rt,
         alloc,
@@ -103,13 +104,13 @@ fn those_that_end_ask_nobody_any_more(rt: HostRuntime) -> Result<(), Fail> {
     ask(alloc, &mut talks, &ring, 3, 7, 3)?;
     check_line(&rt, &mut talks, Node::Needkey, NEEDED)?;
     talks.clunk(1, 7);
-    assert_eq!(rt; talks.first_asker(PromptKind::Needkey), Some(1));
+    expect(&rt, &talks.first_asker(PromptKind::Needkey), &Some(1));
     talks.version(1);
-    assert_eq!(rt; talks.first_asker(PromptKind::Needkey), Some(2));
+    expect(&rt, &talks.first_asker(PromptKind::Needkey), &Some(2));
     talks.hang(2);
-    assert_eq!(rt; talks.first_asker(PromptKind::Needkey), Some(3));
+    expect(&rt, &talks.first_asker(PromptKind::Needkey), &Some(3));
     talks.shut(PromptKind::Needkey, 3);
-    assert_eq!(rt; talks.first_asker(PromptKind::Needkey), None);
+    expect(&rt, &talks.first_asker(PromptKind::Needkey), &None);
     check_told(
         &rt,
         alloc,

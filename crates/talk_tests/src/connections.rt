@@ -1,4 +1,5 @@
 // Conversations that come to keep a connection to the authentication server, and how they part with it.
+use crate::expect::expect;
 use attr_tuples::parse_tuple;
 use conversations::Asks;
 use kept_calls::{Due, KeepingTalks};
@@ -61,8 +62,8 @@ fn hand_out(talks: &mut KeepingTalks) -> Result<(u64, u64), Fail> {
 
 fn check_next(rt: &impl Abort, talks: &mut KeepingTalks, call: u64, conv: u64) -> Result<(), Fail> {
     let next = hand_out(talks)?;
-    assert_eq!(rt; next.0, call);
-    assert_eq!(rt; next.1, conv);
+    expect(rt, &next.0, &call);
+    expect(rt, &next.1, &conv);
     Ok(())
 }
 

@@ -6,6 +6,8 @@ mod asked;
 #[cfg(test)]
 mod connections;
 #[cfg(test)]
+mod expect;
+#[cfg(test)]
 mod logged;
 #[cfg(test)]
 mod questions;

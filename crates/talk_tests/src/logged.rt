@@ -1,4 +1,5 @@
 // What becomes of conversations, as the log tells it.
+use crate::expect::expect;
 use agent_shared::LoggedTalks;
 use attr_tuples::parse_tuple;
 use file_tree::Node;
@@ -54,7 +55,7 @@ fn start(
 // The first line of the log that nobody has read is this one; none where it is empty.
 fn check_line(rt: &impl Abort, talks: &mut LoggedTalks, wanted: &[u8]) -> Result<(), Fail> {
     match talks.hand_out_line(Node::Log, 8192) {
-        Ok(Some(line)) => assert_eq!(rt; line.as_slice(), wanted),
+        Ok(Some(line)) => expect(rt, &line.as_slice(), &wanted),
         Ok(None) => assert!(rt; wanted.is_empty()),
         Err(_) => return Err("too long".into()),
     }

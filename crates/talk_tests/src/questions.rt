@@ -1,5 +1,6 @@
 // Conversations of one agent whose questions for the authentication server come to each of their ends. The messages are
 // those of a login of ann at srv in the domain x, made by bench/vectors over OpenSSL's DES.
+use crate::expect::expect;
 use agent_talks::{Talks, Told};
 use attr_tuples::parse_tuple;
 use conversations::Asks;
@@ -59,7 +60,7 @@ fn check_told(
         Some(Told::TooSmall) => panic!(rt; "too small"),
         None => panic!(rt; "no answer"),
     }
-    assert_eq!(rt; out.as_slice(), wanted);
+    expect(rt, &out.as_slice(), &wanted);
     Ok(())
 }
 
@@ -86,7 +87,7 @@ fn ask(
     conv: u64,
 ) -> Result<(), Fail> {
     talks.open(alloc, conn, 7)?;
-    assert_eq!(rt; talks.conv_at(conn, 7), Some(conv));
+    expect(rt, &talks.conv_at(conn, 7), &Some(conv));
     assert!(rt; talks.is_resting_at(conn, 7));
     let start = Request::Start(b"proto=p9sk1 role=client");
     carry(alloc, talks, ring, conv, start)?;
@@ -112,11 +113,11 @@ fn hand_out(talks: &mut Talks) -> Option<(u64, u64)> {
 fn two_ask(rt: &impl Abort, alloc: Global, talks: &mut Talks, ring: &KeyRing) -> Result<(), Fail> {
     ask(rt, alloc, talks, ring, 1, 0)?;
     ask(rt, alloc, talks, ring, 2, 1)?;
-    assert_eq!(rt; talks.count(), 2);
-    assert_eq!(rt; hand_out(talks), Some((1, 0)));
-    assert_eq!(rt; hand_out(talks), Some((2, 1)));
-    assert_eq!(rt; hand_out(talks), None);
-    assert_eq!(rt; talks.asker(2), Some(1));
+    expect(rt, &talks.count(), &2);
+    expect(rt, &hand_out(talks), &Some((1, 0)));
+    expect(rt, &hand_out(talks), &Some((2, 1)));
+    expect(rt, &hand_out(talks), &None);
+    expect(rt, &talks.asker(2), &Some(1));
     Ok(())
 }
 
@@ -127,9 +128,9 @@ fn the_server_answers_one_and_cannot_be_reached_for_another(rt: HostRuntime) -> 
     let mut talks = Talks::new(alloc);
     two_ask(&rt, alloc, &mut talks, &ring)?;
     talks.unheard(2);
-    assert_eq!(rt; talks.asker(2), None);
+    expect(&rt, &talks.asker(2), &None);
     talks.heard(alloc, 1, ANSWER)?;
-    assert_eq!(rt; talks.asker(1), None);
+    expect(&rt, &talks.asker(1), &None);
     assert!(rt; talks.has_answer_at(1, 7));
     assert!(rt; matches!(talks.tell(0, 1), Some(Told::TooSmall)));
     check_told(&rt, alloc, &mut talks, 0, b"ok")?;
@@ -145,13 +146,13 @@ fn a_question_ends_with_its_conversation(rt: HostRuntime) -> Result<(), Fail> {
     let mut talks = Talks::new(alloc);
     two_ask(&rt, alloc, &mut talks, &ring)?;
     talks.clunk(1, 7);
-    assert_eq!(rt; talks.asker(1), None);
-    assert_eq!(rt; talks.asker(2), Some(1));
+    expect(&rt, &talks.asker(1), &None);
+    expect(&rt, &talks.asker(2), &Some(1));
     talks.roomless(2);
     check_told(&rt, alloc, &mut talks, 1, b"error out of memory")?;
     talks.version(2);
     talks.hang(3);
-    assert_eq!(rt; talks.count(), 0);
+    expect(&rt, &talks.count(), &0);
     assert!(rt; talks.outcome_at(2, 7).is_none());
     Ok(())
 }

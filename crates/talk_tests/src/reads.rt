@@ -1,4 +1,5 @@
 // Reads that wait are told the lines and the answers that come.
+use crate::expect::expect;
 use agent_shared::Shared;
 use file_tree::Node;
 use listed_ring::ListedRing;
@@ -60,7 +61,7 @@ fn check_reply(
         reply.put(&mut out)?;
     }
     shared.mailboxes.pop(1);
-    assert_eq!(rt; out.as_slice(), wanted);
+    expect(rt, &out.as_slice(), &wanted);
     Ok(())
 }
 

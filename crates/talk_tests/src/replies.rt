@@ -1,4 +1,5 @@
 // The few calls that no request of the agent makes yet, and the order of replies.
+use crate::expect::expect;
 use mailboxes::{ErrorText, Mailboxes, Read, Reply, SettledFor, ToldAnswer};
 use nine_codec::put_flush;
 use rpc_file::{RpcAnswer, answer_fits};
@@ -67,11 +68,11 @@ fn replies_to_reads_stand_in_the_order_in_which_the_reads_came(
     mailboxes.reserve(alloc, 1)?;
     mailboxes.push(1, own);
     mailboxes.sweep();
-    assert_eq!(rt; take_tag(&rt, alloc, &mut mailboxes, 1)?, Some(8));
-    assert_eq!(rt; take_tag(&rt, alloc, &mut mailboxes, 1)?, Some(5));
-    assert_eq!(rt; take_tag(&rt, alloc, &mut mailboxes, 1)?, Some(6));
-    assert_eq!(rt; take_tag(&rt, alloc, &mut mailboxes, 1)?, None);
-    assert_eq!(rt; take_tag(&rt, alloc, &mut mailboxes, 2)?, None);
+    expect(&rt, &take_tag(&rt, alloc, &mut mailboxes, 1)?, &Some(8));
+    expect(&rt, &take_tag(&rt, alloc, &mut mailboxes, 1)?, &Some(5));
+    expect(&rt, &take_tag(&rt, alloc, &mut mailboxes, 1)?, &Some(6));
+    expect(&rt, &take_tag(&rt, alloc, &mut mailboxes, 1)?, &None);
+    expect(&rt, &take_tag(&rt, alloc, &mut mailboxes, 2)?, &None);
     assert!(rt; mailboxes.has_tag(2, 5));
     Ok(())
 }
@@ -95,7 +96,7 @@ fn reads_are_given_up(rt: HostRuntime) -> Result<(), Fail> {
     assert!(rt; !mailboxes.has_tag(1, 5));
     mailboxes.give_up(1, 9);
     mailboxes.sweep();
-    assert_eq!(rt; take_tag(&rt, alloc, &mut mailboxes, 1)?, Some(6));
+    expect(&rt, &take_tag(&rt, alloc, &mut mailboxes, 1)?, &Some(6));
     mailboxes.reserve_wait(alloc, 1)?;
     mailboxes.wait(1, WAITED_FOR);
     mailboxes.drop_waits(1);
@@ -120,18 +121,18 @@ fn the_reader_of_a_fid_is_the_first_read_that_is_not_settled(rt: HostRuntime) ->
     mailboxes.wait(1, WAITED_FOR);
     mailboxes.reserve_wait(alloc, 1)?;
     mailboxes.wait(1, second);
-    assert_eq!(rt; mailboxes.reader(1, 7), Some(WAITED_FOR));
-    assert_eq!(rt; mailboxes.reader(1, 8), None);
-    assert_eq!(rt; mailboxes.reader(2, 7), None);
+    expect(&rt, &mailboxes.reader(1, 7), &Some(WAITED_FOR));
+    expect(&rt, &mailboxes.reader(1, 8), &None);
+    expect(&rt, &mailboxes.reader(2, 7), &None);
     mailboxes.settle(1, 5, flush_reply(alloc, 5)?);
-    assert_eq!(rt; mailboxes.reader(1, 7), Some(second));
+    expect(&rt, &mailboxes.reader(1, 7), &Some(second));
     assert!(rt; mailboxes.has_fid(1, 7));
     assert!(rt; !mailboxes.has_fid(1, 8));
     assert!(rt; !mailboxes.has_fid(2, 7));
-    assert_eq!(rt; mailboxes.count_waits(1), 2);
-    assert_eq!(rt; mailboxes.count_waits(2), 0);
+    expect(&rt, &mailboxes.count_waits(1), &2);
+    expect(&rt, &mailboxes.count_waits(2), &0);
     mailboxes.sweep();
-    assert_eq!(rt; mailboxes.count_waits(1), 1);
+    expect(&rt, &mailboxes.count_waits(1), &1);
     Ok(())
 }
 
@@ -145,11 +146,11 @@ fn it_is_told_whose_reads_were_settled(rt: HostRuntime) -> Result<(), Fail> {
     mailboxes.wait(2, WAITED_FOR);
     mailboxes.settle(1, 5, flush_reply(alloc, 5)?);
     mailboxes.give_up(2, 8);
-    assert_eq!(rt; mailboxes.take_settled(), SettledFor::One(1));
-    assert_eq!(rt; mailboxes.take_settled(), SettledFor::Nobody);
+    expect(&rt, &mailboxes.take_settled(), &SettledFor::One(1));
+    expect(&rt, &mailboxes.take_settled(), &SettledFor::Nobody);
     mailboxes.give_up(2, 7);
     mailboxes.settle(1, 5, flush_reply(alloc, 5)?);
-    assert_eq!(rt; mailboxes.take_settled(), SettledFor::Several);
+    expect(&rt, &mailboxes.take_settled(), &SettledFor::Several);
     Ok(())
 }
 
@@ -175,6 +176,6 @@ fn an_answer_is_printed_when_it_is_taken(rt: HostRuntime) -> Result<(), Fail> {
         None => return Err("no reply".into()),
     }
     let wanted = b"\x17\x00\x00\x00\x75\x05\x00\x0c\x00\x00\x00toosmall 141".as_slice();
-    assert_eq!(rt; frame.as_slice(), wanted);
+    expect(&rt, &frame.as_slice(), &wanted);
     Ok(())
 }

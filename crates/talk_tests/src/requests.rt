@@ -1,5 +1,6 @@
 // Logins, and each refusal of a request by a short talk. The messages are those of a login of ann at srv in the domain x,
 // made by bench/vectors over OpenSSL's DES.
+use crate::expect::expect;
 use attr_tuples::{parse_tuple, print_tuple};
 use conversations::{Asks, Conversation};
 use key_ring::KeyRing;
@@ -254,7 +255,7 @@ fn check_answer(
         print_answer(answer, &mut out)?;
     }
     match out.as_slice().strip_prefix(title) {
-        Some(behind) => assert_eq!(rt; behind, rest),
+        Some(behind) => expect(rt, &behind, &rest),
         None => panic!(rt; "another answer"),
     }
     assert!(rt; conversation.take_answer().is_some());
@@ -311,7 +312,7 @@ fn check_asked(rt: &impl Abort, alloc: Global, client: &Conversation) -> Result<
     if let Some(template) = client.template() {
         print_tuple(template, &mut out)?;
     }
-    assert_eq!(rt; out.as_slice(), b"proto=p9sk1 dom=x user?".as_slice());
+    expect(rt, &out.as_slice(), &b"proto=p9sk1 dom=x user?".as_slice());
     Ok(())
 }
 

@@ -1,4 +1,5 @@
 // A search and a pick, by hand from the rules of searches.
+use crate::expect::expect;
 use attr_tuples::{Tuple, parse_tuple};
 use key_ring::KeyRing;
 use roles::Tuples;
@@ -70,7 +71,7 @@ fn check_picks(
 ) -> Result<(), Fail> {
     for (doms, place) in rows {
         let templates = templates_in(alloc, doms)?;
-        assert_eq!(rt; pick_template(ring, &templates, b"client"), *place);
+        expect(rt, &pick_template(ring, &templates, b"client"), place);
     }
     Ok(())
 }

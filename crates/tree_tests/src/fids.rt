@@ -1,5 +1,6 @@
 // Requests on the fids of one connection, one after the other.
 
+use crate::expect::{expect, expect_at};
 use fid_table::{FidFault, FidState, Fids, Node};
 use std::alloc::Global;
 use std::process::Abort;
@@ -157,10 +158,10 @@ fn names_of(alloc: Global, words: &str) -> Result<TextList, Fail> {
 // Fid 0 names the root, and fid 1 the file to which this way leads from there.
 fn at(rt: &impl Abort, alloc: Global, way: &str) -> Result<Fids, Fail> {
     let mut fids = Fids::new(alloc);
-    assert_eq!(rt; fids.attach(0), Ok(()), "{way}");
+    expect_at(rt, &fids.attach(0), &Ok(()), &way);
     let names = names_of(alloc, way)?;
     let nodes = fids.walk(alloc, 0, 1, names.as_slice())?;
-    assert_eq!(rt; nodes.len(), names.as_slice().len(), "{way}");
+    expect_at(rt, &nodes.len(), &names.as_slice().len(), &way);
     Ok(fids)
 }
 
@@ -177,14 +178,14 @@ fn walks(
     let names = names_of(alloc, words)?;
     match fids.walk(alloc, 1, newfid, names.as_slice()) {
         Ok(nodes) => {
-            assert_eq!(rt; refusal, "", "{words}");
+            expect_at(rt, &refusal, &"", &words);
             let want = names_of(alloc, visited)?;
-            assert_eq!(rt; nodes.len(), want.as_slice().len(), "{words}");
+            expect_at(rt, &nodes.len(), &want.as_slice().len(), &words);
             for (node, name) in nodes.as_slice().iter().zip(want.as_slice()) {
-                assert_eq!(rt; node.name(), name.as_slice(), "{words}");
+                expect_at(rt, &node.name(), &name.as_slice(), &words);
             }
         }
-        Err(fault) => assert_eq!(rt; fault.text(), refusal.as_bytes(), "{words}"),
+        Err(fault) => expect_at(rt, &fault.text(), &refusal.as_bytes(), &words),
     }
     Ok(())
 }
@@ -218,9 +219,9 @@ fn walk_onto_a_new_fid(rt: &impl Abort, alloc: Global, walk: Walk) -> Result<(),
     let end = end_of(&fids, words, visited);
     walks(rt, alloc, &mut fids, 2, words, visited, refusal)?;
     let now = end.map_or(Err(FidFault::UnknownFid), closed);
-    assert_eq!(rt; fids.file_of(2), now, "{way}: {words}");
-    assert_eq!(rt; fids.file_of(1), start, "{way}: {words}");
-    assert_eq!(rt; fids.file_of(0), closed(Node::Root), "{way}: {words}");
+    expect_at(rt, &fids.file_of(2), &now, &(way, words));
+    expect_at(rt, &fids.file_of(1), &start, &(way, words));
+    expect_at(rt, &fids.file_of(0), &closed(Node::Root), &(way, words));
     Ok(())
 }
 
@@ -230,8 +231,8 @@ fn walk_onto_a_held_fid(rt: &impl Abort, alloc: Global, walk: Walk) -> Result<()
     let mut fids = at(rt, alloc, way)?;
     let start = fids.file_of(1);
     walks(rt, alloc, &mut fids, 0, words, "", "fid in use")?;
-    assert_eq!(rt; fids.file_of(0), closed(Node::Root), "{way}: {words}");
-    assert_eq!(rt; fids.file_of(1), start, "{way}: {words}");
+    expect_at(rt, &fids.file_of(0), &closed(Node::Root), &(way, words));
+    expect_at(rt, &fids.file_of(1), &start, &(way, words));
     Ok(())
 }
 
@@ -242,10 +243,11 @@ fn walk_onto_itself(rt: &impl Abort, alloc: Global, walk: Walk) -> Result<(), Fa
     let start = fids.file_of(1);
     let end = end_of(&fids, words, visited);
     walks(rt, alloc, &mut fids, 1, words, visited, refusal)?;
-    assert_eq!(rt;
-        fids.file_of(1),
-        end.map_or(start, closed),
-        "{way}: {words}"
+    expect_at(
+        rt,
+        &fids.file_of(1),
+        &end.map_or(start, closed),
+        &(way, words),
     );
     Ok(())
 }
@@ -292,7 +294,7 @@ fn read(
 fn full(rt: &impl Abort, alloc: Global) -> Result<Fids, Fail> {
     let mut fids = at(rt, alloc, "factotum ctl")?;
     for fid in 2..256 {
-        assert_eq!(rt; fids.attach(fid), Ok(()), "fid {fid}");
+        expect_at(rt, &fids.attach(fid), &Ok(()), &fid);
     }
     Ok(fids)
 }
@@ -301,14 +303,14 @@ fn full(rt: &impl Abort, alloc: Global) -> Result<Fids, Fail> {
 fn a_257th_fid_is_refused(rt: HostRuntime) -> Result<(), Fail> {
     let alloc = rt.alloc();
     let mut fids = full(&rt, alloc)?;
-    assert_eq!(rt; fids.attach(256), Err(FidFault::TooMany));
-    assert_eq!(rt; fids.file_of(256), Err(FidFault::UnknownFid));
+    expect(&rt, &fids.attach(256), &Err(FidFault::TooMany));
+    expect(&rt, &fids.file_of(256), &Err(FidFault::UnknownFid));
     walks(&rt, alloc, &mut fids, 256, "", "", "too many fids")?;
     walks(&rt, alloc, &mut fids, 1, "", "", "")?;
-    assert_eq!(rt; fids.clunk(255), closed(Node::Root));
-    assert_eq!(rt; fids.clunk(255), Err(FidFault::UnknownFid));
-    assert_eq!(rt; fids.attach(0xffff_ffff), Ok(()));
-    assert_eq!(rt; fids.file_of(0xffff_ffff), closed(Node::Root));
+    expect(&rt, &fids.clunk(255), &closed(Node::Root));
+    expect(&rt, &fids.clunk(255), &Err(FidFault::UnknownFid));
+    expect(&rt, &fids.attach(0xffff_ffff), &Ok(()));
+    expect(&rt, &fids.file_of(0xffff_ffff), &closed(Node::Root));
     Ok(())
 }
 
@@ -404,8 +406,8 @@ fn refuse(rt: &impl Abort, alloc: Global, ground: Ground) -> Result<(), Fail> {
     }
     let (from, onto) = (fids.file_of(1), fids.file_of(newfid));
     walks(rt, alloc, &mut fids, newfid, words, "", refusal)?;
-    assert_eq!(rt; fids.file_of(1), from, "{name}");
-    assert_eq!(rt; fids.file_of(newfid), onto, "{name}");
+    expect_at(rt, &fids.file_of(1), &from, &name);
+    expect_at(rt, &fids.file_of(newfid), &onto, &name);
     Ok(())
 }
 
@@ -417,31 +419,49 @@ fn the_first_ground_refuses_a_walk(rt: HostRuntime) -> Result<(), Fail> {
     let mut fids = full(&rt, rt.alloc())?;
     let names = names_of(rt.alloc(), "nothing")?;
     let unknown = fids.walk(rt.alloc(), 300, 1, names.as_slice()).err();
-    assert_eq!(rt; unknown, Some(FidFault::UnknownFid), "unknown and in use");
+    expect_at(
+        &rt,
+        &unknown,
+        &Some(FidFault::UnknownFid),
+        &"unknown and in use",
+    );
     let unfound = fids.walk(rt.alloc(), 0, 300, names.as_slice()).err();
-    assert_eq!(rt; unfound, Some(FidFault::TooMany), "full and not found");
+    expect_at(
+        &rt,
+        &unfound,
+        &Some(FidFault::TooMany),
+        &"full and not found",
+    );
     Ok(())
 }
 
 #[test]
 fn the_first_ground_refuses_an_attach_and_an_open(rt: HostRuntime) -> Result<(), Fail> {
     let mut fids = full(&rt, rt.alloc())?;
-    assert_eq!(rt; fids.attach(7), Err(FidFault::InUse), "in use and full");
-    assert_eq!(rt;
-        fids.may_open(300, 4),
-        Err(FidFault::UnknownFid),
-        "unknown and a bad mode"
+    expect_at(
+        &rt,
+        &fids.attach(7),
+        &Err(FidFault::InUse),
+        &"in use and full",
     );
-    assert_eq!(rt;
-        fids.may_open(1, 0x44),
-        Err(FidFault::BadMode),
-        "a bad mode and denied"
+    expect_at(
+        &rt,
+        &fids.may_open(300, 4),
+        &Err(FidFault::UnknownFid),
+        &"unknown and a bad mode",
     );
-    assert_eq!(rt; open(&mut fids, 1, 0x12), Ok(Node::Ctl));
-    assert_eq!(rt;
-        fids.may_open(1, 4),
-        Err(FidFault::AlreadyOpen),
-        "open and a bad mode"
+    expect_at(
+        &rt,
+        &fids.may_open(1, 0x44),
+        &Err(FidFault::BadMode),
+        &"a bad mode and denied",
+    );
+    expect(&rt, &open(&mut fids, 1, 0x12), &Ok(Node::Ctl));
+    expect_at(
+        &rt,
+        &fids.may_open(1, 4),
+        &Err(FidFault::AlreadyOpen),
+        &"open and a bad mode",
     );
     Ok(())
 }
@@ -457,9 +477,9 @@ fn a_file_is_opened_for_what_it_is_open_to(rt: HostRuntime) -> Result<(), Fail> 
                 0..=3 | 0x10..=0x13 | 0x40..=0x43 | 0x50..=0x53 => Err(FidFault::Denied),
                 _ => Err(FidFault::BadMode),
             };
-            assert_eq!(rt; open(&mut fids, 1, mode), want, "{way}, mode {mode}");
+            expect_at(&rt, &open(&mut fids, 1, mode), &want, &(way, mode));
             let mode = if want.is_ok() { Some(mode) } else { None };
-            assert_eq!(rt; fids.file_of(1), Ok(FidState { node, mode }), "{way}");
+            expect_at(&rt, &fids.file_of(1), &Ok(FidState { node, mode }), &way);
         }
     }
     Ok(())
@@ -469,23 +489,23 @@ fn a_file_is_opened_for_what_it_is_open_to(rt: HostRuntime) -> Result<(), Fail> 
 #[test]
 fn ctl_is_told_and_given_up(rt: HostRuntime) -> Result<(), Fail> {
     let mut fids = at(&rt, rt.alloc(), "factotum ctl")?;
-    assert_eq!(rt; open(&mut fids, 1, 2), Ok(Node::Ctl));
+    expect(&rt, &open(&mut fids, 1, 2), &Ok(Node::Ctl));
     let mut out = Bytes::from_slice(rt.alloc(), b"so ")?;
-    assert_eq!(rt; fids.stat(1, &mut out), Ok(()));
+    expect(&rt, &fids.stat(1, &mut out), &Ok(()));
     let told =
         b"so \x4a\x00\x00\x00\x00\x00\x00\x00\x00\x00\x00\x00\x00\x03\x00\x00\x00\x00\x00\x00\x00\x80\x01\x00\x00\x00\x00\x00\x00\x00\x00\x00\x00\x00\x00\x00\x00\x00\x00\x00\x00\x03\x00ctl\x08\x00factotum\x08\x00factotum\x08\x00factotum";
-    assert_eq!(rt; out.as_slice(), told.as_slice());
-    assert_eq!(rt; fids.stat(2, &mut out), Err(FidFault::UnknownFid));
-    assert_eq!(rt; out.as_slice(), told.as_slice());
+    expect(&rt, &out.as_slice(), &told.as_slice());
+    expect(&rt, &fids.stat(2, &mut out), &Err(FidFault::UnknownFid));
+    expect(&rt, &out.as_slice(), &told.as_slice());
     let open = FidState {
         node: Node::Ctl,
         mode: Some(2),
     };
-    assert_eq!(rt; fids.clunk(1), Ok(open));
-    assert_eq!(rt; fids.stat(1, &mut out), Err(FidFault::UnknownFid));
-    assert_eq!(rt; fids.may_open(1, 0), Err(FidFault::UnknownFid));
-    assert_eq!(rt; fids.clunk(1), Err(FidFault::UnknownFid));
-    assert_eq!(rt; fids.file_of(0), closed(Node::Root));
+    expect(&rt, &fids.clunk(1), &Ok(open));
+    expect(&rt, &fids.stat(1, &mut out), &Err(FidFault::UnknownFid));
+    expect(&rt, &fids.may_open(1, 0), &Err(FidFault::UnknownFid));
+    expect(&rt, &fids.clunk(1), &Err(FidFault::UnknownFid));
+    expect(&rt, &fids.file_of(0), &closed(Node::Root));
     Ok(())
 }
 
@@ -525,7 +545,7 @@ fn read_from(
 ) {
     let mut out = Bytes::new(alloc);
     let answer = read(fids, 1, offset, count, &mut out);
-    assert_eq!(rt; answer.map(|()| out.len()), given, "{count} from {offset}");
+    expect_at(rt, &answer.map(|()| out.len()), &given, &(count, offset));
     let from = offset.min(466) as usize;
     let here = whole.get(from..).unwrap_or(&[]);
     assert!(rt; here.starts_with(out.as_slice()), "{count} from {offset}");
@@ -534,10 +554,10 @@ fn read_from(
 #[test]
 fn a_directory_is_read_on_or_from_its_beginning(rt: HostRuntime) -> Result<(), Fail> {
     let mut fids = at(&rt, rt.alloc(), "factotum")?;
-    assert_eq!(rt; open(&mut fids, 1, 0), Ok(Node::Factotum));
+    expect(&rt, &open(&mut fids, 1, 0), &Ok(Node::Factotum));
     let mut whole = Bytes::new(rt.alloc());
-    assert_eq!(rt; read(&mut fids, 1, 0, 8192, &mut whole), Ok(()));
-    assert_eq!(rt; whole.len(), 466);
+    expect(&rt, &read(&mut fids, 1, 0, 8192, &mut whole), &Ok(()));
+    expect(&rt, &whole.len(), &466);
     for (offset, count, given) in READS {
         read_from(
             &rt,
@@ -555,18 +575,19 @@ fn a_directory_is_read_on_or_from_its_beginning(rt: HostRuntime) -> Result<(), F
 #[test]
 fn each_fid_has_an_offset_of_its_own(rt: HostRuntime) -> Result<(), Fail> {
     let mut fids = at(&rt, rt.alloc(), "factotum")?;
-    assert_eq!(rt; open(&mut fids, 0, 0), Ok(Node::Root));
-    assert_eq!(rt; open(&mut fids, 1, 0), Ok(Node::Factotum));
+    expect(&rt, &open(&mut fids, 0, 0), &Ok(Node::Root));
+    expect(&rt, &open(&mut fids, 1, 0), &Ok(Node::Factotum));
     let mut out = Bytes::new(rt.alloc());
-    assert_eq!(rt; read(&mut fids, 1, 0, 76, &mut out), Ok(()));
+    expect(&rt, &read(&mut fids, 1, 0, 76, &mut out), &Ok(()));
     out.clear();
-    assert_eq!(rt;
-        read(&mut fids, 0, 76, 81, &mut out),
-        Err(FidFault::BadOffset)
+    expect(
+        &rt,
+        &read(&mut fids, 0, 76, 81, &mut out),
+        &Err(FidFault::BadOffset),
     );
-    assert_eq!(rt; read(&mut fids, 0, 0, 81, &mut out), Ok(()));
-    assert_eq!(rt; read(&mut fids, 0, 81, 81, &mut out), Ok(()));
-    assert_eq!(rt; out.len(), 81);
+    expect(&rt, &read(&mut fids, 0, 0, 81, &mut out), &Ok(()));
+    expect(&rt, &read(&mut fids, 0, 81, 81, &mut out), &Ok(()));
+    expect(&rt, &out.len(), &81);
     Ok(())
 }
 
@@ -590,20 +611,20 @@ fn a_request_is_made_in_halves(rt: HostRuntime) -> Result<(), Fail> {
     let alloc = rt.alloc();
     let mut fids = Fids::new(alloc);
     fids.may_attach(1)?;
-    assert_eq!(rt; fids.file_of(1), Err(FidFault::UnknownFid));
+    expect(&rt, &fids.file_of(1), &Err(FidFault::UnknownFid));
     fids.mark_walked(1, Node::Root)?;
-    assert_eq!(rt; fids.file_of(1), closed(Node::Root));
+    expect(&rt, &fids.file_of(1), &closed(Node::Root));
     let names = names_of(alloc, "factotum")?;
     let (nodes, end) = fids.may_walk(alloc, 1, 2, names.as_slice())?;
-    assert_eq!(rt; nodes.as_slice(), [Node::Factotum].as_slice());
-    assert_eq!(rt; end, Some(Node::Factotum));
-    assert_eq!(rt; fids.file_of(2), Err(FidFault::UnknownFid));
+    expect(&rt, &nodes.as_slice(), &[Node::Factotum].as_slice());
+    expect(&rt, &end, &Some(Node::Factotum));
+    expect(&rt, &fids.file_of(2), &Err(FidFault::UnknownFid));
     fids.mark_walked(2, Node::Factotum)?;
-    assert_eq!(rt; open(&mut fids, 2, 0), Ok(Node::Factotum));
+    expect(&rt, &open(&mut fids, 2, 0), &Ok(Node::Factotum));
     let mut out = Bytes::new(alloc);
     let end = read_in_halves(&mut fids, 2, &mut out)?;
-    assert_eq!(rt; out.len() as u64, end);
-    assert_eq!(rt; read(&mut fids, 2, end, 8192, &mut out), Ok(()));
-    assert_eq!(rt; out.len() as u64, end);
+    expect(&rt, &(out.len() as u64), &end);
+    expect(&rt, &read(&mut fids, 2, end, 8192, &mut out), &Ok(()));
+    expect(&rt, &(out.len() as u64), &end);
     Ok(())
 }

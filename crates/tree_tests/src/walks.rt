@@ -1,4 +1,5 @@
 // The tree and what is told of it, beside records made by another program.
+use crate::expect::{expect, expect_at};
 use file_tree::{
     FidFault, FidState, Node, attach_fault, dir_fault, open_fault, put_directory, put_record,
     reads, record_size, walk_fault, walk_from, writes,
@@ -127,15 +128,20 @@ fn bytes_of(alloc: Global, digits: &str) -> Result<Bytes, Fail> {
 #[test]
 fn the_tree_is_its_table(rt: HostRuntime) {
     for (node, name, kind, path, mode, written, directory, exclusive) in FILES {
-        assert_eq!(rt; node.name(), name.as_bytes(), "{name}");
+        expect_at(&rt, &node.name(), &name.as_bytes(), &name);
         let qid = node.qid();
-        assert_eq!(rt; (qid.kind, qid.vers, qid.path), (kind, 0, path), "{name}");
-        assert_eq!(rt; node.mode(), mode, "{name}");
-        assert_eq!(rt; node.is_written(), written, "{name}");
-        assert_eq!(rt; node.is_directory(), directory, "{name}");
-        assert_eq!(rt; node.is_exclusive(), exclusive, "{name}");
+        expect_at(
+            &rt,
+            &(qid.kind, qid.vers, qid.path),
+            &(kind, 0, path),
+            &name,
+        );
+        expect_at(&rt, &node.mode(), &mode, &name);
+        expect_at(&rt, &node.is_written(), &written, &name);
+        expect_at(&rt, &node.is_directory(), &directory, &name);
+        expect_at(&rt, &node.is_exclusive(), &exclusive, &name);
     }
-    assert_eq!(rt; Node::Root.files(), [Node::Factotum].as_slice());
+    expect(&rt, &Node::Root.files(), &[Node::Factotum].as_slice());
     let inside = [
         Node::Rpc,
         Node::Ctl,
@@ -144,8 +150,8 @@ fn the_tree_is_its_table(rt: HostRuntime) {
         Node::Proto,
         Node::Log,
     ];
-    assert_eq!(rt; Node::Factotum.files(), inside.as_slice());
-    assert_eq!(rt; Node::Ctl.files().len(), 0);
+    expect(&rt, &Node::Factotum.files(), &inside.as_slice());
+    expect(&rt, &Node::Ctl.files().len(), &0);
 }
 
 #[test]
@@ -154,8 +160,8 @@ fn a_file_is_told_in_one_record(rt: HostRuntime) -> Result<(), Fail> {
         let want = bytes_of(rt.alloc(), digits)?;
         let mut out = Bytes::new(rt.alloc());
         put_record(node, &mut out)?;
-        assert_eq!(rt; out.as_slice(), want.as_slice(), "{digits}");
-        assert_eq!(rt; record_size(node), want.len(), "{digits}");
+        expect_at(&rt, &out.as_slice(), &want.as_slice(), &digits);
+        expect_at(&rt, &record_size(node), &want.len(), &digits);
     }
     Ok(())
 }
@@ -173,8 +179,8 @@ fn read_on(
     for size in sizes {
         let before = out.len();
         offset = put_directory(node, offset, count, &mut out)?;
-        assert_eq!(rt; out.len().saturating_sub(before), *size, "count {count}");
-        assert_eq!(rt; offset, out.len() as u64, "count {count}");
+        expect_at(rt, &out.len().saturating_sub(before), size, &count);
+        expect_at(rt, &offset, &(out.len() as u64), &count);
     }
     Ok(out)
 }
@@ -200,7 +206,7 @@ fn a_directory_is_read_in_whole_records(rt: HostRuntime) -> Result<(), Fail> {
             "count {count}"
         );
         if count >= 81 {
-            assert_eq!(rt; out.len(), whole.len(), "count {count}");
+            expect_at(&rt, &out.len(), &whole.len(), &count);
         }
     }
     Ok(())
@@ -214,10 +220,10 @@ fn names_lead_through_the_tree(rt: HostRuntime) -> Result<(), Fail> {
     }
     let (nodes, end) = walk_from(rt.alloc(), Node::Root, names.as_slice())?;
     let way = [Node::Factotum, Node::Root, Node::Factotum, Node::Log];
-    assert_eq!(rt; nodes.as_slice(), way.as_slice());
-    assert_eq!(rt; (nodes.len(), end), (4, None));
+    expect(&rt, &nodes.as_slice(), &way.as_slice());
+    expect(&rt, &(nodes.len(), end), &(4, None));
     let (nodes, end) = walk_from(rt.alloc(), Node::Factotum, &[])?;
-    assert_eq!(rt; (nodes.len(), end), (0, Some(Node::Factotum)));
+    expect(&rt, &(nodes.len(), end), &(0, Some(Node::Factotum)));
     Ok(())
 }
 
@@ -235,7 +241,7 @@ fn a_fault_has_its_text(rt: HostRuntime) {
         (FidFault::BadOffset, "bad directory offset"),
         (FidFault::NoMemory, "out of memory"),
     ] {
-        assert_eq!(rt; fault.text(), text.as_bytes());
+        expect(&rt, &fault.text(), &text.as_bytes());
     }
 }
 
@@ -249,19 +255,20 @@ fn a_fid_is_refused_by_its_state(rt: HostRuntime) {
         node: Node::Ctl,
         mode: Some(0),
     });
-    assert_eq!(rt; attach_fault(open, 256), Some(FidFault::InUse));
-    assert_eq!(rt; attach_fault(None, 256), Some(FidFault::TooMany));
-    assert_eq!(rt; attach_fault(None, 255), None);
-    assert_eq!(rt;
-        walk_fault(open, closed, false, 256, &[]),
-        Some(FidFault::AlreadyOpen)
+    expect(&rt, &attach_fault(open, 256), &Some(FidFault::InUse));
+    expect(&rt, &attach_fault(None, 256), &Some(FidFault::TooMany));
+    expect(&rt, &attach_fault(None, 255), &None);
+    expect(
+        &rt,
+        &walk_fault(open, closed, false, 256, &[]),
+        &Some(FidFault::AlreadyOpen),
     );
-    assert_eq!(rt; walk_fault(closed, None, false, 255, &[]), None);
-    assert_eq!(rt; open_fault(None, 0), Some(FidFault::UnknownFid));
-    assert_eq!(rt; open_fault(closed, 0x41), Some(FidFault::Denied));
-    assert_eq!(rt; open_fault(closed, 2), None);
-    assert_eq!(rt; dir_fault(81, 80), Some(FidFault::BadOffset));
-    assert_eq!(rt; dir_fault(81, 81), None);
+    expect(&rt, &walk_fault(closed, None, false, 255, &[]), &None);
+    expect(&rt, &open_fault(None, 0), &Some(FidFault::UnknownFid));
+    expect(&rt, &open_fault(closed, 0x41), &Some(FidFault::Denied));
+    expect(&rt, &open_fault(closed, 2), &None);
+    expect(&rt, &dir_fault(81, 80), &Some(FidFault::BadOffset));
+    expect(&rt, &dir_fault(81, 81), &None);
 }
 
 #[test]
@@ -273,7 +280,7 @@ fn a_mode_reads_and_writes(rt: HostRuntime) {
         (3, false, false),
         (0x11, false, true),
     ] {
-        assert_eq!(rt; reads(mode), is_read, "{mode}");
-        assert_eq!(rt; writes(mode), is_written, "{mode}");
+        expect_at(&rt, &reads(mode), &is_read, &mode);
+        expect_at(&rt, &writes(mode), &is_written, &mode);
     }
 }
