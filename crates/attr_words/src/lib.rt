@@ -5,8 +5,6 @@
 mod cutting;
 mod laws;
 mod line;
-#[cfg(test)]
-mod tests;
 mod value;
 mod word;
 

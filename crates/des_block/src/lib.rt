@@ -11,6 +11,3 @@ mod words;
 
 pub use rounds::combined;
 pub use schedule::Schedule;
-
-#[cfg(test)]
-mod tests;

@@ -2,8 +2,6 @@
 #![tactic(auto)]
 
 mod digits;
-#[cfg(test)]
-mod tests;
 
 pub use digits::{choose_key, decode_key};
 pub use seal_mode::Key7;

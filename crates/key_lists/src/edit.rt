@@ -103,23 +103,3 @@ fn check_adds(edit: &Edit) -> bool
         Edit::Delete(_) => false,
     }
 }
-
-#[cfg(test)]
-mod tests {
-    use super::{Edit, EditList};
-    use attr_tuples::Tuple;
-    use std::test::Fail;
-
-    #[test]
-    fn edits_are_kept_in_order(rt: HostRuntime) -> Result<(), Fail> {
-        let alloc = rt.alloc();
-        let mut edits = EditList::new(alloc);
-        edits.push(Edit::Delete(Tuple::new(alloc)))?;
-        edits.push(Edit::Add(Tuple::new(alloc)))?;
-        assert_eq!(rt; (edits.len(), edits.additions()), (2, 1));
-        assert!(rt; matches!(edits.as_slice(), [Edit::Delete(_), Edit::Add(_)]));
-        let list = edits.into_vec();
-        assert!(rt; matches!(list.as_slice(), [Edit::Delete(_), Edit::Add(_)]));
-        Ok(())
-    }
-}

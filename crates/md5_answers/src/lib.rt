@@ -4,8 +4,6 @@
 
 mod answer;
 mod hmac;
-#[cfg(test)]
-mod tests;
 
 pub use answer::{apop_answer, cram_answer};
 pub use hmac::hmac_md5;

@@ -11,30 +11,3 @@ pub struct Qid {
 
 /// Qids, in order.
 pub type QidList = List<Qid>;
-
-#[cfg(test)]
-mod tests {
-    use super::*;
-    use std::test::Fail;
-
-    #[test]
-    fn qids_stand_in_their_order(rt: HostRuntime) -> Result<(), Fail> {
-        let root = Qid {
-            kind: 0x80,
-            vers: 0,
-            path: 0,
-        };
-        let ctl = Qid {
-            kind: 0,
-            vers: 0,
-            path: 3,
-        };
-        let mut qids = QidList::new(rt.alloc());
-        assert!(rt; qids.as_slice().is_empty());
-        qids.push(root)?;
-        qids.push(ctl)?;
-        qids.push(root)?;
-        assert_eq!(rt; qids.as_slice(), [root, ctl, root].as_slice());
-        Ok(())
-    }
-}

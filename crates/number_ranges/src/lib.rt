@@ -5,6 +5,3 @@ mod range;
 mod ranges;
 
 pub use ranges::Ranges;
-
-#[cfg(test)]
-mod tests;

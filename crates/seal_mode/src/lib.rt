@@ -9,6 +9,3 @@ mod sealing;
 pub use keys::{Key7, expand56};
 pub use passwords::pass_to_key;
 pub use sealing::{open_seal, seal};
-
-#[cfg(test)]
-mod tests;

@@ -1,7 +1,7 @@
 // The hub on objects in memory and in threads.
 ghost use Rattle.std.specs.Prelude.{◌<◌, ◌≤◌, length, IfOk};
 ghost use Rattle.nine_messages.specs.Decoding.{IsFrame};
-ghost use Rattle.agent_hub.specs.{IsEvent};
+ghost use Rattle.agent_hub.specs.Events.{IsEvent};
 ghost use Rattle.agent_hub.specs.Submits.{IsSeatOf};
 
 mod sessions;

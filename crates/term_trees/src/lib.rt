@@ -7,8 +7,6 @@ mod laws;
 mod proof;
 mod spelling;
 mod term;
-#[cfg(test)]
-mod tests;
 
 pub use kind::MacKind;
 pub use laws::{

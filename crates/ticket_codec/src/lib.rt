@@ -25,6 +25,3 @@ pub use seal_mode::{Key7, expand56};
 pub use ticket::{Ticket, open_ticket, seal_ticket};
 pub use wire_base::{AuthInfo, Name};
 pub use writer::RecordWriter;
-
-#[cfg(test)]
-mod tests;

@@ -57,38 +57,3 @@ impl<T: Drop> List<T> {
         Ok(())
     }
 }
-
-#[cfg(test)]
-mod tests {
-    use super::*;
-    use crate::text::{Text, TextList};
-    use std::test::Fail;
-
-    #[test]
-    fn values_stand_in_their_order(rt: HostRuntime) -> Result<(), Fail> {
-        let mut numbers: List<u32> = List::new(rt.alloc());
-        assert_eq!(rt; numbers.len(), 0);
-        for number in [7, 7, 1] {
-            numbers.push(number)?;
-        }
-        assert_eq!(rt; numbers.as_slice(), [7, 7, 1].as_slice());
-        assert_eq!(rt; numbers.len(), 3);
-        Ok(())
-    }
-
-    #[test]
-    fn texts_stand_in_their_order(rt: HostRuntime) -> Result<(), Fail> {
-        let words = ["so", "", "so"];
-        let mut texts = TextList::new(rt.alloc());
-        assert!(rt; texts.as_slice().is_empty());
-        for word in words {
-            let text = Text::from_slice(rt.alloc(), word.as_bytes())?;
-            texts.push(text.ok_or("no text")?)?;
-        }
-        assert_eq!(rt; texts.as_slice().len(), words.len());
-        for (text, word) in texts.as_slice().iter().zip(words) {
-            assert_eq!(rt; text.as_slice(), word.as_bytes());
-        }
-        Ok(())
-    }
-}

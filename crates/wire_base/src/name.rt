@@ -66,25 +66,3 @@ pub struct AuthInfo {
     pub suid: Name<28>,
     pub secret: [u8; 8],
 }
-
-#[cfg(test)]
-mod tests {
-    use super::*;
-
-    #[test]
-    fn name_is_text_that_leaves_room_for_a_nul(rt: HostRuntime) {
-        for (text, is_name) in [
-            ("", true),
-            ("ann", true),
-            ("\u{20ac}", true),
-            ("anna", false),
-            ("a\0", false),
-        ] {
-            let name = Name::<4>::from_text(text.as_bytes());
-            assert_eq!(rt; name.is_some(), is_name, "{text:?}");
-            if let Some(name) = name {
-                assert_eq!(rt; name.text(), text.as_bytes());
-            }
-        }
-    }
-}

@@ -1,5 +1,6 @@
 // Answers that were computed elsewhere.
-use super::{Schedule, combined};
+use crate::expect::{expect, expect_at};
+use des_block::{Schedule, combined};
 
 // What bench/vectors/des.py prints: answers of OpenSSL to the inputs of NBS SP 500-20.
 const VARIABLE_PLAINTEXT: [u64; 64] = [
@@ -143,19 +144,29 @@ fn known_answers(rt: HostRuntime) {
         (0x123556789abddef0, 0x0123456789abcdef, 0x85e813540f0ab405),
         (0x0e329232ea6d0d73, 0x8787878787878787, 0),
     ] {
-        assert_eq!(rt; encrypted(key, plain), cipher, "{key:x}");
-        assert_eq!(rt; decrypted(key, cipher), plain, "{key:x}");
+        expect_at(&rt, &encrypted(key, plain), &cipher, &key);
+        expect_at(&rt, &decrypted(key, cipher), &plain, &key);
     }
     let key = 0x0101010101010101;
     for (bit, &cipher) in VARIABLE_PLAINTEXT.iter().enumerate() {
         let plain = 1 << (63 - bit);
-        assert_eq!(rt; encrypted(key, plain), cipher, "plaintext bit {bit}");
-        assert_eq!(rt; decrypted(key, cipher), plain, "plaintext bit {bit}");
+        expect_at(
+            &rt,
+            &encrypted(key, plain),
+            &cipher,
+            &("plaintext bit", bit),
+        );
+        expect_at(
+            &rt,
+            &decrypted(key, cipher),
+            &plain,
+            &("plaintext bit", bit),
+        );
     }
     for (bit, &cipher) in VARIABLE_KEY.iter().enumerate() {
         let key = key ^ 1 << (63 - 8 * (bit / 7) - bit % 7);
-        assert_eq!(rt; encrypted(key, 0), cipher, "key bit {bit}");
-        assert_eq!(rt; decrypted(key, cipher), 0, "key bit {bit}");
+        expect_at(&rt, &encrypted(key, 0), &cipher, &("key bit", bit));
+        expect_at(&rt, &decrypted(key, cipher), &0, &("key bit", bit));
     }
 }
 
@@ -164,8 +175,8 @@ fn known_answers(rt: HostRuntime) {
 #[test]
 fn round_keys_and_look_ups(rt: HostRuntime) {
     let schedule = Schedule::new(&0x133457799bbcdff1u64.to_be_bytes());
-    assert_eq!(rt; schedule.rounds()[0], 0x1b02effc7072);
-    assert_eq!(rt; schedule.rounds()[15], 0xcb3d8b0e17f5);
-    assert_eq!(rt; combined(0, 0), 0x00808200);
-    assert_eq!(rt; combined(7, 63), 0x08020800);
+    expect(&rt, &schedule.rounds()[0], &0x1b02effc7072);
+    expect(&rt, &schedule.rounds()[15], &0xcb3d8b0e17f5);
+    expect(&rt, &combined(0, 0), &0x00808200);
+    expect(&rt, &combined(7, 63), &0x08020800);
 }

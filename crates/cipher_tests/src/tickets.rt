@@ -1,11 +1,13 @@
 // Records that were written elsewhere.
-use super::{
+use crate::expect::{expect, expect_at};
+use seal_mode::Key7;
+use std::alloc::Global;
+use std::process::Abort;
+use std::test::Fail;
+use ticket_codec::{
     AuthInfo, Authenticator, FieldFault, Name, Ticket, TicketReq, open_auth, open_ticket,
     read_info, read_req, seal_auth, seal_ticket, write_info, write_req,
 };
-use seal_mode::Key7;
-use std::process::Abort;
-use std::test::Fail;
 use wire_base::Bytes;
 
 // What bench/vectors/tickets.py prints: records of a script written from the manual, one line a field, and
@@ -192,7 +194,9 @@ const AUTHENTICATORS: [([u8; 7], u8, u32, &[u8; 13]); 3] = [
     ),
 ];
 // cuid, suid, secret, and the authinfo
-const INFOS: [(&[u8], &[u8], [u8; 8], &[u8]); 3] = [
+type Info = (&'static [u8], &'static [u8], [u8; 8], &'static [u8]);
+
+static INFOS: [Info; 3] = [
     (
         b"ann",
         b"ann",
@@ -303,10 +307,10 @@ fn names_are_text_that_leaves_room_for_a_nul(rt: HostRuntime) {
     ] {
         match Name::<8>::from_text(text) {
             Some(name) => {
-                assert!(rt; is_name, "{label}");
-                assert_eq!(rt; name.text(), text, "{label}");
+                expect_at(&rt, &is_name, &true, &label);
+                expect_at(&rt, &name.text(), &text, &label);
             }
-            None => assert!(rt; !is_name, "{label}"),
+            None => expect_at(&rt, &is_name, &false, &label),
         }
     }
 }
@@ -322,8 +326,8 @@ fn requests(rt: HostRuntime) {
             hostid: name(&rt, hostid),
             uid: name(&rt, uid),
         };
-        assert!(rt; write_req(&request) == *bytes, "kind {kind}");
-        assert!(rt; read_req(bytes) == Ok(request), "kind {kind}");
+        expect_at(&rt, &(write_req(&request) == *bytes), &true, &kind);
+        expect_at(&rt, &(read_req(bytes) == Ok(request)), &true, &kind);
     }
     let request = TicketReq {
         kind: 1,
@@ -333,9 +337,9 @@ fn requests(rt: HostRuntime) {
         hostid: name(&rt, b"h"),
         uid: name(&rt, b"u"),
     };
-    assert!(rt; read_req(GARBAGE_BEHIND) == Ok(request));
+    expect(&rt, &(read_req(GARBAGE_BEHIND) == Ok(request)), &true);
     for (bytes, fault) in REFUSED {
-        assert!(rt; read_req(bytes) == Err(fault), "{fault:?}");
+        expect_at(&rt, &(read_req(bytes) == Err(fault)), &true, &fault);
     }
 }
 
@@ -349,17 +353,36 @@ fn sealed_records(rt: HostRuntime) {
             suid: name(&rt, suid),
             key: Key7(within),
         };
-        assert!(rt; seal_ticket(&ticket, &Key7(key)) == *bytes, "key {key:?}");
-        assert!(rt; open_ticket(bytes, &Key7(key)) == Ok(ticket), "key {key:?}");
+        expect_at(
+            &rt,
+            &(seal_ticket(&ticket, &Key7(key)) == *bytes),
+            &true,
+            &key,
+        );
+        expect_at(
+            &rt,
+            &(open_ticket(bytes, &Key7(key)) == Ok(ticket)),
+            &true,
+            &key,
+        );
     }
     let key = Key7([0; 7]);
     let opened = open_ticket(TICKET_WITH_GARBAGE, &key);
-    assert!(rt; matches!(&opened, Ok(ticket) if ticket.suid.text() == b"ann".as_slice()));
+    expect(
+        &rt,
+        &matches!(&opened, Ok(ticket) if ticket.suid.text() == b"ann".as_slice()),
+        &true,
+    );
     for (bytes, fault) in [
         (CUID_WITHOUT_NUL, FieldFault::NoNul { field: 9 }),
         (SUID_NOT_TEXT, FieldFault::NotText { field: 37 }),
     ] {
-        assert!(rt; open_ticket(bytes, &key) == Err(fault), "{fault:?}");
+        expect_at(
+            &rt,
+            &(open_ticket(bytes, &key) == Err(fault)),
+            &true,
+            &fault,
+        );
     }
     for (key, num, id, bytes) in AUTHENTICATORS {
         let authenticator = Authenticator {
@@ -367,29 +390,42 @@ fn sealed_records(rt: HostRuntime) {
             chal: CHAL,
             id,
         };
-        assert!(rt; seal_auth(&authenticator, &Key7(key)) == *bytes, "id {id}");
-        assert!(rt; open_auth(bytes, &Key7(key)) == authenticator, "id {id}");
+        expect_at(
+            &rt,
+            &(seal_auth(&authenticator, &Key7(key)) == *bytes),
+            &true,
+            &id,
+        );
+        expect_at(
+            &rt,
+            &(open_auth(bytes, &Key7(key)) == authenticator),
+            &true,
+            &id,
+        );
     }
+}
+
+fn check_infos(rt: &impl Abort, alloc: Global, cases: &[Info]) -> Result<(), Fail> {
+    for &(cuid, suid, secret, bytes) in cases {
+        let info = AuthInfo {
+            cuid: name(rt, cuid),
+            suid: name(rt, suid),
+            secret,
+        };
+        let mut out = Bytes::from_slice(alloc, b"before ")?;
+        write_info(&info, &mut out)?;
+        let behind = out.as_slice().strip_prefix(b"before ");
+        expect_at(rt, &(behind == Some(bytes)), &true, &cuid);
+        expect_at(rt, &(read_info(bytes) == Some(info)), &true, &cuid);
+    }
+    Ok(())
 }
 
 #[test]
 fn infos(rt: HostRuntime) -> Result<(), Fail> {
-    for (cuid, suid, secret, bytes) in INFOS {
-        let info = AuthInfo {
-            cuid: name(&rt, cuid),
-            suid: name(&rt, suid),
-            secret,
-        };
-        let mut out = Bytes::from_slice(rt.alloc(), b"before ")?;
-        write_info(&info, &mut out)?;
-        assert!(rt;
-            out.as_slice().strip_prefix(b"before ") == Some(bytes),
-            "{cuid:?}"
-        );
-        assert!(rt; read_info(bytes) == Some(info), "{cuid:?}");
-    }
+    check_infos(&rt, rt.alloc(), &INFOS)?;
     for (bytes, why) in NO_INFOS {
-        assert!(rt; read_info(bytes).is_none(), "{why}");
+        expect_at(&rt, &read_info(bytes).is_none(), &true, &why);
     }
     Ok(())
 }

@@ -1,5 +1,6 @@
 // Answers that were computed elsewhere.
-use super::{Key7, expand56, open_seal, pass_to_key, seal};
+use crate::expect::expect_at;
+use seal_mode::{Key7, expand56, open_seal, pass_to_key, seal};
 
 // What bench/vectors/passwords.py prints: answers of a script written from the manual, over OpenSSL's DES.
 // A prefix key is that of so many letters of ALPHABET; a sealed text is 0, 1, 2 .. sealed under the key of
@@ -64,13 +65,13 @@ const ALPHABET: &[u8; 28] = b"abcdefghijklmnopqrstuvwxyz01";
 fn known_keys(rt: HostRuntime) {
     for (count, key) in PREFIX_KEYS {
         assert!(rt; count <= 28);
-        assert_eq!(rt; pass_to_key(&ALPHABET[..count]).0, key, "{count} letters");
+        expect_at(&rt, &pass_to_key(&ALPHABET[..count]).0, &key, &count);
     }
     for (password, key) in PASSWORD_KEYS {
-        assert_eq!(rt; pass_to_key(password).0, key, "{password:?}");
+        expect_at(&rt, &pass_to_key(password).0, &key, &password);
     }
     for (key, expanded) in EXPANDED {
-        assert_eq!(rt; expand56(&Key7(key)), expanded, "{key:?}");
+        expect_at(&rt, &expand56(&Key7(key)), &expanded, &key);
     }
 }
 
@@ -83,10 +84,10 @@ fn known_seals(rt: HostRuntime) {
         assert!(rt; 8 <= count && count <= 72);
         let text = &mut text[..count];
         seal(&key, text);
-        assert!(rt; *text == *expected, "sealing {count} bytes");
+        expect_at(&rt, &(*text == *expected), &true, &("sealing", count));
         open_seal(&key, text);
         for (i, &byte) in text.iter().enumerate() {
-            assert_eq!(rt; usize::from(byte), i, "opening {count} bytes");
+            expect_at(&rt, &usize::from(byte), &i, &("opening", count));
         }
     }
 }

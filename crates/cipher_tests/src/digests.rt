@@ -1,7 +1,8 @@
 // The public calls against the examples of RFC 1939, 2195 and 2202, and against Python's hashlib
 // and hmac.
 
-use crate::{apop_answer, cram_answer, hmac_md5};
+use crate::expect::expect;
+use md5_answers::{apop_answer, cram_answer, hmac_md5};
 
 // A call by its name.
 #[derive(Clone, Copy)]
@@ -127,6 +128,10 @@ fn known_answers(rt: HostRuntime) {
         (Call::Cram, none, none, "74e6f7298a9c2d168935f58c001bad88"),
         (Call::Hmac, none, text, "4f04d599991d81a6dcf0363e43b064a4"),
     ] {
-        assert_eq!(rt; digits(call, first, second).as_slice(), want.as_bytes());
+        expect(
+            &rt,
+            &digits(call, first, second).as_slice(),
+            &want.as_bytes(),
+        );
     }
 }

@@ -1,8 +1,9 @@
 // Digits and passwords by hand; the passwords' keys are those of an independent script (bench/vectors/sealing.py).
-use crate::{choose_key, decode_key};
-use attr_tuples::Text;
+use crate::expect::{expect, expect_at};
+use key_digits::{choose_key, decode_key};
 use std::process::Abort;
 use std::test::Fail;
+use wire_base::Text;
 
 // Digits, and the key that they spell.
 static DIGITS: [(&str, Option<[u8; 7]>); 9] = [
@@ -26,7 +27,7 @@ static DIGITS: [(&str, Option<[u8; 7]>); 9] = [
 fn check_digits(rt: &impl Abort, cases: &[(&str, Option<[u8; 7]>)]) {
     for (text, key) in cases {
         let found = decode_key(text.as_bytes()).map(|key| key.0);
-        assert!(rt; found == *key, "{text}");
+        expect_at(rt, &(found == *key), &true, &text);
     }
 }
 
@@ -43,11 +44,19 @@ fn digits_go_before_a_password(rt: HostRuntime) -> Result<(), Fail> {
     let spelled = [0x01, 0x23, 0x45, 0x67, 0x89, 0xab, 0xcd];
     let stood_for = [0xf0, 0xf0, 0x7c, 0x7e, 0x7f, 0xcb, 0xc9];
     let empty = [0x00, 0x10, 0x08, 0x04, 0x02, 0x81, 0x40];
-    assert!(rt; choose_key(None, Some(&password)).0 == stood_for);
-    assert!(rt; choose_key(None, None).0 == empty);
+    expect(
+        &rt,
+        &(choose_key(None, Some(&password)).0 == stood_for),
+        &true,
+    );
+    expect(&rt, &(choose_key(None, None).0 == empty), &true);
     if decode_key(digits.as_slice()).is_some() {
-        assert!(rt; choose_key(Some(&digits), Some(&password)).0 == spelled);
-        assert!(rt; choose_key(Some(&digits), None).0 == spelled);
+        expect(
+            &rt,
+            &(choose_key(Some(&digits), Some(&password)).0 == spelled),
+            &true,
+        );
+        expect(&rt, &(choose_key(Some(&digits), None).0 == spelled), &true);
     }
     Ok(())
 }

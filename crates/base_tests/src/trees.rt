@@ -1,7 +1,9 @@
 // Equality and copies of terms.
-use super::{MacKind, Places, Proof, ProofStep, Term, Terms};
+use crate::expect::{expect, expect_at};
 use std::alloc::Global;
+use std::process::Abort;
 use std::test::Fail;
+use term_trees::{MacKind, Places, Proof, ProofStep, Term, Terms};
 use wire_base::{Bytes, NoMemory, Text};
 
 fn name(alloc: Global, text: &str) -> Result<Text, Fail> {
@@ -28,8 +30,7 @@ fn digest(alloc: Global, kind: MacKind, secret: Term, text: Term) -> Result<Term
 }
 
 // Terms no two of which are equal.
-fn different_terms(alloc: Global) -> Result<Terms, Fail> {
-    let mut terms = Terms::new(alloc);
+fn put_different(alloc: Global, terms: &mut Terms) -> Result<(), Fail> {
     terms.push(public(alloc, b"ab")?)?;
     terms.push(public(alloc, b"ac")?)?;
     terms.push(public(alloc, b"")?)?;
@@ -48,26 +49,43 @@ fn different_terms(alloc: Global) -> Result<Terms, Fail> {
     terms.push(sealed(alloc, Term::Nonce(1), Term::SKey(1))?)?;
     terms.push(digest(alloc, MacKind::Apop, Term::SKey(1), Term::Nonce(1))?)?;
     terms.push(digest(alloc, MacKind::Cram, Term::SKey(1), Term::Nonce(1))?)?;
-    Ok(terms)
+    Ok(())
+}
+
+// A copy is the same as its own term, and as no other.
+fn check_each(rt: &impl Abort, alloc: Global, terms: &[Term], copies: &[Term]) -> Result<(), Fail> {
+    for (i, term) in terms.iter().enumerate() {
+        for (j, copy) in copies.iter().enumerate() {
+            expect_at(rt, &term.same(copy), &(i == j), &(i, j));
+        }
+        expect_at(rt, &term.copy(alloc)?.same(term), &true, &i);
+        expect_at(rt, &term.is_atom(), &(i > 2 && i < 11), &i);
+    }
+    Ok(())
+}
+
+fn check_longer(rt: &impl Abort, terms: &Terms, longer: &mut Terms) -> Result<(), Fail> {
+    expect(rt, &longer.same(terms), &true);
+    longer.push(Term::Nonce(3))?;
+    expect(rt, &longer.same(terms), &false);
+    expect(rt, &terms.same(longer), &false);
+    Ok(())
 }
 
 #[test]
 fn terms_are_told_apart_and_copied(rt: HostRuntime) -> Result<(), Fail> {
     let alloc = rt.alloc();
-    let terms = different_terms(alloc)?;
-    let copies = terms.copy(alloc)?;
-    assert!(rt; copies.same(&terms));
-    for (i, term) in terms.as_slice().iter().enumerate() {
-        for (j, copy) in copies.as_slice().iter().enumerate() {
-            assert_eq!(rt; term.same(copy), i == j, "{i} {j}");
-        }
-        assert!(rt; term.copy(alloc)?.same(term), "{i}");
-        assert_eq!(rt; term.is_atom(), i > 2 && i < 11, "{i}");
-    }
-    let mut longer = terms.copy(alloc)?;
-    longer.push(Term::Nonce(3))?;
-    assert!(rt; !longer.same(&terms));
-    assert!(rt; !terms.same(&longer));
+    let mut terms = Terms::new(alloc);
+    put_different(alloc, &mut terms)?;
+    let mut copies = terms.copy(alloc)?;
+    check_each(&rt, alloc, terms.as_slice(), copies.as_slice())?;
+    check_longer(&rt, &terms, &mut copies)
+}
+
+fn check_places(rt: &impl Abort, places: &mut Places) -> Result<(), Fail> {
+    places.push(7)?;
+    places.push(3)?;
+    expect(rt, &places.as_slice(), &[7, 3].as_slice());
     Ok(())
 }
 
@@ -75,15 +93,17 @@ fn terms_are_told_apart_and_copied(rt: HostRuntime) -> Result<(), Fail> {
 fn steps_and_places_stand_in_their_order(rt: HostRuntime) -> Result<(), Fail> {
     let alloc = rt.alloc();
     let mut places = Places::new(alloc);
-    places.push(7)?;
-    places.push(3)?;
-    assert_eq!(rt; places.as_slice(), [7, 3].as_slice());
+    check_places(&rt, &mut places)?;
     let mut proof = Proof::new(alloc);
     proof.push(ProofStep::Known(2))?;
     proof.push(ProofStep::Join(places))?;
     assert_eq!(rt; proof.as_slice().len(), 2);
-    assert!(rt; matches!(&proof.as_slice()[0], ProofStep::Known(2)));
+    expect(
+        &rt,
+        &matches!(&proof.as_slice()[0], ProofStep::Known(2)),
+        &true,
+    );
     let moved = Terms::from_vec(Vec::new(proof.allocator()));
-    assert!(rt; moved.as_slice().is_empty());
+    expect(&rt, &moved.as_slice().is_empty(), &true);
     Ok(())
 }
