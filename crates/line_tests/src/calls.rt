@@ -69,26 +69,45 @@ fn a_request_is_a_verb_and_its_argument(rt: HostRuntime) {
     check_requests(&rt, &REQUESTS);
 }
 
+fn writes(text: &[u8], count: usize) -> bool {
+    matches!(parse_request(text), Ok(Request::Write(message)) if message.len() == count)
+}
+
+fn is_too_long(text: &[u8]) -> bool {
+    matches!(parse_request(text), Err(RpcFault::TooLong))
+}
+
+fn grow(rt: &impl Abort, text: &mut Vec<u8>) -> Result<(), Fail> {
+    text.resize(MOST_REQUEST, 7)?;
+    assert!(rt; writes(text.as_slice(), 4090));
+    text.push(7)?;
+    assert!(rt; is_too_long(text.as_slice()));
+    text.clear();
+    text.resize(MOST_REQUEST + 1, 7)?;
+    assert!(rt; is_too_long(text.as_slice()));
+    Ok(())
+}
+
 #[test]
 fn a_request_has_at_most_4096_bytes(rt: HostRuntime) -> Result<(), Fail> {
     let mut text = Vec::from_slice(rt.alloc(), b"write ".as_slice())?;
-    text.resize(MOST_REQUEST, 7)?;
-    assert!(rt;
-        matches!(parse_request(&text), Ok(Request::Write(message)) if message.len() == 4090)
-    );
-    text.push(7)?;
-    assert!(rt; matches!(parse_request(&text), Err(RpcFault::TooLong)));
-    text.clear();
-    text.resize(MOST_REQUEST + 1, 7)?;
-    assert!(rt; matches!(parse_request(&text), Err(RpcFault::TooLong)));
+    grow(&rt, &mut text)
+}
+
+fn check_printed(
+    rt: &impl Abort,
+    alloc: Global,
+    answer: &RpcAnswer,
+    wanted: &[u8],
+) -> Result<(), Fail> {
+    let mut out = Bytes::new(alloc);
+    print_answer(answer, &mut out)?;
+    expect(rt, &out.as_slice(), &wanted);
     Ok(())
 }
 
 fn check(rt: &impl Abort, alloc: Global, answer: RpcAnswer, wanted: &[u8]) -> Result<(), Fail> {
-    let mut out = Bytes::new(alloc);
-    print_answer(&answer, &mut out)?;
-    expect(rt, &out.as_slice(), &wanted);
-    Ok(())
+    check_printed(rt, alloc, &answer, wanted)
 }
 
 #[test]
@@ -170,14 +189,18 @@ fn what_is_got_and_shown(rt: HostRuntime) -> Result<(), Fail> {
     check(&rt, alloc, RpcAnswer::Attributes(attributes), shown)
 }
 
-#[test]
-fn an_authinfo_is_told(rt: HostRuntime) -> Result<(), Fail> {
+fn info_of_ann() -> Result<AuthInfo, Fail> {
     let ann = Name::from_text(b"ann").ok_or("no name")?;
-    let info = AuthInfo {
+    Ok(AuthInfo {
         cuid: ann,
         suid: ann,
         secret: [1; 8],
-    };
+    })
+}
+
+#[test]
+fn an_authinfo_is_told(rt: HostRuntime) -> Result<(), Fail> {
+    let info = info_of_ann()?;
     let told = b"ok \x03\x00ann\x03\x00ann\x00\x00\x08\x00\x01\x01\x01\x01\x01\x01\x01\x01";
     check(&rt, rt.alloc(), RpcAnswer::Info(info), told)
 }
@@ -237,12 +260,6 @@ fn answers_with_details_fit_their_lengths(rt: HostRuntime) -> Result<(), Fail> {
     let attributes = parse_tuple(alloc, b"a='b c' d='it''s' e='' f !x=y")?;
     check_size(&rt, RpcAnswer::Attributes(attributes), 31);
     check_size(&rt, RpcAnswer::Attributes(parse_tuple(alloc, b"")?), 3);
-    let ann = Name::from_text(b"ann").ok_or("no name")?;
-    let info = AuthInfo {
-        cuid: ann,
-        suid: ann,
-        secret: [1; 8],
-    };
-    check_size(&rt, RpcAnswer::Info(info), 25);
+    check_size(&rt, RpcAnswer::Info(info_of_ann()?), 25);
     Ok(())
 }

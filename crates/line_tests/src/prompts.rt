@@ -13,64 +13,111 @@ use wire_base::Bytes;
 
 static KEY: &[u8] = b"proto=p9sk1 dom=x user=ann confirm !password?";
 
+// What is handed out is these bytes.
+fn expect_bytes(rt: &impl Abort, found: &[u8], wanted: &[u8]) {
+    expect(rt, &found, &wanted);
+}
+
+// Room is made for the next question.
+pub(crate) fn reserve(prompts: &mut Prompts, about: &[u8]) -> Result<(), Fail> {
+    if prompts.is_spent() {
+        return Err("too many".into());
+    }
+    prompts.reserve(about)?;
+    Ok(())
+}
+
+// A question is asked, and has this tag.
+fn ask(
+    rt: &impl Abort,
+    prompts: &mut Prompts,
+    conv: u64,
+    about: &[u8],
+    tag: u64,
+) -> Result<(), Fail> {
+    if prompts.is_spent() {
+        return Err("too many".into());
+    }
+    expect(rt, &prompts.ask(conv, about)?, &tag);
+    Ok(())
+}
+
+fn ask_and_reply(rt: &impl Abort, prompts: &mut Prompts, out: &mut Bytes) -> Result<(), Fail> {
+    expect(rt, &prompts.read_one(8192, out), &Ok(false));
+    ask(rt, prompts, 7, KEY, 1)?;
+    expect(rt, &prompts.reply(1), &Err(UnknownTag));
+    expect(rt, &prompts.read_one(59, out), &Err(PromptFault::TooSmall));
+    expect(rt, &prompts.read_one(60, out), &Ok(true));
+    expect_bytes(
+        rt,
+        out.as_slice(),
+        b"confirm tag=1 proto=p9sk1 dom=x user=ann confirm !password?\n",
+    );
+    expect(rt, &prompts.reply(2), &Err(UnknownTag));
+    expect(rt, &prompts.reply(1), &Ok(7));
+    expect(rt, &prompts.reply(1), &Err(UnknownTag));
+    Ok(())
+}
+
 #[test]
 fn a_question_is_asked_read_and_replied_to(rt: HostRuntime) -> Result<(), Fail> {
     let mut prompts = Prompts::new(rt.alloc(), PromptKind::Confirm);
     let mut out = Bytes::new(rt.alloc());
-    expect(&rt, &prompts.read_one(8192, &mut out), &Ok(false));
-    expect(&rt, &prompts.ask(7, KEY)?, &1);
-    expect(&rt, &prompts.reply(1), &Err(UnknownTag));
-    expect(
-        &rt,
-        &prompts.read_one(59, &mut out),
-        &Err(PromptFault::TooSmall),
-    );
-    expect(&rt, &prompts.read_one(60, &mut out), &Ok(true));
-    expect(
-        &rt,
-        &out.as_slice(),
-        &b"confirm tag=1 proto=p9sk1 dom=x user=ann confirm !password?\n".as_slice(),
-    );
-    expect(&rt, &prompts.reply(2), &Err(UnknownTag));
-    expect(&rt, &prompts.reply(1), &Ok(7));
-    expect(&rt, &prompts.reply(1), &Err(UnknownTag));
-    Ok(())
+    ask_and_reply(&rt, &mut prompts, &mut out)
 }
 
 fn is_handed(handed: Result<Option<Bytes>, TooSmall>, line: &[u8]) -> bool {
     matches!(handed, Ok(Some(bytes)) if bytes.as_slice() == line)
 }
 
+pub(crate) fn is_kept(handed: Result<Option<Bytes>, TooSmall>) -> bool {
+    matches!(handed, Err(TooSmall))
+}
+
+fn is_nothing(handed: Result<Option<Bytes>, TooSmall>) -> bool {
+    matches!(handed, Ok(None))
+}
+
+fn read_in_order(rt: &impl Abort, prompts: &mut Prompts) -> Result<(), Fail> {
+    reserve(prompts, b"a?")?;
+    if !prompts.is_ready() {
+        return Err("no room".into());
+    }
+    expect(rt, &prompts.ask_reserved(3), &1);
+    ask(rt, prompts, 4, b"b?", 2)?;
+    expect(rt, &prompts.first_asker(), &Some(3));
+    assert!(rt; is_kept(prompts.hand_out(16)));
+    assert!(rt; is_handed(prompts.hand_out(17), b"needkey tag=1 a?\n"));
+    assert!(rt; is_handed(prompts.hand_out(17), b"needkey tag=2 b?\n"));
+    assert!(rt; is_nothing(prompts.hand_out(17)));
+    expect(rt, &prompts.reply(2), &Ok(4));
+    Ok(())
+}
+
 #[test]
 fn questions_are_read_in_order(rt: HostRuntime) -> Result<(), Fail> {
     let mut prompts = Prompts::new(rt.alloc(), PromptKind::Needkey);
-    prompts.reserve(b"a?")?;
-    expect(&rt, &prompts.ask_reserved(3), &1);
-    expect(&rt, &prompts.ask(4, b"b?")?, &2);
-    expect(&rt, &prompts.first_asker(), &Some(3));
-    assert!(rt; matches!(prompts.hand_out(16), Err(TooSmall)));
-    assert!(rt; is_handed(prompts.hand_out(17), b"needkey tag=1 a?\n"));
-    assert!(rt; is_handed(prompts.hand_out(17), b"needkey tag=2 b?\n"));
-    assert!(rt; matches!(prompts.hand_out(17), Ok(None)));
-    expect(&rt, &prompts.reply(2), &Ok(4));
-    Ok(())
+    read_in_order(&rt, &mut prompts)
+}
+
+fn withdraw(rt: &impl Abort, prompts: &mut Prompts, out: &mut Bytes) -> Result<(), Fail> {
+    ask(rt, prompts, 3, b"a?", 1)?;
+    ask(rt, prompts, 4, b"b?", 2)?;
+    expect(rt, &prompts.read_one(8192, out), &Ok(true));
+    prompts.withdraw(3);
+    expect(rt, &prompts.reply(1), &Err(UnknownTag));
+    expect(rt, &prompts.first_asker(), &Some(4));
+    prompts.withdraw(4);
+    expect(rt, &prompts.first_asker(), &None);
+    expect(rt, &prompts.read_one(8192, out), &Ok(false));
+    ask(rt, prompts, 4, b"c?", 3)
 }
 
 #[test]
 fn questions_are_withdrawn(rt: HostRuntime) -> Result<(), Fail> {
     let mut prompts = Prompts::new(rt.alloc(), PromptKind::Needkey);
     let mut out = Bytes::new(rt.alloc());
-    prompts.ask(3, b"a?")?;
-    prompts.ask(4, b"b?")?;
-    expect(&rt, &prompts.read_one(8192, &mut out), &Ok(true));
-    prompts.withdraw(3);
-    expect(&rt, &prompts.reply(1), &Err(UnknownTag));
-    expect(&rt, &prompts.first_asker(), &Some(4));
-    prompts.withdraw(4);
-    expect(&rt, &prompts.first_asker(), &None);
-    expect(&rt, &prompts.read_one(8192, &mut out), &Ok(false));
-    expect(&rt, &prompts.ask(4, b"c?")?, &3);
-    Ok(())
+    withdraw(&rt, &mut prompts, &mut out)
 }
 
 fn fill(alloc: Global, log: &mut LogRing, count: u8) -> Result<(), Fail> {
@@ -80,18 +127,27 @@ fn fill(alloc: Global, log: &mut LogRing, count: u8) -> Result<(), Fail> {
     Ok(())
 }
 
+fn lose_oldest(
+    rt: &impl Abort,
+    alloc: Global,
+    log: &mut LogRing,
+    out: &mut Bytes,
+) -> Result<(), Fail> {
+    expect(rt, &log.take(8192, out), &Ok(false));
+    fill(alloc, log, 66)?;
+    expect(rt, &log.take(1, out), &Err(PromptFault::TooSmall));
+    expect(rt, &log.take(2, out), &Ok(true));
+    expect_bytes(rt, out.as_slice(), b"\x02\n");
+    assert!(rt; is_handed(log.hand_out(8192), b"\x03\n"));
+    assert!(rt; is_kept(log.hand_out(0)));
+    Ok(())
+}
+
 #[test]
 fn a_full_log_loses_its_oldest_line(rt: HostRuntime) -> Result<(), Fail> {
     let mut log = LogRing::new(rt.alloc())?;
     let mut out = Bytes::new(rt.alloc());
-    expect(&rt, &log.take(8192, &mut out), &Ok(false));
-    fill(rt.alloc(), &mut log, 66)?;
-    expect(&rt, &log.take(1, &mut out), &Err(PromptFault::TooSmall));
-    expect(&rt, &log.take(2, &mut out), &Ok(true));
-    expect(&rt, &out.as_slice(), &b"\x02\n".as_slice());
-    assert!(rt; is_handed(log.hand_out(8192), b"\x03\n"));
-    assert!(rt; matches!(log.hand_out(0), Err(TooSmall)));
-    Ok(())
+    lose_oldest(&rt, rt.alloc(), &mut log, &mut out)
 }
 
 fn needs_send<T: Send>(_: &T) {}
@@ -148,10 +204,25 @@ fn says(
     }
 }
 
+fn check_said(
+    rt: &impl Abort,
+    alloc: Global,
+    question: Option<&Question>,
+    line: &Line,
+) -> Result<(), Fail> {
+    let (line, wanted) = *line;
+    assert!(rt; says(alloc, question, wanted)?, "{line:?}");
+    Ok(())
+}
+
+fn check_line(rt: &impl Abort, alloc: Global, line: &Line) -> Result<(), Fail> {
+    let question = parse_question(alloc, line.0)?;
+    check_said(rt, alloc, question.as_ref(), line)
+}
+
 fn check_lines(rt: &impl Abort, alloc: Global, lines: &[Line]) -> Result<(), Fail> {
-    for (line, wanted) in lines {
-        let question = parse_question(alloc, line)?;
-        assert!(rt; says(alloc, question.as_ref(), *wanted)?, "{line:?}");
+    for line in lines {
+        check_line(rt, alloc, line)?;
     }
     Ok(())
 }

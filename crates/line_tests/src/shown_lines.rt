@@ -1,6 +1,7 @@
 // Lines of the log, and questions to users, by hand from the texts of both.
 use crate::expect::expect;
-use attr_tuples::parse_tuple;
+use crate::prompts::{is_kept, reserve};
+use attr_tuples::{Tuple, parse_tuple};
 use file_tree::Node;
 use line_files::{EndLine, LineFiles, build_start};
 use roles::{Cause, Outcome};
@@ -10,6 +11,21 @@ use std::process::Abort;
 use std::test::Fail;
 use wire_base::{AuthInfo, Name};
 
+fn check_told(
+    rt: &impl Abort,
+    alloc: Global,
+    template: &Tuple,
+    outcome: &Outcome,
+    wanted: &[u8],
+) -> Result<(), Fail> {
+    let line = EndLine::new(alloc, 3, template)?;
+    match line.tell(outcome) {
+        Some(told) => expect(rt, &told.as_slice(), &wanted),
+        None => assert!(rt; wanted.is_empty()),
+    }
+    Ok(())
+}
+
 fn check_end(
     rt: &impl Abort,
     alloc: Global,
@@ -18,12 +34,7 @@ fn check_end(
     wanted: &[u8],
 ) -> Result<(), Fail> {
     let template = parse_tuple(alloc, template)?;
-    let line = EndLine::new(alloc, 3, &template)?;
-    match line.tell(outcome) {
-        Some(told) => expect(rt, &told.as_slice(), &wanted),
-        None => assert!(rt; wanted.is_empty()),
-    }
-    Ok(())
+    check_told(rt, alloc, &template, outcome, wanted)
 }
 
 fn accepted(user: &[u8]) -> Result<Outcome, Fail> {
@@ -59,17 +70,23 @@ fn ends_are_told_with_why_it_broke(rt: HostRuntime) -> Result<(), Fail> {
     check_end(&rt, alloc, client, &Outcome::Running, b"")
 }
 
+fn check_start(
+    rt: &impl Abort,
+    alloc: Global,
+    template: &Tuple,
+    wanted: &[u8],
+) -> Result<(), Fail> {
+    let line = build_start(alloc, 255, template)?;
+    expect(rt, &line.as_slice(), &wanted);
+    Ok(())
+}
+
 #[test]
 fn starts_are_told(rt: HostRuntime) -> Result<(), Fail> {
     let alloc = rt.alloc();
     let template = parse_tuple(alloc, b"role=client proto=p9sk1")?;
-    let line = build_start(alloc, 255, &template)?;
-    expect(
-        &rt,
-        &line.as_slice(),
-        &b"255 start proto=p9sk1 role=client\n".as_slice(),
-    );
-    Ok(())
+    let wanted = b"255 start proto=p9sk1 role=client\n".as_slice();
+    check_start(&rt, alloc, &template, wanted)
 }
 
 fn take(rt: &impl Abort, files: &mut LineFiles, node: Node, wanted: &[u8]) -> Result<(), Fail> {
@@ -81,20 +98,21 @@ fn take(rt: &impl Abort, files: &mut LineFiles, node: Node, wanted: &[u8]) -> Re
     Ok(())
 }
 
-#[test]
-fn a_question_is_read_once_and_replied_to_once(rt: HostRuntime) -> Result<(), Fail> {
-    let mut files = LineFiles::new(rt.alloc())?;
-    take(&rt, &mut files, Node::Confirm, b"")?;
-    if files.asks.confirm.is_spent() {
-        return Err("too many".into());
-    }
-    files.asks.confirm.reserve(b"user=ann")?;
+fn ask_once(rt: &impl Abort, files: &mut LineFiles) -> Result<(), Fail> {
+    take(rt, files, Node::Confirm, b"")?;
+    reserve(&mut files.asks.confirm, b"user=ann")?;
     files.ask(PromptKind::Confirm, 7);
-    assert!(rt; files.hand_out(Node::Confirm, 22).is_err());
-    take(&rt, &mut files, Node::Confirm, b"confirm tag=1 user=ann\n")?;
-    take(&rt, &mut files, Node::Confirm, b"")?;
-    expect(&rt, &files.asker(PromptKind::Confirm, 1), &Some(7));
+    assert!(rt; is_kept(files.hand_out(Node::Confirm, 22)));
+    take(rt, files, Node::Confirm, b"confirm tag=1 user=ann\n")?;
+    take(rt, files, Node::Confirm, b"")?;
+    expect(rt, &files.asker(PromptKind::Confirm, 1), &Some(7));
     assert!(rt; matches!(files.reply(PromptKind::Confirm, 1), Ok(7)));
     assert!(rt; files.reply(PromptKind::Confirm, 1).is_err());
     Ok(())
+}
+
+#[test]
+fn a_question_is_read_once_and_replied_to_once(rt: HostRuntime) -> Result<(), Fail> {
+    let mut files = LineFiles::new(rt.alloc())?;
+    ask_once(&rt, &mut files)
 }

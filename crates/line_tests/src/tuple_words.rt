@@ -202,18 +202,44 @@ static TEXTS: [Reading; 58] = [
     ),
 ];
 
+fn expect_printed(
+    rt: &impl Abort,
+    alloc: Global,
+    tuple: &Tuple,
+    wanted: &[u8],
+) -> Result<(), Fail> {
+    let out = printed(alloc, tuple)?;
+    expect(rt, &out.as_slice(), &wanted);
+    Ok(())
+}
+
+// A text that was printed is read and printed as it stands.
+fn check_again(rt: &impl Abort, alloc: Global, text: &[u8]) -> Result<(), Fail> {
+    let again = tuple_of(alloc, text)?;
+    expect_printed(rt, alloc, &again, text)
+}
+
+fn check_tuple(rt: &impl Abort, alloc: Global, tuple: &Tuple, case: &Reading) -> Result<(), Fail> {
+    let (name, _, read) = *case;
+    let out = printed(alloc, tuple)?;
+    expect_at(rt, &Ok(out.as_slice()), &read, &name);
+    check_again(rt, alloc, out.as_slice())
+}
+
+fn check_text(rt: &impl Abort, alloc: Global, case: &Reading) -> Result<(), Fail> {
+    let (name, text, read) = *case;
+    match parse_tuple(alloc, text) {
+        Ok(tuple) => check_tuple(rt, alloc, &tuple, case),
+        Err(fault) => {
+            expect_at(rt, &Err(fault), &read, &name);
+            Ok(())
+        }
+    }
+}
+
 fn check_texts(rt: &impl Abort, alloc: Global, cases: &[Reading]) -> Result<(), Fail> {
     for case in cases {
-        let (case, text, read) = *case;
-        match parse_tuple(alloc, text) {
-            Ok(tuple) => {
-                let out = printed(alloc, &tuple)?;
-                expect_at(rt, &Ok(out.as_slice()), &read, &case);
-                let again = tuple_of(alloc, out.as_slice())?;
-                expect(rt, &printed(alloc, &again)?.as_slice(), &out.as_slice());
-            }
-            Err(fault) => expect_at(rt, &Err(fault), &read, &case),
-        }
+        check_text(rt, alloc, case)?;
     }
     Ok(())
 }
@@ -251,12 +277,17 @@ static TEMPLATES: [Matching; 22] = [
     ("another secret value", "!x=1", "!x=2", false),
 ];
 
+fn check_template(rt: &impl Abort, alloc: Global, case: &Matching) -> Result<(), Fail> {
+    let (name, template, tuple, met) = *case;
+    let template = tuple_of(alloc, template.as_bytes())?;
+    let tuple = tuple_of(alloc, tuple.as_bytes())?;
+    expect_at(rt, &matches(&template, &tuple), &met, &name);
+    Ok(())
+}
+
 fn check_templates(rt: &impl Abort, alloc: Global, cases: &[Matching]) -> Result<(), Fail> {
     for case in cases {
-        let (case, template, tuple, met) = *case;
-        let template = tuple_of(alloc, template.as_bytes())?;
-        let tuple = tuple_of(alloc, tuple.as_bytes())?;
-        expect_at(rt, &matches(&template, &tuple), &met, &case);
+        check_template(rt, alloc, case)?;
     }
     Ok(())
 }
@@ -276,12 +307,10 @@ static NAMES: [(&str, bool); 6] = [
     ("", false),
 ];
 
-#[test]
-fn attributes_are_asked_for_their_names(rt: HostRuntime) -> Result<(), Fail> {
-    let tuple = tuple_of(rt.alloc(), b"user=ann !password=b")?;
-    for case in &NAMES {
+fn check_names(rt: &impl Abort, tuple: &Tuple, cases: &[(&str, bool)]) -> Result<(), Fail> {
+    for case in cases {
         let (name, held) = *case;
-        expect_at(&rt, &has_name(tuple.attrs(), name.as_bytes()), &held, &name);
+        expect_at(rt, &has_name(tuple.attrs(), name.as_bytes()), &held, &name);
     }
     let user = tuple.attrs().first().ok_or("no attribute")?;
     assert!(rt; is_named(user, b"user") && !is_named(user, b"ann") && !is_named(user, b""));
@@ -291,70 +320,136 @@ fn attributes_are_asked_for_their_names(rt: HostRuntime) -> Result<(), Fail> {
 }
 
 #[test]
-fn tuples_are_compared_in_public(rt: HostRuntime) -> Result<(), Fail> {
-    let alloc = rt.alloc();
-    let cases = [
-        ("nothing", "", "", true),
-        ("another order", "a=1 b", "b a=1", true),
-        ("another secret", "a=1 !p=x", "!p=y a=1", true),
-        ("a secret more", "a=1", "a=1 !p", true),
-        ("once and twice", "a=1 a=1", "a=1", false),
-        ("twice each", "a=1 b a=1", "a=1 a=1 b", true),
-        ("one twice, the other twice", "a=1 a=1 b", "a=1 b b", false),
-        ("another value", "a=1", "a=2", false),
-        ("a question and a name alone", "a?", "a", false),
-        ("the empty value and a name alone", "a=''", "a", false),
-        ("another name", "a=1", "b=1", false),
-    ];
-    for (case, a, b, same) in cases {
-        let a = tuple_of(alloc, a.as_bytes())?;
-        let b = tuple_of(alloc, b.as_bytes())?;
-        expect_at(&rt, &public_equal(&a, &b), &same, &case);
-        expect_at(&rt, &public_equal(&b, &a), &same, &case);
+fn attributes_are_asked_for_their_names(rt: HostRuntime) -> Result<(), Fail> {
+    let tuple = tuple_of(rt.alloc(), b"user=ann !password=b")?;
+    check_names(&rt, &tuple, &NAMES)
+}
+
+// A name, two tuples, and whether they are the same in public.
+static COMPARED: [Matching; 11] = [
+    ("nothing", "", "", true),
+    ("another order", "a=1 b", "b a=1", true),
+    ("another secret", "a=1 !p=x", "!p=y a=1", true),
+    ("a secret more", "a=1", "a=1 !p", true),
+    ("once and twice", "a=1 a=1", "a=1", false),
+    ("twice each", "a=1 b a=1", "a=1 a=1 b", true),
+    ("one twice, the other twice", "a=1 a=1 b", "a=1 b b", false),
+    ("another value", "a=1", "a=2", false),
+    ("a question and a name alone", "a?", "a", false),
+    ("the empty value and a name alone", "a=''", "a", false),
+    ("another name", "a=1", "b=1", false),
+];
+
+fn compare(rt: &impl Abort, alloc: Global, case: &Matching) -> Result<(), Fail> {
+    let (name, a, b, same) = *case;
+    let a = tuple_of(alloc, a.as_bytes())?;
+    let b = tuple_of(alloc, b.as_bytes())?;
+    expect_at(rt, &public_equal(&a, &b), &same, &name);
+    expect_at(rt, &public_equal(&b, &a), &same, &name);
+    Ok(())
+}
+
+fn compare_all(rt: &impl Abort, alloc: Global, cases: &[Matching]) -> Result<(), Fail> {
+    for case in cases {
+        compare(rt, alloc, case)?;
     }
     Ok(())
 }
 
 #[test]
+fn tuples_are_compared_in_public(rt: HostRuntime) -> Result<(), Fail> {
+    compare_all(&rt, rt.alloc(), &COMPARED)
+}
+
+// Two tuples, and how both are printed as one or why they aren't one.
+type Merging = (
+    &'static str,
+    &'static str,
+    Result<&'static [u8], MergeFault>,
+);
+
+static MERGED: [Merging; 6] = [
+    ("a=1", "a=2 b", Ok(b"a=1 b")),
+    ("", "b=1 b=2", Ok(b"b=1 b=2")),
+    ("a? a", "", Ok(b"a? a")),
+    ("a", "a=1 !a=1", Ok(b"a !a=1")),
+    (
+        "a a a a a a a a a a a a a a a a a a a a a a a a a a a a a a a a a a a",
+        "a=1 b",
+        Ok(b"a a a a a a a a a a a a a a a a a a a a a a a a a a a a a a a a a a a b"),
+    ),
+    (
+        "a a a a a a a a a a a a a a a a a a a a a a a a a a a a a a a a a a a",
+        "b c",
+        Err(MergeFault::TooMany),
+    ),
+];
+
+fn expect_merged(
+    rt: &impl Abort,
+    alloc: Global,
+    merged: &Tuple,
+    case: &Merging,
+) -> Result<(), Fail> {
+    match case.2 {
+        Ok(text) => expect_printed(rt, alloc, merged, text),
+        Err(fault) => panic!(rt; "{fault:?}"),
+    }
+}
+
+fn check_merged(
+    rt: &impl Abort,
+    alloc: Global,
+    a: &Tuple,
+    b: &Tuple,
+    case: &Merging,
+) -> Result<(), Fail> {
+    match merge(a, b) {
+        Ok(tuple) => expect_merged(rt, alloc, &tuple, case),
+        Err(fault) => {
+            expect(rt, &Some(fault), &case.2.err());
+            Ok(())
+        }
+    }
+}
+
+fn merge_case(rt: &impl Abort, alloc: Global, case: &Merging) -> Result<(), Fail> {
+    let (a, b, _) = *case;
+    let a = tuple_of(alloc, a.as_bytes())?;
+    let b = tuple_of(alloc, b.as_bytes())?;
+    check_merged(rt, alloc, &a, &b, case)
+}
+
+fn merge_all(rt: &impl Abort, alloc: Global, cases: &[Merging]) -> Result<(), Fail> {
+    for case in cases {
+        merge_case(rt, alloc, case)?;
+    }
+    Ok(())
+}
+
+// A name, and its value in `a a? a=1 a=2 !b=''`.
+static VALUES: [(&str, Option<&[u8]>); 4] = [
+    ("a", Some(b"1")),
+    ("!b", Some(b"")),
+    ("b", None),
+    ("", None),
+];
+
+fn check_values(rt: &impl Abort, tuple: &Tuple, cases: &[(&str, Option<&[u8]>)]) {
+    for case in cases {
+        let (name, value) = *case;
+        match (value_of(tuple, name.as_bytes()), value) {
+            (Some(text), Some(wanted)) => expect_at(rt, &text.as_slice(), &wanted, &name),
+            (None, None) => {}
+            _ => panic!(rt; "{name}"),
+        }
+    }
+}
+
+#[test]
 fn tuples_are_merged_and_asked(rt: HostRuntime) -> Result<(), Fail> {
-    let alloc = rt.alloc();
-    let cases = [
-        ("a=1", "a=2 b", Ok("a=1 b")),
-        ("", "b=1 b=2", Ok("b=1 b=2")),
-        ("a? a", "", Ok("a? a")),
-        ("a", "a=1 !a=1", Ok("a !a=1")),
-        (
-            "a a a a a a a a a a a a a a a a a a a a a a a a a a a a a a a a a a a",
-            "a=1 b",
-            Ok("a a a a a a a a a a a a a a a a a a a a a a a a a a a a a a a a a a a b"),
-        ),
-        (
-            "a a a a a a a a a a a a a a a a a a a a a a a a a a a a a a a a a a a",
-            "b c",
-            Err(MergeFault::TooMany),
-        ),
-    ];
-    for (a, b, both) in cases {
-        let a = tuple_of(alloc, a.as_bytes())?;
-        let b = tuple_of(alloc, b.as_bytes())?;
-        match merge(&a, &b) {
-            Ok(tuple) => {
-                let out = printed(alloc, &tuple)?;
-                expect(&rt, &Ok(out.as_slice()), &both.map(|text| text.as_bytes()));
-            }
-            Err(fault) => expect(&rt, &Some(fault), &both.err()),
-        }
-    }
-    let tuple = tuple_of(alloc, b"a a? a=1 a=2 !b=''".as_slice())?;
-    for (name, value) in [("a", Some("1")), ("!b", Some("")), ("b", None), ("", None)] {
-        match value_of(&tuple, name.as_bytes()) {
-            Some(text) => expect(
-                &rt,
-                &Some(text.as_slice()),
-                &value.map(|text| text.as_bytes()),
-            ),
-            None => assert!(rt; value.is_none(), "{name}"),
-        }
-    }
+    merge_all(&rt, rt.alloc(), &MERGED)?;
+    let tuple = tuple_of(rt.alloc(), b"a a? a=1 a=2 !b=''".as_slice())?;
+    check_values(&rt, &tuple, &VALUES);
     Ok(())
 }
