@@ -1,5 +1,5 @@
 // A script, as an independent script of Python makes it.
-use std::process::Abort;
+use crate::expect::expect;
 use std::test::Fail;
 use world_gen::gen_script;
 
@@ -85,6 +85,6 @@ close s4\n";
 #[test]
 fn scripts_are_made_of_numbers(rt: HostRuntime) -> Result<(), Fail> {
     let script = gen_script(rt.alloc(), 7, 5)?;
-    assert_eq!(rt; script.as_slice(), SEVEN);
+    expect(&rt, &script.as_slice(), &SEVEN);
     Ok(())
 }

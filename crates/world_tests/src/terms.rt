@@ -1,4 +1,5 @@
 // Terms spelled elsewhere, faults in their order, and derivations that hold and that don't.
+use crate::expect::{expect, expect_at};
 use std::alloc::Global;
 use std::process::Abort;
 use std::test::Fail;
@@ -60,49 +61,81 @@ fn digest(alloc: Global, kind: MacKind, secret: Term, text: Term) -> Result<Term
     Ok(Term::Mac(kind, Box::new(alloc, secret)?, Box::new(alloc, text)?))
 }
 
+fn put_public(alloc: Global, pieces: &mut Terms, bytes: &[u8]) -> Result<(), NoMemory> {
+    let piece = public(alloc, bytes)?;
+    pieces.push(piece)
+}
+
+fn put_ticket(alloc: Global, pieces: &mut Terms, number: u8) -> Result<(), NoMemory> {
+    put_public(alloc, pieces, &[number])?;
+    pieces.push(Term::Nonce(0))?;
+    put_public(alloc, pieces, NAME)?;
+    put_public(alloc, pieces, NAME)?;
+    pieces.push(Term::SKey(2))
+}
+
 fn ticket(alloc: Global, number: u8) -> Result<Term, NoMemory> {
     let mut pieces = Terms::new(alloc);
-    pieces.push(public(alloc, &[number])?)?;
-    pieces.push(Term::Nonce(0))?;
-    pieces.push(public(alloc, NAME)?)?;
-    pieces.push(public(alloc, NAME)?)?;
-    pieces.push(Term::SKey(2))?;
+    put_ticket(alloc, &mut pieces, number)?;
     Ok(Term::Cat(pieces))
+}
+
+fn put_challenge(alloc: Global, pieces: &mut Terms) -> Result<(), NoMemory> {
+    put_public(alloc, pieces, b"<")?;
+    pieces.push(Term::AsChal(3))?;
+    put_public(alloc, pieces, b"@x>")
 }
 
 fn challenge(alloc: Global) -> Result<Term, NoMemory> {
     let mut pieces = Terms::new(alloc);
-    pieces.push(public(alloc, b"<")?)?;
-    pieces.push(Term::AsChal(3))?;
-    pieces.push(public(alloc, b"@x>")?)?;
+    put_challenge(alloc, &mut pieces)?;
     Ok(Term::Cat(pieces))
 }
 
 fn set(alloc: Global, reading: &mut Reading, atom: Term, bytes: &[u8]) -> Result<bool, NoMemory> {
-    reading.set(atom, Bytes::from_slice(alloc, bytes)?)
+    let spelled = Bytes::from_slice(alloc, bytes)?;
+    reading.set(atom, spelled)
+}
+
+fn give_all(alloc: Global, reading: &mut Reading) -> Result<(), Fail> {
+    set(alloc, reading, Term::Nonce(0), NONCE)?;
+    set(alloc, reading, Term::AsChal(3), DIGITS)?;
+    let ann = Term::LKey(name(alloc, "ann")?);
+    set(alloc, reading, ann, b"\xf0\xf0\x7c\x7e\x7f\xcb\xc9")?;
+    let srv = Term::LKey(name(alloc, "srv")?);
+    set(alloc, reading, srv, b"\x01\x23\x45\x67\x89\xab\xcd")?;
+    let ticket_key = b"\xfe\xdc\xba\x98\x76\x54\x32";
+    set(alloc, reading, Term::SKey(2), ticket_key)?;
+    set(alloc, reading, Term::Junk(5), &[0; 7])?;
+    let password = Term::Pw(name(alloc, "ann")?);
+    set(alloc, reading, password, b"tanstaaf")?;
+    Ok(())
 }
 
 fn read_all(alloc: Global) -> Result<Reading, Fail> {
     let mut reading = Reading::new(alloc);
-    set(alloc, &mut reading, Term::Nonce(0), NONCE)?;
-    set(alloc, &mut reading, Term::AsChal(3), DIGITS)?;
-    let ann = Term::LKey(name(alloc, "ann")?);
-    set(alloc, &mut reading, ann, b"\xf0\xf0\x7c\x7e\x7f\xcb\xc9")?;
-    let srv = Term::LKey(name(alloc, "srv")?);
-    set(alloc, &mut reading, srv, b"\x01\x23\x45\x67\x89\xab\xcd")?;
-    set(
-        alloc,
-        &mut reading,
-        Term::SKey(2),
-        b"\xfe\xdc\xba\x98\x76\x54\x32",
-    )?;
-    set(alloc, &mut reading, Term::Junk(5), &[0; 7])?;
-    let password = Term::Pw(name(alloc, "ann")?);
-    set(alloc, &mut reading, password, b"tanstaaf")?;
+    give_all(alloc, &mut reading)?;
     Ok(reading)
 }
 
 // A term's bytes stand behind what stood.
+fn check_spelled(
+    rt: &impl Abort,
+    alloc: Global,
+    reading: &Reading,
+    title: &str,
+    term: &Term,
+    bytes: &[u8],
+) -> Result<(), Fail> {
+    let mut out = Bytes::from_slice(alloc, b"so ")?;
+    expect_at(rt, &spell(reading, term, &mut out), &Ok(()), &title);
+    match out.as_slice().strip_prefix(b"so ".as_slice()) {
+        Some(spelled) => expect_at(rt, &spelled, &bytes, &title),
+        None => panic!(rt; "{title}: what stood is gone"),
+    }
+    Ok(())
+}
+
 fn expect_spelled(
     rt: &impl Abort,
     alloc: Global,
@@ -111,12 +144,7 @@ fn expect_spelled(
     term: Term,
     bytes: &[u8],
 ) -> Result<(), Fail> {
-    let mut out = Bytes::from_slice(alloc, b"so ")?;
-    assert_eq!(rt; spell(reading, &term, &mut out), Ok(()), "{title}");
-    let spelled = out.as_slice().strip_prefix(b"so ".as_slice());
-    let spelled = spelled.ok_or("what stood is gone")?;
-    assert_eq!(rt; spelled, bytes, "{title}");
-    Ok(())
+    check_spelled(rt, alloc, reading, title, &term, bytes)
 }
 
 fn spell_atoms(rt: &impl Abort, alloc: Global, reading: &Reading) -> Result<(), Fail> {
@@ -229,6 +257,20 @@ fn digests_are_spelled_as_elsewhere(rt: HostRuntime) -> Result<(), Fail> {
 }
 
 // A term has no bytes, and what stood stays.
+fn check_fault(
+    rt: &impl Abort,
+    alloc: Global,
+    reading: &Reading,
+    title: &str,
+    term: &Term,
+    fault: SpellFault,
+) -> Result<(), Fail> {
+    let mut out = Bytes::from_slice(alloc, b"so")?;
+    expect_at(rt, &spell(reading, term, &mut out), &Err(fault), &title);
+    expect_at(rt, &out.as_slice(), &b"so".as_slice(), &title);
+    Ok(())
+}
+
 fn expect_fault(
     rt: &impl Abort,
     alloc: Global,
@@ -237,10 +279,7 @@ fn expect_fault(
     term: Term,
     fault: SpellFault,
 ) -> Result<(), Fail> {
-    let mut out = Bytes::from_slice(alloc, b"so")?;
-    assert_eq!(rt; spell(reading, &term, &mut out), Err(fault), "{title}");
-    assert_eq!(rt; out.as_slice(), b"so".as_slice(), "{title}");
-    Ok(())
+    check_fault(rt, alloc, reading, title, &term, fault)
 }
 
 fn bad_seal(alloc: Global) -> Result<Term, NoMemory> {
@@ -252,10 +291,12 @@ fn find_atom_faults(rt: &impl Abort, alloc: Global, reading: &Reading) -> Result
     expect_fault(rt, alloc, reading, "no nonce", Term::Nonce(1), no_atom)?;
     let term = pair(alloc, Term::SKey(2), Term::Nonce(1))?;
     expect_fault(rt, alloc, reading, "the second piece", term, no_atom)?;
-    let short = pair(alloc, Term::Nonce(0), public(alloc, b"no key")?)?;
+    let end = public(alloc, b"no key")?;
+    let short = pair(alloc, Term::Nonce(0), end)?;
     let term = sealed(alloc, short, Term::Nonce(1))?;
     expect_fault(rt, alloc, reading, "atom in a bad seal", term, no_atom)?;
-    let term = pair(alloc, Term::Nonce(1), bad_seal(alloc)?)?;
+    let bad = bad_seal(alloc)?;
+    let term = pair(alloc, Term::Nonce(1), bad)?;
     expect_fault(rt, alloc, reading, "atom before a bad seal", term, no_atom)?;
     let secret = Term::Pw(name(alloc, "ann")?);
     let term = digest(alloc, MacKind::Apop, secret, Term::Nonce(1))?;
@@ -294,24 +335,43 @@ fn the_first_bad_seal_is_told(rt: HostRuntime) -> Result<(), Fail> {
     find_seal_faults(&rt, alloc, &reading)
 }
 
-#[test]
-fn a_reading_gives_atoms_their_bytes(rt: HostRuntime) -> Result<(), Fail> {
-    let alloc = rt.alloc();
-    let mut reading = Reading::new(alloc);
-    assert!(rt; reading.bytes_of(&Term::Nonce(0)).is_none());
-    assert!(rt; set(alloc, &mut reading, Term::Nonce(0), b"first")?);
-    assert!(rt; set(alloc, &mut reading, Term::Junk(0), b"other")?);
-    assert!(rt; set(alloc, &mut reading, Term::Nonce(0), b"second")?);
-    assert!(rt; !set(alloc, &mut reading, public(alloc, b"x")?, b"third")?);
-    let second = reading.bytes_of(&Term::Nonce(0)).ok_or("no bytes")?;
-    assert_eq!(rt; second, b"second".as_slice());
-    let other = reading.bytes_of(&Term::Junk(0)).ok_or("no bytes")?;
-    assert_eq!(rt; other, b"other".as_slice());
-    assert!(rt; reading.bytes_of(&Term::SKey(0)).is_none());
+fn expect_bytes(rt: &impl Abort, reading: &Reading, atom: Term, bytes: &[u8]) {
+    match reading.bytes_of(&atom) {
+        Some(found) => expect(rt, &found, &bytes),
+        None => panic!(rt; "no bytes"),
+    }
+}
+
+fn has_none(reading: &Reading, atom: Term) -> bool {
+    reading.bytes_of(&atom).is_none()
+}
+
+fn check_reading(rt: &impl Abort, alloc: Global, reading: &mut Reading) -> Result<(), Fail> {
+    assert!(rt; has_none(reading, Term::Nonce(0)));
+    assert!(rt; set(alloc, reading, Term::Nonce(0), b"first")?);
+    assert!(rt; set(alloc, reading, Term::Junk(0), b"other")?);
+    assert!(rt; set(alloc, reading, Term::Nonce(0), b"second")?);
+    let no_atom = public(alloc, b"x")?;
+    assert!(rt; !set(alloc, reading, no_atom, b"third")?);
+    expect_bytes(rt, reading, Term::Nonce(0), b"second");
+    expect_bytes(rt, reading, Term::Junk(0), b"other");
+    assert!(rt; has_none(reading, Term::SKey(0)));
     Ok(())
 }
 
-// What is opened by the known term of a number.
+#[test]
+fn a_reading_gives_atoms_their_bytes(rt: HostRuntime) -> Result<(), Fail> {
+    let mut reading = Reading::new(rt.alloc());
+    check_reading(&rt, rt.alloc(), &mut reading)
+}
+
+// The first known term is opened by the known term of a number.
+fn put_opening(proof: &mut Proof, key: u32) -> Result<(), NoMemory> {
+    proof.push(ProofStep::Known(0))?;
+    proof.push(ProofStep::Known(key))?;
+    proof.push(ProofStep::OpenUp { seal: 0, key: 1 })
+}
+
 fn expect_opened(
     rt: &impl Abort,
     alloc: Global,
@@ -320,20 +380,44 @@ fn expect_opened(
     holds: bool,
 ) -> Result<(), Fail> {
     let mut proof = Proof::new(alloc);
-    proof.push(ProofStep::Known(0))?;
-    proof.push(ProofStep::Known(key))?;
-    proof.push(ProofStep::OpenUp { seal: 0, key: 1 })?;
-    assert_eq!(rt; check_derivation(known, &proof), Ok(holds), "{key}");
+    put_opening(&mut proof, key)?;
+    expect_at(rt, &check_derivation(known, &proof), &Ok(holds), &key);
+    Ok(())
+}
+
+// A known term's number, and whether it opens the first.
+static KEYS: [(u32, bool); 3] = [(1, true), (2, false), (3, false)];
+
+fn try_keys(
+    rt: &impl Abort,
+    alloc: Global,
+    known: &[Term],
+    keys: &[(u32, bool)],
+) -> Result<(), Fail> {
+    let sealed = known.get(..1).ok_or("nothing known")?;
+    for &(key, holds) in keys {
+        expect_opened(rt, alloc, known, key, holds)?;
+        expect_opened(rt, alloc, sealed, key, false)?;
+    }
     Ok(())
 }
 
 fn expect_locks(rt: &impl Abort, alloc: Global, known: &[Term]) -> Result<(), Fail> {
-    let sealed = known.get(..1).ok_or("nothing known")?;
-    for (key, holds) in [(1, true), (2, false), (3, false)] {
-        expect_opened(rt, alloc, known, key, holds)?;
-        expect_opened(rt, alloc, sealed, key, false)?;
-    }
-    assert_eq!(rt; check_derivation(known, &Proof::new(alloc)), Ok(true));
+    try_keys(rt, alloc, known, &KEYS)?;
+    let proof = Proof::new(alloc);
+    expect(rt, &check_derivation(known, &proof), &Ok(true));
+    Ok(())
+}
+
+fn put_locks(alloc: Global, known: &mut Vec<Term>) -> Result<(), Fail> {
+    let ann = Term::LKey(name(alloc, "ann")?);
+    let body = public(alloc, &[1])?;
+    let lock = sealed(alloc, ann, body)?;
+    known.push(lock)?;
+    let ann = Term::LKey(name(alloc, "ann")?);
+    known.push(ann)?;
+    let bob = Term::LKey(name(alloc, "bob")?);
+    known.push(bob)?;
     Ok(())
 }
 
@@ -341,59 +425,79 @@ fn expect_locks(rt: &impl Abort, alloc: Global, known: &[Term]) -> Result<(), Fa
 fn a_seal_opens_by_its_key_alone(rt: HostRuntime) -> Result<(), Fail> {
     let alloc = rt.alloc();
     let mut known = Vec::new(alloc);
-    let ann = Term::LKey(name(alloc, "ann")?);
-    known.push(sealed(alloc, ann, public(alloc, &[1])?)?)?;
-    known.push(Term::LKey(name(alloc, "ann")?))?;
-    known.push(Term::LKey(name(alloc, "bob")?))?;
+    put_locks(alloc, &mut known)?;
     expect_locks(&rt, alloc, &known)
 }
 
-fn seven_steps(alloc: Global) -> Result<Proof, NoMemory> {
+fn two_places(alloc: Global) -> Result<Places, NoMemory> {
     let mut both = Places::new(alloc);
     both.push(2)?;
     both.push(1)?;
-    let mut proof = Proof::new(alloc);
+    Ok(both)
+}
+
+fn put_steps(alloc: Global, proof: &mut Proof) -> Result<(), NoMemory> {
     proof.push(ProofStep::Known(0))?;
     proof.push(ProofStep::Part { of: 0, index: 0 })?;
     proof.push(ProofStep::Part { of: 0, index: 1 })?;
-    proof.push(ProofStep::Public(Bytes::from_slice(alloc, b"x")?))?;
+    let bytes = Bytes::from_slice(alloc, b"x")?;
+    proof.push(ProofStep::Public(bytes))?;
+    let both = two_places(alloc)?;
     proof.push(ProofStep::Join(both))?;
     proof.push(ProofStep::SealUp { key: 2, body: 4 })?;
     proof.push(ProofStep::MacUp {
         kind: MacKind::Cram,
         secret: 3,
         body: 1,
-    })?;
+    })
+}
+
+fn seven_steps(alloc: Global) -> Result<Proof, NoMemory> {
+    let mut proof = Proof::new(alloc);
+    put_steps(alloc, &mut proof)?;
     Ok(proof)
 }
 
 // What each step of it concludes.
-fn seven_terms(alloc: Global) -> Result<Terms, NoMemory> {
-    let mut terms = Terms::new(alloc);
-    terms.push(pair(alloc, Term::Nonce(7), Term::SKey(2))?)?;
+fn put_terms(alloc: Global, terms: &mut Terms) -> Result<(), NoMemory> {
+    let whole = pair(alloc, Term::Nonce(7), Term::SKey(2))?;
+    terms.push(whole)?;
     terms.push(Term::Nonce(7))?;
     terms.push(Term::SKey(2))?;
-    terms.push(public(alloc, b"x")?)?;
-    terms.push(pair(alloc, Term::SKey(2), Term::Nonce(7))?)?;
+    put_public(alloc, terms, b"x")?;
     let joined = pair(alloc, Term::SKey(2), Term::Nonce(7))?;
-    terms.push(sealed(alloc, Term::SKey(2), joined)?)?;
-    terms.push(digest(alloc, MacKind::Cram, public(alloc, b"x")?, Term::Nonce(7))?)?;
-    Ok(terms)
+    terms.push(joined)?;
+    let joined = pair(alloc, Term::SKey(2), Term::Nonce(7))?;
+    let seal = sealed(alloc, Term::SKey(2), joined)?;
+    terms.push(seal)?;
+    let secret = public(alloc, b"x")?;
+    let digits = digest(alloc, MacKind::Cram, secret, Term::Nonce(7))?;
+    terms.push(digits)
 }
 
 fn one_known(alloc: Global) -> Result<Vec<Term>, Fail> {
+    let whole = pair(alloc, Term::Nonce(7), Term::SKey(2))?;
     let mut known = Vec::new(alloc);
-    known.push(pair(alloc, Term::Nonce(7), Term::SKey(2))?)?;
+    known.push(whole)?;
     Ok(known)
+}
+
+fn expect_ends(rt: &impl Abort, alloc: Global, ends: &Terms) -> Result<(), Fail> {
+    let mut expected = Terms::new(alloc);
+    put_terms(alloc, &mut expected)?;
+    assert!(rt; ends.same(&expected));
+    Ok(())
+}
+
+fn check_ends(rt: &impl Abort, alloc: Global, known: &[Term], proof: &Proof) -> Result<(), Fail> {
+    expect(rt, &check_derivation(known, proof), &Ok(true));
+    let ends = conclude(known, proof)?.ok_or("a rule doesn't hold")?;
+    expect_ends(rt, alloc, &ends)
 }
 
 fn expect_concluded(rt: &impl Abort, alloc: Global, known: &[Term]) -> Result<(), Fail> {
     let proof = seven_steps(alloc)?;
-    let ends = conclude(known, &proof)?.ok_or("a rule doesn't hold")?;
-    let expected = seven_terms(alloc)?;
-    assert!(rt; ends.same(&expected));
-    assert_eq!(rt; check_derivation(known, &proof), Ok(true));
-    Ok(())
+    check_ends(rt, alloc, known, &proof)
 }
 
 #[test]
@@ -412,7 +516,7 @@ fn expect_unsound(
 ) -> Result<(), Fail> {
     let mut longer = seven_steps(alloc)?;
     longer.push(step)?;
-    assert_eq!(rt; check_derivation(known, &longer), Ok(false), "{title}");
+    expect_at(rt, &check_derivation(known, &longer), &Ok(false), &title);
     Ok(())
 }
 

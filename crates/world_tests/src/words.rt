@@ -58,22 +58,34 @@ fn skip(words: &mut ChaChaWords, count: u32) {
     }
 }
 
+fn draws(words: &mut ChaChaWords, word: [u8; 8]) -> bool {
+    words.word8() == Ok(word)
+}
+
+fn fails(words: &mut ChaChaWords) -> bool {
+    words.word8() == Err(WordFault)
+}
+
 fn check(rt: &impl Abort, row: &Row) {
     let [first, second, third, late, last] = row.words;
     let mut words = ChaChaWords::new(row.number, 33);
-    assert!(rt; words.word8() == Ok(first));
-    assert!(rt; words.word8() == Ok(second));
-    assert!(rt; words.word8() == Ok(third));
+    assert!(rt; draws(&mut words, first));
+    assert!(rt; draws(&mut words, second));
+    assert!(rt; draws(&mut words, third));
     skip(&mut words, 28);
-    assert!(rt; words.word8() == Ok(late));
-    assert!(rt; words.word8() == Ok(last));
-    assert!(rt; words.word8() == Err(WordFault));
-    assert!(rt; words.word8() == Err(WordFault));
+    assert!(rt; draws(&mut words, late));
+    assert!(rt; draws(&mut words, last));
+    assert!(rt; fails(&mut words));
+    assert!(rt; fails(&mut words));
+}
+
+fn check_rows(rt: &impl Abort, rows: &[Row]) {
+    for row in rows {
+        check(rt, row);
+    }
 }
 
 #[test]
 fn words_are_drawn_of_a_number(rt: HostRuntime) {
-    for row in &ROWS {
-        check(&rt, row);
-    }
+    check_rows(&rt, &ROWS);
 }
