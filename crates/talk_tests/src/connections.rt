@@ -1,6 +1,6 @@
 // Conversations that come to keep a connection to the authentication server, and how they part with it.
 use crate::expect::expect;
-use attr_tuples::parse_tuple;
+use crate::rings::ring_of;
 use conversations::Asks;
 use kept_calls::{Due, KeepingTalks};
 use key_ring::KeyRing;
@@ -9,6 +9,7 @@ use std::alloc::Global;
 use std::process::Abort;
 use std::test::Fail;
 use talks::Asking;
+use wire_base::NoMemory;
 
 const WORD: [u8; 8] = *b"\x01#Eg\x89\xab\xcd\xef";
 
@@ -21,12 +22,68 @@ const CLOSED: Asking = Asking {
     needkey: false,
 };
 
-fn ring_of(alloc: Global, key: &[u8]) -> Result<KeyRing, Fail> {
-    let mut ring = KeyRing::new(alloc);
-    match ring.add(parse_tuple(alloc, key)?) {
-        Ok(_) => Ok(ring),
-        Err(_) => Err("no key".into()),
-    }
+// What is done, or seen, one behind the other.
+#[derive(Clone, Copy)]
+enum Step {
+    /// A fid of a connection opens a conversation of this number, which asks for a challenge.
+    Ask(u64, u32, u64),
+    /// What is due next, which is handed out: a question by its number and its conversation; 100 and a conversation whose
+    /// connection is given up; twice 0 where nothing is.
+    Next(u64, u64),
+    Clunk(u64, u32),
+    Version(u64),
+    Hang(u64),
+    /// The authentication server answers a question with a challenge.
+    Heard(u64),
+    Unheard(u64),
+    Roomless(u64),
+}
+
+static IN_ORDER: [Step; 16] = [
+    Step::Ask(1, 7, 0),
+    Step::Ask(1, 8, 1),
+    Step::Ask(2, 7, 2),
+    Step::Next(1, 0),
+    Step::Next(2, 1),
+    Step::Version(1),
+    Step::Ask(2, 8, 3),
+    Step::Next(3, 2),
+    Step::Next(100, 0),
+    Step::Next(100, 1),
+    Step::Next(4, 3),
+    Step::Next(0, 0),
+    Step::Clunk(2, 8),
+    Step::Hang(2),
+    Step::Next(100, 3),
+    Step::Next(100, 2),
+];
+
+static TO_THEIR_ENDS: [Step; 15] = [
+    Step::Ask(1, 7, 0),
+    Step::Ask(1, 8, 1),
+    Step::Ask(1, 9, 2),
+    Step::Next(1, 0),
+    Step::Next(2, 1),
+    Step::Next(3, 2),
+    Step::Unheard(2),
+    Step::Roomless(9),
+    Step::Heard(1),
+    Step::Next(100, 1),
+    Step::Next(0, 0),
+    Step::Roomless(3),
+    Step::Next(100, 2),
+    Step::Hang(1),
+    Step::Next(100, 0),
+];
+
+fn carry_out(
+    alloc: Global,
+    talks: &mut KeepingTalks,
+    ring: &KeyRing,
+    conv: u64,
+) -> Result<(), NoMemory> {
+    let mut asks = Asks::new(alloc);
+    talks.carry_out(alloc, conv, WORD, ring, CLOSED, &mut asks)
 }
 
 // A fid of a connection opens a conversation of this number, which asks for a challenge.
@@ -37,16 +94,14 @@ fn ask(
     conn: u64,
     fid: u32,
     conv: u64,
-) -> Result<(), Fail> {
+) -> Result<(), NoMemory> {
     talks.open(alloc, conn, fid)?;
     talks.store(alloc, conv, Request::Start(MAIL))?;
-    let mut asks = Asks::new(alloc);
-    talks.carry_out(alloc, conv, WORD, ring, CLOSED, &mut asks)?;
-    Ok(())
+    carry_out(alloc, talks, ring, conv)
 }
 
 // What is due next, which is handed out: a question by its number, a connection by its conversation.
-fn hand_out(talks: &mut KeepingTalks) -> Result<(u64, u64), Fail> {
+fn hand_out(talks: &mut KeepingTalks) -> Result<(u64, u64), NoMemory> {
     match talks.due() {
         Due::Nothing => Ok((0, 0)),
         Due::Question(question) => {
@@ -60,56 +115,65 @@ fn hand_out(talks: &mut KeepingTalks) -> Result<(u64, u64), Fail> {
     }
 }
 
-fn check_next(rt: &impl Abort, talks: &mut KeepingTalks, call: u64, conv: u64) -> Result<(), Fail> {
+fn check_next(
+    rt: &impl Abort,
+    talks: &mut KeepingTalks,
+    call: u64,
+    conv: u64,
+) -> Result<(), NoMemory> {
     let next = hand_out(talks)?;
     expect(rt, &next.0, &call);
     expect(rt, &next.1, &conv);
     Ok(())
 }
 
-#[test]
-fn connections_are_given_up_in_order_and_once(rt: HostRuntime) -> Result<(), Fail> {
-    let alloc = rt.alloc();
+fn follow(
+    rt: &impl Abort,
+    alloc: Global,
+    talks: &mut KeepingTalks,
+    ring: &KeyRing,
+    step: Step,
+) -> Result<(), NoMemory> {
+    match step {
+        Step::Ask(conn, fid, conv) => return ask(alloc, talks, ring, conn, fid, conv),
+        Step::Next(call, conv) => return check_next(rt, talks, call, conv),
+        Step::Clunk(conn, fid) => talks.clunk(conn, fid),
+        Step::Version(conn) => talks.version(conn),
+        Step::Hang(conn) => talks.hang(conn),
+        Step::Heard(call) => return talks.heard(alloc, call, b"\x09    5<1@x>"),
+        Step::Unheard(call) => talks.unheard(call),
+        Step::Roomless(call) => talks.roomless(call),
+    }
+    Ok(())
+}
+
+fn follow_all(
+    rt: &impl Abort,
+    alloc: Global,
+    talks: &mut KeepingTalks,
+    ring: &KeyRing,
+    steps: &[Step],
+) -> Result<(), Fail> {
+    for step in steps {
+        follow(rt, alloc, talks, ring, *step)?;
+    }
+    check_next(rt, talks, 0, 0)?;
+    Ok(())
+}
+
+// Conversations that nobody has begun yet go through these steps, behind which nothing is due.
+fn check(rt: &impl Abort, alloc: Global, steps: &[Step]) -> Result<(), Fail> {
     let ring = ring_of(alloc, SRV)?;
     let mut talks = KeepingTalks::new(alloc);
-    ask(alloc, &mut talks, &ring, 1, 7, 0)?;
-    ask(alloc, &mut talks, &ring, 1, 8, 1)?;
-    ask(alloc, &mut talks, &ring, 2, 7, 2)?;
-    check_next(&rt, &mut talks, 1, 0)?;
-    check_next(&rt, &mut talks, 2, 1)?;
-    talks.version(1);
-    ask(alloc, &mut talks, &ring, 2, 8, 3)?;
-    check_next(&rt, &mut talks, 3, 2)?;
-    check_next(&rt, &mut talks, 100, 0)?;
-    check_next(&rt, &mut talks, 100, 1)?;
-    check_next(&rt, &mut talks, 4, 3)?;
-    check_next(&rt, &mut talks, 0, 0)?;
-    talks.clunk(2, 8);
-    talks.hang(2);
-    check_next(&rt, &mut talks, 100, 3)?;
-    check_next(&rt, &mut talks, 100, 2)?;
-    check_next(&rt, &mut talks, 0, 0)
+    follow_all(rt, alloc, &mut talks, &ring, steps)
+}
+
+#[test]
+fn connections_are_given_up_in_order_and_once(rt: HostRuntime) -> Result<(), Fail> {
+    check(&rt, rt.alloc(), &IN_ORDER)
 }
 
 #[test]
 fn one_that_comes_to_its_end_gives_its_connection_up(rt: HostRuntime) -> Result<(), Fail> {
-    let alloc = rt.alloc();
-    let ring = ring_of(alloc, SRV)?;
-    let mut talks = KeepingTalks::new(alloc);
-    ask(alloc, &mut talks, &ring, 1, 7, 0)?;
-    ask(alloc, &mut talks, &ring, 1, 8, 1)?;
-    ask(alloc, &mut talks, &ring, 1, 9, 2)?;
-    check_next(&rt, &mut talks, 1, 0)?;
-    check_next(&rt, &mut talks, 2, 1)?;
-    check_next(&rt, &mut talks, 3, 2)?;
-    talks.unheard(2);
-    talks.roomless(9);
-    talks.heard(alloc, 1, b"\x09    5<1@x>")?;
-    check_next(&rt, &mut talks, 100, 1)?;
-    check_next(&rt, &mut talks, 0, 0)?;
-    talks.roomless(3);
-    check_next(&rt, &mut talks, 100, 2)?;
-    talks.hang(1);
-    check_next(&rt, &mut talks, 100, 0)?;
-    check_next(&rt, &mut talks, 0, 0)
+    check(&rt, rt.alloc(), &TO_THEIR_ENDS)
 }

@@ -1,16 +1,16 @@
 // Conversations of one agent whose questions for the authentication server come to each of their ends. The messages are
 // those of a login of ann at srv in the domain x, made by bench/vectors over OpenSSL's DES.
-use crate::expect::expect;
+use crate::expect::{expect, expect_told};
+use crate::rings::ring_of;
 use agent_talks::{Talks, Told};
-use attr_tuples::parse_tuple;
 use conversations::Asks;
 use key_ring::KeyRing;
-use rpc_file::{Request, print_answer};
+use rpc_file::Request;
 use std::alloc::Global;
 use std::process::Abort;
 use std::test::Fail;
 use talks::Asking;
-use wire_base::Bytes;
+use wire_base::NoMemory;
 
 const WORD: [u8; 8] = *b"\x01#Eg\x89\xab\xcd\xef";
 
@@ -39,12 +39,13 @@ const CLOSED: Asking = Asking {
 // The bytes that a read may hold.
 const WIDE: u32 = 8000;
 
-fn ring_of(alloc: Global, key: &[u8]) -> Result<KeyRing, Fail> {
-    let mut ring = KeyRing::new(alloc);
-    match ring.add(parse_tuple(alloc, key)?) {
-        Ok(_) => Ok(ring),
-        Err(_) => Err("no key".into()),
-    }
+// What becomes of two conversations that asked the authentication server.
+#[derive(Clone, Copy)]
+enum Course {
+    /// It answers one, and can't be reached for the other.
+    Answered,
+    /// One ends, and there is no memory for the answer of the other, which ends then.
+    Ended,
 }
 
 fn check_told(
@@ -53,15 +54,8 @@ fn check_told(
     talks: &mut Talks,
     conv: u64,
     wanted: &[u8],
-) -> Result<(), Fail> {
-    let mut out = Bytes::new(alloc);
-    match talks.tell(conv, WIDE) {
-        Some(Told::Answer(answer)) => print_answer(&answer, &mut out)?,
-        Some(Told::TooSmall) => panic!(rt; "too small"),
-        None => panic!(rt; "no answer"),
-    }
-    expect(rt, &out.as_slice(), &wanted);
-    Ok(())
+) -> Result<(), NoMemory> {
+    expect_told(rt, alloc, talks.tell(conv, WIDE), wanted)
 }
 
 fn carry(
@@ -70,10 +64,37 @@ fn carry(
     ring: &KeyRing,
     conv: u64,
     request: Request<'_>,
-) -> Result<(), Fail> {
+) -> Result<(), NoMemory> {
     talks.store(alloc, conv, request)?;
     let mut asks = Asks::new(alloc);
-    talks.carry_out(alloc, conv, WORD, ring, CLOSED, &mut asks)?;
+    talks.carry_out(alloc, conv, WORD, ring, CLOSED, &mut asks)
+}
+
+// A request of a conversation is carried out and has this answer.
+fn carry_told(
+    rt: &impl Abort,
+    alloc: Global,
+    talks: &mut Talks,
+    ring: &KeyRing,
+    conv: u64,
+    request: Request<'_>,
+    wanted: &[u8],
+) -> Result<(), NoMemory> {
+    carry(alloc, talks, ring, conv, request)?;
+    check_told(rt, alloc, talks, conv, wanted)
+}
+
+// A fid of a connection opens a conversation of this number.
+fn open(
+    rt: &impl Abort,
+    alloc: Global,
+    talks: &mut Talks,
+    conn: u64,
+    conv: u64,
+) -> Result<(), NoMemory> {
+    talks.open(alloc, conn, 7)?;
+    expect(rt, &talks.conv_at(conn, 7), &Some(conv));
+    assert!(rt; talks.is_resting_at(conn, 7));
     Ok(())
 }
 
@@ -85,15 +106,12 @@ fn ask(
     ring: &KeyRing,
     conn: u64,
     conv: u64,
-) -> Result<(), Fail> {
-    talks.open(alloc, conn, 7)?;
-    expect(rt, &talks.conv_at(conn, 7), &Some(conv));
-    assert!(rt; talks.is_resting_at(conn, 7));
+) -> Result<(), NoMemory> {
+    open(rt, alloc, talks, conn, conv)?;
     let start = Request::Start(b"proto=p9sk1 role=client");
-    carry(alloc, talks, ring, conv, start)?;
-    check_told(rt, alloc, talks, conv, b"ok")?;
-    carry(alloc, talks, ring, conv, Request::Read)?;
-    check_told(rt, alloc, talks, conv, b"ok \x01#Eg\x89\xab\xcd\xef")?;
+    carry_told(rt, alloc, talks, ring, conv, start, b"ok")?;
+    let shown = b"ok \x01#Eg\x89\xab\xcd\xef";
+    carry_told(rt, alloc, talks, ring, conv, Request::Read, shown)?;
     carry(alloc, talks, ring, conv, Request::Write(REQUEST))?;
     assert!(rt; talks.tell(conv, WIDE).is_none());
     assert!(rt; !talks.is_resting_at(conn, 7));
@@ -110,49 +128,93 @@ fn hand_out(talks: &mut Talks) -> Option<(u64, u64)> {
     next
 }
 
-fn two_ask(rt: &impl Abort, alloc: Global, talks: &mut Talks, ring: &KeyRing) -> Result<(), Fail> {
+fn check_next(rt: &impl Abort, talks: &mut Talks, wanted: Option<(u64, u64)>) {
+    expect(rt, &hand_out(talks), &wanted);
+}
+
+fn check_asker(rt: &impl Abort, talks: &Talks, call: u64, wanted: Option<u64>) {
+    expect(rt, &talks.asker(call), &wanted);
+}
+
+fn two_ask(
+    rt: &impl Abort,
+    alloc: Global,
+    talks: &mut Talks,
+    ring: &KeyRing,
+) -> Result<(), NoMemory> {
     ask(rt, alloc, talks, ring, 1, 0)?;
     ask(rt, alloc, talks, ring, 2, 1)?;
     expect(rt, &talks.count(), &2);
-    expect(rt, &hand_out(talks), &Some((1, 0)));
-    expect(rt, &hand_out(talks), &Some((2, 1)));
-    expect(rt, &hand_out(talks), &None);
-    expect(rt, &talks.asker(2), &Some(1));
+    check_next(rt, talks, Some((1, 0)));
+    check_next(rt, talks, Some((2, 1)));
+    check_next(rt, talks, None);
+    check_asker(rt, talks, 2, Some(1));
+    Ok(())
+}
+
+fn check_answered(rt: &impl Abort, alloc: Global, talks: &mut Talks) -> Result<(), NoMemory> {
+    talks.unheard(2);
+    check_asker(rt, talks, 2, None);
+    talks.heard(alloc, 1, ANSWER)?;
+    check_asker(rt, talks, 1, None);
+    assert!(rt; talks.has_answer_at(1, 7));
+    assert!(rt; matches!(talks.tell(0, 1), Some(Told::TooSmall)));
+    check_told(rt, alloc, talks, 0, b"ok")?;
+    check_told(rt, alloc, talks, 1, b"error no server")?;
+    assert!(rt; matches!(talks.chosen_at(1, 7), Some(key) if key.serial() == 1));
+    Ok(())
+}
+
+fn check_ended(rt: &impl Abort, alloc: Global, talks: &mut Talks) -> Result<(), NoMemory> {
+    talks.clunk(1, 7);
+    check_asker(rt, talks, 1, None);
+    check_asker(rt, talks, 2, Some(1));
+    talks.roomless(2);
+    check_told(rt, alloc, talks, 1, b"error out of memory")?;
+    talks.version(2);
+    talks.hang(3);
+    expect(rt, &talks.count(), &0);
+    assert!(rt; talks.outcome_at(2, 7).is_none());
+    Ok(())
+}
+
+fn follow(
+    rt: &impl Abort,
+    alloc: Global,
+    talks: &mut Talks,
+    ring: &KeyRing,
+    course: Course,
+) -> Result<(), NoMemory> {
+    two_ask(rt, alloc, talks, ring)?;
+    match course {
+        Course::Answered => check_answered(rt, alloc, talks),
+        Course::Ended => check_ended(rt, alloc, talks),
+    }
+}
+
+fn check_with(
+    rt: &impl Abort,
+    alloc: Global,
+    ring: &KeyRing,
+    course: Course,
+) -> Result<(), NoMemory> {
+    let mut talks = Talks::new(alloc);
+    follow(rt, alloc, &mut talks, ring, course)
+}
+
+// Conversations that nobody has begun yet take this course.
+fn check(rt: &impl Abort, alloc: Global, course: Course) -> Result<(), Fail> {
+    let ring = ring_of(alloc, ANN)?;
+    check_with(rt, alloc, &ring, course)?;
     Ok(())
 }
 
 #[test]
 fn the_server_answers_one_and_cannot_be_reached_for_another(rt: HostRuntime) -> Result<(), Fail> {
-    let alloc = rt.alloc();
-    let ring = ring_of(alloc, ANN)?;
-    let mut talks = Talks::new(alloc);
-    two_ask(&rt, alloc, &mut talks, &ring)?;
-    talks.unheard(2);
-    expect(&rt, &talks.asker(2), &None);
-    talks.heard(alloc, 1, ANSWER)?;
-    expect(&rt, &talks.asker(1), &None);
-    assert!(rt; talks.has_answer_at(1, 7));
-    assert!(rt; matches!(talks.tell(0, 1), Some(Told::TooSmall)));
-    check_told(&rt, alloc, &mut talks, 0, b"ok")?;
-    check_told(&rt, alloc, &mut talks, 1, b"error no server")?;
-    assert!(rt; matches!(talks.chosen_at(1, 7), Some(key) if key.serial() == 1));
-    Ok(())
+    check(&rt, rt.alloc(), Course::Answered)
 }
 
 #[test]
 fn a_question_ends_with_its_conversation(rt: HostRuntime) -> Result<(), Fail> {
-    let alloc = rt.alloc();
-    let ring = ring_of(alloc, ANN)?;
-    let mut talks = Talks::new(alloc);
-    two_ask(&rt, alloc, &mut talks, &ring)?;
-    talks.clunk(1, 7);
-    expect(&rt, &talks.asker(1), &None);
-    expect(&rt, &talks.asker(2), &Some(1));
-    talks.roomless(2);
-    check_told(&rt, alloc, &mut talks, 1, b"error out of memory")?;
-    talks.version(2);
-    talks.hang(3);
-    expect(&rt, &talks.count(), &0);
-    assert!(rt; talks.outcome_at(2, 7).is_none());
-    Ok(())
+    check(&rt, rt.alloc(), Course::Ended)
 }

@@ -1,7 +1,8 @@
 // Logins, and each refusal of a request by a short talk. The messages are those of a login of ann at srv in the domain x,
 // made by bench/vectors over OpenSSL's DES.
 use crate::expect::expect;
-use attr_tuples::{parse_tuple, print_tuple};
+use crate::rings::ring_of;
+use attr_tuples::print_tuple;
 use conversations::{Asks, Conversation};
 use key_ring::KeyRing;
 use roles::Outcome;
@@ -10,7 +11,7 @@ use std::alloc::Global;
 use std::process::Abort;
 use std::test::Fail;
 use talks::Asking;
-use wire_base::{Bytes, Shape};
+use wire_base::{Bytes, NoMemory, Shape};
 
 const WORD: [u8; 8] = *b"\x01#Eg\x89\xab\xcd\xef";
 
@@ -201,12 +202,14 @@ enum Course {
     Roomless,
 }
 
-fn ring_of(alloc: Global, key: &[u8]) -> Result<KeyRing, Fail> {
-    let mut ring = KeyRing::new(alloc);
-    match ring.add(parse_tuple(alloc, key)?) {
-        Ok(_) => Ok(ring),
-        Err(_) => Err("no key".into()),
-    }
+fn perform(
+    alloc: Global,
+    conversation: &mut Conversation,
+    ring: &KeyRing,
+    word: [u8; 8],
+) -> Result<(), NoMemory> {
+    let mut asks = Asks::new(alloc);
+    conversation.perform(alloc, word, ring, CLOSED, &mut asks)
 }
 
 // Writes a request and carries it out, as far as keys and the authentication server's answer bring it.
@@ -216,10 +219,9 @@ fn carry(
     ring: &KeyRing,
     word: [u8; 8],
     request: Request<'_>,
-) -> Result<(), Fail> {
-    let mut asks = Asks::new(alloc);
+) -> Result<(), NoMemory> {
     conversation.store(alloc, request)?;
-    conversation.perform(alloc, word, ring, CLOSED, &mut asks)?;
+    perform(alloc, conversation, ring, word)?;
     if conversation.waits_for_server() {
         conversation.heard(alloc, ANSWER)?;
     }
@@ -233,12 +235,32 @@ fn check_rows(
     ring: &KeyRing,
     word: [u8; 8],
     rows: &[Row],
-) -> Result<(), Fail> {
+) -> Result<(), NoMemory> {
     for (request, title, rest) in rows {
         carry(alloc, conversation, ring, word, *request)?;
         check_answer(rt, alloc, conversation, title, rest)?;
     }
     Ok(())
+}
+
+fn put_answer(conversation: &Conversation, out: &mut Bytes) -> Result<(), NoMemory> {
+    match conversation.answer() {
+        Some(answer) => print_answer(answer, out),
+        None => Ok(()),
+    }
+}
+
+fn check_text(rt: &impl Abort, text: &[u8], title: &[u8], rest: &[u8]) {
+    match text.strip_prefix(title) {
+        Some(behind) => expect(rt, &behind, &rest),
+        None => panic!(rt; "another answer"),
+    }
+}
+
+// The answer is read.
+fn check_taken(rt: &impl Abort, conversation: &mut Conversation) {
+    assert!(rt; conversation.take_answer().is_some());
+    assert!(rt; conversation.is_resting());
 }
 
 // The answer is there, and then it was read.
@@ -248,18 +270,12 @@ fn check_answer(
     conversation: &mut Conversation,
     title: &[u8],
     rest: &[u8],
-) -> Result<(), Fail> {
-    let mut out = Bytes::new(alloc);
+) -> Result<(), NoMemory> {
     assert!(rt; conversation.has_answer());
-    if let Some(answer) = conversation.answer() {
-        print_answer(answer, &mut out)?;
-    }
-    match out.as_slice().strip_prefix(title) {
-        Some(behind) => expect(rt, &behind, &rest),
-        None => panic!(rt; "another answer"),
-    }
-    assert!(rt; conversation.take_answer().is_some());
-    assert!(rt; conversation.is_resting());
+    let mut out = Bytes::new(alloc);
+    put_answer(conversation, &mut out)?;
+    check_text(rt, out.as_slice(), title, rest);
+    check_taken(rt, conversation);
     Ok(())
 }
 
@@ -270,7 +286,7 @@ fn check_login(
     ring: &KeyRing,
     word: [u8; 8],
     rows: &[Row],
-) -> Result<(), Fail> {
+) -> Result<(), NoMemory> {
     check_rows(rt, alloc, conversation, ring, word, rows)?;
     assert!(rt; matches!(conversation.outcome(), Some(Outcome::Accepted(_))));
     assert!(rt; matches!(conversation.chosen(), Some(key) if key.serial() == 1));
@@ -283,37 +299,68 @@ fn check_refused(
     conversation: &mut Conversation,
     ring: &KeyRing,
     rows: &[Row],
-) -> Result<(), Fail> {
+) -> Result<(), NoMemory> {
     check_rows(rt, alloc, conversation, ring, WORD, rows)?;
     assert!(rt; conversation.chosen().is_none());
     Ok(())
 }
 
-// A client whose request for a key was carried out, where its user can be asked.
-fn seek(
+fn write(
     alloc: Global,
     client: &mut Conversation,
     ring: &KeyRing,
     asks: &mut Asks,
-) -> Result<(), Fail> {
-    client.store(alloc, Request::Start(b"proto=p9sk1 role=client"))?;
-    client.perform(alloc, WORD, ring, OPEN, asks)?;
+    request: Request<'_>,
+) -> Result<(), NoMemory> {
+    client.store(alloc, request)?;
+    client.perform(alloc, WORD, ring, OPEN, asks)
+}
+
+// A client whose request for a key was carried out, where its user can be asked.
+fn seek_with(
+    alloc: Global,
+    client: &mut Conversation,
+    ring: &KeyRing,
+    asks: &mut Asks,
+) -> Result<(), NoMemory> {
+    let start = Request::Start(b"proto=p9sk1 role=client");
+    write(alloc, client, ring, asks, start)?;
     client.take_answer();
-    client.store(alloc, Request::Read)?;
-    client.perform(alloc, WORD, ring, OPEN, asks)?;
+    write(alloc, client, ring, asks, Request::Read)?;
     client.take_answer();
-    client.store(alloc, Request::Write(REQUEST))?;
-    client.perform(alloc, WORD, ring, OPEN, asks)?;
+    write(alloc, client, ring, asks, Request::Write(REQUEST))
+}
+
+fn seek(alloc: Global, client: &mut Conversation, ring: &KeyRing) -> Result<(), NoMemory> {
+    let mut asks = Asks::new(alloc);
+    seek_with(alloc, client, ring, &mut asks)
+}
+
+fn put_template(client: &Conversation, out: &mut Bytes) -> Result<(), NoMemory> {
+    match client.template() {
+        Some(template) => print_tuple(template, out),
+        None => Ok(()),
+    }
+}
+
+fn check_asked(rt: &impl Abort, alloc: Global, client: &Conversation) -> Result<(), NoMemory> {
+    let mut out = Bytes::new(alloc);
+    put_template(client, &mut out)?;
+    expect(rt, &out.as_slice(), &b"proto=p9sk1 dom=x user?".as_slice());
     Ok(())
 }
 
-fn check_asked(rt: &impl Abort, alloc: Global, client: &Conversation) -> Result<(), Fail> {
-    let mut out = Bytes::new(alloc);
-    if let Some(template) = client.template() {
-        print_tuple(template, &mut out)?;
-    }
-    expect(rt, &out.as_slice(), &b"proto=p9sk1 dom=x user?".as_slice());
-    Ok(())
+fn consent(
+    rt: &impl Abort,
+    alloc: Global,
+    client: &mut Conversation,
+    ring: &KeyRing,
+    asks: &mut Asks,
+) -> Result<(), NoMemory> {
+    seek_with(alloc, client, ring, asks)?;
+    assert!(rt; !client.seeks());
+    check_asked(rt, alloc, client)?;
+    client.consented(alloc, true, ring, OPEN, asks)
 }
 
 fn check_consent(
@@ -321,12 +368,9 @@ fn check_consent(
     alloc: Global,
     client: &mut Conversation,
     ring: &KeyRing,
-) -> Result<(), Fail> {
+) -> Result<(), NoMemory> {
     let mut asks = Asks::new(alloc);
-    seek(alloc, client, ring, &mut asks)?;
-    assert!(rt; !client.seeks());
-    check_asked(rt, alloc, client)?;
-    client.consented(alloc, true, ring, OPEN, &mut asks)?;
+    consent(rt, alloc, client, ring, &mut asks)?;
     assert!(rt; client.waits_for_server());
     Ok(())
 }
@@ -338,8 +382,8 @@ fn check_shut(
     client: &mut Conversation,
     ring: &KeyRing,
     wanted: &[u8],
-) -> Result<(), Fail> {
-    seek(alloc, client, ring, &mut Asks::new(alloc))?;
+) -> Result<(), NoMemory> {
+    seek(alloc, client, ring)?;
     client.shut();
     check_answer(rt, alloc, client, wanted, b"")
 }
@@ -350,8 +394,8 @@ fn check_unheard(
     alloc: Global,
     client: &mut Conversation,
     ring: &KeyRing,
-) -> Result<(), Fail> {
-    seek(alloc, client, ring, &mut Asks::new(alloc))?;
+) -> Result<(), NoMemory> {
+    seek(alloc, client, ring)?;
     assert!(rt; matches!(client.question(), Some((asked, Shape::Tickets)) if asked == QUESTION));
     client.unheard();
     check_answer(rt, alloc, client, b"error no server", b"")
@@ -363,8 +407,8 @@ fn check_roomless(
     alloc: Global,
     client: &mut Conversation,
     ring: &KeyRing,
-) -> Result<(), Fail> {
-    seek(alloc, client, ring, &mut Asks::new(alloc))?;
+) -> Result<(), NoMemory> {
+    seek(alloc, client, ring)?;
     client.roomless();
     check_answer(rt, alloc, client, b"error out of memory", b"")
 }
@@ -375,7 +419,7 @@ fn follow(
     conversation: &mut Conversation,
     ring: &KeyRing,
     course: Course,
-) -> Result<(), Fail> {
+) -> Result<(), NoMemory> {
     match course {
         Course::Login(word, rows) => check_login(rt, alloc, conversation, ring, word, rows),
         Course::Refused(rows) => check_refused(rt, alloc, conversation, ring, rows),
@@ -387,7 +431,7 @@ fn follow(
 }
 
 // A conversation that has just begun takes this course.
-fn check(rt: &impl Abort, alloc: Global, ring: &KeyRing, course: Course) -> Result<(), Fail> {
+fn check(rt: &impl Abort, alloc: Global, ring: &KeyRing, course: Course) -> Result<(), NoMemory> {
     let mut conversation = Conversation::new(alloc);
     follow(rt, alloc, &mut conversation, ring, course)
 }
