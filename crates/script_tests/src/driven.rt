@@ -1,6 +1,6 @@
 // New nodes that are driven, by hand from the Plan 9 manual and RFC 1939.
 ghost use Rattle.std.specs.Prelude.{IfOk};
-ghost use Rattle.agent_driver.specs.{IsEvent};
+ghost use Rattle.agent_driver.specs.Events.{IsEvent};
 
 use agent_driver::{
     Agent, CTL, Event, clunks, content_in, drive, error_in, is_refused, new_node, open_rpc, reads,
