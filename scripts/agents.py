@@ -90,8 +90,7 @@ class Started:
 
     def start(self, *words, **how):
         if self.unproved:
-            how["cwd"] = os.path.join(TOP, "crates", words[0])
-            words = ["rt", "try", "--seconds", "600", "--", *words[1:]]
+            words = [os.path.join(TOP, "scripts", "unproved"), *words]
         else:
             words = [os.path.join(self.folder, words[0]), *words[1:]]
         process = subprocess.Popen(words, start_new_session=True, **how)
