@@ -372,18 +372,25 @@ TABLES = [
 ]
 
 
+def literal(line):
+    """A line of bytes as a byte string of the code has it, in which a blank at the front of a line would be passed over."""
+    names = {0: "\\0", 10: "\\n"}
+    shown = "".join(chr(c) if 32 <= c < 127 and c not in (34, 92) else names.get(c, "\\x%02x" % c) for c in line)
+    return "\\x20" + shown[1:] if shown.startswith(" ") else shown
+
+
 def table(about, sessions):
     print("// Sessions with an agent about %s, made by bench/vectors/agent.py," % about)
-    print("// which also says what each shows. A line a step: 1 where a new agent begins a session and else 0, the connection,")
-    print("// a request, and its reply.")
+    print("// which also makes each frame of words. A line a step: the length of the session's name and that name, where a session")
+    print("// begins with a new agent, and else 0; the connection, a request, and its reply.")
     print("pub const COUNT: usize = %d;" % sum(len(s) for _, s in sessions))
     print()
     print('pub static STEPS: &[u8] = b"\\')
     lines = []
-    for _, steps in sessions:
+    for name, steps in sessions:
         for i, (conn, request, reply) in enumerate(steps):
-            step = bytes([1 if i == 0 else 0, conn]) + request + reply
-            lines.append("".join(chr(c) if 33 <= c < 127 and c not in (34, 92) else "\\x%02x" % c for c in step))
+            begin = name.encode() if i == 0 else b""
+            lines.append(literal(bytes([len(begin)]) + begin + bytes([conn]) + request + reply))
     print("\\\n".join("    " + line for line in lines) + '";')
 
 

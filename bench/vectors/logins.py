@@ -21,7 +21,7 @@ connection's, a call's or none), what is given and what has to come, each of the
 import sys
 from contextlib import contextmanager
 
-from agent import (A, V, attach, clunk, error, flush, frame, opened, open_, rattach, rclunk, read, remove, rflush, ropen, rread,
+from agent import (A, V, attach, clunk, error, flush, frame, literal, opened, open_, rattach, rclunk, read, remove, rflush, ropen, rread,
                    rversion, rwrite, stat, version, walk, write, at)
 from passwords import pass_to_key
 from sealing import expand, seal
@@ -910,12 +910,12 @@ TABLES = [
 ]
 
 
-def shown(step):
+def spelled(step):
     kind, agent, number, given, expected = step
     b = kind.encode() + bytes([agent, number])
     for part in [given, expected]:
         b += len(part).to_bytes(2, "little") + part
-    return "".join(chr(c) if 33 <= c < 127 and c not in (34, 92) else "\\x%02x" % c if c else "\\0" for c in b)
+    return b
 
 
 def table(about, script="logins.py"):
@@ -924,7 +924,7 @@ def table(about, script="logins.py"):
     print("pub const COUNT: usize = %d;" % sum(len(line) for _, lines in SESSIONS for line in lines))
     print()
     print('pub static STEPS: &[u8] = b"\\')
-    print("\\\n".join("    " + "".join(shown(step) for step in line) for _, lines in SESSIONS for line in lines) + '";')
+    print("\\\n".join("    " + literal(b"".join(map(spelled, line))) for _, lines in SESSIONS for line in lines) + '";')
 
 
 def main(tables, script):

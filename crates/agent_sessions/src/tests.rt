@@ -11,6 +11,7 @@ mod refusals;
 use agent_core::{Agent, Event, StepAnswer};
 use std::alloc::Global;
 use std::process::Abort;
+use std::str::from_utf8;
 use std::test::Fail;
 use wire_base::{Bytes, NoMemory, get_u32};
 
@@ -24,21 +25,40 @@ fn frame_of(rt: &impl Abort, alloc: Global, bytes: &[u8]) -> Result<Bytes, Fail>
     Ok(frame)
 }
 
+// Where in a test something is: what the session shows, and the number of its step, from 0.
+#[derive(Clone, Copy)]
+struct Place<'a> {
+    session: &'a str,
+    step: usize,
+}
+
+impl<'a> Place<'a> {
+    // A place that is named by what happens there.
+    fn of(session: &'a str) -> Place<'a> {
+        Place { session, step: 0 }
+    }
+}
+
 // Carries out one event, which puts these bytes out.
 fn expect(
     rt: &impl Abort,
     alloc: Global,
     agent: &mut Agent,
-    name: &str,
+    place: Place,
     event: &Event,
     answer: StepAnswer,
     bytes: &[u8],
 ) -> Result<(), Fail>
     requires { IsEvent event.now }
 {
+    let Place { session, step } = place;
     let mut out = Bytes::new(alloc);
-    assert_eq!(rt; agent.step(event, &mut out)?, answer, "{name}");
-    assert_eq!(rt; out.as_slice(), bytes, "{name}");
+    assert_eq!(rt;
+        agent.step(event, &mut out)?,
+        answer,
+        "{session}, step {step}"
+    );
+    assert_eq!(rt; out.as_slice(), bytes, "{session}, step {step}");
     Ok(())
 }
 
@@ -48,7 +68,7 @@ fn ask(
     alloc: Global,
     agent: &mut Agent,
     conn: u64,
-    name: &str,
+    place: Place,
     bytes: &[u8],
 ) -> Result<(), Fail> {
     let frame = frame_of(rt, alloc, bytes)?;
@@ -57,7 +77,7 @@ fn ask(
         frame,
         word: [0; 8],
     };
-    expect(rt, alloc, agent, name, &request, StepAnswer::Done, b"")
+    expect(rt, alloc, agent, place, &request, StepAnswer::Done, b"")
 }
 
 // Asks, and takes the one reply.
@@ -66,14 +86,14 @@ fn converse(
     alloc: Global,
     agent: &mut Agent,
     conn: u64,
-    name: &str,
+    place: Place,
     request: &[u8],
     reply: &[u8],
 ) -> Result<(), Fail> {
-    ask(rt, alloc, agent, conn, name, request)?;
+    ask(rt, alloc, agent, conn, place, request)?;
     let take = Event::Take { conn };
-    expect(rt, alloc, agent, name, &take, StepAnswer::Reply, reply)?;
-    expect(rt, alloc, agent, name, &take, StepAnswer::NoReply, b"")
+    expect(rt, alloc, agent, place, &take, StepAnswer::Reply, reply)?;
+    expect(rt, alloc, agent, place, &take, StepAnswer::NoReply, b"")
 }
 
 // The frame that stands at a place of the steps, and the place behind it.
@@ -84,43 +104,59 @@ fn frame_at(alloc: Global, steps: &[u8], at: usize) -> Result<(Bytes, usize), Fa
     Ok((Bytes::from_slice(alloc, frame)?, end))
 }
 
-// The step at a place of the steps, and the place behind it; where a session begins the agent is a new one.
+// What the session shows that begins at a place of the steps, empty where none begins, and the place behind that.
+fn session_at(steps: &[u8], at: usize) -> Result<(&str, usize), Fail> {
+    let size = steps.get(at).copied().ok_or("no step")?;
+    let begin = at.saturating_add(1);
+    let end = begin.saturating_add(usize::from(size));
+    let name = steps.get(begin..end).ok_or("no session")?;
+    Ok((from_utf8(name).unwrap_or("a session"), end))
+}
+
+// Holds the step that stands there, and gives the place behind it.
 fn hold_step(
     rt: &impl Abort,
     alloc: Global,
     agent: &mut Agent,
+    place: Place,
     steps: &[u8],
     at: usize,
 ) -> Result<usize, Fail> {
-    let begins = steps.get(at).copied().ok_or("no step")?;
-    let conn = steps.get(at.saturating_add(1)).copied().ok_or("no step")?;
-    let (request, behind) = frame_at(alloc, steps, at.saturating_add(2))?;
+    let conn = u64::from(steps.get(at).copied().ok_or("no step")?);
+    let (request, behind) = frame_at(alloc, steps, at.saturating_add(1))?;
     let (reply, end) = frame_at(alloc, steps, behind)?;
-    if begins == 1 {
-        *agent = Agent::new(alloc)?;
-    }
     let (request, reply) = (request.as_slice(), reply.as_slice());
-    converse(
-        rt,
-        alloc,
-        agent,
-        u64::from(conn),
-        "a step of a session",
-        request,
-        reply,
-    )?;
+    converse(rt, alloc, agent, conn, place, request, reply)?;
     Ok(end)
 }
 
-// Step by step; each session has an agent of its own.
-fn hold(rt: &impl Abort, alloc: Global, count: usize, steps: &[u8]) -> Result<(), Fail> {
-    let mut agent = Agent::new(alloc)?;
+// Step by step; where a session begins the agent is a new one.
+fn hold_all(
+    rt: &impl Abort,
+    alloc: Global,
+    agent: &mut Agent,
+    count: usize,
+    steps: &[u8],
+) -> Result<(), Fail> {
     let mut at = 0_usize;
+    let mut place = Place::of("no session");
     for _ in 0..count {
-        at = hold_step(rt, alloc, &mut agent, steps, at)?;
+        let (session, behind) = session_at(steps, at)?;
+        if !session.is_empty() {
+            place = Place::of(session);
+            *agent = Agent::new(alloc)?;
+        }
+        at = hold_step(rt, alloc, agent, place, steps, behind)?;
+        place.step = place.step.saturating_add(1);
     }
     assert_eq!(rt; at, steps.len());
     Ok(())
+}
+
+// The agent is owned by a function of one call, since each early return of its owner drops it.
+fn hold(rt: &impl Abort, alloc: Global, count: usize, steps: &[u8]) -> Result<(), Fail> {
+    let mut agent = Agent::new(alloc)?;
+    hold_all(rt, alloc, &mut agent, count, steps)
 }
 
 #[test]
@@ -168,7 +204,7 @@ fn take(
     reply: &[u8],
 ) -> Result<(), Fail> {
     let event = Event::Take { conn: 0 };
-    expect(rt, alloc, agent, name, &event, answer, reply)
+    expect(rt, alloc, agent, Place::of(name), &event, answer, reply)
 }
 
 // Requests, of which two have their replies taken before a hang.
@@ -183,16 +219,17 @@ fn ask_until_a_hang(rt: &impl Abort, alloc: Global, agent: &mut Agent) -> Result
         ),
     ];
     for (request, _) in &opening {
-        ask(rt, alloc, agent, 0, "request", request)?;
+        ask(rt, alloc, agent, 0, Place::of("request"), request)?;
     }
     for (_, reply) in &opening[..2] {
         take(rt, alloc, agent, "take", StepAnswer::Reply, reply)?;
     }
     let hang = Event::Hang { conn: 0 };
-    expect(rt, alloc, agent, "hang", &hang, StepAnswer::Done, b"")?;
+    let hanging = Place::of("hang");
+    expect(rt, alloc, agent, hanging, &hang, StepAnswer::Done, b"")?;
     take(rt, alloc, agent, "hung", StepAnswer::Gone, b"")?;
     for (request, _) in &opening {
-        ask(rt, alloc, agent, 0, "request, hung", request)?;
+        ask(rt, alloc, agent, 0, Place::of("request, hung"), request)?;
     }
     take(rt, alloc, agent, "still", StepAnswer::Gone, b"")
 }
@@ -220,7 +257,7 @@ fn carry_out(
         | Event::TakeAsk
         | Event::NoAnswer { .. }
         | Event::NoRoom { .. }
-        | Event::Stop => expect(rt, alloc, agent, name, event, answer, b""),
+        | Event::Stop => expect(rt, alloc, agent, Place::of(name), event, answer, b""),
     }
 }
 
@@ -250,7 +287,8 @@ fn carry_out_all(rt: &impl Abort, alloc: Global, agent: &mut Agent) -> Result<()
         carry_out(rt, alloc, agent, name, &event, answer)?;
     }
     let answer = Event::Answer { call: 0, bytes };
-    expect(rt, alloc, agent, "answer", &answer, StepAnswer::Done, b"")
+    let place = Place::of("answer");
+    expect(rt, alloc, agent, place, &answer, StepAnswer::Done, b"")
 }
 
 #[test]
