@@ -13,7 +13,7 @@ use std::alloc::Global;
 use std::process::Abort;
 use std::str::from_utf8;
 use std::test::Fail;
-use wire_base::{Bytes, NoMemory, get_u32};
+use wire_base::{Bytes, get_u32};
 
 // These bytes as a frame.
 fn frame_of(rt: &impl Abort, alloc: Global, bytes: &[u8]) -> Result<Bytes, Fail>
@@ -104,13 +104,16 @@ fn frame_at(alloc: Global, steps: &[u8], at: usize) -> Result<(Bytes, usize), Fa
     Ok((Bytes::from_slice(alloc, frame)?, end))
 }
 
-// What the session shows that begins at a place of the steps, empty where none begins, and the place behind that.
-fn session_at(steps: &[u8], at: usize) -> Result<(&str, usize), Fail> {
+// Where the name ends whose length stands at a place of the steps.
+fn end_of_name(steps: &[u8], at: usize) -> Result<usize, Fail> {
     let size = steps.get(at).copied().ok_or("no step")?;
-    let begin = at.saturating_add(1);
-    let end = begin.saturating_add(usize::from(size));
-    let name = steps.get(begin..end).ok_or("no session")?;
-    Ok((from_utf8(name).unwrap_or("a session"), end))
+    Ok(at.saturating_add(1).saturating_add(usize::from(size)))
+}
+
+// The name that stands behind its length, and ends there.
+fn name_at(steps: &[u8], at: usize, end: usize) -> &str {
+    let name = steps.get(at.saturating_add(1)..end).unwrap_or(&[]);
+    from_utf8(name).unwrap_or("a session")
 }
 
 // Holds the step that stands there, and gives the place behind it.
@@ -141,7 +144,8 @@ fn hold_all(
     let mut at = 0_usize;
     let mut place = Place::of("no session");
     for _ in 0..count {
-        let (session, behind) = session_at(steps, at)?;
+        let behind = end_of_name(steps, at)?;
+        let session = name_at(steps, at, behind);
         if !session.is_empty() {
             place = Place::of(session);
             *agent = Agent::new(alloc)?;
@@ -183,16 +187,18 @@ const VERSION: &[u8; 19] = b"\x13\x00\x00\x00d\xff\xff\x18 \x00\x00\x06\x009P200
 
 const AGREED: &[u8; 19] = b"\x13\x00\x00\x00e\xff\xff\x18 \x00\x00\x06\x009P2000";
 
+const ATTACH: &[u8; 19] =
+    b"\x13\x00\x00\x00h\x01\x00\x00\x00\x00\x00\xff\xff\xff\xff\x00\x00\x00\x00";
+
 const ATTACHED: &[u8; 20] =
     b"\x14\x00\x00\x00i\x01\x00\x80\x00\x00\x00\x00\x00\x00\x00\x00\x00\x00\x00\x00";
 
-// An attach of this fid.
-fn attach(alloc: Global, fid: u32) -> Result<Bytes, NoMemory> {
-    let mut frame = Bytes::from_slice(alloc, b"\x13\x00\x00\x00h\x01\x00")?;
-    frame.append(&fid.to_le_bytes())?;
-    frame.append(b"\xff\xff\xff\xff\x00\x00\x00\x00")?;
-    Ok(frame)
-}
+const CLUNK: &[u8; 11] = b"\x0b\x00\x00\x00x\x01\x00\x09\x00\x00\x00";
+
+const UNKNOWN: &[u8; 20] = b"\x14\x00\x00\x00k\x01\x00\x0b\x00unknown fid";
+
+// Requests, and their replies.
+static OPENING: [(&[u8], &[u8]); 3] = [(VERSION, AGREED), (ATTACH, ATTACHED), (CLUNK, UNKNOWN)];
 
 // Takes a reply, or learns that there is none.
 fn take(
@@ -209,26 +215,17 @@ fn take(
 
 // Requests, of which two have their replies taken before a hang.
 fn ask_until_a_hang(rt: &impl Abort, alloc: Global, agent: &mut Agent) -> Result<(), Fail> {
-    let frame = attach(alloc, 0)?;
-    let opening = [
-        (VERSION.as_slice(), AGREED.as_slice()),
-        (frame.as_slice(), ATTACHED.as_slice()),
-        (
-            b"\x0b\x00\x00\x00x\x01\x00\x09\x00\x00\x00",
-            b"\x14\x00\x00\x00k\x01\x00\x0b\x00unknown fid",
-        ),
-    ];
-    for (request, _) in &opening {
+    for (request, _) in &OPENING {
         ask(rt, alloc, agent, 0, Place::of("request"), request)?;
     }
-    for (_, reply) in &opening[..2] {
+    for (_, reply) in &OPENING[..2] {
         take(rt, alloc, agent, "take", StepAnswer::Reply, reply)?;
     }
     let hang = Event::Hang { conn: 0 };
     let hanging = Place::of("hang");
     expect(rt, alloc, agent, hanging, &hang, StepAnswer::Done, b"")?;
     take(rt, alloc, agent, "hung", StepAnswer::Gone, b"")?;
-    for (request, _) in &opening {
+    for (request, _) in &OPENING {
         ask(rt, alloc, agent, 0, Place::of("request, hung"), request)?;
     }
     take(rt, alloc, agent, "still", StepAnswer::Gone, b"")
@@ -241,51 +238,62 @@ fn replies_come_in_order_until_a_hang(rt: HostRuntime) -> Result<(), Fail> {
     ask_until_a_hang(&rt, alloc, &mut agent)
 }
 
+/// An event that brings no bytes; of a connection, its number.
+#[derive(Clone, Copy)]
+enum Plain {
+    Hang(u64),
+    Take(u64),
+    TakeAsk,
+    NoAnswer,
+    NoRoom,
+    Stop,
+}
+
+// What is carried out one behind the other, up to a stop and behind it, and what each is answered.
+static EVENTS: [(&str, Plain, StepAnswer); 10] = [
+    ("hang, not opened", Plain::Hang(4), StepAnswer::Done),
+    ("take, not opened", Plain::Take(4), StepAnswer::NoReply),
+    ("hang", Plain::Hang(4), StepAnswer::Done),
+    ("take, hung", Plain::Take(4), StepAnswer::Gone),
+    ("a question", Plain::TakeAsk, StepAnswer::NoAsk),
+    ("no answer", Plain::NoAnswer, StepAnswer::Done),
+    ("no room", Plain::NoRoom, StepAnswer::Done),
+    ("stop", Plain::Stop, StepAnswer::Done),
+    ("take, stopped", Plain::Take(5), StepAnswer::Gone),
+    ("a question, stopped", Plain::TakeAsk, StepAnswer::Stopped),
+];
+
+fn event_of(plain: Plain) -> Event
+    ensures { IsEvent result }
+{
+    match plain {
+        Plain::Hang(conn) => Event::Hang { conn },
+        Plain::Take(conn) => Event::Take { conn },
+        Plain::TakeAsk => Event::TakeAsk,
+        Plain::NoAnswer => Event::NoAnswer { call: 0 },
+        Plain::NoRoom => Event::NoRoom { call: 0 },
+        Plain::Stop => Event::Stop,
+    }
+}
+
 // Carries out an event without bytes, which puts nothing out.
 fn carry_out(
     rt: &impl Abort,
     alloc: Global,
     agent: &mut Agent,
     name: &str,
-    event: &Event,
+    plain: Plain,
     answer: StepAnswer,
 ) -> Result<(), Fail> {
-    match event {
-        Event::Request { .. } | Event::Answer { .. } => panic!(rt; "{name} has bytes"),
-        Event::Take { .. }
-        | Event::Hang { .. }
-        | Event::TakeAsk
-        | Event::NoAnswer { .. }
-        | Event::NoRoom { .. }
-        | Event::Stop => expect(rt, alloc, agent, Place::of(name), event, answer, b""),
-    }
+    let event = event_of(plain);
+    expect(rt, alloc, agent, Place::of(name), &event, answer, b"")
 }
 
-// Events other than requests, up to a stop and behind it.
 fn carry_out_all(rt: &impl Abort, alloc: Global, agent: &mut Agent) -> Result<(), Fail> {
-    let bytes = Bytes::new(alloc);
-    for (name, event, answer) in [
-        (
-            "hang, not opened",
-            Event::Hang { conn: 4 },
-            StepAnswer::Done,
-        ),
-        (
-            "take, not opened",
-            Event::Take { conn: 4 },
-            StepAnswer::NoReply,
-        ),
-        ("hang", Event::Hang { conn: 4 }, StepAnswer::Done),
-        ("take, hung", Event::Take { conn: 4 }, StepAnswer::Gone),
-        ("a question", Event::TakeAsk, StepAnswer::NoAsk),
-        ("no answer", Event::NoAnswer { call: 0 }, StepAnswer::Done),
-        ("no room", Event::NoRoom { call: 0 }, StepAnswer::Done),
-        ("stop", Event::Stop, StepAnswer::Done),
-        ("take, stopped", Event::Take { conn: 5 }, StepAnswer::Gone),
-        ("a question, stopped", Event::TakeAsk, StepAnswer::Stopped),
-    ] {
-        carry_out(rt, alloc, agent, name, &event, answer)?;
+    for (name, plain, answer) in &EVENTS {
+        carry_out(rt, alloc, agent, name, *plain, *answer)?;
     }
+    let bytes = Bytes::new(alloc);
     let answer = Event::Answer { call: 0, bytes };
     let place = Place::of("answer");
     expect(rt, alloc, agent, place, &answer, StepAnswer::Done, b"")
