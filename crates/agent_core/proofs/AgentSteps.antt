@@ -2,11 +2,11 @@
 use Rattle.std.proofs.Common.{◌≡◌, ◌≢◌, ℕ, ◌+◌, ◌<◌, List, [], ◌∷◌, map, Bool, true, false, not, ◌&&◌, length, refl, sym, ap, ◌∙◌, inl, inr, arith}
 use Rattle.std.proofs.lemmas.Bool.{cases_Bool, lt-ltb}
 use Rattle.agent_history.specs.declared.event.Event.{Event}
-use Rattle.nine_messages.specs.declared.message.RMsg.{RMsg}
-use Rattle.nine_messages.specs.Messages.{r_frame}
+use Rattle.nine.specs.declared.message.RMsg.{RMsg}
+use Rattle.nine.specs.Messages.{r_frame}
 use Rattle.agent_history.specs.Deeds.{Deed, is_halted, was_hung}
 use Rattle.agent_history.specs.Replies.{untaken}
-use Rattle.agent_requests.specs.Deliveries.{replies_at}
+use Rattle.mailboxes.specs.Deliveries.{replies_at}
 use Rattle.agent_requests.specs.declared.connection.Connection.{Connection}
 use Rattle.agent_requests.specs.Connections.{IsFresh, Keeps, is_opened}
 use Rattle.agent_requests.proofs.KeepLemmas.{keeps_still}

@@ -3,7 +3,7 @@ use Rattle.std.proofs.Common.{◌≡◌, ℕ, ◌+◌, ◌*◌, ◌<◌, List, [
 use Rattle.wire_base.specs.declared.shape.Shape.{Shape}
 use Rattle.roles.specs.declared.need.Need.{Need}
 use Rattle.roles.specs.declared.need.Need.TheVariants.{Nothing, Key, Offers, Pick, Exchange}
-use Rattle.agent_history.specs.Standings.{question_of}
+use Rattle.talks.specs.Standings.{question_of}
 use Rattle.agent_history.specs.declared.event.Event.TheVariants.{TakeAsk}
 use Rattle.agent_history.specs.declared.event.StepAnswer.TheVariants.{Ask, DropCall, NoAsk}
 use Rattle.agent_history.specs.Deeds.{Deed, is_halted}

@@ -2,12 +2,12 @@
 use Rattle.std.proofs.Common.{◌≡◌, ℕ, ◌+◌, List, [], ◌∷◌, length, map, Bool, true, false, cond, eqb, not, ◌&&◌, ◌||◌, Option, refl, sym, subst, ap, ◌∙◌, inl, inr}
 use Rattle.std.specs.Prelude.{nat_lt}
 use Rattle.std.proofs.lemmas.Bool.{cases_Bool, eq-eqb, eqb-true, false≢true}
-use Rattle.nine_messages.specs.declared.message.RMsg.{RMsg}
-use Rattle.nine_messages.specs.Messages.{r_frame}
+use Rattle.nine.specs.declared.message.RMsg.{RMsg}
+use Rattle.nine.specs.Messages.{r_frame}
 use Rattle.side_files.specs.Calls as side
 use Rattle.side_files.specs.declared.line.PromptKind.{PromptKind}
 use Rattle.side_files.specs.declared.line.PromptKind.TheVariants as k
-use Rattle.agent_history.specs.Calls as calls
+use Rattle.talks.specs.Calls as calls
 use Rattle.agent_history.specs.declared.event.Event.{Event}
 use Rattle.agent_history.specs.declared.event.Event.TheVariants as v
 use Rattle.agent_history.specs.Deeds.{Deed, FidDeed, KeyDeed, ReplyDeed, OfFids, OfKeys, OfReplies, OfConnection, OfTalk, OfPrompts, OfLog, Raised, HandedOut, DropTaken, Halted, Swept, Versioned, Attached, Walked, Opened, Listed, Browsed, Clunked, Taken, Entered, Hung, was_opened, was_hung, is_halted}
@@ -15,7 +15,7 @@ use Rattle.agent_history.specs.Replies.{swept, untaken}
 use Rattle.agent_history.specs.Conversations.{Due, NoneDue, DropDue, QuestionDue, all_withdrawn, asker, closed, due, ended_by, given_up_by, resumed}
 use Rattle.agent_history.specs.Requests.{answered, call_of}
 use Rattle.agent_history.specs.Histories.{History, deeds, does, entered, handing, has_stopped, most_events, taking}
-use Rattle.agent_requests.specs.Deliveries.{Delivers, replies_at}
+use Rattle.mailboxes.specs.Deliveries.{Delivers, replies_at}
 use Rattle.agent_requests.specs.declared.connection.Connection.{Connection}
 use Rattle.agent_requests.specs.Connections.{Keeps, is_opened}
 use Rattle.agent_requests.proofs.OwnRequests.{IsOwn, answered_own, entered_by}

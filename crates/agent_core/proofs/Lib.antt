@@ -1,4 +1,3 @@
-pub use Rattle.agent_requests.proofs.DeliveryLemmas
 pub mod EventSteps
 pub mod AskSteps
 pub mod AgentSteps

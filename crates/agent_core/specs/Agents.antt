@@ -4,7 +4,7 @@ use Rattle.std.specs.Prelude.{◌≡◌, ℕ, ◌≤◌, ◌+◌, List, [], leng
 use Rattle.agent_history.specs.declared.event.Event.{Event}
 use Rattle.agent_history.specs.declared.event.StepAnswer.{StepAnswer}
 use Rattle.agent_history.specs.Histories.{History, has_stopped, most_events, deeds}
-use Rattle.agent_requests.specs.Deliveries.{replies_at}
+use Rattle.mailboxes.specs.Deliveries.{replies_at}
 use Rattle.agent_core.specs.declared.agent.Running.{Running}
 use Rattle.agent_core.specs.declared.agent.State.{State}
 use Rattle.agent_core.specs.declared.agent.State.TheVariants.{Runs, Stopped}

@@ -2,22 +2,22 @@
 use Rattle.std.specs.Prelude.{◌≡◌, ℕ, ◌≤◌, ◌<◌, ◌+◌, ◌*◌, List, [], ◌∷◌, ◌++◌, length, Bool, true, false, not, ◌&&◌, Option, Some, None}
 use Rattle.std.specs.Ordering.{nat_cmp}
 use Rattle.std.specs.BTreeMap.{get}
-use Rattle.number_ranges.specs.Spans.{has_number}
-use Rattle.nine_messages.specs.Decoding.{IsFrame}
+use Rattle.wire_base.specs.Spans.{has_number}
+use Rattle.nine.specs.Decoding.{IsFrame}
 use Rattle.agent_history.specs.declared.event.Event.{Event}
 use Rattle.agent_history.specs.declared.event.Event.TheVariants.{Request, Hang, Answer, NoAnswer, NoRoom, Take, TakeAsk, Stop}
 use Rattle.agent_history.specs.declared.event.StepAnswer.TheVariants.{Ask, DropCall}
 use Rattle.agent_history.specs.declared.event.StepAnswer.{StepAnswer}
 use Rattle.agent_history.specs.Deeds.{Deed, was_opened, was_hung, msize_of, fid_of, held_by, text_of, is_halted}
 use Rattle.agent_history.specs.Histories.{History, deeds, does, answer_after}
-use Rattle.agent_requests.specs.Deliveries.{KeepsNone, replies_at}
+use Rattle.mailboxes.specs.Deliveries.{KeepsNone, replies_at}
 use Rattle.agent_history.specs.Conversations.{Question, standing_of}
-use Rattle.agent_history.specs.Standings.{question_of}
+use Rattle.talks.specs.Standings.{question_of}
 use Rattle.roles.specs.declared.need.Need.{Need}
 use Rattle.roles.specs.declared.need.Need.TheVariants.{Nothing, Key, Offers, Pick, Exchange}
 use Rattle.wire_base.specs.declared.shape.Shape.{Shape}
-use Rattle.agent_requests.specs.Kept.{is_asked, questions_in}
-use Rattle.agent_requests.specs.Kept as kept
+use Rattle.agent_talks.specs.Kept.{is_asked, questions_in}
+use Rattle.agent_talks.specs.Kept as kept
 use Rattle.agent_requests.specs.declared.connection.Connection.{Connection}
 use Rattle.agent_requests.specs.Connections.{Keeps, SameKept, IsFresh, is_opened}
 use Rattle.agent_core.specs.declared.connections.Connections.{Connections}

@@ -64,14 +64,12 @@ fn after_stop(event: &Event) -> StepAnswer
 }
 
 impl Agent {
-    ghost use Rattle.std.specs.Prelude.{◌≡◌, ◌∷◌, [], IfOk, IsOk, OnOk, OnErr};
-    ghost use Rattle.agent_history.specs.Histories.{History, answer};
+    ghost use Rattle.std.specs.Prelude.{◌≡◌, ◌∷◌, [], IfOk, IsOk, OnOk, OnErr, List, option_copied};
+    ghost use Rattle.agent_history.specs.Histories.{History, answer, deeds};
     ghost use Rattle.agent_history.specs.declared.event.Event.TheVariants as events;
     ghost use Rattle.agent_core.specs.Events.{Answers, IsEvent};
     ghost use Rattle.agent_core.specs.Agents.{StandsFor, StandsBy, SameAgent, SameState, TakesOne, TakesOneIn, TakesNone, TakesNoneIn, AsksFewerIn, GivesUpIn, gives_in};
     ghost use Rattle.agent_history.specs.Conversations.{chosen_at, outcome_at};
-    ghost use Rattle.agent_history.specs.Histories.{deeds};
-    ghost use Rattle.std.specs.Prelude.{List, option_copied};
 
     /// An agent without keys and connections.
     pub fn new(alloc: Global) -> Result<Agent, NoMemory>

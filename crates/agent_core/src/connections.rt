@@ -2,13 +2,12 @@
 ghost use Rattle.std.specs.Prelude.{◌≡◌, ◌≤◌, ℕ, None, true};
 ghost use Rattle.std.specs.Ordering.{nat_cmp};
 ghost use Rattle.std.specs.BTreeMap.{btree_map_len, get};
-ghost use Rattle.number_ranges.specs.Spans.{has_number};
+ghost use Rattle.wire_base.specs.Spans.{has_number};
 
 use agent_requests::Connection;
-use number_ranges::Ranges;
 use std::alloc::Global;
 use std::collections::BTreeMap;
-use wire_base::NoMemory;
+use wire_base::{NoMemory, Ranges};
 
 /// The connections by their numbers: what is kept of those that live, and of those that were hung up the number alone.
 #[derive(Drop)]

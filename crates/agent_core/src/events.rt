@@ -1,21 +1,21 @@
 // The events on the connections of an agent.
 ghost use Rattle.std.specs.Prelude.{◌≡◌, ◌<◌, ◌≤◌, ◌+◌, ◌-◌, ◌^◌, ◌∷◌, List, [], Option, true, false, None, Some, IsOk, IfOk, OnOk, OnErr, length, take};
-ghost use Rattle.nine_messages.specs.Decoding.{IsFrame};
+ghost use Rattle.nine.specs.Decoding.{IsFrame};
 ghost use Rattle.agent_history.specs.declared.event.Event.TheVariants as events;
 ghost use Rattle.agent_history.specs.Deeds.{Deed, HandedOut, is_halted};
 ghost use Rattle.agent_history.specs.Conversations.{QuestionDue, due, stands};
 ghost use Rattle.agent_history.specs.Requests.{tag_of};
 ghost use Rattle.agent_history.specs.Histories.{does, is_reply};
-ghost use Rattle.agent_requests.specs.Kept.{question_of};
-ghost use Rattle.agent_requests.specs.Deliveries.{replies_at};
+ghost use Rattle.agent_talks.specs.Kept.{question_of};
+ghost use Rattle.mailboxes.specs.Deliveries.{replies_at};
 ghost use Rattle.agent_requests.specs.Sharing.{SameShared, Shares};
 ghost use Rattle.agent_requests.specs.Connections.{SameKept};
 ghost use Rattle.agent_core.specs.Events.{AnswersAfter, FindsNone, AnswersFor, AsksFewer, GivesUp, HangsUp, IsEvent, IsPut, LeavesOneLess, LivesOn, SameEach, Serves, TakesNoneOf, gives_reply, gives_to, is_some_left, is_stop, known, unasked};
 
 use crate::connections::Connections;
 use agent_history::{Event, StepAnswer};
-use agent_requests::{Call, Connection, Question, Shared};
-use kept_calls::Due;
+use agent_requests::{Call, Connection, Shared};
+use agent_talks::{Due, Question};
 use std::alloc::Global;
 use wire_base::{Bytes, NoMemory, Shape, get_u16};
 

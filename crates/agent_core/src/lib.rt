@@ -7,5 +7,4 @@ mod events;
 mod news;
 
 pub use agent::Agent;
-pub use agent_history::{Event, Shape, StepAnswer};
 pub use news::{NO_NEWS, News, SettledFor};

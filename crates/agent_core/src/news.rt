@@ -2,9 +2,9 @@
 ghost use Rattle.std.specs.Prelude.{◌≡◌};
 ghost use Rattle.agent_requests.specs.Sharing.{SameShared};
 
-pub use agent_requests::SettledFor;
 use agent_requests::Shared;
-use kept_calls::Due;
+use agent_talks::Due;
+pub use mailboxes::SettledFor;
 
 /// What is new for others than the connection whose event it was.
 #[derive(Clone, Copy, Debug, PartialEq, Eq)]

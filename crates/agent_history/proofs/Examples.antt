@@ -3,11 +3,11 @@
 -- rpc stand with conversations in another file.
 use Rattle.std.proofs.Common.{◌≡◌, ℕ, List, [], ◌∷◌, Err, Some, None, false, refl}
 use Rattle.std.specs.Prelude.{codes}
-use Rattle.nine_messages.specs.declared.message.TBody.TheVariants as t
-use Rattle.nine_messages.specs.declared.message.RBody.TheVariants as r
-use Rattle.nine_messages.specs.declared.message.RMsg.{RMsg}
-use Rattle.nine_messages.specs.declared.message.RBody.{RBody}
-use Rattle.nine_messages.specs.Messages.{r_frame}
+use Rattle.nine.specs.declared.message.TBody.TheVariants as t
+use Rattle.nine.specs.declared.message.RBody.TheVariants as r
+use Rattle.nine.specs.declared.message.RMsg.{RMsg}
+use Rattle.nine.specs.declared.message.RBody.{RBody}
+use Rattle.nine.specs.Messages.{r_frame}
 use Rattle.file_tree.specs.declared.tree.Node.TheVariants.{Log}
 use Rattle.file_tree.specs.Calls.{fid_fault}
 use Rattle.agent_history.specs.declared.event.Event.TheVariants.{Hang, Take, TakeAsk}

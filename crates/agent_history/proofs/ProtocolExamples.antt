@@ -8,12 +8,12 @@ use Rattle.std.specs.Str.Lossy.{utf8_valid_len}
 use lib.Utf8.{encode}
 use Rattle.wire_base.specs.Texts.{is_text}
 use Rattle.wire_base.specs.declared.shape.Shape.TheVariants.{Challenge}
-use Rattle.nine_messages.specs.declared.message.TBody.TheVariants as t
-use Rattle.nine_messages.specs.declared.message.RBody.TheVariants as r
+use Rattle.nine.specs.declared.message.TBody.TheVariants as t
+use Rattle.nine.specs.declared.message.RBody.TheVariants as r
 use Rattle.file_tree.specs.declared.tree.Node.TheVariants.{Needkey}
 use Rattle.file_tree.specs.Calls.{fid_fault}
-use Rattle.attr_words.specs.Lines.{line_len}
-use Rattle.attr_words.specs.Words.{first_word, gap_len}
+use Rattle.attr_tuples.specs.Lines.{line_len}
+use Rattle.attr_tuples.specs.Words.{first_word, gap_len}
 use Rattle.attr_tuples.specs.declared.attr.Attr.{Attr}
 use Rattle.attr_tuples.specs.Grammar.{attr_of, words_from, tuple_of}
 use Rattle.attr_tuples.specs.Matching.{matches, value_of}
@@ -24,9 +24,9 @@ use Rattle.key_lists.specs.Edits.{Add}
 use Rattle.key_lists.specs.Listing.{offers, offers_text}
 use Rattle.hex.specs.Hex.{encode_with}
 use Rattle.md5.specs.Md5.{block_words, compress, digest_bytes, hash_after, md5, rounds}
-use Rattle.md5_answers.specs.Answer.{apop_digits}
-use Rattle.roles.specs.Fields.{before_nul}
-use Rattle.roles.specs.Request.{request_text}
+use Rattle.sealing.specs.Answer.{apop_digits}
+use Rattle.sealing.specs.Fields.{before_nul}
+use Rattle.sealing.specs.Request.{request_text}
 use Rattle.roles.specs.Starts.{fault_of, role_of}
 use Rattle.roles.specs.Templates.{asked, given_as, shown_text}
 use Rattle.talks.specs.Offers.{is_offered, offers_dom}

@@ -8,14 +8,14 @@ use Rattle.std.specs.Str.Lossy.{utf8_valid_len}
 use lib.Utf8.{encode}
 use Rattle.wire_base.specs.Texts.{is_text}
 use Rattle.wire_base.specs.declared.shape.Shape.TheVariants.{Tickets}
-use Rattle.nine_messages.specs.declared.message.TBody.TheVariants as t
-use Rattle.nine_messages.specs.declared.message.RBody.{RBody}
-use Rattle.nine_messages.specs.declared.message.RBody.TheVariants as r
+use Rattle.nine.specs.declared.message.TBody.TheVariants as t
+use Rattle.nine.specs.declared.message.RBody.{RBody}
+use Rattle.nine.specs.declared.message.RBody.TheVariants as r
 use Rattle.file_tree.specs.declared.tree.Node.{Node}
 use Rattle.file_tree.specs.declared.tree.Node.TheVariants.{Confirm, Needkey, Log}
 use Rattle.file_tree.specs.Calls.{fid_fault}
-use Rattle.attr_words.specs.Lines.{line_len}
-use Rattle.attr_words.specs.Words.{first_word, gap_len}
+use Rattle.attr_tuples.specs.Lines.{line_len}
+use Rattle.attr_tuples.specs.Words.{first_word, gap_len}
 use Rattle.attr_tuples.specs.declared.attr.Attr.{Attr}
 use Rattle.attr_tuples.specs.declared.attr.Value.TheVariants.{Bare}
 use Rattle.attr_tuples.specs.Grammar.{attr_of, words_from, tuple_of}
@@ -24,9 +24,9 @@ use Rattle.attr_tuples.specs.Equality.{public_equal}
 use Rattle.attr_tuples.specs.Printing.{printed_text, public_text}
 use Rattle.key_lists.specs.Lists.{KeyEntry}
 use Rattle.key_lists.specs.Edits.{Add, Delete}
-use Rattle.roles.specs.Fields.{name_in, before_nul}
-use Rattle.roles.specs.Request as tickets
-use Rattle.roles.specs.Request.{request_text, request_fields}
+use Rattle.sealing.specs.Fields.{name_in, before_nul}
+use Rattle.sealing.specs.Request as tickets
+use Rattle.sealing.specs.Request.{request_text, request_fields}
 use Rattle.roles.specs.Starts.{role_of, start_fault}
 use Rattle.roles.specs.Templates.{asked, given_as, shown_text}
 use Rattle.rpc_file.specs.Answers.{answer_text}

@@ -7,16 +7,16 @@ use Rattle.std.specs.Str.Lossy.{utf8_valid_len}
 use lib.Utf8.{encode}
 use Rattle.wire_base.specs.Texts.{is_text}
 use Rattle.wire_base.specs.declared.shape.Shape.TheVariants.{Tickets}
-use Rattle.nine_messages.specs.declared.message.TBody.{TBody}
-use Rattle.nine_messages.specs.declared.message.TBody.TheVariants as t
-use Rattle.nine_messages.specs.declared.message.RBody.{RBody}
-use Rattle.nine_messages.specs.declared.message.RBody.TheVariants as r
-use Rattle.nine_messages.specs.declared.message.RMsg.{RMsg}
+use Rattle.nine.specs.declared.message.TBody.{TBody}
+use Rattle.nine.specs.declared.message.TBody.TheVariants as t
+use Rattle.nine.specs.declared.message.RBody.{RBody}
+use Rattle.nine.specs.declared.message.RBody.TheVariants as r
+use Rattle.nine.specs.declared.message.RMsg.{RMsg}
 use Rattle.file_tree.specs.declared.tree.Node.TheVariants.{Rpc}
 use Rattle.file_tree.specs.Tree.{qid_of}
 use Rattle.file_tree.specs.Calls.{fid_fault, open_fault}
-use Rattle.attr_words.specs.Lines.{line_len}
-use Rattle.attr_words.specs.Words.{first_word, gap_len}
+use Rattle.attr_tuples.specs.Lines.{line_len}
+use Rattle.attr_tuples.specs.Words.{first_word, gap_len}
 use Rattle.attr_tuples.specs.declared.attr.Attr.{Attr}
 use Rattle.attr_tuples.specs.Grammar.{attr_of, words_from, tuple_of}
 use Rattle.attr_tuples.specs.Matching.{matches, value_of}
@@ -24,9 +24,9 @@ use Rattle.attr_tuples.specs.Equality.{public_equal}
 use Rattle.attr_tuples.specs.Printing.{printed_text}
 use Rattle.key_lists.specs.Lists.{KeyEntry}
 use Rattle.key_lists.specs.Edits.{Add, Delete}
-use Rattle.roles.specs.Fields.{name_in, before_nul}
-use Rattle.roles.specs.Request as tickets
-use Rattle.roles.specs.Request.{request_text, request_fields}
+use Rattle.sealing.specs.Fields.{name_in, before_nul}
+use Rattle.sealing.specs.Request as tickets
+use Rattle.sealing.specs.Request.{request_text, request_fields}
 use Rattle.roles.specs.declared.answer.Cause.{Cause}
 use Rattle.roles.specs.declared.answer.Cause.TheVariants.{NoServer, NoRoom, ServerSaidNo}
 use Rattle.roles.specs.declared.need.Outcome.TheVariants.{Broken, Running}

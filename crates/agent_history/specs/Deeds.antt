@@ -4,7 +4,7 @@
 -- After section 5 of the Plan 9 manual (version, attach, walk, open, read, clunk, flush) and factotum(4) (ctl, confirm,
 -- needkey, log).
 use Rattle.std.specs.Prelude.{ℕ, ◌+◌, ◌-◌, List, [], ◌∷◌, Bool, true, false, not, ◌&&◌, ◌||◌, ◌==◌, Option, Some, None, if◌then◌else◌}
-use Rattle.nine_messages.specs.declared.message.RBody.{RBody}
+use Rattle.nine.specs.declared.message.RBody.{RBody}
 use Rattle.file_tree.specs.declared.tree.Node.{Node}
 use Rattle.file_tree.specs.declared.tree.FidState.{FidState}
 use Rattle.file_tree.specs.Tree.{file}

@@ -2,11 +2,10 @@
 -- first, so that what stands behind an event is the history before it. An entry is an event together with the number of
 -- the seat that made it; what is answered doesn't depend on seats.
 use Rattle.std.specs.Prelude.{ℕ, ◌+◌, List, [], ◌∷◌, length, map, Bool, true, false, not, ◌&&◌, nat_lt, if◌then◌else◌}
-use Rattle.nine_messages.specs.declared.message.RMsg.{RMsg}
-use Rattle.nine_messages.specs.Messages.{r_frame}
+use Rattle.nine.specs.declared.message.RMsg.{RMsg}
+use Rattle.nine.specs.Messages.{r_frame}
 use Rattle.agent_history.specs.declared.event.Event.{Event}
-use Rattle.agent_history.specs.declared.event.Event.TheVariants.{Request, Hang, NoAnswer, NoRoom, Take, TakeAsk, Stop}
-use Rattle.agent_history.specs.declared.event.Event.TheVariants.{Answer as AnswerCame}
+use Rattle.agent_history.specs.declared.event.Event.TheVariants.{Request, Hang, NoAnswer, NoRoom, Take, TakeAsk, Stop, Answer as AnswerCame}
 use Rattle.agent_history.specs.declared.event.StepAnswer.{StepAnswer}
 use Rattle.agent_history.specs.declared.event.StepAnswer.TheVariants.{Done, Reply, NoReply, Gone, Ask, DropCall, NoAsk, Stopped}
 use Rattle.agent_history.specs.Deeds.{Deed, OfReplies, OfConnection, HandedOut, DropTaken, Halted, Taken, Entered, Hung, was_opened, was_hung, is_halted, is_gone}

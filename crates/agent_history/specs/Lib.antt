@@ -1,7 +1,4 @@
-pub use Rattle.talks.specs.Calls
 pub use Rattle.talks.specs.Lines
-pub use Rattle.talks.specs.Standings
-pub use Rattle.talks.specs.declared.said.Asking
 pub mod Deeds
 pub mod Replies
 pub mod SideFiles

@@ -2,9 +2,9 @@
 -- flush, clunk, version): a tag is a request's until its reply, and a flush gives it up.
 use Rattle.std.specs.Prelude.{ℕ, ◌+◌, List, [], ◌∷◌, ◌++◌, length, drop, map, filter, find, reverse, Bool, false, not, ◌&&◌, ◌||◌, ◌==◌, nat_lt, Option, Some, None, is_some, option_map, codes, if◌then◌else◌}
 use Rattle.std.specs.List.{list_any, filter_map}
-use Rattle.nine_messages.specs.declared.message.RMsg.{RMsg}
-use Rattle.nine_messages.specs.declared.message.RBody.{RBody}
-use Rattle.nine_messages.specs.declared.message.RBody.TheVariants.{Error}
+use Rattle.nine.specs.declared.message.RMsg.{RMsg}
+use Rattle.nine.specs.declared.message.RBody.{RBody}
+use Rattle.nine.specs.declared.message.RBody.TheVariants.{Error}
 use Rattle.agent_history.specs.Deeds.{Deed, OfFids, OfReplies, OfConnection, Swept, Halted, Versioned, Clunked, Answered, Awaited, Settled, Flushed, Taken, Hung}
 
 -- ---- reads that wait

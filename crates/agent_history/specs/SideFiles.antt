@@ -2,7 +2,7 @@
 -- each is read off a list of deeds, and so are its lines. A read of such a file is given its first line, and waits where there
 -- is none. After factotum(4) of the Plan 9 manual.
 use Rattle.std.specs.Prelude.{ℕ, zero, suc, List, [], ◌∷◌, length, map, Bool, true, false, Option, Some, None, if◌then◌else◌}
-use Rattle.nine_messages.specs.declared.message.RBody.TheVariants as r
+use Rattle.nine.specs.declared.message.RBody.TheVariants as r
 use Rattle.file_tree.specs.declared.tree.Node.{Node}
 use Rattle.file_tree.specs.declared.tree.Node.TheVariants.{Confirm, Needkey, Log}
 use Rattle.side_files.specs.declared.line.PromptKind.{PromptKind}

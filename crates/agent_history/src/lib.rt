@@ -5,6 +5,3 @@
 mod event;
 
 pub use event::{Event, StepAnswer};
-pub use file_tree::{FidFault, FidState, Node};
-pub use talks::Asking;
-pub use wire_base::Shape;

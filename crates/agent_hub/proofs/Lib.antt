@@ -6,3 +6,4 @@ pub mod ReplyLemmas
 pub mod MadeLemmas
 pub mod AskLemmas
 pub mod RequestLemmas
+pub mod ResumeLaws

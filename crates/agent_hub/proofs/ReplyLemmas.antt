@@ -11,8 +11,7 @@ use Rattle.agent_history.specs.declared.event.Event.TheVariants.{Take}
 use Rattle.agent_history.specs.declared.event.StepAnswer.{StepAnswer}
 use Rattle.agent_history.specs.Histories.{answer}
 use Rattle.agent_hub.specs.declared.replies.OutEnd.{OutEnd}
-use Rattle.agent_hub.specs.declared.replies.OutEnd.TheVariants.{Gone, WriteFault}
-use Rattle.agent_hub.specs.declared.replies.OutEnd.TheVariants.{NoMemory as IsShort}
+use Rattle.agent_hub.specs.declared.replies.OutEnd.TheVariants.{Gone, WriteFault, NoMemory as IsShort}
 use Rattle.agent_hub.specs.Submits.{HubSeat, IsSubmitted}
 use Rattle.agent_hub.specs.Entries.{Entered, entry}
 use Rattle.agent_hub.specs.Replying.{Delivers, EndsBy, LastAnswer, OutEndsSo, RoundSo, Takes}

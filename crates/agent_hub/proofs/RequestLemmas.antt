@@ -5,11 +5,11 @@ use Rattle.std.specs.Io.KnownBytes.{Consumes, IsAtEnd}
 use Rattle.std.proofs.KnownBytes.{Consumes-nil, Consumes-trans}
 use Rattle.std.proofs.lemmas.List.{take-take, length-take-le}
 use Rattle.wire_base.specs.declared.bytes.NoMemory.{NoMemory as Short}
-use Rattle.nine_frames.specs.Streams.{front, IsBad, IsShort, frames}
-use Rattle.nine_frames.specs.Framed.{Framing}
-use Rattle.nine_frames.specs.Framing.{HasHandedOut, Answers as Gives}
-use Rattle.nine_frames.specs.declared.framer.Next.TheVariants.{Whole, NotYet, BadSize}
-use Rattle.nine_frames.proofs.StreamLaws.{continues, more_frames, front_none, handed_then, length_fed, no_frames, behind_frames, all_frames}
+use Rattle.nine.specs.Streams.{front, IsBad, IsShort, frames}
+use Rattle.nine.specs.Framed.{Framing}
+use Rattle.nine.specs.Framing.{HasHandedOut, Answers as Gives}
+use Rattle.nine.specs.declared.framer.Next.TheVariants.{Whole, NotYet, BadSize}
+use Rattle.nine.proofs.StreamLaws.{continues, more_frames, front_none, handed_then, length_fed, no_frames, behind_frames, all_frames}
 use Rattle.turn_lock.specs.Fronts.{among}
 use Rattle.turn_lock.specs.Seats.{numbers}
 use Rattle.agent_history.specs.declared.event.Event.{Event}

@@ -1,11 +1,11 @@
 -- Of the code alone: where a loop of requests stands between two reads, and what its parts tell each other.
 use Rattle.std.specs.Prelude.{◌≡◌, ◌<◌, ◌≤◌, ℕ, ◌+◌, List, [], ◌∷◌, ◌++◌, length, Bool, Option, Some, None, ◌⊎◌, Result, Ok, Err}
 use Rattle.std.specs.Io.KnownBytes.{Consumes}
-use Rattle.nine_frames.specs.Streams.{front, IsBad, IsShort, end_of, HasBadSize}
-use Rattle.nine_frames.specs.Framed.{Framing}
-use Rattle.nine_frames.specs.Framing.{HasHandedOut}
-use Rattle.nine_frames.specs.declared.framer.Next.{Next}
-use Rattle.nine_frames.specs.declared.framer.Next.TheVariants.{Whole, NotYet}
+use Rattle.nine.specs.Streams.{front, IsBad, IsShort, end_of, HasBadSize}
+use Rattle.nine.specs.Framed.{Framing}
+use Rattle.nine.specs.Framing.{HasHandedOut}
+use Rattle.nine.specs.declared.framer.Next.{Next}
+use Rattle.nine.specs.declared.framer.Next.TheVariants.{Whole, NotYet}
 use Rattle.agent_hub.specs.declared.requests.InEnd.{InEnd}
 use Rattle.agent_hub.specs.declared.requests.InEnd.TheVariants.{End, Torn, BadFrame, ReadFault, WordFault, Flood, NoMemory}
 use Rattle.agent_hub.specs.Submits.{HubSeat}

@@ -7,3 +7,4 @@ pub mod Dials
 pub mod Asking
 pub mod Requesting
 pub mod Handing
+pub mod Resuming

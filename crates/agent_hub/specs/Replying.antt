@@ -8,8 +8,7 @@ use Rattle.agent_history.specs.declared.event.StepAnswer.{StepAnswer}
 use Rattle.agent_history.specs.declared.event.StepAnswer.TheVariants.{Gone as IsGone}
 use Rattle.agent_history.specs.Histories.{answer}
 use Rattle.agent_hub.specs.declared.replies.OutEnd.{OutEnd}
-use Rattle.agent_hub.specs.declared.replies.OutEnd.TheVariants.{Gone, WriteFault}
-use Rattle.agent_hub.specs.declared.replies.OutEnd.TheVariants.{NoMemory as IsShort}
+use Rattle.agent_hub.specs.declared.replies.OutEnd.TheVariants.{Gone, WriteFault, NoMemory as IsShort}
 use Rattle.agent_hub.specs.Submits.{HubSeat}
 use Rattle.agent_hub.specs.Entries.{Adds, Entered, LastIs}
 

@@ -1,5 +1,6 @@
 // The agent behind the lock.
-use agent_core::{Agent, Event};
+use agent_core::Agent;
+use agent_history::Event;
 use turn_lock::Logged;
 
 /// The agent, which stands for the events of all callers.

@@ -4,7 +4,8 @@ ghost use Rattle.agent_hub.specs.EventOnce.{event_once};
 
 use crate::held::Held;
 use crate::hub_bells::HubBells;
-use agent_core::{Agent, Event, NO_NEWS, News, StepAnswer};
+use agent_core::{Agent, NO_NEWS, News};
+use agent_history::{Event, StepAnswer};
 use std::alloc::Global;
 use std::sync::Wait;
 use turn_lock::{Seat, TurnCall, TurnLock};

@@ -1,7 +1,8 @@
 // What wakes the loops that wait. Bells carry no claim: a loop looks at the agent for itself once it is awake.
-use agent_core::{Event, News, SettledFor};
-use bells::{Bell, Bells};
+use agent_core::{News, SettledFor};
+use agent_history::Event;
 use std::alloc::Global;
+use turn_lock::{Bell, Bells};
 use wire_base::NoMemory;
 
 /// How many bells there are besides the first for the replies of connections.

@@ -1,5 +1,6 @@
-//! The hub: one agent behind a turn lock, whose callers submit events, each through its seat, and loops that serve a
-//! connection's requests, its replies, and the questions for the authentication server. All that callers do is one history.
+//! The hub: one agent behind a turn lock, whose callers submit events, each through its seat, and loops that serve
+//! a connection's requests, its replies, and the questions for the authentication server. All that callers do is
+//! one history, of which the laws of what seats see are stated here too.
 #![tactic(auto)]
 
 mod held;
@@ -9,11 +10,13 @@ mod laws;
 mod questions;
 mod replies;
 mod requests;
+mod resuming_laws;
 
-pub use agent_core::{Agent, Event, StepAnswer};
+pub use agent_core::Agent;
 pub use held::Held;
 pub use hub::{Hub, HubSeat, Submitted};
 pub use laws::a_submit_is_one_event_of_the_agent;
 pub use questions::{AsksEnd, serve_asks};
 pub use replies::{OutEnd, serve_out};
 pub use requests::{InEnd, serve_in};
+pub use resuming_laws::a_login_goes_on_by_the_history_of_all;

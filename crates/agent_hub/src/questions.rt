@@ -8,10 +8,10 @@ ghost use Rattle.agent_hub.specs.Submits.{HubSeat, IsSeatOf};
 ghost use Rattle.agent_hub.specs.Asking.{Asked, AsksEndSo, Exchanged, NextSo, Told, event_of};
 
 use crate::hub::{Hub, HubSeat};
-use agent_core::{Event, Shape, StepAnswer};
+use agent_history::{Event, StepAnswer};
 use std::alloc::Global;
 use std::sync::Wait;
-use wire_base::{Bytes, NoMemory};
+use wire_base::{Bytes, NoMemory, Shape};
 use wire_streams::{Dial, Dialer};
 
 /// Why a loop of questions ended.

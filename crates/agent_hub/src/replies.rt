@@ -8,7 +8,7 @@ ghost use Rattle.agent_hub.specs.Submits.{HubSeat, IsSeatOf};
 ghost use Rattle.agent_hub.specs.Replying.{Delivers, EndsBy, OutEndsSo, RoundSo, Takes};
 
 use crate::hub::{Hub, HubSeat, Submitted};
-use agent_core::{Event, StepAnswer};
+use agent_history::{Event, StepAnswer};
 use std::alloc::Global;
 use std::sync::Wait;
 use wire_base::{Bytes, NoMemory};

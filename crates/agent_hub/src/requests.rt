@@ -3,18 +3,18 @@
 ghost use Rattle.std.specs.Prelude.{◌≡◌, ◌∷◌, ◌+◌, ◌<◌, ◌≤◌, [], ◌++◌, List, ℕ, Option, false, length, IfErr, IfOk, OnErr, OnOk};
 ghost use Rattle.std.specs.Io.KnownBytes.{IsAtEnd};
 ghost use Rattle.wire_streams.specs.Causes.{Rose};
-ghost use Rattle.nine_messages.specs.Decoding.{IsFrame};
-ghost use Rattle.nine_frames.specs.Framed.{Framing};
-ghost use Rattle.nine_frames.specs.Framing.{Answers};
-ghost use Rattle.nine_frames.specs.declared.framer.Next.TheVariants.{Whole};
+ghost use Rattle.nine.specs.Decoding.{IsFrame};
+ghost use Rattle.nine.specs.Framed.{Framing};
+ghost use Rattle.nine.specs.Framing.{Answers};
+ghost use Rattle.nine.specs.declared.framer.Next.TheVariants.{Whole};
 ghost use Rattle.agent_history.specs.declared.event.Event.TheVariants.{Hang};
 ghost use Rattle.agent_hub.specs.Submits.{HubSeat, IsSeatOf};
 ghost use Rattle.agent_hub.specs.Requesting.{DrawsAll, InEndsSo, most_input};
 ghost use Rattle.agent_hub.specs.Handing.{AllHanded, EndsBy, HandedSo, Handing, HasNoNext, OneSo, PieceSo, Piped, next_of, taken_by};
 
 use crate::hub::{Hub, HubSeat};
-use agent_core::Event;
-use nine_frames::{Framer, Next};
+use agent_history::Event;
+use nine::{Framer, Next};
 use std::alloc::Global;
 use std::sync::Wait;
 use wire_base::{Bytes, NoMemory};

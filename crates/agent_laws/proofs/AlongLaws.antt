@@ -5,8 +5,8 @@ use Rattle.std.specs.Prelude.{find, option_map, is_some}
 use Rattle.std.specs.List.{filter, list_any}
 use Rattle.std.proofs.lemmas.Bool.{eqb-true}
 use Rattle.std.proofs.lemmas.List.{map-append}
-use Rattle.nine_messages.specs.declared.message.RBody.{RBody}
-use Rattle.nine_messages.specs.declared.message.RBody.TheVariants as r
+use Rattle.nine.specs.declared.message.RBody.{RBody}
+use Rattle.nine.specs.declared.message.RBody.TheVariants as r
 use Rattle.file_tree.specs.declared.tree.Node.{Node}
 use Rattle.file_tree.specs.declared.tree.Node.TheVariants.{Root, Factotum, Rpc, Ctl, Confirm, Needkey, Proto, Log}
 use Rattle.key_lists.specs.Lists.{KeyList}
@@ -16,8 +16,7 @@ use Rattle.rpc_file.specs.declared.answer.RpcAnswer.TheVariants as a
 use Rattle.side_files.specs.declared.line.PromptKind.{PromptKind}
 use Rattle.side_files.specs.declared.line.PromptKind.TheVariants as k
 use Rattle.side_files.specs.Calls as side
-use Rattle.side_files.specs.Lines.{Nothing, TooLong, First}
-use Rattle.side_files.specs.Lines.{Found as LineFound, found as line_for}
+use Rattle.side_files.specs.Lines.{Nothing, TooLong, First, Found as LineFound, found as line_for}
 use Rattle.talks.specs.declared.said.Said.{Said}
 use Rattle.talks.specs.declared.said.Asking.{Asking}
 use Rattle.talks.specs.Calls as calls

@@ -3,7 +3,7 @@
 use Rattle.std.proofs.Common.{◌≡◌, ℕ, List, [], ◌∷◌, ◌++◌, map, Bool, true, false, cond, ◌&&◌, ◌||◌, not, Option, Some, None, Result, Ok, Err, refl, sym, ap, ◌∙◌, codes, subst}
 use Rattle.std.specs.Prelude.{option_map, is_some}
 use Rattle.std.specs.Fmt.{decimal}
-use Rattle.attr_words.specs.Words.{value_text}
+use Rattle.attr_tuples.specs.Words.{value_text}
 use Rattle.attr_tuples.specs.declared.attr.Attr.{Attr}
 use Rattle.attr_tuples.specs.declared.fault.TupleFault.{TupleFault}
 use Rattle.attr_tuples.specs.Attributes.{is_secret, is_tuple}
@@ -21,8 +21,7 @@ use Rattle.roles.specs.declared.need.Need.TheVariants.{Nothing, Key, Offers, Pic
 use Rattle.roles.specs.declared.need.Outcome.{Outcome}
 use Rattle.roles.specs.declared.need.Outcome.TheVariants.{Running, Accepted, Finished, Broken}
 use Rattle.roles.specs.Answers.{IsExchange, is_sought}
-use Rattle.roles.specs.Talks.{found, get, give, heard, roomless, unheard}
-use Rattle.roles.specs.Talks.{Call as Move}
+use Rattle.roles.specs.Talks.{found, get, give, heard, roomless, unheard, Call as Move}
 use Rattle.talks.specs.Protocols.{answers, ends, is_over, needs, puts, refuses}
 use Rattle.talks.proofs.Laws.{heard_needs, roomless_needs, unheard_needs}
 use Rattle.rpc_file.specs.Answers.{title_of}
@@ -38,8 +37,7 @@ use Rattle.talks.specs.Searches.{found_by, offered_by}
 use Rattle.talks.specs.Standings.{Begun, Phase, Resting, Waiting, Seeking, OnConfirm, OnNeedkey, OnServer, Kept, Standing, begin, carried_out, finds, found_for, made, moved, need_in, needs_key, nothing_said, outcome_of, phase_after, refused, role_name, says_of, start_by, started, standing, template_in, template_of, then_stands, with_move}
 use Rattle.agent_laws.specs.Shown.{ShownEnd, AcceptsNone, Accepts, Breaks, shown_end, ShownNeed, NeedsNothing, Searches, Picks, NeedsServer, ShownRequest, Starts, Reads, Writes, AsksInfo, AsksAttributes, ShownResult, came_by, came_to, shown_need, shown_request}
 use Rattle.agent_laws.proofs.HiddenLaws.{hidden_list}
-use Rattle.agent_laws.proofs.LineLaws.{few_tuple, hidden_tuple}
-use Rattle.agent_laws.proofs.LineLaws.{shown_text as text_shown}
+use Rattle.agent_laws.proofs.LineLaws.{few_tuple, hidden_tuple, shown_text as text_shown}
 use Rattle.agent_laws.proofs.LeadLaws.{Next, NextNeed, NoNeed, KeyNeed, OffersNeed, PickNeed, ServerNeed, any_key, next_need, next_of, is_open_need, need_is_open, roomless_breaks, undone_runs, unheard_breaks}
 use Rattle.agent_laws.proofs.PutLaws.{IsAsked, Wants, waits_with_question}
 use Rattle.agent_laws.proofs.SeekLaws.{ShownFound, FindsNone, HasOffers, HasPick, found_hidden, offered_hidden, shown_found, value_hidden}

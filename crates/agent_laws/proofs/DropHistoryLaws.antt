@@ -3,7 +3,7 @@ use Rattle.std.proofs.Common.{◌≡◌, ℕ, ◌+◌, List, [], ◌∷◌, ◌+
 use Rattle.std.proofs.lemmas.Bool.{eq-eqb, eqb-true}
 use Rattle.wire_base.specs.declared.shape.Shape.{Shape}
 use Rattle.wire_base.specs.declared.shape.Shape.TheVariants.{Challenge}
-use Rattle.nine_messages.specs.declared.message.RMsg.{RMsg}
+use Rattle.nine.specs.declared.message.RMsg.{RMsg}
 use Rattle.roles.specs.declared.need.Need.{Need}
 use Rattle.roles.specs.declared.need.Need.TheVariants.{Nothing, Key, Offers, Pick, Exchange}
 use Rattle.talks.specs.Standings.{question_of}

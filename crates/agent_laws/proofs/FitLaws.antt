@@ -8,16 +8,16 @@ use Rattle.std.proofs.lemmas.List.{length-take, length-map, reverse-append}
 use Rattle.std.proofs.lemmas.List.Elements.{All-nil, All-cons, All-take, All-map}
 use Rattle.wire_base.specs.Readers.{Reader, ◌>>=◌, number, block, string, times, listed, both, no_more}
 use Rattle.wire_base.proofs.ReaderLaws.{AreBytes, bind_ok, no_more_taken}
-use Rattle.nine_messages.specs.declared.qid.Qid.{Qid}
-use Rattle.nine_messages.specs.declared.message.TMsg.{TMsg}
-use Rattle.nine_messages.specs.declared.message.TBody.{TBody}
-use Rattle.nine_messages.specs.declared.message.TBody.TheVariants as t
-use Rattle.nine_messages.specs.declared.message.RMsg.{RMsg}
-use Rattle.nine_messages.specs.declared.message.RBody.{RBody}
-use Rattle.nine_messages.specs.declared.message.RBody.TheVariants as r
-use Rattle.nine_messages.specs.Messages.{frame, qid_text, t_fits, r_kind, r_fields, r_frame}
-use Rattle.nine_messages.specs.Decoding.{version_at, auth_at, attach_at, flush_at, walk_at, open_at, create_at, read_at, write_at, clunk_at, remove_at, stat_at, wstat_at, t_body_at, t_reading, request_of}
-use Rattle.nine_messages.proofs.RequestLaws.{t_body_reads}
+use Rattle.nine.specs.declared.qid.Qid.{Qid}
+use Rattle.nine.specs.declared.message.TMsg.{TMsg}
+use Rattle.nine.specs.declared.message.TBody.{TBody}
+use Rattle.nine.specs.declared.message.TBody.TheVariants as t
+use Rattle.nine.specs.declared.message.RMsg.{RMsg}
+use Rattle.nine.specs.declared.message.RBody.{RBody}
+use Rattle.nine.specs.declared.message.RBody.TheVariants as r
+use Rattle.nine.specs.Messages.{frame, qid_text, t_fits, r_kind, r_fields, r_frame}
+use Rattle.nine.specs.Decoding.{version_at, auth_at, attach_at, flush_at, walk_at, open_at, create_at, read_at, write_at, clunk_at, remove_at, stat_at, wstat_at, t_body_at, t_reading, request_of}
+use Rattle.nine.proofs.RequestLaws.{t_body_reads}
 use Rattle.file_tree.specs.declared.tree.Node.{Node}
 use Rattle.file_tree.specs.declared.tree.Node.TheVariants.{Root, Factotum, Rpc, Ctl, Confirm, Needkey, Proto, Log}
 use Rattle.file_tree.specs.Tree.{files_in, qid_of, visited}

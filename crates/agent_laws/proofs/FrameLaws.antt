@@ -3,10 +3,10 @@
 use Rattle.std.proofs.Common.{◌≡◌, ℕ, List, ◌∷◌, map, Bool, true, false, cond, eqb, ◌&&◌, not, Option, Some, None, refl, sym, ap, ◌∙◌, subst, codes}
 use Rattle.std.specs.Prelude.{is_some, Result, Err}
 use Rattle.std.specs.List.{filter, list_any}
-use Rattle.nine_messages.specs.declared.message.TBody.{TBody}
-use Rattle.nine_messages.specs.declared.message.TBody.TheVariants as t
-use Rattle.nine_messages.specs.declared.message.TMsg.{TMsg}
-use Rattle.nine_messages.specs.Decoding.{request_of}
+use Rattle.nine.specs.declared.message.TBody.{TBody}
+use Rattle.nine.specs.declared.message.TBody.TheVariants as t
+use Rattle.nine.specs.declared.message.TMsg.{TMsg}
+use Rattle.nine.specs.Decoding.{request_of}
 use Rattle.file_tree.specs.declared.tree.Node.{Node}
 use Rattle.file_tree.specs.declared.tree.Node.TheVariants.{Root, Factotum, Rpc, Ctl, Confirm, Needkey, Proto, Log}
 use Rattle.file_tree.specs.Tree.{lead_to}
@@ -15,8 +15,7 @@ use Rattle.file_tree.specs.Calls.{node_of}
 use Rattle.key_lists.specs.CtlLines.{carried_out, lines_of}
 use Rattle.rpc_file.specs.Requests.{RpcRequest}
 use Rattle.rpc_file.specs.Requests as rpc
-use Rattle.side_files.specs.Lines.{Nothing, TooLong, First}
-use Rattle.side_files.specs.Lines.{Found as LineFound, found as line_for}
+use Rattle.side_files.specs.Lines.{Nothing, TooLong, First, Found as LineFound, found as line_for}
 use Rattle.side_files.specs.Replies as prompt
 use Rattle.agent_history.specs.Deeds.{Deed, OfFids, OfConnection, Versioned, Attached, Walked, Opened, Listed, Browsed, Clunked, Hung, fid_of, held_by, holder_of, keys_of, msize_of}
 use Rattle.agent_history.specs.SideFiles.{is_line_file, kind_at, lines_in}

@@ -16,7 +16,7 @@ use Rattle.side_files.specs.declared.line.PromptKind.{PromptKind}
 use Rattle.side_files.specs.declared.line.PromptKind.TheVariants as k
 use Rattle.side_files.specs.declared.reply.Reply.{Reply}
 use Rattle.side_files.specs.Calls as side
-use Rattle.side_files.specs.Questions.{asker_of}
+use Rattle.side_files.specs.Questions.{asker_of, Questions}
 use Rattle.talks.specs.Answers.{attributes, move_answer}
 use Rattle.talks.specs.Calls as calls
 use Rattle.talks.specs.Standings.{Begun, Phase, Resting, Waiting, Seeking, OnConfirm, OnNeedkey, OnServer, Kept, Standing, begin, begin_once, carried_out, if_begun, make_move, standing, start_by, started, then_stands}
@@ -32,7 +32,6 @@ use Rattle.agent_laws.proofs.MetLaws.{follows}
 use Rattle.agent_laws.proofs.GrowLaws.{KeepsAny, nothing_known, without_tests}
 use Rattle.file_tree.specs.declared.tree.FidState.{FidState}
 use Rattle.file_tree.specs.Calls.{node_of}
-use Rattle.side_files.specs.Questions.{Questions}
 use Rattle.side_files.specs.Questions as asked
 use Rattle.agent_laws.proofs.KindLaws.{same_number, is_met}
 use Rattle.agent_laws.proofs.PromptLaws.{Prompted, asker_waits, waits_so}

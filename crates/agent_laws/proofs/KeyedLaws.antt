@@ -2,10 +2,10 @@
 use Rattle.std.proofs.Common.{◌≡◌, ℕ, List, [], ◌∷◌, Bool, true, false, cond, ltb, length, drop, ◌||◌, Option, Some, None, Result, Ok, Err, refl, sym, ◌∙◌}
 use Rattle.std.specs.Prelude.{is_some}
 use Rattle.wire_base.specs.Rules.{Rule, first_told}
-use Rattle.ticket_codec.specs.Request.{request_of}
-use Rattle.ticket_codec.specs.declared.fault.FieldFault.{FieldFault}
-use Rattle.ticket_codec.specs.declared.request.TicketReq.{TicketReq}
-use Rattle.ticket_codec.specs.declared.ticket.Ticket.{Ticket}
+use Rattle.sealing.specs.Request.{request_of}
+use Rattle.sealing.specs.declared.fault.FieldFault.{FieldFault}
+use Rattle.sealing.specs.declared.request.TicketReq.{TicketReq}
+use Rattle.sealing.specs.declared.ticket.Ticket.{Ticket}
 use Rattle.roles.specs.declared.answer.Cause.{Cause}
 use Rattle.roles.specs.declared.answer.Cause.TheVariants.{WrongKind, BadKey}
 use Rattle.roles.specs.declared.answer.Gave.TheVariants as g
@@ -21,7 +21,7 @@ use Rattle.roles.specs.Starts.{Start, role_of}
 use Rattle.roles.specs.Talks.{Call, Progress, Verdict, give, get, found, heard, unheard, roomless, undone, offered, picked, goes, stays, sized, tested, unless_told}
 use Rattle.roles.specs.Tickets.{ticket_part, ticket_under, with_request, with_ticket, proof_under, rest_part}
 use Rattle.roles.specs.Clients.{answer_came, grants_tickets, is_refusal, proof_tests, ticket_tests}
-use Rattle.ticket_codec.specs.declared.kind.TheConstants.{AUTH_AS}
+use Rattle.sealing.specs.declared.kind.TheConstants.{AUTH_AS}
 use Rattle.roles.specs.Courses as sk
 use Rattle.roles.specs.Courses.{need_unless, then_course, unless_broken}
 use Rattle.conv_p9any.specs.declared.stage.Stage.{Stage as ChoiceStage}

@@ -8,9 +8,9 @@ use Rattle.std.proofs.lemmas.Bool.{and_parts, cases_Bool}
 use Rattle.attr_tuples.specs.declared.attr.Attr.{Attr}
 use Rattle.attr_tuples.specs.Attributes.{is_public}
 use Rattle.attr_tuples.specs.Matching.{has_name, value_of}
-use Rattle.ticket_codec.specs.Request.{request_of}
-use Rattle.ticket_codec.specs.declared.fault.FieldFault.{FieldFault}
-use Rattle.ticket_codec.specs.declared.request.TicketReq.{TicketReq}
+use Rattle.sealing.specs.Request.{request_of}
+use Rattle.sealing.specs.declared.fault.FieldFault.{FieldFault}
+use Rattle.sealing.specs.declared.request.TicketReq.{TicketReq}
 use Rattle.roles.specs.declared.answer.Cause.{Cause}
 use Rattle.roles.specs.declared.answer.Cause.TheVariants.{NoServer, NoRoom}
 use Rattle.roles.specs.declared.key.SkKey.{SkKey}

@@ -5,18 +5,17 @@ use Rattle.std.specs.Prelude.{◌<◌, Result, Ok, Err, option_map, find, is_som
 use Rattle.std.specs.List.{list_all, list_any, filter}
 use Rattle.std.specs.Option.{option_or}
 use Rattle.std.proofs.lemmas.Bool.{and_parts, eq-eqb, eqb-true, ltb-false, not-true, not_from_false}
-use Rattle.nine_messages.specs.declared.message.RBody.{RBody}
+use Rattle.nine.specs.declared.message.RBody.{RBody}
 use Rattle.file_tree.specs.declared.tree.Node.{Node}
 use Rattle.file_tree.specs.declared.tree.Node.TheVariants.{Root, Factotum, Rpc, Ctl, Confirm, Needkey, Proto, Log}
 use Rattle.file_tree.specs.declared.tree.FidState.{FidState}
 use Rattle.file_tree.specs.Faults.{fault_text}
 use Rattle.wire_base.specs.Rules.{first_told}
 use Rattle.file_tree.specs.Calls.{fid_fault, attach_fault, walk_fault, open_fault, is_open, node_of}
-use Rattle.key_lists.specs.Lists.{KeyList, add_fault, delete_fault}
+use Rattle.key_lists.specs.Lists.{KeyList, add_fault, delete_fault, KeyEntry}
 use Rattle.key_lists.specs.Edits.{Add, Delete}
 use Rattle.key_lists.specs.CtlLines.{CtlLine, OnKeys, Debug, add_text, delete_text, carried_out, keys_with, keys_with_all, line_fault, line_over, read_line}
 use Rattle.attr_tuples.specs.Printing.{public_text}
-use Rattle.key_lists.specs.Lists.{KeyEntry}
 use Rattle.roles.specs.declared.need.Need.{Need}
 use Rattle.roles.specs.declared.need.Need.TheVariants.{Nothing as NoNeed, Key, Offers, Pick, Exchange}
 use Rattle.roles.specs.Templates.{shown_text}
@@ -37,7 +36,7 @@ use Rattle.roles.specs.declared.need.Outcome.{Outcome}
 use Rattle.roles.specs.declared.need.Outcome.TheVariants.{Accepted, Broken, Finished, Running}
 use Rattle.talks.specs.Standings.{Phase, Resting, Waiting, Seeking, OnConfirm, OnNeedkey, OnServer, Kept, Standing, finds, found_for, is_for, need_in, role_name, sought_if, standing, template_of, then_stands, outcome_of}
 use Rattle.agent_history.specs.Deeds.{Deed, OfFids, OfKeys, OfReplies, OfConnection, OfTalk, Raised, HandedOut, OfPrompts, OfLog, DropTaken, Swept, Halted, names, Answered, Awaited, Settled, Flushed, Taken, fid_of, holder_of, is_debug, keys_of}
-use Rattle.nine_messages.specs.declared.message.RBody.TheVariants as r
+use Rattle.nine.specs.declared.message.RBody.TheVariants as r
 use Rattle.agent_history.specs.Replies.{Wait, is_unsettled, reader, settle_tag, too_small, waits}
 use Rattle.agent_history.specs.SideFiles.{all_served, askers, file_of, line_read, lines_in, prompt_calls, prompts_of, serve_first, serve_read, serve_reads, served, served_to}
 use Rattle.agent_history.specs.Conversations.{Speaker, all_shut, all_withdrawn, asking, closed, conv_of, deliver_to, delivered, ended_by, fits, give_to, given_up_by, logged, met, shut, sought, then_logged, questions, raising, reader_of, resumed, seeking, speaker_of, speakers, standing_of, talk, then_raised, then_took, told, stands, then_sought, sought_once, seeking_all}

@@ -4,8 +4,7 @@ use Rattle.std.specs.Prelude.{option_map}
 use Rattle.roles.specs.declared.need.Need.{Need}
 use Rattle.roles.specs.declared.need.Need.TheVariants.{Nothing, Exchange}
 use Rattle.roles.specs.Answers.{is_sought}
-use Rattle.roles.specs.Talks.{get, give}
-use Rattle.roles.specs.Talks.{Call as Move}
+use Rattle.roles.specs.Talks.{get, give, Call as Move}
 use Rattle.rpc_file.specs.Requests.{RpcRequest, starts, reads, writes, asks_info, asks_attributes}
 use Rattle.rpc_file.specs.declared.answer.RpcAnswer.TheVariants as a
 use Rattle.talks.specs.Protocols.{ends, is_over, puts}

@@ -21,17 +21,17 @@ use Rattle.agent_history.specs.SideFiles.{log_calls, prompt_calls, lines_in}
 use Rattle.side_files.specs.declared.line.PromptKind.TheVariants as k
 use Rattle.side_files.specs.Calls as side
 use Rattle.side_files.specs.Questions.{unread_lines}
-use Rattle.nine_messages.specs.declared.message.RBody.{RBody}
-use Rattle.nine_messages.specs.declared.message.RBody.TheVariants as r
-use Rattle.nine_messages.specs.declared.message.TBody.TheVariants as t
+use Rattle.nine.specs.declared.message.RBody.{RBody}
+use Rattle.nine.specs.declared.message.RBody.TheVariants as r
+use Rattle.nine.specs.declared.message.TBody.TheVariants as t
 use Rattle.std.proofs.lemmas.List.{map-append}
 use Rattle.agent_laws.proofs.GrowLaws.{of_message, unless_refused}
 use Rattle.agent_laws.proofs.SecretLaws.{deeds_open}
 use Rattle.agent_laws.proofs.WaitLaws.{reads_wait}
 use Rattle.agent_history.specs.Histories.{History, deeds}
-use Rattle.nine_messages.specs.declared.message.TBody.{TBody}
-use Rattle.nine_messages.specs.declared.message.TMsg.{TMsg}
-use Rattle.nine_messages.specs.Decoding.{request_of}
+use Rattle.nine.specs.declared.message.TBody.{TBody}
+use Rattle.nine.specs.declared.message.TMsg.{TMsg}
+use Rattle.nine.specs.Decoding.{request_of}
 
 -- ---- what is read off the deeds
 

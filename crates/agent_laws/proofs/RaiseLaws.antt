@@ -1,10 +1,10 @@
 -- A request raises one question at most, and no other event raises any.
 use Rattle.std.proofs.Common.{◌≡◌, ◌≤◌, ℕ, ◌+◌, List, [], ◌∷◌, Bool, true, false, cond, eqb, ltb, ◌&&◌, not, length, Option, Some, None, Result, Ok, Err, refl, sym, ap, subst, ◌∙◌, arith}
 use Rattle.std.proofs.lemmas.Bool.{and_parts, eq-eqb}
-use Rattle.nine_messages.specs.declared.message.TBody.{TBody}
-use Rattle.nine_messages.specs.declared.message.TBody.TheVariants as t
-use Rattle.nine_messages.specs.declared.message.RBody.{RBody}
-use Rattle.nine_messages.specs.declared.message.RMsg.{RMsg}
+use Rattle.nine.specs.declared.message.TBody.{TBody}
+use Rattle.nine.specs.declared.message.TBody.TheVariants as t
+use Rattle.nine.specs.declared.message.RBody.{RBody}
+use Rattle.nine.specs.declared.message.RMsg.{RMsg}
 use Rattle.file_tree.specs.declared.tree.Node.{Node}
 use Rattle.file_tree.specs.declared.tree.Node.TheVariants.{Root, Factotum, Rpc, Ctl, Confirm, Needkey, Proto, Log}
 use Rattle.file_tree.specs.Tree.{lead_to}
@@ -13,8 +13,7 @@ use Rattle.key_lists.specs.CtlLines.{CtlLine, carried_out, lines_of}
 use Rattle.roles.specs.declared.need.Need.{Need}
 use Rattle.roles.specs.declared.need.Need.TheVariants.{Nothing}
 use Rattle.roles.specs.Answers.{IsExchange}
-use Rattle.roles.specs.Talks.{Call as Move}
-use Rattle.roles.specs.Talks.{heard, unheard, roomless}
+use Rattle.roles.specs.Talks.{Call as Move, heard, unheard, roomless}
 use Rattle.rpc_file.specs.Requests.{RpcRequest}
 use Rattle.rpc_file.specs.Requests as rpc
 use Rattle.rpc_file.specs.declared.answer.RpcAnswer.{RpcAnswer}

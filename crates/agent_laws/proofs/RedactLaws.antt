@@ -3,12 +3,12 @@ use Rattle.std.proofs.Common.{◌≡◌, ◌+◌, ℕ, List, [], ◌∷◌, map,
 use Rattle.std.specs.Prelude.{is_some, Result, Err, Ok, find, option_map}
 use Rattle.std.specs.List.{list_all}
 use Rattle.std.proofs.lemmas.Bool.{and_parts}
-use Rattle.nine_messages.specs.declared.message.RBody.{RBody}
-use Rattle.nine_messages.specs.declared.message.RMsg.{RMsg}
-use Rattle.nine_messages.specs.declared.message.TBody.{TBody}
-use Rattle.nine_messages.specs.declared.message.TBody.TheVariants as t
-use Rattle.nine_messages.specs.declared.message.TMsg.{TMsg}
-use Rattle.nine_messages.specs.Decoding.{request_of}
+use Rattle.nine.specs.declared.message.RBody.{RBody}
+use Rattle.nine.specs.declared.message.RMsg.{RMsg}
+use Rattle.nine.specs.declared.message.TBody.{TBody}
+use Rattle.nine.specs.declared.message.TBody.TheVariants as t
+use Rattle.nine.specs.declared.message.TMsg.{TMsg}
+use Rattle.nine.specs.Decoding.{request_of}
 use Rattle.file_tree.specs.declared.tree.Node.{Node}
 use Rattle.file_tree.specs.Calls.{is_open, mode_of, node_of}
 use Rattle.side_files.specs.Lines.{found as line_for}
@@ -22,7 +22,7 @@ use Rattle.talks.specs.Standings.{Phase, Resting, Waiting, Seeking, OnConfirm, O
 use Rattle.agent_history.specs.declared.event.Event.{Event}
 use Rattle.agent_history.specs.declared.event.Event.TheVariants.{Request, Hang, Answer, NoAnswer, NoRoom, Take, TakeAsk, Stop}
 use Rattle.agent_history.specs.Deeds.{Deed, KeyDeed, OfKeys, OfConnection, Edited, Switched, Entered, Hung, fid_of, is_halted, keys_of, msize_of, next_of, was_hung, was_opened}
-use Rattle.agent_history.specs.Replies.{has_settled, swept, untaken, waits, waits_for}
+use Rattle.agent_history.specs.Replies.{has_settled, swept, untaken, waits, waits_for, Wait, is_unsettled}
 use Rattle.agent_history.specs.SideFiles.{is_line_file, kind_at, lines_in}
 use Rattle.agent_history.specs.Conversations.{Due, NoneDue, DropDue, QuestionDue, Question, Speaker, asker, conv_of, due, given_up_by, hand_first, questions, raised, resumed, speakers, standing_of, stands, talk}
 use Rattle.agent_history.specs.Requests.{Call, after, after_frame, after_granted, body_to, call_of, effective, granted, granted_body, is_elsewhere, is_over, is_resting, is_rpc, lacks_version, lets_read, lets_write, lines_done, phase_in, phase_of, reading, reading_file, reading_line, reading_talk, refusal, repeats_tag, replied, replying, stored, writing}
@@ -34,7 +34,6 @@ use Rattle.agent_laws.proofs.SizedLaws.{alike, entered_serves, halted_sized, hun
 use Rattle.agent_laws.proofs.SizeLaws.{waits_unsized}
 use Rattle.agent_laws.proofs.PublicLaws.{bare, body_to_public, saw, waits_public, waits_same}
 use Rattle.agent_laws.proofs.WaitLaws.{reads_wait}
-use Rattle.agent_history.specs.Replies.{Wait, is_unsettled}
 use Rattle.agent_laws.proofs.AskLaws.{asker_is_asked}
 use Rattle.agent_laws.proofs.HiddenLaws.{hidden_list}
 use Rattle.agent_laws.proofs.KindLaws.{IsKnown, same_number}

@@ -6,14 +6,12 @@ use Rattle.file_tree.specs.declared.tree.Node.{Node}
 use Rattle.file_tree.specs.declared.tree.Node.TheVariants.{Root, Factotum, Rpc, Ctl, Confirm, Needkey, Proto, Log}
 use Rattle.roles.specs.declared.need.Need.{Need}
 use Rattle.roles.specs.declared.need.Need.TheVariants as n
-use Rattle.roles.specs.Talks.{heard, offered, picked, roomless, unheard}
-use Rattle.roles.specs.Talks.{Call as Move}
+use Rattle.roles.specs.Talks.{heard, offered, picked, roomless, unheard, Call as Move}
 use Rattle.talks.specs.Protocols.{answers, needs}
 use Rattle.rpc_file.specs.declared.answer.RpcAnswer.{RpcAnswer}
 use Rattle.rpc_file.specs.declared.answer.RpcAnswer.TheVariants as a
 use Rattle.side_files.specs.Calls as side
-use Rattle.side_files.specs.Lines.{Nothing, TooLong, First}
-use Rattle.side_files.specs.Lines.{Found as LineFound, found as line_for}
+use Rattle.side_files.specs.Lines.{Nothing, TooLong, First, Found as LineFound, found as line_for}
 use Rattle.talks.specs.declared.said.Said.{Said}
 use Rattle.talks.specs.Answers.{move_answer}
 use Rattle.talks.specs.Calls as calls
@@ -23,8 +21,7 @@ use Rattle.talks.specs.Standings.{Begun, Phase, Resting, Waiting, Seeking, OnCon
 use Rattle.agent_history.specs.Deeds.{Deed, OfTalk, OfLog, holder_of, is_debug, keys_of}
 use Rattle.agent_history.specs.Replies.{Wait, reader, waits}
 use Rattle.agent_history.specs.SideFiles.{all_served, line_read, lines_in, serve_first, serve_read, serve_reads, served, served_to}
-use Rattle.agent_history.specs.Conversations.{asking, delivered, logged, met, prompting, questions, raising, seeking, seeking_all, sought_once, standing_of, talk, then_logged, then_raised, then_sought}
-use Rattle.agent_history.specs.Conversations.{sought as sought_by}
+use Rattle.agent_history.specs.Conversations.{asking, delivered, logged, met, prompting, questions, raising, seeking, seeking_all, sought_once, standing_of, talk, then_logged, then_raised, then_sought, sought as sought_by}
 use Rattle.agent_history.specs.Requests.{is_resting}
 use Rattle.agent_laws.proofs.SizedLaws.{Serves}
 use Rattle.agent_laws.proofs.KindLaws.{same_number}

@@ -3,12 +3,12 @@
 use Rattle.std.proofs.Common.{◌≡◌, ℕ, List, [], ◌∷◌, length, map, Bool, true, false, cond, eqb, ◌&&◌, not, Option, Some, None, refl, sym, ap, ◌∙◌, codes, ◌||◌}
 use Rattle.std.specs.Prelude.{Result, Ok, Err, find, option_map, is_some}
 use Rattle.std.specs.List.{list_any}
-use Rattle.nine_messages.specs.declared.message.TMsg.{TMsg}
-use Rattle.nine_messages.specs.declared.message.RBody.{RBody}
-use Rattle.nine_messages.specs.declared.message.RBody.TheVariants as r
-use Rattle.nine_messages.specs.declared.message.TBody.{TBody}
-use Rattle.nine_messages.specs.declared.message.TBody.TheVariants as t
-use Rattle.nine_messages.specs.Decoding.{request_of}
+use Rattle.nine.specs.declared.message.TMsg.{TMsg}
+use Rattle.nine.specs.declared.message.RBody.{RBody}
+use Rattle.nine.specs.declared.message.RBody.TheVariants as r
+use Rattle.nine.specs.declared.message.TBody.{TBody}
+use Rattle.nine.specs.declared.message.TBody.TheVariants as t
+use Rattle.nine.specs.Decoding.{request_of}
 use Rattle.file_tree.specs.declared.tree.Node.{Node}
 use Rattle.file_tree.specs.declared.tree.Node.TheVariants.{Root, Factotum, Rpc, Ctl, Confirm, Needkey, Proto, Log}
 use Rattle.file_tree.specs.declared.tree.FidState.{FidState}

@@ -2,7 +2,7 @@
 use Rattle.std.proofs.Common.{◌≡◌, ℕ, List, [], ◌∷◌, length, map, Bool, eqb, ◌||◌, refl, sym, ap, ◌∙◌, inl, inr, arith}
 use Rattle.std.specs.List.{list_any}
 use Rattle.std.proofs.lemmas.Bool.{cases_Bool}
-use Rattle.nine_messages.specs.declared.message.RBody.{RBody}
+use Rattle.nine.specs.declared.message.RBody.{RBody}
 use Rattle.agent_history.specs.Replies.{Wait, settle_tag, settled_by}
 
 pub tag_same : (f : Wait → ℕ) → ((body : RBody) (w : Wait) → f (settled_by body w) ≡ f w) → (tag : ℕ) (body : RBody) (ws : List Wait) → map f (settle_tag tag body ws) ≡ map f ws

@@ -10,8 +10,7 @@ use Rattle.roles.specs.declared.need.Need.TheVariants.{Nothing, Key, Offers, Pic
 use Rattle.roles.specs.declared.need.Outcome.{Outcome}
 use Rattle.roles.specs.declared.need.Outcome.TheVariants.{Running, Accepted, Finished, Broken}
 use Rattle.roles.specs.Answers.{is_sought}
-use Rattle.roles.specs.Talks.{found, offered, picked, undone}
-use Rattle.roles.specs.Talks.{Call as Move}
+use Rattle.roles.specs.Talks.{found, offered, picked, undone, Call as Move}
 use Rattle.talks.specs.Protocols.{answers, ends, needs}
 use Rattle.rpc_file.specs.declared.answer.RpcAnswer.{RpcAnswer}
 use Rattle.rpc_file.specs.declared.answer.RpcAnswer.TheVariants as a

@@ -9,10 +9,10 @@ use Rattle.wire_base.specs.Rules.{first_told}
 use Rattle.attr_tuples.specs.declared.attr.Attr.{Attr}
 use Rattle.attr_tuples.specs.Attributes.{is_named}
 use Rattle.attr_tuples.specs.Matching.{texts_of, value_of}
-use Rattle.ticket_codec.specs.Request.{request_of}
-use Rattle.ticket_codec.specs.declared.fault.FieldFault.{FieldFault}
-use Rattle.ticket_codec.specs.declared.kind.TheConstants.{AUTH_AS}
-use Rattle.ticket_codec.specs.declared.request.TicketReq.{TicketReq}
+use Rattle.sealing.specs.Request.{request_of}
+use Rattle.sealing.specs.declared.fault.FieldFault.{FieldFault}
+use Rattle.sealing.specs.declared.kind.TheConstants.{AUTH_AS}
+use Rattle.sealing.specs.declared.request.TicketReq.{TicketReq}
 use Rattle.roles.specs.declared.answer.Cause.{Cause}
 use Rattle.roles.specs.declared.answer.Cause.TheVariants.{WrongKind, BadKey}
 use Rattle.roles.specs.declared.answer.Gave.{Gave}

@@ -8,7 +8,7 @@ use Rattle.agent_history.specs.SideFiles.{log_calls, prompt_calls}
 use Rattle.agent_laws.specs.Laws.{all_open, unsized}
 use Rattle.file_tree.specs.Calls.{node_of}
 use Rattle.file_tree.specs.declared.tree.Node.{Node}
-use Rattle.nine_messages.specs.declared.message.RBody.{RBody}
+use Rattle.nine.specs.declared.message.RBody.{RBody}
 use Rattle.side_files.specs.declared.line.PromptKind.{PromptKind}
 use Rattle.std.proofs.Common.{Bool, List, None, [], ap, cond, eqb, false, inl, inr, map, not, refl, sym, true, ℕ, ◌++◌, ◌||◌, ◌∙◌, ◌∷◌, ◌≡◌}
 use Rattle.std.proofs.lemmas.Bool.{cases_Bool}

@@ -5,10 +5,10 @@ use Rattle.std.specs.Prelude.{Result, Ok, Err, is_some, find}
 use Rattle.std.specs.List.{filter, list_all, list_any, AllByRecursion, IsDistinct}
 use Rattle.std.proofs.lemmas.Bool.{cases_Bool, and_from, and_parts, eqb-true, or_parts, eq-eqb}
 use Rattle.attr_tuples.proofs.EqualityLemmas.{eqb_swap}
-use Rattle.nine_messages.specs.declared.message.RMsg.{RMsg}
-use Rattle.nine_messages.specs.declared.message.RBody.{RBody}
-use Rattle.nine_messages.specs.declared.message.TBody.{TBody}
-use Rattle.nine_messages.specs.declared.message.TBody.TheVariants as t
+use Rattle.nine.specs.declared.message.RMsg.{RMsg}
+use Rattle.nine.specs.declared.message.RBody.{RBody}
+use Rattle.nine.specs.declared.message.TBody.{TBody}
+use Rattle.nine.specs.declared.message.TBody.TheVariants as t
 use Rattle.file_tree.specs.declared.tree.Node.TheVariants.{Rpc, Root, Factotum, Ctl, Confirm, Needkey, Proto, Log}
 use Rattle.file_tree.specs.declared.tree.FidState.{FidState}
 use Rattle.file_tree.specs.Calls.{at_rest, attached, is_open, node_of, opened}

@@ -4,11 +4,11 @@
 -- Plan 9 manual (fids, msize) and factotum(4) (ctl, whose keys are shown without their secrets).
 use Rattle.std.specs.Prelude.{◌≡◌, ◌≤◌, ◌⊎◌, ℕ, ◌-◌, List, [], ◌∷◌, ◌++◌, length, take, map, Bool, true, false, not, ◌&&◌, ◌||◌, ◌==◌, nat_eq, nat_lt, All, Option, Some, None, is_some, option_map, Ok, Err, if◌then◌else◌, filter, find}
 use Rattle.std.specs.List.{list_any, list_all, IsDistinct}
-use Rattle.nine_messages.specs.declared.message.RMsg.{RMsg}
-use Rattle.nine_messages.specs.declared.message.TBody.{TBody}
-use Rattle.nine_messages.specs.declared.message.TBody.TheVariants as t
-use Rattle.nine_messages.specs.declared.message.RBody.{RBody}
-use Rattle.nine_messages.specs.declared.message.RBody.TheVariants as r
+use Rattle.nine.specs.declared.message.RMsg.{RMsg}
+use Rattle.nine.specs.declared.message.TBody.{TBody}
+use Rattle.nine.specs.declared.message.TBody.TheVariants as t
+use Rattle.nine.specs.declared.message.RBody.{RBody}
+use Rattle.nine.specs.declared.message.RBody.TheVariants as r
 use Rattle.attr_tuples.specs.declared.attr.Attr.{Attr}
 use Rattle.attr_tuples.specs.Printing.{hidden, public_text}
 use Rattle.file_tree.specs.declared.tree.Node.{Node}

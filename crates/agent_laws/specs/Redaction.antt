@@ -4,10 +4,10 @@
 -- kept what the request came to: by which templates keys are searched for, or how its answer begins, and whom it accepted or
 -- why it broke. After factotum(4) of the Plan 9 manual (ctl, rpc, confirm, needkey, log).
 use Rattle.std.specs.Prelude.{ℕ, List, [], ◌∷◌, map, Option, Some, None, Result, Ok, Err, is_some, codes, if◌then◌else◌}
-use Rattle.nine_messages.specs.declared.message.TMsg.{TMsg}
-use Rattle.nine_messages.specs.declared.message.TBody.{TBody}
-use Rattle.nine_messages.specs.declared.message.TBody.TheVariants as t
-use Rattle.nine_messages.specs.Decoding.{request_of}
+use Rattle.nine.specs.declared.message.TMsg.{TMsg}
+use Rattle.nine.specs.declared.message.TBody.{TBody}
+use Rattle.nine.specs.declared.message.TBody.TheVariants as t
+use Rattle.nine.specs.Decoding.{request_of}
 use Rattle.attr_tuples.specs.Printing.{public_text}
 use Rattle.file_tree.specs.declared.tree.Node.{Node}
 use Rattle.file_tree.specs.Calls.{node_of}

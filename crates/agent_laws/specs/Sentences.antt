@@ -1,12 +1,12 @@
 -- What the laws say, each sentence by its name.
 use Rattle.std.specs.Prelude.{◌≡◌, ◌≤◌, ◌<◌, ◌⊎◌, ◌+◌, ℕ, List, [], ◌∷◌, ◌++◌, All, Ok, Err, None, Some, is_some, true, false, codes, drop, length, map, reverse, take, not}
 use Rattle.std.specs.List.{IsDistinct}
-use Rattle.nine_messages.specs.Messages.{IsReply, r_frame}
-use Rattle.nine_messages.specs.Decoding.{r_reading, request_of}
-use Rattle.nine_messages.specs.declared.message.TBody.{TBody}
-use Rattle.nine_messages.specs.declared.message.TBody.TheVariants.{Read}
-use Rattle.nine_messages.specs.declared.message.RMsg.{RMsg}
-use Rattle.nine_messages.specs.declared.message.RBody.TheVariants as r
+use Rattle.nine.specs.Messages.{IsReply, r_frame}
+use Rattle.nine.specs.Decoding.{r_reading, request_of}
+use Rattle.nine.specs.declared.message.TBody.{TBody}
+use Rattle.nine.specs.declared.message.TBody.TheVariants.{Read}
+use Rattle.nine.specs.declared.message.RMsg.{RMsg}
+use Rattle.nine.specs.declared.message.RBody.TheVariants as r
 use Rattle.file_tree.specs.declared.tree.Node.{Node}
 use Rattle.file_tree.specs.declared.tree.Node.TheVariants.{Ctl, Rpc, Confirm, Needkey}
 use Rattle.file_tree.specs.Tree.{is_exclusive}
@@ -34,7 +34,7 @@ use Rattle.agent_history.specs.Histories.{History, answer, deeds, does, has_stop
 use Rattle.agent_laws.specs.Laws.{AddAlike, Adds, AllFollow, AllLogged, AllSearched, AreHeld, AreWaiting, HasFirstRefused, IsBehind, IsFirstRefused, SameButSecrets, StoodOnce, all_asked, all_open, given, gives, gives_content, has_connection, has_conversed, has_open, hidden_deed, is_of, is_of_talks, is_on, longest_reply, may_err_and_act, may_wait, none_concerns, none_sets_text, put_out, reply_to, rise_below, AllTold, is_same_place, is_edit, is_talk, last_asked, is_request, all_prompted, in_public, unsized}
 use Rattle.agent_history.specs.SideFiles.{askers, file_of}
 use Rattle.agent_laws.specs.Redaction.{redact}
-use Rattle.nine_messages.specs.declared.message.TMsg.{TMsg}
+use Rattle.nine.specs.declared.message.TMsg.{TMsg}
 use Rattle.side_files.specs.declared.line.PromptKind.{PromptKind}
 
 -- ---- keys are the lines in order

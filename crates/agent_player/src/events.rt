@@ -1,14 +1,15 @@
 // Events of an agent, and what is answered to them.
 ghost use Rattle.std.specs.Prelude.{◌∷◌, [], IfOk, OnOk};
-ghost use Rattle.nine_messages.specs.Decoding.{IsFrame};
+ghost use Rattle.nine.specs.Decoding.{IsFrame};
 ghost use Rattle.agent_history.specs.Histories.{History};
 ghost use Rattle.agent_core.specs.Agents.{StandsFor};
 ghost use Rattle.agent_core.specs.Events.{Answers, IsEvent};
 
 use crate::unlike::Unlike;
-use agent_core::{Agent, Event, Shape, StepAnswer};
+use agent_core::Agent;
+use agent_history::{Event, StepAnswer};
 use std::alloc::Global;
-use wire_base::{Bytes, NoMemory, get_u32};
+use wire_base::{Bytes, NoMemory, Shape, get_u32};
 
 // The most bytes that an answer of the authentication server may have.
 const MOST_ANSWER: usize = 160;

@@ -2,8 +2,8 @@
 use agent_core::Agent;
 use key_ring::Key;
 use roles::{Cause, Outcome};
+use sealing::write_info;
 use std::alloc::Global;
-use ticket_codec::write_info;
 use wire_base::{Bytes, NoMemory};
 
 fn cause_text(cause: Cause) -> &'static str {

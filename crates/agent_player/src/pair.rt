@@ -3,7 +3,8 @@ use crate::events::{answer_question, ask, converse, expect, take, take_question}
 use crate::looks::{key_of, outcome_of};
 use crate::steps::Step;
 use crate::unlike::Unlike;
-use agent_core::{Agent, Event, StepAnswer};
+use agent_core::Agent;
+use agent_history::{Event, StepAnswer};
 use std::alloc::Global;
 use wire_base::{Bytes, NoMemory, get_u64};
 

@@ -1,5 +1,5 @@
 // Why a step isn't as it was written down.
-use agent_core::StepAnswer;
+use agent_history::StepAnswer;
 use wire_base::NoMemory;
 
 /// Why a step isn't as it was written down, or can't be made.

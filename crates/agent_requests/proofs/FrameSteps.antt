@@ -1,12 +1,12 @@
 -- From what a request does to what a frame does.
 use Rattle.std.proofs.Common.{◌≡◌, ℕ, ◌≤◌, List, ◌∷◌, true, false, length, Option, Some, None, Result, Ok, Err, refl, sym, ap, subst, ◌⊎◌, inl, inr, arith}
 use Rattle.std.specs.Prelude.{codes}
-use Rattle.nine_messages.specs.declared.message.TMsg.{TMsg}
-use Rattle.nine_messages.specs.declared.message.TBody.{TBody}
-use Rattle.nine_messages.specs.declared.message.TBody.TheVariants as t
-use Rattle.nine_messages.specs.declared.message.RBody.{RBody}
-use Rattle.nine_messages.specs.Messages.{frame, r_frame, t_kind, t_fields, IsRequest}
-use Rattle.nine_messages.specs.Decoding.{request_of}
+use Rattle.nine.specs.declared.message.TMsg.{TMsg}
+use Rattle.nine.specs.declared.message.TBody.{TBody}
+use Rattle.nine.specs.declared.message.TBody.TheVariants as t
+use Rattle.nine.specs.declared.message.RBody.{RBody}
+use Rattle.nine.specs.Messages.{frame, r_frame, t_kind, t_fields, IsRequest}
+use Rattle.nine.specs.Decoding.{request_of}
 use Rattle.agent_history.specs.Deeds.{Deed, OfReplies, Answered, msize_of}
 use Rattle.agent_history.specs.Requests.{Call, refusal, granted, after_frame, answered, body_to, replied, is_over, comes_first, lacks_version, repeats_tag}
 use Rattle.agent_requests.specs.declared.connection.Connection.{Connection}

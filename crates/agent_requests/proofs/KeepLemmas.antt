@@ -6,7 +6,7 @@ use Rattle.agent_history.specs.Deeds.{Deed, KeyDeed, OfKeys}
 use Rattle.agent_history.specs.Conversations.{Speaker, all_withdrawn, closed, conv_of, ended_by, given_up_by, speakers}
 use Rattle.agent_talks.specs.Speaks.{is_among, stands}
 use Rattle.agent_requests.specs.declared.connection.Connection.{Connection}
-use Rattle.fid_table.specs.Held.{Table, fid_at, held_in}
+use Rattle.file_tree.specs.Held.{Table, fid_at, held_in}
 use Rattle.agent_requests.specs.Connections.{Keeps, SameKept, msize_in, text_in}
 use Rattle.agent_requests.specs.RpcRequests.{IsOpen}
 use Rattle.side_files.specs.declared.line.PromptKind.TheVariants as k

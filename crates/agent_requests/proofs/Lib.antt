@@ -1,8 +1,7 @@
-pub use Rattle.agent_shared.proofs.DeedLemmas
-pub use Rattle.agent_shared.proofs.FidLemmas
-pub use Rattle.agent_shared.proofs.OwnDeeds
 pub use Rattle.agent_shared.proofs.ShareLemmas
-pub use Rattle.mailboxes.proofs.DeliveryLemmas
+pub use Rattle.agent_shared.proofs.OwnDeeds
+pub use Rattle.agent_shared.proofs.FidLemmas
+pub use Rattle.agent_shared.proofs.DeedLemmas
 pub mod OwnRequests
 pub mod KeepLemmas
 pub mod SwitchLemmas

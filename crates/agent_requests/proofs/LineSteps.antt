@@ -1,8 +1,8 @@
 -- From what the calls on the files of lines and on mailboxes do to what the history says of a read or a write of such a file.
 use Rattle.std.proofs.Common.{◌≡◌, ℕ, List, ◌∷◌, true, false, Option, Some, None, Result, Ok, Err, refl, sym, subst}
 use Rattle.std.specs.Prelude.{length}
-use Rattle.nine_messages.specs.declared.message.RBody.TheVariants as r
-use Rattle.nine_messages.specs.Messages.{r_frame}
+use Rattle.nine.specs.declared.message.RBody.TheVariants as r
+use Rattle.nine.specs.Messages.{r_frame}
 use Rattle.file_tree.specs.declared.tree.Node.{Node}
 use Rattle.side_files.specs.Calls as side
 use Rattle.side_files.specs.declared.line.PromptKind.{PromptKind}

@@ -1,9 +1,9 @@
 -- What holds before a request of a connection, and after each deed that the request may do, holds after it.
 use Rattle.std.proofs.Common.{ℕ, List, [], ◌∷◌, Bool, true, false, cond, eqb, Option, Some, None, Result, Ok, Err}
 use Rattle.std.specs.Prelude.{is_some}
-use Rattle.nine_messages.specs.declared.message.TBody.{TBody}
-use Rattle.nine_messages.specs.declared.message.TBody.TheVariants as t
-use Rattle.nine_messages.specs.declared.message.RBody.{RBody}
+use Rattle.nine.specs.declared.message.TBody.{TBody}
+use Rattle.nine.specs.declared.message.TBody.TheVariants as t
+use Rattle.nine.specs.declared.message.RBody.{RBody}
 use Rattle.file_tree.specs.declared.tree.Node.{Node}
 use Rattle.file_tree.specs.declared.tree.Node.TheVariants as n
 use Rattle.file_tree.specs.Tree.{lead_to}
@@ -18,8 +18,8 @@ use Rattle.side_files.specs.declared.reply.Reply.{Reply as Answer}
 use Rattle.side_files.specs.Lines.{Found, Nothing, TooLong, First, found}
 use Rattle.side_files.specs.Questions.{asker_of}
 use Rattle.side_files.specs.Replies as prompt
-use Rattle.agent_history.specs.Calls as calls
-use Rattle.agent_history.specs.Standings.{Phase, Resting, Waiting, Seeking, OnConfirm, OnNeedkey, OnServer, Kept}
+use Rattle.talks.specs.Calls as calls
+use Rattle.talks.specs.Standings.{Phase, Resting, Waiting, Seeking, OnConfirm, OnNeedkey, OnServer, Kept}
 use Rattle.agent_history.specs.Deeds.{Deed, FidDeed, KeyDeed, OfFids, OfKeys, OfPrompts, OfConnection, Versioned, Walked, Listed, Clunked, Answered, Awaited, Entered, msize_of, fid_of, keys_of, was_opened}
 use Rattle.agent_history.specs.Conversations.{conv_of, standing_of}
 use Rattle.agent_history.specs.SideFiles.{is_line_file, kind_at, lines_in, prompts_of}

@@ -2,10 +2,10 @@
 use Rattle.std.proofs.Common.{◌≡◌, ◌≤◌, ℕ, List, [], ◌∷◌, Bool, true, false, ◌&&◌, not, cond, eqb, Option, Some, None, Result, Ok, Err, refl, sym, ap, subst, ◌∙◌, ◌⊎◌, inl, inr, min}
 use Rattle.std.specs.Prelude.{is_some, length, nat_lt, option_map, ok_or, codes, OnOk, OnErr}
 use Rattle.std.proofs.lemmas.Bool.{le-ltb}
-use Rattle.nine_messages.specs.declared.message.TBody.TheVariants as t
-use Rattle.nine_messages.specs.declared.message.RBody.{RBody}
-use Rattle.nine_messages.specs.declared.message.RBody.TheVariants as r
-use Rattle.nine_messages.specs.Messages.{r_frame}
+use Rattle.nine.specs.declared.message.TBody.TheVariants as t
+use Rattle.nine.specs.declared.message.RBody.{RBody}
+use Rattle.nine.specs.declared.message.RBody.TheVariants as r
+use Rattle.nine.specs.Messages.{r_frame}
 use Rattle.file_tree.specs.declared.tree.Node.{Node}
 use Rattle.file_tree.specs.declared.tree.FidState.{FidState}
 use Rattle.file_tree.specs.declared.tree.Node.TheVariants.{Root, Factotum, Rpc}
@@ -16,9 +16,9 @@ use Rattle.file_tree.specs.Directories.{dir_bytes, dir_end}
 use Rattle.file_tree.specs.Tree.{is_exclusive, qid_of}
 use Rattle.file_tree.specs.Faults.{answered, fault_text}
 use Rattle.file_tree.specs.Calls.{attach_fault, node_of, open_fault, fid_fault, dir_fault}
-use Rattle.fid_table.specs.declared.fids.Fid.{Fid}
-use Rattle.fid_table.specs.Held.{state_at, next_at}
-use Rattle.fid_table.specs.Held as table
+use Rattle.file_tree.specs.declared.fids.Fid.{Fid}
+use Rattle.file_tree.specs.Held.{state_at, next_at}
+use Rattle.file_tree.specs.Held as table
 use Rattle.key_lists.specs.Lists.{KeyList}
 use Rattle.key_lists.specs.Edits.{Add, Delete}
 use Rattle.key_lists.specs.CtlLines.{CtlLine, OnKeys, Debug, lines_of, carried_out, lines_fault, after_lines, keys_with, keys_with_all}
@@ -28,7 +28,7 @@ use Rattle.agent_history.specs.SideFiles.{kind_at, lines_in}
 use Rattle.side_files.specs.declared.line.PromptKind.{PromptKind}
 use Rattle.side_files.specs.Lines.{found}
 use Rattle.side_files.specs.Replies as prompt
-use Rattle.ctl_lines.specs.Switches.{switches}
+use Rattle.key_ring.specs.Switches.{switches}
 use Rattle.agent_shared.specs.Logging.{Logs}
 use Rattle.mailboxes.proofs.DeliveryLemmas.{keys_delivers}
 use Rattle.agent_history.specs.Requests.{Call, refusal, after, reply_of, agreed, effective, lets_read, line_found, nofid, lets_write, write_reply, written, line_deed, lines_done, is_known, is_rpc, most_msize, most_talks}

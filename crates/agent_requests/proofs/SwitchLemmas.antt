@@ -5,7 +5,7 @@ use Rattle.key_lists.specs.CtlLines.{CtlLine, OnKeys, Debug}
 use Rattle.key_lists.specs.Edits.{KeyEdit}
 use Rattle.agent_history.specs.Deeds.{Deed, OfKeys, Edited, Switched}
 use Rattle.agent_history.specs.Requests.{lines_done}
-use Rattle.ctl_lines.specs.Switches.{switched}
+use Rattle.key_ring.specs.Switches.{switched}
 use Rattle.agent_shared.specs.LoggedTalks.{LoggedTalks}
 use Rattle.agent_shared.specs.Logging.{Logs}
 use Rattle.agent_shared.proofs.DeedLemmas.{edited_logs, swapped_logs, twice_logs}

@@ -6,16 +6,16 @@ use Rattle.file_tree.specs.declared.tree.FidState.{FidState}
 use Rattle.file_tree.specs.declared.fault.FidFault.{FidFault}
 use Rattle.file_tree.specs.declared.fault.FidFault.TheVariants as g
 use Rattle.file_tree.specs.Faults.{fault_text}
-use Rattle.fid_table.specs.declared.fids.Fid.{Fid}
-use Rattle.fid_table.specs.Held.{fid_at, held_in}
+use Rattle.file_tree.specs.declared.fids.Fid.{Fid}
+use Rattle.file_tree.specs.Held.{fid_at, held_in}
 use Rattle.agent_history.specs.Deeds.{Deed, was_hung, msize_of, fid_of, held_by, next_of, text_of}
 use Rattle.agent_history.specs.Requests as history
 use Rattle.agent_history.specs.Requests.{refusal, after, reply_of, after_frame, body_to}
-use Rattle.nine_messages.specs.declared.message.TBody.{TBody}
-use Rattle.nine_messages.specs.declared.message.TBody.TheVariants as t
-use Rattle.nine_messages.specs.declared.message.RBody.{RBody}
-use Rattle.nine_messages.specs.Messages.{r_frame}
-use Rattle.ctl_lines.specs.Faults.{line_text}
+use Rattle.nine.specs.declared.message.TBody.{TBody}
+use Rattle.nine.specs.declared.message.TBody.TheVariants as t
+use Rattle.nine.specs.declared.message.RBody.{RBody}
+use Rattle.nine.specs.Messages.{r_frame}
+use Rattle.key_ring.specs.Faults.{line_text}
 use Rattle.mailboxes.specs.declared.reply.Reply.{Reply}
 use Rattle.mailboxes.specs.Kept.{reply_bytes}
 use Rattle.mailboxes.specs.Deliveries.{has_room, under}

@@ -1,7 +1,7 @@
 -- What a read of a file of lines does, a write of a file of questions, and `debug` among the lines of ctl.
 use Rattle.std.specs.Prelude.{ℕ, List, [], ◌∷◌, length, Bool, true, false, not, ◌&&◌, Option, Some, Result, codes, is_some}
 use Rattle.wire_base.specs.Rules.{first_told}
-use Rattle.nine_messages.specs.declared.message.RBody.TheVariants as r
+use Rattle.nine.specs.declared.message.RBody.TheVariants as r
 use Rattle.file_tree.specs.declared.tree.Node.{Node}
 use Rattle.side_files.specs.declared.line.PromptKind.{PromptKind}
 use Rattle.side_files.specs.declared.reply.Reply.{Reply as Answer}

@@ -1,7 +1,7 @@
 -- What a read or a write of rpc does.
 use Rattle.std.specs.Prelude.{◌≡◌, ℕ, List, [], ◌∷◌, length, true, not, ◌&&◌, ◌⊎◌, Option, Some, None, Result, Ok, Err, codes}
 use Rattle.wire_base.specs.Rules.{first_told}
-use Rattle.nine_messages.specs.declared.message.RBody.TheVariants as r
+use Rattle.nine.specs.declared.message.RBody.TheVariants as r
 use Rattle.rpc_file.specs.Requests.{meant, request_of}
 use Rattle.rpc_file.specs.declared.request.Request.{Request}
 use Rattle.rpc_file.specs.declared.request.RpcFault.TheVariants.{TooLong, UnknownVerb}

@@ -4,8 +4,8 @@ ghost use Rattle.agent_history.specs.Deeds.{Deed};
 ghost use Rattle.agent_requests.specs.Connections.{IsFresh, Keeps, is_opened, msize_in};
 
 use crate::msize::Msize;
-use fid_table::Fids;
-use listed_ring::SharedText;
+use file_tree::Fids;
+use key_ring::SharedText;
 use std::alloc::Global;
 use std::collections::BTreeMap;
 

@@ -1,10 +1,10 @@
 // Requests on the fids of a connection: version, attach, walk, open, clunk, remove and stat, and those that are
 // refused on every file.
 ghost use Rattle.std.specs.Prelude.{◌≡◌, ◌∷◌, ◌≤◌, List, ℕ, Option, None, IsSome, Err, length, map, codes, false, OnOk, OnErr, IfOk, if◌then◌else◌};
-ghost use Rattle.nine_messages.specs.declared.message.TBody.TheVariants as t;
+ghost use Rattle.nine.specs.declared.message.TBody.TheVariants as t;
 ghost use Rattle.file_tree.specs.Tree.{qid_of};
 ghost use Rattle.file_tree.specs.Calls.{open_fault};
-ghost use Rattle.fid_table.specs.Held.{state_at, HasRoom};
+ghost use Rattle.file_tree.specs.Held.{state_at, HasRoom};
 ghost use Rattle.agent_history.specs.Deeds.{Deed, OfFids, Attached, Clunked, Opened, Versioned, was_hung};
 ghost use Rattle.agent_history.specs.Requests.{agreed, is_known, walking};
 ghost use Rattle.agent_history.specs.Conversations.{given_up_by};
@@ -17,12 +17,9 @@ use crate::connection::{Connection, Phase};
 use crate::msize::{MOST_MSIZE, Msize};
 use crate::refused::{Refusal, Refused, Tried};
 use agent_shared::Shared;
-use fid_table::Fids;
-use file_tree::{Node, put_record, record_size};
+use file_tree::{Fids, Node, put_record, record_size};
 use mailboxes::Reply;
-use nine_codec::{
-    QidList, put_attach, put_clunk, put_flush, put_open, put_stat, put_version, put_walk,
-};
+use nine::{QidList, put_attach, put_clunk, put_flush, put_open, put_stat, put_version, put_walk};
 use std::alloc::Global;
 use std::collections::BTreeMap;
 use wire_base::{Bytes, NoMemory, TextList};

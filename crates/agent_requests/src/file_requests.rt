@@ -1,18 +1,18 @@
 // Reads and writes of the files that are open.
 ghost use Rattle.std.specs.Prelude.{◌≡◌, ◌∷◌, ◌≤◌, ◌<◌, ◌+◌, ◌-◌, ◌^◌, ◌==◌, List, ℕ, Some, true, length, option_map, OnOk, OnErr, IfOk, if◌then◌else◌};
-ghost use Rattle.nine_messages.specs.declared.message.TBody.TheVariants as t;
-ghost use Rattle.nine_messages.specs.declared.message.RBody.TheVariants as r;
-ghost use Rattle.nine_messages.specs.Messages.{r_frame};
+ghost use Rattle.nine.specs.declared.message.TBody.TheVariants as t;
+ghost use Rattle.nine.specs.declared.message.RBody.TheVariants as r;
+ghost use Rattle.nine.specs.Messages.{r_frame};
 ghost use Rattle.file_tree.specs.Faults.{fault_text};
 ghost use Rattle.file_tree.specs.Calls.{dir_fault, node_of};
 ghost use Rattle.file_tree.specs.Directories.{dir_bytes, dir_end};
-ghost use Rattle.fid_table.specs.Held.{is_open_directory, next_at, state_at};
+ghost use Rattle.file_tree.specs.Held.{is_open_directory, next_at, state_at};
 ghost use Rattle.key_lists.specs.CtlLines.{after_lines, lines_fault, lines_of};
 ghost use Rattle.agent_history.specs.Deeds.{Deed, OfFids, Browsed, Listed, keys_of};
 ghost use Rattle.agent_history.specs.Requests.{ctl_text, effective, lets_read, lets_write, piece, written};
 ghost use Rattle.mailboxes.specs.Kept.{reply_bytes};
 ghost use Rattle.mailboxes.specs.Deliveries.{under};
-ghost use Rattle.ctl_lines.specs.Switches.{switches};
+ghost use Rattle.key_ring.specs.Switches.{switches};
 ghost use Rattle.agent_shared.specs.Logging.{Logs};
 ghost use Rattle.agent_requests.specs.Connections.{Keeps, SameKept, Says, Told, Tried};
 ghost use Rattle.agent_requests.specs.LineRequests.{switching};
@@ -27,7 +27,7 @@ use crate::rpc_requests::{read_rpc, write_reply, write_rpc};
 use agent_shared::{LoggedTalks, Shared, is_rpc};
 use file_tree::{Node, reads, writes};
 use mailboxes::Reply;
-use nine_codec::put_read;
+use nine::put_read;
 use wire_base::{Bytes, NoMemory};
 
 // The bytes of a reply to a read that aren't content.

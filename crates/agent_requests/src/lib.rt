@@ -12,7 +12,5 @@ mod rpc_requests;
 mod serve;
 
 pub use agent_shared::Shared;
-pub use agent_talks::Question;
 pub use call::Call;
 pub use connection::{Connection, Phase};
-pub use mailboxes::SettledFor;

@@ -3,8 +3,8 @@ ghost use Rattle.std.specs.Prelude.{◌≡◌, ◌<◌, length};
 ghost use Rattle.mailboxes.specs.Kept.{error_frame, reply_bytes};
 ghost use Rattle.agent_requests.specs.Connections.{refusal_text};
 
-use ctl_lines::LineFault;
 use file_tree::FidFault;
+use key_ring::LineFault;
 use mailboxes::{ErrorText, Reply};
 use wire_base::NoMemory;
 

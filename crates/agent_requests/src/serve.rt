@@ -1,7 +1,7 @@
 // How a frame on a connection is answered.
 ghost use Rattle.std.specs.Prelude.{◌≡◌, ◌∷◌, List, ℕ, ◌<◌, ◌≤◌, ◌+◌, ◌-◌, ◌^◌, ◌⊎◌, false, true, Some, None, IsSome, IfOk, IfErr, OnOk, OnErr, length};
-ghost use Rattle.nine_messages.specs.Messages.{t_fits, IsRequest};
-ghost use Rattle.nine_messages.specs.Decoding.{IsFrame, request_of};
+ghost use Rattle.nine.specs.Messages.{t_fits, IsRequest};
+ghost use Rattle.nine.specs.Decoding.{IsFrame, request_of};
 ghost use Rattle.agent_history.specs.Deeds.{Deed, msize_of, was_hung};
 ghost use Rattle.agent_history.specs.Requests.{Call as HistoryCall, answered, comes_first, is_over, lacks_version, repeats_tag};
 ghost use Rattle.mailboxes.specs.Deliveries.{Delivers};
@@ -13,7 +13,7 @@ use crate::connection::Connection;
 use crate::refused::{Refusal, Refused, Tried};
 use agent_shared::Shared;
 use mailboxes::Reply;
-use nine_codec::{DecodeFault, TBody, TMsg, decode_t};
+use nine::{DecodeFault, TBody, TMsg, decode_t};
 use std::alloc::Global;
 use wire_base::NoMemory;
 
@@ -145,7 +145,7 @@ impl Connection {
 }
 
 // The request that a frame is.
-#[tactic(auto, unfolding(nine_messages::specs::Decoding::request_of))]
+#[tactic(auto, unfolding(nine::specs::Decoding::request_of))]
 fn request(alloc: Global, frame: &[u8]) -> Result<TMsg, Refused>
     requires { IsFrame frame.now }
     ensures request { IfOk result (λ m. request_of frame.now ≡ Some m) }

@@ -4,13 +4,13 @@ use Rattle.std.specs.Prelude.{Result, Ok, Err, IfOk}
 use Rattle.wire_base.specs.declared.bytes.NoMemory.{NoMemory}
 use Rattle.wire_base.specs.Readers.{number, value_of}
 use Rattle.std.specs.Int.{w8}
-use Rattle.nine_messages.specs.declared.message.TMsg.{TMsg}
-use Rattle.nine_messages.specs.Messages.{t_frame}
+use Rattle.nine.specs.declared.message.TMsg.{TMsg}
+use Rattle.nine.specs.Messages.{t_frame}
 use Rattle.side_files.specs.declared.line.PromptKind.{PromptKind}
 use Rattle.side_files.specs.declared.question.Question.{Question}
-use Rattle.prompt_agent.specs.Manners.{Manner}
-use Rattle.prompt_agent.specs.Chains.{after_answer, word_of}
-use Rattle.prompt_agent.specs.declared.prompter.Say.{Say}
+use Rattle.prompters.specs.Manners.{Manner}
+use Rattle.prompters.specs.Chains.{after_answer, word_of}
+use Rattle.prompters.specs.declared.prompter.Say.{Say}
 use Rattle.turn_lock.specs.Fronts.{among}
 use Rattle.turn_lock.specs.Seats.{numbers}
 use Rattle.agent_history.specs.declared.event.Event.TheVariants.{Hang, Request, Take}
@@ -21,11 +21,11 @@ use Rattle.agent_hub.specs.Events.{Answers}
 use Rattle.agent_hub.specs.Submits.{HubSeat, IsSubmitted}
 use Rattle.agent_hub.specs.Entries.{Adds, Entered, LastIs, entry, events_in}
 use Rattle.agent_hub.proofs.EntryLemmas.{adds_none, adds_one, adds_still, before_it}
-use Rattle.prompt_frames.specs.declared.first.First.{First}
-use Rattle.prompt_frames.specs.declared.first.First.TheVariants.{Version}
-use Rattle.prompt_frames.specs.Requests.{IsNext, answer_text, behind, is_open, read_of, request_of, write_of}
-use Rattle.prompt_frames.specs.Replies.{file_read, in_use_text, is_kind, is_number, is_refusal, question_read, refuses_by, too_small_text}
-use Rattle.prompt_frames.specs.Wanted.{begun_by, chain_behind, is_over, is_reply_to, meets_long_line, meets_use, unreplied, wanted}
+use Rattle.prompters.specs.declared.first.First.{First}
+use Rattle.prompters.specs.declared.first.First.TheVariants.{Version}
+use Rattle.prompters.specs.Requests.{IsNext, answer_text, behind, is_open, read_of, request_of, write_of}
+use Rattle.prompters.specs.Replies.{file_read, in_use_text, is_kind, is_number, is_refusal, question_read, refuses_by, too_small_text}
+use Rattle.prompters.specs.Wanted.{begun_by, chain_behind, is_over, is_reply_to, meets_long_line, meets_use, unreplied, wanted}
 use Rattle.agent_serving.specs.declared.prompts.PromptsEnd.{PromptsEnd}
 use Rattle.agent_serving.specs.declared.prompts.PromptsEnd.TheVariants.{Idle, InUse, TooLong, Gone}
 use Rattle.agent_serving.specs.declared.prompts.PromptsEnd.TheVariants as e

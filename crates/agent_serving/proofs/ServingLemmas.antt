@@ -7,9 +7,9 @@ use Rattle.turn_lock.specs.Seats.{Parted, front, numbers}
 use Rattle.agent_history.specs.declared.event.Event.{Event}
 use Rattle.agent_history.specs.declared.event.Event.TheVariants.{Take, Stop}
 use Rattle.agent_history.specs.declared.event.StepAnswer.{StepAnswer}
-use Rattle.listeners.specs.Listening.{Accepts, Came}
-use Rattle.listeners.specs.Spawning.{Gains}
-use Rattle.listeners.proofs.AddLemmas.{Came-more, Came-nil, Came-none, Gains-nil, Gains-trans}
+use Rattle.wire_streams.specs.Listening.{Accepts, Came}
+use Rattle.wire_streams.specs.Spawning.{Gains}
+use Rattle.wire_streams.proofs.AddLemmas.{Came-more, Came-nil, Came-none, Gains-nil, Gains-trans}
 use Rattle.agent_hub.specs.Submits.{HubSeat, IsSubmitted}
 use Rattle.agent_hub.specs.Entries.{Adds, Entered, entered_by, entry, events_in}
 use Rattle.agent_hub.proofs.EntryLemmas.{adds_none, adds_one, adds_still, before_it}

@@ -12,7 +12,7 @@ use Rattle.agent_hub.specs.Replying.{OutEndsSo}
 use Rattle.agent_hub.specs.Asking.{AsksEndSo}
 use Rattle.agent_hub.specs.declared.requests.InEnd.{InEnd}
 use Rattle.agent_hub.specs.declared.replies.OutEnd.{OutEnd}
-use Rattle.prompt_agent.specs.Manners.{Manner}
+use Rattle.prompters.specs.Manners.{Manner}
 use Rattle.agent_serving.specs.Prompting.{PromptsSo}
 use Rattle.agent_serving.specs.declared.job.Job.{Job}
 use Rattle.agent_serving.specs.declared.job.Job.TheVariants as jobs

@@ -2,3 +2,5 @@ pub use Rattle.agent_hub.specs.Submits
 pub mod Prompting
 pub mod Jobs
 pub mod Serving
+pub mod Endings
+pub mod Words

@@ -1,10 +1,10 @@
 -- What a program that answers for its user enters at an agent, and how that ends. Own entries stand with the newest first.
 -- The definitions are the project's own.
 use Rattle.std.specs.Prelude.{◌≡◌, ◌<◌, ◌≤◌, ℕ, List, [], ◌∷◌, ◌++◌, length, Bool, true, false, not, ◌&&◌, Result, Ok, Err, Option, Some, None, if◌then◌else◌}
-use Rattle.nine_messages.specs.declared.message.TMsg.{TMsg}
-use Rattle.nine_messages.specs.Messages.{t_frame}
+use Rattle.nine.specs.declared.message.TMsg.{TMsg}
+use Rattle.nine.specs.Messages.{t_frame}
 use Rattle.wire_base.specs.declared.bytes.NoMemory.{NoMemory}
-use Rattle.prompt_agent.specs.Manners.{Manner}
+use Rattle.prompters.specs.Manners.{Manner}
 use Rattle.side_files.specs.declared.question.Question.{Question}
 use Rattle.agent_history.specs.declared.event.Event.{Event}
 use Rattle.agent_history.specs.declared.event.Event.TheVariants.{Hang, Request, Take}
@@ -14,10 +14,10 @@ use Rattle.agent_history.specs.declared.event.StepAnswer.TheVariants as a
 use Rattle.agent_history.specs.Histories.{History, answer, is_reply}
 use Rattle.agent_hub.specs.Submits.{HubSeat}
 use Rattle.agent_hub.specs.Entries.{Adds, Entered, LastIs, entry, events_in}
-use Rattle.prompt_frames.specs.declared.first.First.{First}
-use Rattle.prompt_frames.specs.Requests.{is_open, request_of}
-use Rattle.prompt_frames.specs.Replies.{in_use_text, is_refusal, question_read, refuses_by, too_small_text}
-use Rattle.prompt_frames.specs.Wanted.{begun_by, chain_behind, is_over, is_reply_to, meets_long_line, meets_use, unreplied, wanted}
+use Rattle.prompters.specs.declared.first.First.{First}
+use Rattle.prompters.specs.Requests.{is_open, request_of}
+use Rattle.prompters.specs.Replies.{in_use_text, is_refusal, question_read, refuses_by, too_small_text}
+use Rattle.prompters.specs.Wanted.{begun_by, chain_behind, is_over, is_reply_to, meets_long_line, meets_use, unreplied, wanted}
 use Rattle.agent_serving.specs.declared.prompts.PromptsEnd.{PromptsEnd}
 use Rattle.agent_serving.specs.declared.prompts.PromptsEnd.TheVariants.{Idle, InUse, TooLong, Gone}
 use Rattle.agent_serving.specs.declared.prompts.PromptsEnd.TheVariants as e

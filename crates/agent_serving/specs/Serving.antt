@@ -3,8 +3,8 @@
 use Rattle.std.specs.Prelude.{◌≡◌, ◌<◌, ◌≤◌, ℕ, ◌+◌, zero, suc, List, [], ◌∷◌, ◌++◌, length, Option}
 use Rattle.agent_history.specs.declared.event.Event.{Event}
 use Rattle.agent_history.specs.declared.event.Event.TheVariants.{Take, Stop}
-use Rattle.listeners.specs.Listening.{Came}
-use Rattle.listeners.specs.Spawning.{Gains}
+use Rattle.wire_streams.specs.Listening.{Came}
+use Rattle.wire_streams.specs.Spawning.{Gains}
 use Rattle.agent_hub.specs.Submits.{HubSeat}
 use Rattle.agent_hub.specs.Entries.{Adds, Entered, events_in}
 use Rattle.agent_serving.specs.declared.job.Job.{Job}

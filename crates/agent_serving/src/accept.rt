@@ -6,11 +6,12 @@ ghost use Rattle.agent_serving.specs.Jobs.{seat_of};
 ghost use Rattle.agent_serving.specs.Serving.{Ended, Going, ServesSo};
 
 use crate::job::Job;
-use agent_hub::{Event, Hub, HubSeat};
-use listeners::{Listener, NoStart, Spawner};
+use agent_history::Event;
+use agent_hub::{Hub, HubSeat};
 use std::alloc::Global;
 use std::sync::Wait;
 use wire_base::Bytes;
+use wire_streams::{Listener, NoStart, Spawner};
 
 /// Why an agent accepts no more connections.
 #[derive(Clone, Copy, Debug, PartialEq, Eq)]

@@ -5,7 +5,7 @@ ghost use Rattle.agent_serving.specs.Jobs.{EndsSo, WordsRose, seat_of};
 
 use crate::prompts::{PromptsEnd, serve_prompts};
 use agent_hub::{AsksEnd, Hub, HubSeat, InEnd, OutEnd, serve_asks, serve_in, serve_out};
-use prompt_agent::{Chain, Prompter};
+use prompters::{Chain, Prompter};
 use std::alloc::Global;
 use std::sync::Wait;
 use wire_streams::{Dialer, Sink, Source, Words};

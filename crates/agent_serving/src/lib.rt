@@ -1,13 +1,24 @@
-//! An agent that serves many connections: each connection that comes is two jobs for a spawner, one that takes what is sent
-//! to the agent and one that writes what it replies. A further job asks the authentication server, and one answers what the
-//! agent asks its user. All of them share one agent, and one history.
+//! An agent that serves many connections: each connection that comes is two jobs for a spawner, one that takes what
+//! is sent to the agent and one that writes what it replies. A further job asks the authentication server, and one
+//! answers what the agent asks its user. All of them share one agent, and one history. Beside it the program as a
+//! library: its command words, each job as a task of a thread, and what it ends with.
 #![tactic(auto)]
 
 mod accept;
+mod ending;
 mod job;
 mod prompts;
+mod spawner;
+mod task;
+#[cfg(test)]
+mod tests;
+mod words;
 
 pub use accept::{ServeEnd, serve};
 pub use agent_hub::{Agent, Hub, HubSeat};
+pub use ending::{end_number, print_end};
 pub use job::{Job, JobEnd, run_job};
 pub use prompts::{PromptsEnd, serve_prompts};
+pub use spawner::HubSpawner;
+pub use task::{Again, Task, Tools};
+pub use words::{ServeWords, read_serve_words};

@@ -1,20 +1,20 @@
 // A program that answers for its user: a client of the agent's own files.
 ghost use Rattle.std.specs.Prelude.{◌≡◌, ◌<◌, ◌∷◌, ◌++◌, [], map, List, ℕ, IfOk};
-ghost use Rattle.nine_messages.specs.declared.message.TMsg.{TMsg};
-ghost use Rattle.nine_messages.specs.Messages.{t_frame};
-ghost use Rattle.nine_messages.specs.Decoding.{IsFrame};
-ghost use Rattle.prompt_agent.specs.Manners.{Manner};
-ghost use Rattle.prompt_frames.specs.declared.first.First.{First};
-ghost use Rattle.prompt_frames.specs.Requests.{read_of, request_of};
-ghost use Rattle.prompt_frames.specs.Wanted.{begun_by};
+ghost use Rattle.nine.specs.declared.message.TMsg.{TMsg};
+ghost use Rattle.nine.specs.Messages.{t_frame};
+ghost use Rattle.nine.specs.Decoding.{IsFrame};
+ghost use Rattle.prompters.specs.Manners.{Manner};
+ghost use Rattle.prompters.specs.declared.first.First.{First};
+ghost use Rattle.prompters.specs.Requests.{read_of, request_of};
+ghost use Rattle.prompters.specs.Wanted.{begun_by};
 ghost use Rattle.agent_hub.specs.Submits.{HubSeat, IsSeatOf};
 ghost use Rattle.agent_serving.specs.Prompting.{Asked, Hears, HearsOne, Judges, PromptsSo, Speaks, SpeaksOn, Stops, TakesOne, judged, taken_of};
 
-use agent_hub::{Event, Hub, HubSeat, StepAnswer, Submitted};
-use prompt_agent::{Chain, Prompter};
-use prompt_frames::{
-    First, IN_USE, TOO_SMALL, file_read, has_tag, is_refusal, is_refused_by, question_read,
-    read_request, write_request,
+use agent_history::{Event, StepAnswer};
+use agent_hub::{Hub, HubSeat, Submitted};
+use prompters::{
+    Chain, First, IN_USE, Prompter, TOO_SMALL, file_read, has_tag, is_refusal, is_refused_by,
+    question_read, read_request, write_request,
 };
 use side_files::{PromptKind, Question};
 use std::alloc::Global;

@@ -1,6 +1,6 @@
 // Sessions with an agent, frame by frame, beside replies that were written down elsewhere; and its limits.
 ghost use Rattle.std.specs.Prelude.{IfOk};
-ghost use Rattle.nine_messages.specs.Decoding.{IsFrame};
+ghost use Rattle.nine.specs.Decoding.{IsFrame};
 ghost use Rattle.agent_core.specs.Events.{IsEvent};
 
 mod ctl;
@@ -8,7 +8,8 @@ mod fids;
 mod files;
 mod refusals;
 
-use agent_core::{Agent, Event, StepAnswer};
+use agent_core::Agent;
+use agent_history::{Event, StepAnswer};
 use std::alloc::Global;
 use std::process::Abort;
 use std::str::from_utf8;

@@ -11,13 +11,13 @@ use Rattle.side_files.specs.Calls as side
 use Rattle.side_files.specs.Askers.{without_asked, without_conv}
 use Rattle.side_files.specs.Questions.{Questions, asker, first_conv, standing as waiting, withdrawn}
 use Rattle.talks.specs.Calls as calls
-use Rattle.mailboxes.specs.Deeds.{Deed, OfPrompts, OfTalk}
-use Rattle.mailboxes.specs.SideFiles.{askers, prompts_of}
-use Rattle.mailboxes.specs.Conversations.{Speaker, shut, speakers}
-use Rattle.logged_talks.specs.Speaks.{is_among}
-use Rattle.logged_talks.specs.Asking.{times}
-use Rattle.logged_talks.specs.declared.logged.LoggedTalks.{LoggedTalks}
-use Rattle.logged_talks.specs.Logging.{Logs}
+use Rattle.agent_history.specs.Deeds.{Deed, OfPrompts, OfTalk}
+use Rattle.agent_history.specs.SideFiles.{askers, prompts_of}
+use Rattle.agent_history.specs.Conversations.{Speaker, shut, speakers}
+use Rattle.told_talks.specs.Speaks.{is_among}
+use Rattle.told_talks.specs.Asking.{times}
+use Rattle.told_talks.specs.declared.logged.LoggedTalks.{LoggedTalks}
+use Rattle.told_talks.specs.Logging.{Logs}
 use Rattle.agent_shared.proofs.OwnDeeds.{delivered_answers}
 
 -- ---- numbers that stand apart

@@ -1,14 +1,14 @@
 -- From what the calls on conversations and on mailboxes do to what the history says of an answer that is delivered.
 use Rattle.std.proofs.Common.{◌≡◌, ℕ, List, false, Option, Some, None, sym, ap, subst, ◌∙◌}
 use Rattle.std.specs.Prelude.{option_map}
-use Rattle.nine_messages.specs.declared.message.RBody.{RBody}
-use Rattle.nine_messages.specs.Messages.{r_frame}
+use Rattle.nine.specs.declared.message.RBody.{RBody}
+use Rattle.nine.specs.Messages.{r_frame}
 use Rattle.talks.specs.Standings.{Phase, Resting, Waiting, Seeking, OnConfirm, OnNeedkey, OnServer, Kept}
-use Rattle.mailboxes.specs.Deeds.{Deed, was_hung}
-use Rattle.mailboxes.specs.Replies.{Wait}
-use Rattle.mailboxes.specs.Conversations.{Speaker, deliver_to, delivered, reader_of, speaker_of, standing_of, then_took, told}
-use Rattle.logged_talks.specs.Told.{Told as Telling}
-use Rattle.logged_talks.specs.Tells.{TellsBy, told_body}
+use Rattle.agent_history.specs.Deeds.{Deed, was_hung}
+use Rattle.agent_history.specs.Replies.{Wait}
+use Rattle.agent_history.specs.Conversations.{Speaker, deliver_to, delivered, reader_of, speaker_of, standing_of, then_took, told}
+use Rattle.told_talks.specs.Told.{Told as Telling}
+use Rattle.told_talks.specs.Tells.{TellsBy, told_body}
 use Rattle.mailboxes.specs.declared.reply.Reply.{Reply}
 use Rattle.mailboxes.specs.declared.mailboxes.Mailboxes.{Mailboxes}
 use Rattle.mailboxes.specs.Kept.{reply_bytes}

@@ -8,12 +8,12 @@ use Rattle.side_files.specs.declared.line.PromptKind.TheVariants as k
 use Rattle.side_files.specs.Calls as side
 use Rattle.talks.specs.Calls as calls
 use Rattle.side_files.specs.Questions.{first_conv, standing as waiting}
-use Rattle.mailboxes.specs.Deeds.{Deed, OfFids, OfConnection, OfPrompts, OfTalk, Clunked, Hung, Versioned, holder_of, was_hung}
-use Rattle.mailboxes.specs.SideFiles.{askers, file_of, prompts_of}
-use Rattle.mailboxes.specs.Conversations.{all_shut, all_withdrawn, closed, ended_by, shut, speakers}
+use Rattle.agent_history.specs.Deeds.{Deed, OfFids, OfConnection, OfPrompts, OfTalk, Clunked, Hung, Versioned, holder_of, was_hung}
+use Rattle.agent_history.specs.SideFiles.{askers, file_of, prompts_of}
+use Rattle.agent_history.specs.Conversations.{all_shut, all_withdrawn, closed, ended_by, shut, speakers}
 use Rattle.mailboxes.specs.Deliveries.{Delivers}
-use Rattle.logged_talks.specs.declared.logged.LoggedTalks.{LoggedTalks}
-use Rattle.logged_talks.specs.Logging.{Logs}
+use Rattle.told_talks.specs.declared.logged.LoggedTalks.{LoggedTalks}
+use Rattle.told_talks.specs.Logging.{Logs}
 use Rattle.agent_shared.specs.declared.shared.Shared.{Shared}
 use Rattle.agent_shared.specs.Sharing.{Holds, Shares}
 use Rattle.agent_shared.proofs.AskerLemmas.{askers_apart, few_askers, first_waits, shut_askers}

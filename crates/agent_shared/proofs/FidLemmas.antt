@@ -7,12 +7,12 @@ use Rattle.file_tree.specs.declared.tree.Node.TheVariants as n
 use Rattle.file_tree.specs.declared.tree.FidState.{FidState}
 use Rattle.file_tree.specs.Tree.{file}
 use Rattle.file_tree.specs.Calls.{node_of}
-use Rattle.mailboxes.specs.Deeds.{Deed, OfFids, OfConnection, Attached, Opened, Listed, Browsed, Versioned, Clunked, Entered, Hung, fid_of, holder_of, names, was_hung, was_opened, without}
-use Rattle.mailboxes.specs.Conversations.{Speaker, opened_talks, speakers}
-use Rattle.mailboxes.specs.Histories.{entered}
-use Rattle.mailboxes.specs.Requests.{is_rpc, walking}
+use Rattle.agent_history.specs.Deeds.{Deed, OfFids, OfConnection, Attached, Opened, Listed, Browsed, Versioned, Clunked, Entered, Hung, fid_of, holder_of, names, was_hung, was_opened, without}
+use Rattle.agent_history.specs.Conversations.{Speaker, opened_talks, speakers}
+use Rattle.agent_history.specs.Histories.{entered}
+use Rattle.agent_history.specs.Requests.{is_rpc, walking}
 use Rattle.mailboxes.proofs.DeliveryLemmas as mail
-use Rattle.logged_talks.proofs.DeedLemmas as logs
+use Rattle.told_talks.proofs.DeedLemmas as logs
 use Rattle.agent_shared.specs.declared.shared.Shared.{Shared}
 use Rattle.agent_shared.specs.Sharing.{AllLive, AreLive, HoldersLive, Shares}
 

@@ -1,4 +1,4 @@
-pub use Rattle.logged_talks.proofs.DeedLemmas
+pub use Rattle.told_talks.proofs.DeedLemmas
 pub mod OwnDeeds
 pub mod ShareLemmas
 pub mod FidLemmas

@@ -5,10 +5,10 @@ use Rattle.std.proofs.lemmas.Bool.{ltb-false}
 use Rattle.std.proofs.lemmas.List.{take_all}
 use Rattle.file_tree.specs.declared.tree.Node.{Node}
 use Rattle.side_files.specs.Lines.{TooLong, First, Hands, found, if_handed}
-use Rattle.mailboxes.specs.Deeds.{Deed}
-use Rattle.mailboxes.specs.SideFiles.{line_read}
-use Rattle.logged_talks.specs.declared.logged.LoggedTalks.{LoggedTalks}
-use Rattle.logged_talks.specs.Logging.{Logs}
+use Rattle.agent_history.specs.Deeds.{Deed}
+use Rattle.agent_history.specs.SideFiles.{line_read}
+use Rattle.told_talks.specs.declared.logged.LoggedTalks.{LoggedTalks}
+use Rattle.told_talks.specs.Logging.{Logs}
 use Rattle.agent_shared.specs.declared.shared.Shared.{Shared}
 use Rattle.agent_shared.specs.Sharing.{Shares}
 use Rattle.agent_shared.proofs.OwnDeeds.{read_talks}

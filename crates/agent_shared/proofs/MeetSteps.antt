@@ -4,7 +4,7 @@ use Rattle.std.specs.List.{list_any}
 use Rattle.std.proofs.lemmas.Bool.{cases_Bool, eq-eqb, false≢true}
 use Rattle.talks.specs.Calls as calls
 use Rattle.talks.specs.Standings.{Phase, Resting, Waiting, Seeking, OnConfirm, OnNeedkey, OnServer, Kept}
-use Rattle.logged_talks.specs.Shown.{has_request}
+use Rattle.begun_talks.specs.Shown.{has_request}
 use Rattle.side_files.specs.Askers.{asker_in}
 use Rattle.side_files.specs.Questions.{Questions, asker, asker_of}
 use Rattle.side_files.specs.declared.line.PromptKind.{PromptKind}
@@ -12,15 +12,15 @@ use Rattle.side_files.specs.declared.prompt.Asker.{Asker}
 use Rattle.key_lists.specs.Lists.{KeyList}
 use Rattle.side_files.specs.Calls as side
 use Rattle.talks.specs.declared.said.Asking.{Asking}
-use Rattle.mailboxes.specs.Deeds.{Deed, OfPrompts}
-use Rattle.mailboxes.specs.Replies.{swept}
-use Rattle.mailboxes.specs.SideFiles.{all_served, prompts_of}
-use Rattle.mailboxes.specs.Conversations.{asking, resumed, standing_of}
-use Rattle.mailboxes.specs.Requests.{carried, carrying_out, said_by}
-use Rattle.logged_talks.specs.Speaks.{IsReady, stands}
-use Rattle.logged_talks.specs.Asking.{is_asker}
-use Rattle.logged_talks.specs.declared.logged.LoggedTalks.{LoggedTalks}
-use Rattle.logged_talks.specs.Logging.{Logs, carried_logged, carried_logged_in, logged_by, logged_talk}
+use Rattle.agent_history.specs.Deeds.{Deed, OfPrompts}
+use Rattle.agent_history.specs.Replies.{swept}
+use Rattle.agent_history.specs.SideFiles.{all_served, prompts_of}
+use Rattle.agent_history.specs.Conversations.{asking, resumed, standing_of}
+use Rattle.agent_history.specs.Requests.{carried, carrying_out, said_by}
+use Rattle.told_talks.specs.Speaks.{IsReady, stands}
+use Rattle.told_talks.specs.Asking.{is_asker}
+use Rattle.told_talks.specs.declared.logged.LoggedTalks.{LoggedTalks}
+use Rattle.told_talks.specs.Logging.{Logs, carried_logged, carried_logged_in, logged_by, logged_talk}
 use Rattle.agent_shared.specs.declared.shared.Shared.{Shared}
 use Rattle.agent_shared.specs.Sharing.{Shares}
 use Rattle.agent_shared.specs.Serving.{followed}

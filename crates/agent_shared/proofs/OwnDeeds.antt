@@ -12,14 +12,14 @@ use Rattle.side_files.specs.Lines.{Found, Nothing, TooLong, First, found}
 use Rattle.talks.specs.Calls as calls
 use Rattle.talks.specs.Lines.{log_lines}
 use Rattle.talks.specs.Standings.{Phase, Resting, Waiting, Seeking, OnConfirm, OnNeedkey, OnServer, Kept}
-use Rattle.mailboxes.specs.Deeds.{Deed, ReplyDeed, OfReplies, OfTalk, OfPrompts, OfLog, Raised, Swept, Settled, holder_of, is_debug}
-use Rattle.mailboxes.specs.Replies.{Wait, has_settled, reader, swept, waits}
-use Rattle.mailboxes.specs.SideFiles.{all_served, askers, file_of, line_read, lines_in, serve_first, serve_read, serve_reads, served, served_to}
-use Rattle.mailboxes.specs.Conversations.{Speaker, all_shut, all_withdrawn, closed, deliver_to, delivered, ended_by, fits, give_to, given_up_by, logged, met, reader_of, resumed, shut, speaker_of, standing_of, then_took, told}
-use Rattle.mailboxes.specs.Requests.{carried, carrying_out}
-use Rattle.logged_talks.specs.Speaks.{talked}
-use Rattle.logged_talks.proofs.GrowLemmas.{TalksKeep, met_keeps}
-use Rattle.logged_talks.specs.Logging.{logged_by, logged_talk}
+use Rattle.agent_history.specs.Deeds.{Deed, ReplyDeed, OfReplies, OfTalk, OfPrompts, OfLog, Raised, Swept, Settled, holder_of, is_debug}
+use Rattle.agent_history.specs.Replies.{Wait, has_settled, reader, swept, waits}
+use Rattle.agent_history.specs.SideFiles.{all_served, askers, file_of, line_read, lines_in, serve_first, serve_read, serve_reads, served, served_to}
+use Rattle.agent_history.specs.Conversations.{Speaker, all_shut, all_withdrawn, closed, deliver_to, delivered, ended_by, fits, give_to, given_up_by, logged, met, reader_of, resumed, shut, speaker_of, standing_of, then_took, told}
+use Rattle.agent_history.specs.Requests.{carried, carrying_out}
+use Rattle.told_talks.specs.Speaks.{talked}
+use Rattle.told_talks.proofs.GrowLemmas.{TalksKeep, met_keeps}
+use Rattle.told_talks.specs.Logging.{logged_by, logged_talk}
 
 -- ---- deeds of conversations, of their questions and the log, and of replies
 

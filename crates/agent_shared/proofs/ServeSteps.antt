@@ -1,14 +1,14 @@
 -- A read that waits for a line is told what it finds.
 use Rattle.std.proofs.Common.{◌≡◌, ◌-◌, ℕ, zero, suc, List, ◌∷◌, false, Option, Some, None, refl, sym, ap, subst, ◌∙◌, arith}
 use Rattle.std.specs.Prelude.{option_map}
-use Rattle.nine_messages.specs.declared.message.RBody.{RBody}
-use Rattle.nine_messages.specs.declared.message.RBody.TheVariants as r
-use Rattle.nine_messages.specs.Messages.{r_frame}
+use Rattle.nine.specs.declared.message.RBody.{RBody}
+use Rattle.nine.specs.declared.message.RBody.TheVariants as r
+use Rattle.nine.specs.Messages.{r_frame}
 use Rattle.file_tree.specs.declared.tree.Node.{Node}
 use Rattle.side_files.specs.Lines.{Found, Nothing, TooLong, First, found}
-use Rattle.mailboxes.specs.Deeds.{Deed, OfReplies, Settled, was_hung}
-use Rattle.mailboxes.specs.Replies.{Wait, reader, too_small}
-use Rattle.mailboxes.specs.SideFiles.{line_read, lines_in, serve_first, serve_read, serve_reads}
+use Rattle.agent_history.specs.Deeds.{Deed, OfReplies, Settled, was_hung}
+use Rattle.agent_history.specs.Replies.{Wait, reader, too_small}
+use Rattle.agent_history.specs.SideFiles.{line_read, lines_in, serve_first, serve_read, serve_reads}
 use Rattle.mailboxes.specs.declared.mailboxes.Mailboxes.{Mailboxes}
 use Rattle.mailboxes.specs.declared.reply.Reply.{Reply}
 use Rattle.mailboxes.specs.declared.wait.Read.{Read}

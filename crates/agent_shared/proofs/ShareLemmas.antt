@@ -3,18 +3,18 @@ use Rattle.std.proofs.Common.{◌≡◌, ℕ, List, [], ◌∷◌, Bool, true, f
 use Rattle.std.specs.Prelude.{find}
 use Rattle.key_lists.specs.Lists.{KeyList}
 use Rattle.talks.specs.Standings.{Phase, Resting, Waiting, Seeking, OnConfirm, OnNeedkey, OnServer, Kept}
-use Rattle.mailboxes.specs.Deeds.{Deed, KeyDeed, ReplyDeed, OfKeys, OfReplies, Switched, keys_of, was_hung}
-use Rattle.mailboxes.specs.Replies.{swept}
-use Rattle.mailboxes.specs.Conversations.{Speaker, speaker_of, speakers, then_took}
-use Rattle.logged_talks.specs.Told.{Told as Telling}
-use Rattle.logged_talks.specs.Speaks.{stands}
-use Rattle.logged_talks.specs.Tells.{TellsBy}
+use Rattle.agent_history.specs.Deeds.{Deed, KeyDeed, ReplyDeed, OfKeys, OfReplies, Switched, keys_of, was_hung}
+use Rattle.agent_history.specs.Replies.{swept}
+use Rattle.agent_history.specs.Conversations.{Speaker, speaker_of, speakers, then_took}
+use Rattle.told_talks.specs.Told.{Told as Telling}
+use Rattle.told_talks.specs.Speaks.{stands}
+use Rattle.told_talks.specs.Tells.{TellsBy}
 use Rattle.mailboxes.specs.declared.mailboxes.Mailboxes.{Mailboxes}
 use Rattle.mailboxes.specs.Deliveries.{Delivers, SameMail}
 use Rattle.mailboxes.proofs.DeliveryLemmas as mail
-use Rattle.logged_talks.specs.declared.logged.LoggedTalks.{LoggedTalks}
-use Rattle.logged_talks.specs.Logging.{Logs}
-use Rattle.logged_talks.proofs.DeedLemmas.{replies_logs, swept_logs}
+use Rattle.told_talks.specs.declared.logged.LoggedTalks.{LoggedTalks}
+use Rattle.told_talks.specs.Logging.{Logs}
+use Rattle.told_talks.proofs.DeedLemmas.{replies_logs, swept_logs}
 use Rattle.agent_shared.specs.declared.holders.Holders.{Holders}
 use Rattle.agent_shared.specs.declared.shared.Shared.{Shared}
 use Rattle.agent_shared.specs.Sharing.{AllLive, AreLive, Holds, HoldersLive, SameShared, Shares}

@@ -1,4 +1,4 @@
-pub use Rattle.logged_talks.specs.Logging
-pub use Rattle.logged_talks.specs.declared.logged.LoggedTalks
+pub use Rattle.told_talks.specs.Logging
+pub use Rattle.told_talks.specs.declared.logged.LoggedTalks
 pub mod Sharing
 pub mod Serving

@@ -1,14 +1,14 @@
 -- What reads are told that wait, of a line or of an answer.
 use Rattle.std.specs.Prelude.{◌≡◌, ℕ, List, Bool, true, false, Option, Some, None}
-use Rattle.nine_messages.specs.declared.message.RBody.{RBody}
-use Rattle.nine_messages.specs.declared.message.RBody.TheVariants as r
-use Rattle.nine_messages.specs.Messages.{r_frame}
+use Rattle.nine.specs.declared.message.RBody.{RBody}
+use Rattle.nine.specs.declared.message.RBody.TheVariants as r
+use Rattle.nine.specs.Messages.{r_frame}
 use Rattle.file_tree.specs.declared.tree.Node.{Node}
 use Rattle.side_files.specs.Lines.{Found, Nothing, TooLong, First}
-use Rattle.mailboxes.specs.Deeds.{Deed}
-use Rattle.mailboxes.specs.Replies.{too_small}
-use Rattle.mailboxes.specs.Conversations.{delivered}
-use Rattle.mailboxes.specs.SideFiles.{all_served, line_read}
+use Rattle.agent_history.specs.Deeds.{Deed}
+use Rattle.agent_history.specs.Replies.{too_small}
+use Rattle.agent_history.specs.Conversations.{delivered}
+use Rattle.agent_history.specs.SideFiles.{all_served, line_read}
 use Rattle.mailboxes.specs.declared.reply.Reply.{Reply}
 use Rattle.mailboxes.specs.Kept.{reply_bytes}
 use Rattle.mailboxes.specs.Deliveries.{under}

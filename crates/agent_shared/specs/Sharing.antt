@@ -2,10 +2,10 @@
 use Rattle.std.specs.Prelude.{◌≡◌, ℕ, ◌+◌, ◌≤◌, List, [], ◌∷◌, length, Bool, false, IfSome}
 use Rattle.file_tree.specs.declared.tree.Node.{Node}
 use Rattle.file_tree.specs.declared.tree.Node.TheVariants.{Confirm, Needkey, Log}
-use Rattle.mailboxes.specs.Deeds.{Deed, was_hung, holder_of, keys_of}
-use Rattle.mailboxes.specs.Conversations.{Speaker, speakers}
+use Rattle.agent_history.specs.Deeds.{Deed, was_hung, holder_of, keys_of}
+use Rattle.agent_history.specs.Conversations.{Speaker, speakers}
 use Rattle.mailboxes.specs.Deliveries.{Delivers, SameMail}
-use Rattle.logged_talks.specs.Logging.{Logs, SameLogs, calls_in}
+use Rattle.told_talks.specs.Logging.{Logs, SameLogs, calls_in}
 use Rattle.agent_shared.specs.declared.holders.Holders.{Holders}
 use Rattle.agent_shared.specs.declared.shared.Shared.{Shared}
 

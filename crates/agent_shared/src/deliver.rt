@@ -1,19 +1,19 @@
 // The answer of a conversation, told to the read that waits for it.
 ghost use Rattle.std.specs.Prelude.{◌≡◌, List};
-ghost use Rattle.nine_messages.specs.Messages.{r_frame};
-ghost use Rattle.mailboxes.specs.Deeds.{Deed};
-ghost use Rattle.mailboxes.specs.Replies.{too_small};
-ghost use Rattle.mailboxes.specs.Conversations.{delivered};
-ghost use Rattle.logged_talks.specs.Tells.{IsShort, told_body};
+ghost use Rattle.nine.specs.Messages.{r_frame};
+ghost use Rattle.agent_history.specs.Deeds.{Deed};
+ghost use Rattle.agent_history.specs.Replies.{too_small};
+ghost use Rattle.agent_history.specs.Conversations.{delivered};
+ghost use Rattle.told_talks.specs.Tells.{IsShort, told_body};
 ghost use Rattle.mailboxes.specs.Kept.{reply_bytes};
 ghost use Rattle.mailboxes.specs.Deliveries.{SamePlace, SameRoom, StillNone, under};
-ghost use Rattle.logged_talks.specs.Logging.{calls_in, talks_in};
+ghost use Rattle.told_talks.specs.Logging.{calls_in, talks_in};
 ghost use Rattle.agent_shared.specs.Sharing.{Shares};
 
 use crate::shared::Shared;
-use logged_talks::{Speaker, Told};
 use mailboxes::{ErrorText, Reply, ToldAnswer};
 use std::alloc::Global;
+use told_talks::{Speaker, Told};
 
 const READ_TOO_SMALL: &[u8; 14] = b"read too small";
 

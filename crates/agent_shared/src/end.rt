@@ -1,11 +1,11 @@
 // Fids are given up, and with them conversations and open files.
 ghost use Rattle.std.specs.Prelude.{◌≡◌, ◌≤◌, List, ℕ, Option, false, true, length};
-ghost use Rattle.mailboxes.specs.Deeds.{Deed, OfConnection, OfFids, Clunked, Hung, Versioned, was_hung};
-ghost use Rattle.mailboxes.specs.SideFiles.{askers, file_of};
-ghost use Rattle.mailboxes.specs.Conversations.{all_shut, closed, given_up_by, shut};
+ghost use Rattle.agent_history.specs.Deeds.{Deed, OfConnection, OfFids, Clunked, Hung, Versioned, was_hung};
+ghost use Rattle.agent_history.specs.SideFiles.{askers, file_of};
+ghost use Rattle.agent_history.specs.Conversations.{all_shut, closed, given_up_by, shut};
 ghost use Rattle.mailboxes.specs.Deliveries.{KeepsNone, SameRoom, StillNone};
 ghost use Rattle.side_files.specs.declared.line.PromptKind.TheVariants as k;
-ghost use Rattle.logged_talks.specs.Asking.{is_asker};
+ghost use Rattle.told_talks.specs.Asking.{is_asker};
 ghost use Rattle.agent_shared.specs.Sharing.{Shares};
 
 use crate::shared::Shared;

@@ -2,8 +2,8 @@
 ghost use Rattle.std.specs.Prelude.{◌≡◌, ◌∷◌, [], ℕ, List, Option, ◌&&◌, is_some, true};
 ghost use Rattle.file_tree.specs.Tree.{is_exclusive};
 ghost use Rattle.file_tree.specs.Calls.{node_of};
-ghost use Rattle.mailboxes.specs.Deeds.{Deed, OfFids, OfConnection, Opened, Clunked, Versioned, Hung, fid_of, holder_of};
-ghost use Rattle.mailboxes.specs.Conversations.{asking};
+ghost use Rattle.agent_history.specs.Deeds.{Deed, OfFids, OfConnection, Opened, Clunked, Versioned, Hung, fid_of, holder_of};
+ghost use Rattle.agent_history.specs.Conversations.{asking};
 ghost use Rattle.agent_shared.specs.Sharing.{Holds};
 
 use file_tree::Node;

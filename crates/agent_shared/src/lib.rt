@@ -11,5 +11,5 @@ mod shared;
 
 pub use deliver::{read_too_small, spell_told};
 pub use holders::{Holder, Holders};
-pub use logged_talks::{AskingTalks, LoggedTalks};
 pub use shared::{Shared, is_rpc};
+pub use told_talks::LoggedTalks;

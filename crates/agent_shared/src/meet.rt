@@ -3,14 +3,14 @@ ghost use Rattle.std.specs.Prelude.{◌≡◌, ◌≤◌, ◌∷◌, List, Some,
 ghost use Rattle.talks.specs.Calls as c;
 ghost use Rattle.side_files.specs.Calls as side;
 ghost use Rattle.side_files.specs.Questions.{asker_of};
-ghost use Rattle.mailboxes.specs.Deeds.{Deed, OfPrompts};
-ghost use Rattle.mailboxes.specs.SideFiles.{prompts_of};
-ghost use Rattle.mailboxes.specs.Replies.{swept};
-ghost use Rattle.mailboxes.specs.Conversations.{asker, resumed, stands};
-ghost use Rattle.mailboxes.specs.Requests.{carried, said_by};
-ghost use Rattle.logged_talks.specs.Kept.{is_asked, questions_in, unasked};
+ghost use Rattle.agent_history.specs.Deeds.{Deed, OfPrompts};
+ghost use Rattle.agent_history.specs.SideFiles.{prompts_of};
+ghost use Rattle.agent_history.specs.Replies.{swept};
+ghost use Rattle.agent_history.specs.Conversations.{asker, resumed, stands};
+ghost use Rattle.agent_history.specs.Requests.{carried, said_by};
+ghost use Rattle.told_talks.specs.Kept.{is_asked, questions_in, unasked};
 ghost use Rattle.mailboxes.specs.Deliveries.{SamePlace, SameRoom};
-ghost use Rattle.logged_talks.specs.Logging.{calls_in, talks_in};
+ghost use Rattle.told_talks.specs.Logging.{calls_in, talks_in};
 ghost use Rattle.agent_shared.specs.Sharing.{GivesOne, SameShared, Shares};
 ghost use Rattle.agent_shared.specs.Serving.{followed};
 

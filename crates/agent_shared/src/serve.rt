@@ -2,9 +2,9 @@
 ghost use Rattle.std.specs.Prelude.{◌≡◌, List, false, true};
 ghost use Rattle.file_tree.specs.Tree.{is_exclusive};
 ghost use Rattle.side_files.specs.Lines.{found};
-ghost use Rattle.mailboxes.specs.Deeds.{Deed, was_hung};
-ghost use Rattle.mailboxes.specs.Replies.{reader};
-ghost use Rattle.mailboxes.specs.SideFiles.{all_served, lines_in, serve_first, serve_reads, served};
+ghost use Rattle.agent_history.specs.Deeds.{Deed, was_hung};
+ghost use Rattle.agent_history.specs.Replies.{reader};
+ghost use Rattle.agent_history.specs.SideFiles.{all_served, lines_in, serve_first, serve_reads, served};
 ghost use Rattle.mailboxes.specs.Deliveries.{SamePlace, SameRoom, StillNone};
 ghost use Rattle.agent_shared.specs.Sharing.{Shares};
 ghost use Rattle.agent_shared.specs.Serving.{LineTold, Serves};

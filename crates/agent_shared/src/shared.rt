@@ -5,22 +5,22 @@ ghost use Rattle.rpc_file.specs.Requests.{meant};
 ghost use Rattle.talks.specs.Calls as c;
 ghost use Rattle.side_files.specs.Lines.{Hands, found, if_handed};
 ghost use Rattle.side_files.specs.Questions.{asker_of};
-ghost use Rattle.mailboxes.specs.Deeds.{Deed, OfFids, OfKeys, OfTalk, Opened, Switched, fid_of, was_hung};
-ghost use Rattle.mailboxes.specs.SideFiles.{line_read, lines_in, prompts_of};
-ghost use Rattle.mailboxes.specs.Conversations.{speakers, stands, standing_of};
-ghost use Rattle.mailboxes.specs.Requests.{is_rpc, most_talks};
-ghost use Rattle.logged_talks.specs.Tells.{IsShort, TellsBy};
-ghost use Rattle.logged_talks.specs.Logging.{Logs, SameLogs, calls_in, talks_in};
+ghost use Rattle.agent_history.specs.Deeds.{Deed, OfFids, OfKeys, OfTalk, Opened, Switched, fid_of, was_hung};
+ghost use Rattle.agent_history.specs.SideFiles.{line_read, lines_in, prompts_of};
+ghost use Rattle.agent_history.specs.Conversations.{speakers, stands, standing_of};
+ghost use Rattle.agent_history.specs.Requests.{is_rpc, most_talks};
+ghost use Rattle.told_talks.specs.Tells.{IsShort, TellsBy};
+ghost use Rattle.told_talks.specs.Logging.{Logs, SameLogs, calls_in, talks_in};
 ghost use Rattle.agent_shared.specs.Sharing.{SameShared, Shares};
 
 use crate::holders::Holders;
 use file_tree::Node;
-use listed_ring::ListedRing;
-use logged_talks::{LoggedTalks, Told};
+use key_ring::ListedRing;
 use mailboxes::Mailboxes;
 use rpc_file::Request;
 use side_files::{PromptKind, TooSmall};
 use std::alloc::Global;
+use told_talks::{LoggedTalks, Told};
 use wire_base::{Bytes, NoMemory};
 
 /// How many conversations may stand.

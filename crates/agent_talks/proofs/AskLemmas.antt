@@ -5,9 +5,9 @@ use Rattle.std.specs.List.{position_or_len}
 use Rattle.std.proofs.lemmas.Bool.{cases_Bool, cases_lt, le-ltb, lt-ltb}
 use Rattle.rpc_file.specs.declared.answer.RpcAnswer.{RpcAnswer}
 use Rattle.rpc_file.specs.declared.answer.RpcAnswer.TheVariants as a
-use Rattle.agent_history.specs.Calls as calls
-use Rattle.agent_history.specs.Calls.{Call}
-use Rattle.agent_history.specs.Standings.{Kept, Phase, standing}
+use Rattle.talks.specs.Calls as calls
+use Rattle.talks.specs.Calls.{Call}
+use Rattle.talks.specs.Standings.{Kept, Phase, standing}
 use Rattle.agent_history.specs.Deeds.{Deed, HandedOut, OfTalk}
 use Rattle.agent_history.specs.Conversations.{Question, asker, hand_first, next_question, questions, raising, seeking, seeking_all, sought_once, standing_of, talk, then_raised}
 use Rattle.agent_talks.specs.declared.question.Question.{Question as HeldQuestion}

@@ -2,9 +2,9 @@
 use Rattle.std.proofs.Common.{◌≡◌, ℕ, ◌+◌, ◌≤◌, List, [], ◌∷◌, ◌++◌, Bool, true, false, cond, eqb, Option, Some, None, refl, sym, ap, subst, ◌∙◌, inl, inr}
 use Rattle.std.proofs.lemmas.Bool.{cases_Bool, eq-eqb, eqb-true, false≢true}
 use Rattle.key_lists.specs.Lists.{KeyList}
-use Rattle.agent_history.specs.Calls.{AsksConsent, AsksKey, Call, CarriedOut, Chosen, Consented, Denied, Found, Heard, KeyTold, NoneServes, Offered, Picked, Roomless, Shut, Sought, Stored, Took, Unheard}
-use Rattle.agent_history.specs.Asking.{Asking}
-use Rattle.agent_history.specs.Standings.{Phase, Resting, Waiting, Seeking, OnConfirm, OnNeedkey, OnServer, Kept, Standing, finds, standing}
+use Rattle.talks.specs.Calls.{AsksConsent, AsksKey, Call, CarriedOut, Chosen, Consented, Denied, Found, Heard, KeyTold, NoneServes, Offered, Picked, Roomless, Shut, Sought, Stored, Took, Unheard}
+use Rattle.talks.specs.declared.said.Asking.{Asking}
+use Rattle.talks.specs.Standings.{Phase, Resting, Waiting, Seeking, OnConfirm, OnNeedkey, OnServer, Kept, Standing, finds, standing}
 use Rattle.conversations.specs.declared.conversation.Conversation.{Conversation}
 use Rattle.conversations.specs.declared.asks.Asks.{Asks}
 use Rattle.conversations.specs.Asking.{IsReady as Made, ReadyIn, asks_that}

@@ -2,9 +2,9 @@
 -- is found stands.
 use Rattle.std.proofs.Common.{◌≡◌, ℕ, List, ◌∷◌, Bool, true, false, cond, ◌==◌, ◌&&◌, Option, Some, None, sym}
 use Rattle.rpc_file.specs.declared.answer.RpcAnswer.{RpcAnswer}
-use Rattle.agent_history.specs.Calls as calls
-use Rattle.agent_history.specs.Calls.{Call}
-use Rattle.agent_history.specs.Standings.{Phase, Resting, Waiting, Seeking, OnConfirm, OnNeedkey, OnServer, Kept}
+use Rattle.talks.specs.Calls as calls
+use Rattle.talks.specs.Calls.{Call}
+use Rattle.talks.specs.Standings.{Phase, Resting, Waiting, Seeking, OnConfirm, OnNeedkey, OnServer, Kept}
 use Rattle.agent_history.specs.Deeds.{Deed, OfTalk, OfPrompts, Raised}
 use Rattle.agent_history.specs.Conversations.{Speaker, asker, conv_of, fits, prompting, raising, seeking, seeking_all, sought_once, speaker_of, speakers, standing_of, then_sought, then_took}
 use Rattle.side_files.specs.Calls as side

@@ -1,4 +1,3 @@
-pub use Rattle.conversations.proofs.WaitLaws
 pub mod LeaveLemmas
 pub mod StandLemmas
 pub mod SpeakLemmas
@@ -9,3 +8,10 @@ pub mod SightLemmas
 pub mod TellLemmas
 pub mod GrowLemmas
 pub mod UnaskedLemmas
+pub mod CallLemmas
+pub mod SeekLemmas
+pub mod TalkLemmas
+pub mod LeaveCalls
+pub mod OtherCalls
+pub mod HandLemmas
+pub mod MeetLemmas

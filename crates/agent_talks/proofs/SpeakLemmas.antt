@@ -5,9 +5,9 @@ use Rattle.std.specs.List.{list_any}
 use Rattle.std.proofs.lemmas.Bool.{cases_Bool, eq-eqb, eqb-true, false≢true}
 use Rattle.std.proofs.lemmas.List.{length-map}
 use Rattle.rpc_file.specs.Requests.{RpcRequest}
-use Rattle.agent_history.specs.Calls as calls
-use Rattle.agent_history.specs.Calls.{Call}
-use Rattle.agent_history.specs.Standings.{OnServer, Phase, Standing, standing, then_stands}
+use Rattle.talks.specs.Calls as calls
+use Rattle.talks.specs.Calls.{Call}
+use Rattle.talks.specs.Standings.{OnServer, Phase, Standing, standing, then_stands}
 use Rattle.file_tree.specs.declared.tree.Node.TheVariants.{Rpc}
 use Rattle.conversations.specs.declared.conversation.Conversation.{Conversation}
 use Rattle.conversations.specs.Fits.{Holds}

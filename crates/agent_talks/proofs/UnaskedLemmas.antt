@@ -2,7 +2,7 @@
 use Rattle.std.proofs.Common.{◌≡◌, ℕ, ◌-◌, ◌≤◌, List, [], ◌∷◌, length, map, filter, Bool, true, false, cond, eqb, not, ◌||◌, Option, Some, None, Result, Ok, Err, refl, sym, ap, ◌∙◌, arith}
 use Rattle.std.specs.Prelude.{find, is_some, nat_lt, option_map, OnOk, OnErr}
 use Rattle.std.proofs.lemmas.Bool.{lt-ltb}
-use Rattle.agent_history.specs.Calls.{Call}
+use Rattle.talks.specs.Calls.{Call}
 use Rattle.agent_history.specs.Conversations.{Question, hand_first}
 use Rattle.agent_talks.specs.declared.question.Question.{Question as HeldQuestion}
 use Rattle.agent_talks.specs.declared.held.Talks.{Talks}

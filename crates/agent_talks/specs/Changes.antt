@@ -2,9 +2,9 @@
 use Rattle.std.specs.Prelude.{◌≡◌, ℕ, ◌+◌, List, [], ◌∷◌, ◌++◌, filter, Bool, true, false, not, ◌&&◌, ◌==◌, Option, Some, None, is_some, if◌then◌else◌}
 use Rattle.std.specs.List.{list_any}
 use Rattle.key_lists.specs.Lists.{KeyList}
-use Rattle.agent_history.specs.Calls.{Call, Consented, KeyTold}
-use Rattle.agent_history.specs.Asking.{Asking}
-use Rattle.agent_history.specs.Standings.{Phase, standing}
+use Rattle.talks.specs.Calls.{Call, Consented, KeyTold}
+use Rattle.talks.specs.declared.said.Asking.{Asking}
+use Rattle.talks.specs.Standings.{Phase, standing}
 use Rattle.conversations.specs.declared.conversation.Conversation.{Conversation}
 use Rattle.conversations.specs.Fits.{Holds, Keeps, Shows, Stays, with_answer, with_request}
 use Rattle.conversations.specs.declared.asks.Asks.{Asks}

@@ -1,15 +1,6 @@
-pub use Rattle.agent_history.specs.Conversations
-pub use Rattle.agent_history.specs.Deeds
-pub use Rattle.agent_history.specs.Histories
-pub use Rattle.agent_history.specs.Replies
-pub use Rattle.agent_history.specs.Requests
-pub use Rattle.agent_history.specs.SideFiles
-pub use Rattle.conversations.specs.Asking
-pub use Rattle.conversations.specs.Fits
-pub use Rattle.conversations.specs.Shown
-pub use Rattle.conversations.specs.declared.asks.Asks
-pub use Rattle.conversations.specs.declared.conversation.Conversation
 pub mod Kept
 pub mod Speaks
 pub mod Changes
 pub mod Tells
+pub mod Calls
+pub mod Keeps

@@ -2,9 +2,9 @@
 use Rattle.std.specs.Prelude.{◌≡◌, ℕ, ◌≤◌, List, [], ◌∷◌, Bool, true, false, ◌==◌, Option, Some, None}
 use Rattle.std.specs.List.{list_any}
 use Rattle.key_lists.specs.Lists.{KeyList}
-use Rattle.agent_history.specs.Calls.{Call, CarriedOut}
-use Rattle.agent_history.specs.Standings.{OnServer, Phase, Waiting, standing}
-use Rattle.agent_history.specs.Asking.{Asking}
+use Rattle.talks.specs.Calls.{Call, CarriedOut}
+use Rattle.talks.specs.Standings.{OnServer, Phase, Waiting, standing}
+use Rattle.talks.specs.declared.said.Asking.{Asking}
 use Rattle.agent_history.specs.Deeds.{Deed, OfTalk, keys_of}
 use Rattle.agent_history.specs.Conversations as told
 use Rattle.agent_history.specs.Conversations.{Question, Speaker, opened_talks, standing_of, talk, then_raised, then_sought}

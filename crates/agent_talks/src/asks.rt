@@ -1,6 +1,6 @@
 // The questions of conversations for the authentication server, and what comes of them.
 ghost use Rattle.std.specs.Prelude.{◌≡◌, ◌≤◌, ◌-◌, ◌∷◌, List, Option, IsOk, OnOk, OnErr, false, is_some, nat_lt, option_copied, option_map};
-ghost use Rattle.agent_history.specs.Calls as c;
+ghost use Rattle.talks.specs.Calls as c;
 ghost use Rattle.agent_history.specs.Deeds.{Deed, HandedOut};
 ghost use Rattle.agent_history.specs.Conversations.{asker, next_question};
 ghost use Rattle.agent_talks.specs.Kept as kept;

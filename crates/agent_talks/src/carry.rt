@@ -2,8 +2,8 @@
 ghost use Rattle.std.specs.Prelude.{◌≡◌, List, ℕ, true, IfOk, OnOk, OnErr};
 ghost use Rattle.std.specs.BTreeMap.{get};
 ghost use Rattle.std.specs.Ordering.{nat_cmp};
-ghost use Rattle.agent_history.specs.Calls as c;
-ghost use Rattle.agent_history.specs.Calls.{Call};
+ghost use Rattle.talks.specs.Calls as c;
+ghost use Rattle.talks.specs.Calls.{Call};
 ghost use Rattle.agent_history.specs.Deeds.{Deed};
 ghost use Rattle.agent_history.specs.Conversations.{standing_of};
 ghost use Rattle.conversations.specs.Shown.{asks_user, has_request};
@@ -14,10 +14,11 @@ ghost use Rattle.agent_talks.specs.Speaks.{IsReady, Readied, ShowsRequest, Speak
 
 use crate::held::Talks;
 use crate::question::Question;
-use agent_history::Asking;
-use conversations::{Asks, Conversation, KeyRing};
+use conversations::{Asks, Conversation};
+use key_ring::KeyRing;
 use std::alloc::Global;
 use std::collections::BTreeMap;
+use talks::Asking;
 use wire_base::NoMemory;
 
 // By what a conversation goes on.

@@ -4,7 +4,7 @@ ghost use Rattle.std.specs.BTreeMap.{get};
 ghost use Rattle.std.specs.Ordering.{nat_cmp};
 ghost use Rattle.file_tree.specs.declared.tree.Node.TheVariants.{Rpc};
 ghost use Rattle.rpc_file.specs.Requests.{meant};
-ghost use Rattle.agent_history.specs.Calls as c;
+ghost use Rattle.talks.specs.Calls as c;
 ghost use Rattle.agent_history.specs.Deeds.{Deed, OfConnection, OfFids, OfTalk, Clunked, Hung, Opened, Versioned, fid_of, names};
 ghost use Rattle.agent_history.specs.Conversations.{conv_of, raised, speaker_of, speakers, talk};
 ghost use Rattle.agent_talks.specs.Kept as kept;

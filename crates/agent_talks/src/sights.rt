@@ -6,8 +6,9 @@ ghost use Rattle.agent_history.specs.Requests.{has_answer, is_resting, phase_of}
 ghost use Rattle.agent_talks.specs.Speaks.{IsOpenAt, Speak};
 
 use crate::held::Talks;
-use conversations::{Conversation, Key};
-use rpc_file::Outcome;
+use conversations::Conversation;
+use key_ring::Key;
+use roles::Outcome;
 
 impl Talks {
     /// Whether the conversation that a fid has open, if it has one, has neither a request nor an answer. It takes no

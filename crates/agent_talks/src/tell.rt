@@ -1,6 +1,6 @@
 // What a read is told.
 ghost use Rattle.std.specs.Prelude.{◌≡◌, List, IfSome, option_copied, option_map, true};
-ghost use Rattle.agent_history.specs.Calls as c;
+ghost use Rattle.talks.specs.Calls as c;
 ghost use Rattle.agent_history.specs.Deeds.{Deed};
 ghost use Rattle.agent_history.specs.Conversations.{fits, standing_of};
 ghost use Rattle.agent_talks.specs.Changes.{Meets};

@@ -1,17 +1,17 @@
 -- What is recorded of replies by their frames is what is recorded of the replies.
 use Rattle.std.proofs.Common.{◌≡◌, ℕ, ◌+◌, List, [], ◌∷◌, ◌++◌, Bool, Option, refl, sym, ap, ◌∙◌}
 use Rattle.std.proofs.lemmas.List.Concat.{flat_map-cons}
-use Rattle.nine_messages.specs.declared.message.RMsg.{RMsg}
-use Rattle.nine_messages.specs.declared.message.RBody.{RBody}
-use Rattle.nine_messages.specs.declared.message.RBody.TheVariants as r
-use Rattle.nine_messages.specs.Messages.{r_frame}
-use Rattle.wire_model.specs.declared.step.Step.{Step}
+use Rattle.nine.specs.declared.message.RMsg.{RMsg}
+use Rattle.nine.specs.declared.message.RBody.{RBody}
+use Rattle.nine.specs.declared.message.RBody.TheVariants as r
+use Rattle.nine.specs.Messages.{r_frame}
+use Rattle.wire_histories.specs.declared.step.Step.{Step}
 use Rattle.world_history.specs.Talking.{all_reply_steps, is_out, is_taken, is_taken_by, reply_steps}
 use Rattle.world_history.specs.Turns as does
 use Rattle.world_history.specs.Turns.{told_steps}
-use Rattle.agent_driver.specs.Drives.{frames_of}
-use Rattle.agent_driver.specs.Texts.{content_of, error_of}
-use Rattle.agent_driver.proofs.FrameLemmas.{content_told, error_told}
+use Rattle.agent_turns.specs.Drives.{frames_of}
+use Rattle.agent_turns.specs.Texts.{content_of, error_of}
+use Rattle.agent_turns.proofs.DrivenFrames.{content_told, error_told}
 use Rattle.agent_turns.specs.Frames.{all_frame_steps, are_taken, content, frame_steps, refusal, refused_by, says_taken, steps_by, told_frames}
 
 by_body : (number : ℕ) (conv : List ℕ) (broke : Bool) (body : RBody) → steps_by number conv broke (content_of body) (error_of body) ≡ reply_steps number conv broke body

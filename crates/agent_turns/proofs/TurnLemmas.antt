@@ -3,17 +3,17 @@ use Rattle.std.proofs.Common.{◌≡◌, ℕ, ◌+◌, List, [], ◌∷◌, ◌+
 use Rattle.agent_history.specs.declared.event.Event.{Event}
 use Rattle.agent_history.specs.declared.event.Event.TheVariants as events
 use Rattle.agent_history.specs.Histories.{History}
-use Rattle.agent_driver.specs.Agent.{Agent}
-use Rattle.wire_model.specs.declared.step.Step.{Step}
-use Rattle.wire_model.specs.declared.step.Step.TheVariants as s
+use Rattle.agent_core.specs.declared.agent.Agent.{Agent}
+use Rattle.wire_histories.specs.declared.step.Step.{Step}
+use Rattle.wire_histories.specs.declared.step.Step.TheVariants as s
 use Rattle.world_history.specs.Driving.{clunks, drive, is_refused, questions_to, reads, replies_to, writes}
 use Rattle.world_history.specs.Talking as talk
 use Rattle.world_history.specs.Talking.{all_reply_steps, ask_steps, breaks, came, end_steps, following, outcome_in, own_steps, request_text, word_of}
 use Rattle.world_history.specs.Turns as does
 use Rattle.world_history.specs.Turns.{after, turn_questions, turn_steps}
 use Rattle.world_history.specs.Worlds.{last_call}
-use Rattle.agent_driver.specs.declared.takes.Driven.{Driven}
-use Rattle.agent_driver.specs.Drives.{Drives, frames_of}
+use Rattle.agent_turns.specs.declared.takes.Driven.{Driven}
+use Rattle.agent_turns.specs.Drives.{Drives, frames_of}
 use Rattle.agent_turns.specs.declared.following.Came.{Came}
 use Rattle.agent_turns.specs.declared.turns.Turned.{Turned}
 use Rattle.agent_turns.specs.Frames.{all_frame_steps, are_taken, told_frames}

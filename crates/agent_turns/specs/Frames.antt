@@ -1,10 +1,10 @@
 -- What is recorded of replies, read off their frames.
 use Rattle.std.specs.Prelude.{ℕ, ◌+◌, List, [], ◌∷◌, ◌++◌, Bool, true, false, not, Option, Some, None}
 use Rattle.std.specs.List.{flat_map}
-use Rattle.wire_model.specs.declared.step.Step.{Step}
-use Rattle.wire_model.specs.declared.step.Step.TheVariants.{Reply, Refused}
+use Rattle.wire_histories.specs.declared.step.Step.{Step}
+use Rattle.wire_histories.specs.declared.step.Step.TheVariants.{Reply, Refused}
 use Rattle.world_history.specs.Talking.{answer_steps, is_out, leaves_untaken}
-use Rattle.agent_driver.specs.Texts.{text_at}
+use Rattle.agent_turns.specs.Texts.{text_at}
 
 -- what a frame gives to a read, and why it refuses
 abbrev pub content : List ℕ → Option (List ℕ)

@@ -1,3 +1,5 @@
-pub use Rattle.agent_driver.specs.Agents
+pub use Rattle.agent_core.specs.Agents
+pub mod Drives
+pub mod Texts
 pub mod Frames
 pub mod Turning

@@ -3,17 +3,17 @@ use Rattle.std.specs.Prelude.{◌≡◌, ℕ, ◌≤◌, ◌<◌, ◌^◌, ◌+�
 use Rattle.roles.specs.declared.need.Outcome.{Outcome}
 use Rattle.agent_history.specs.declared.event.Event.{Event}
 use Rattle.agent_history.specs.Histories.{History}
-use Rattle.agent_driver.specs.Agent.{Agent}
-use Rattle.agent_driver.specs.Agents.{StandsFor}
-use Rattle.wire_model.specs.declared.step.Step.{Step}
-use Rattle.wire_model.specs.declared.step.Step.TheVariants.{In}
+use Rattle.agent_core.specs.declared.agent.Agent.{Agent}
+use Rattle.agent_core.specs.Agents.{StandsFor}
+use Rattle.wire_histories.specs.declared.step.Step.{Step}
+use Rattle.wire_histories.specs.declared.step.Step.TheVariants.{In}
 use Rattle.world_history.specs.declared.question.Question.{Question}
 use Rattle.world_history.specs.Driving.{drive, questions_to, replies_to}
 use Rattle.world_history.specs.Talking.{ask_steps, breaks, end_steps, outcome_in, request_text, start_step}
 use Rattle.world_history.specs.Talking as talk
 use Rattle.world_history.specs.Turns as does
 use Rattle.world_history.specs.Worlds.{last_call}
-use Rattle.agent_driver.specs.Drives.{frames_of}
+use Rattle.agent_turns.specs.Drives.{frames_of}
 use Rattle.agent_turns.specs.Frames.{all_frame_steps, are_taken}
 use Rattle.agent_turns.specs.declared.following.Came.{Came}
 use Rattle.agent_turns.specs.declared.turns.Asks.{Asks}

@@ -1,14 +1,14 @@
 // How a conversation came to its end.
 ghost use Rattle.std.specs.Prelude.{◌≡◌, ◌∷◌, ◌++◌, [], OnOk};
 ghost use Rattle.talks.specs.Lines.{cause_text, is_end};
-ghost use Rattle.wire_model.specs.declared.step.Step.TheVariants.{Accept, Fail};
+ghost use Rattle.wire_histories.specs.declared.step.Step.TheVariants.{Accept, Fail};
 ghost use Rattle.world_history.specs.Talking.{breaks, end_of, end_steps, is_broken};
 
 use crate::steps::put;
 use roles::{Cause, Outcome};
 use std::alloc::Global;
 use wire_base::{AuthInfo, Bytes, NoMemory};
-use wire_model::Step;
+use wire_histories::Step;
 
 fn is_end(outcome: Option<Outcome>) -> bool
     ensures { result ≡ is_end outcome }

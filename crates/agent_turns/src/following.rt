@@ -1,9 +1,9 @@
 // What follows on an event: the questions, the end and the answers.
 ghost use Rattle.std.specs.Prelude.{◌≡◌, ◌∷◌, ◌++◌, ◌+◌, [], OnOk, IfOk, length, None};
-ghost use Rattle.wire_model.specs.declared.step.Step.TheVariants.{Ask};
+ghost use Rattle.wire_histories.specs.declared.step.Step.TheVariants.{Ask};
 ghost use Rattle.agent_history.specs.Histories.{History};
-ghost use Rattle.agent_driver.specs.Agents.{StandsFor};
-ghost use Rattle.agent_driver.specs.Events.{IsEvent};
+ghost use Rattle.agent_core.specs.Agents.{StandsFor};
+ghost use Rattle.agent_core.specs.Events.{IsEvent};
 ghost use Rattle.agent_turns.specs.Turning.{Comes, follow};
 ghost use Rattle.world_history.specs.Talking.{ask_steps};
 ghost use Rattle.world_history.specs.Worlds.{last_call};
@@ -11,11 +11,13 @@ ghost use Rattle.world_history.specs.Worlds.{last_call};
 use crate::ends::{breaks, put_end};
 use crate::replies::put_frames;
 use crate::steps::{next, put};
-use agent_driver::{Agent, Driven, Event, drive};
+use crate::takes::{Driven, drive};
+use agent_core::Agent;
+use agent_history::Event;
 use roles::Outcome;
 use std::alloc::Global;
 use wire_base::{Bytes, NoMemory};
-use wire_model::Step;
+use wire_histories::Step;
 use world_history::Question;
 
 /// What came of an event on a conversation: what the agent put out, and how the conversation stood as to its end before and

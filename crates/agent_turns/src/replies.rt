@@ -3,11 +3,11 @@ ghost use Rattle.std.specs.Prelude.{◌≡◌, ◌∷◌, ◌++◌, ◌+◌, [],
 ghost use Rattle.agent_turns.specs.Frames.{all_frame_steps, frame_steps, are_taken, told_frames};
 ghost use Rattle.world_history.specs.Talking.{answer_steps, is_out, leaves_untaken};
 
+use crate::driven_replies::{content_in, error_in};
 use crate::steps::{next, put_out, put_refused, put_reply};
-use agent_driver::{content_in, error_in};
 use std::alloc::Global;
 use wire_base::{Bytes, NoMemory};
-use wire_model::Step;
+use wire_histories::Step;
 
 // An answer to what was given that says that it wasn't taken.
 #[tactic(auto, unfolding(world_history::specs::Talking::leaves_untaken))]

@@ -9,7 +9,7 @@ use begun_talks::read_template;
 use roles::says;
 use std::alloc::Global;
 use wire_base::{Bytes, NoMemory};
-use wire_model::{Protocol, Role, Step};
+use wire_histories::{Protocol, Role, Step};
 
 // The tuple of a start; an empty one where the text is none, or has too many attributes.
 fn read_tuple(alloc: Global, text: &[u8]) -> Result<Tuple, NoMemory>

@@ -1,10 +1,10 @@
 // Steps, one behind the other.
 ghost use Rattle.std.specs.Prelude.{◌≡◌, ◌∷◌, ◌++◌, ◌+◌, [], OnOk, IfOk};
-ghost use Rattle.wire_model.specs.declared.step.Step.TheVariants.{Reply, Out, In, Refused};
+ghost use Rattle.wire_histories.specs.declared.step.Step.TheVariants.{Reply, Out, In, Refused};
 
 use std::alloc::Global;
 use wire_base::{Bytes, NoMemory};
-use wire_model::Step;
+use wire_histories::Step;
 
 /// Puts a step behind others.
 pub(crate) fn put(step: Step, steps: &mut Vec<Step>) -> Result<(), NoMemory>

@@ -1,19 +1,24 @@
 // What is done to an agent.
 ghost use Rattle.std.specs.Prelude.{◌≡◌, ◌≤◌, ◌<◌, ◌^◌, ◌∷◌, ◌++◌, OnOk, IfOk, length};
 ghost use Rattle.agent_history.specs.Histories.{History};
-ghost use Rattle.agent_driver.specs.Agents.{StandsFor};
+ghost use Rattle.agent_core.specs.Agents.{StandsFor};
 ghost use Rattle.agent_turns.specs.Turning.{Turns, IsTurn, own, said_asks, said_turn};
 ghost use Rattle.world_history.specs.Talking.{request_text, word_of};
 ghost use Rattle.world_history.specs.Turns as does;
 
+use crate::driven_replies::is_refused;
+use crate::events::{clunks, reads, writes};
 use crate::following::{Came, last_call, meet, put_following};
+use crate::nodes::CTL;
 use crate::replies::{are_taken, put_all_told, put_frames};
 use crate::starts::put_start;
 use crate::steps::{put, put_taken};
-use agent_driver::{Agent, CTL, Event, clunks, drive, is_refused, reads, writes};
+use crate::takes::drive;
+use agent_core::Agent;
+use agent_history::Event;
 use std::alloc::Global;
 use wire_base::{Bytes, NoMemory};
-use wire_model::Step;
+use wire_histories::Step;
 
 /// What is asked of a conversation.
 #[derive(Clone, Copy)]

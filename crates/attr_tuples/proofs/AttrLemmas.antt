@@ -8,9 +8,9 @@ use Rattle.std.proofs.lemmas.List.Folds.{list_all-append}
 use Rattle.std.proofs.lemmas.List.Quantifiers.{position-Some}
 use Rattle.std.proofs.lemmas.Str.{IsUtf8-from_is_utf8, is_utf8-from_IsUtf8}
 use Rattle.wire_base.specs.Texts.{is_text}
-use Rattle.attr_words.specs.Lines.{is_line_byte, is_line}
-use Rattle.attr_words.specs.Words.{is_gap, gap_len}
-use Rattle.attr_words.proofs.LineLemmas.{before_ascii, behind_ascii}
+use Rattle.attr_tuples.specs.Lines.{is_line_byte, is_line}
+use Rattle.attr_tuples.specs.Words.{is_gap, gap_len}
+use Rattle.attr_tuples.proofs.LineLemmas.{before_ascii, behind_ascii}
 use Rattle.attr_tuples.specs.declared.attr.Attr.{Attr}
 use Rattle.attr_tuples.specs.declared.attr.Value.TheVariants.{Ask, Bare}
 use Rattle.attr_tuples.specs.Attributes.{is_name, is_value, is_attr, is_tuple}

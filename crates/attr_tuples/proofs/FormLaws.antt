@@ -7,7 +7,7 @@ use Rattle.std.proofs.lemmas.Bool.{and_parts, cases_Bool, leb-true, le-leb}
 use Rattle.std.proofs.lemmas.Slice.Eq.{bytes_eq-Decides}
 use Rattle.wire_base.specs.Names.{IsName}
 use Rattle.wire_base.specs.Texts.{is_text}
-use Rattle.attr_words.specs.Lines.{is_line_byte}
+use Rattle.attr_tuples.specs.Lines.{is_line_byte}
 use Rattle.attr_tuples.specs.Attributes.{is_given, is_value}
 use Rattle.attr_tuples.specs.Equality.{same_value}
 use Rattle.attr_tuples.specs.Forms.{is_above_blank, is_dom, is_dom_byte, is_user}

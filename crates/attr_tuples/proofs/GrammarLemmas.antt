@@ -3,11 +3,11 @@ use Rattle.std.proofs.Common.{◌≡◌, ℕ, zero, suc, ◌+◌, ◌-◌, ◌<�
 use Rattle.std.specs.List.{list_all}
 use Rattle.std.proofs.lemmas.Bool.{and_parts, not-true, leb-true, eq-eqb, ne_eqb}
 use Rattle.std.proofs.lemmas.List.{append-nil, drop-drop}
-use Rattle.attr_words.specs.Lines.{is_line, line_len}
-use Rattle.attr_words.specs.Words.{Part, Cut, IsWord, is_gap, ends_unquoted, word_text, word_bytes, are_parts, ends_word, first_word, gap_len}
-use Rattle.attr_words.specs.Words.Part.{Plain, Quoted}
-use Rattle.attr_words.proofs.PartLemmas.{plain_parts, word_written, open_written}
-use Rattle.attr_words.proofs.LineLemmas.{len_from_line}
+use Rattle.attr_tuples.specs.Lines.{is_line, line_len}
+use Rattle.attr_tuples.specs.Words.{Part, Cut, IsWord, is_gap, ends_unquoted, word_text, word_bytes, are_parts, ends_word, first_word, gap_len}
+use Rattle.attr_tuples.specs.Words.Part.{Plain, Quoted}
+use Rattle.attr_tuples.proofs.PartLemmas.{plain_parts, word_written, open_written}
+use Rattle.attr_tuples.proofs.LineLemmas.{len_from_line}
 use Rattle.attr_tuples.specs.declared.attr.Attr.{Attr}
 use Rattle.attr_tuples.specs.declared.fault.TupleFault.{TupleFault}
 use Rattle.attr_tuples.specs.declared.fault.TupleFault.TheVariants.{NotText, Quote, Name, TooMany, NoMemory}

@@ -1,3 +1,9 @@
+pub mod PlaceLemmas
+pub mod WordLemmas
+pub mod PartLemmas
+pub mod SayLemmas
+pub mod LineLemmas
+pub mod WordCutLemmas
 pub mod CutLemmas
 pub mod EqualityLemmas
 pub mod PrintLemmas

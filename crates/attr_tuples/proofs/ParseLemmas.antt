@@ -1,7 +1,7 @@
 -- Steps of reading words, over the attributes so far and the text from the present place on.
 use Rattle.std.proofs.Common.{◌≡◌, ℕ, zero, suc, ◌+◌, ◌-◌, ◌<◌, ◌≤◌, List, [], ◌∷◌, ◌++◌, Bool, true, false, length, drop, Result, Ok, Err, cond, refl, sym, ap, ◌∙◌, arith, append_assoc}
 use Rattle.std.proofs.lemmas.List.{append-nil, drop_all, drop-drop, length-drop, length_push}
-use Rattle.attr_words.specs.Words.{Cut, first_word, gap_len}
+use Rattle.attr_tuples.specs.Words.{Cut, first_word, gap_len}
 use Rattle.attr_tuples.specs.declared.attr.Attr.{Attr}
 use Rattle.attr_tuples.specs.declared.fault.TupleFault.{TupleFault}
 use Rattle.attr_tuples.specs.declared.fault.TupleFault.TheVariants.{Name}

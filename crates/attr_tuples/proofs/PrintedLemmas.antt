@@ -8,10 +8,10 @@ use Rattle.std.proofs.lemmas.List.{append-nil, take_at, drop_at, get_or_at}
 use Rattle.std.proofs.lemmas.List.Folds.{list_all-append}
 use Rattle.std.proofs.lemmas.Str.{IsUtf8-from_is_utf8, is_utf8-from_IsUtf8, IsUtf8-nil}
 use Rattle.wire_base.specs.Texts.{is_text}
-use Rattle.attr_words.specs.Lines.{is_line_byte, is_line}
-use Rattle.attr_words.specs.Words.{Part, is_gap, ends_unquoted, quoted_byte, quoted_bytes, quoted, needs_quotes, value_text, part_text, part_bytes, word_text, word_bytes, begins_quote, are_parts, ends_word}
-use Rattle.attr_words.specs.Words.Part.{Plain, Quoted}
-use Rattle.attr_words.proofs.LineLemmas.{before_ascii, behind_ascii, with_ascii}
+use Rattle.attr_tuples.specs.Lines.{is_line_byte, is_line}
+use Rattle.attr_tuples.specs.Words.{Part, is_gap, ends_unquoted, quoted_byte, quoted_bytes, quoted, needs_quotes, value_text, part_text, part_bytes, word_text, word_bytes, begins_quote, are_parts, ends_word}
+use Rattle.attr_tuples.specs.Words.Part.{Plain, Quoted}
+use Rattle.attr_tuples.proofs.LineLemmas.{before_ascii, behind_ascii, with_ascii}
 use Rattle.attr_tuples.specs.declared.attr.Attr.{Attr}
 use Rattle.attr_tuples.specs.declared.attr.Value.{Value}
 use Rattle.attr_tuples.specs.declared.attr.Value.TheVariants.{Is, Ask, Bare}

@@ -3,11 +3,11 @@ use Rattle.std.proofs.Common.{◌≡◌, ◌⊎◌, ℕ, zero, suc, ◌+◌, ◌
 use Rattle.std.specs.List.{list_all}
 use Rattle.std.proofs.lemmas.Bool.{cases_Bool, and_parts, and_from, le-leb, lt-ltb, eqb-true, eqb-false}
 use Rattle.std.proofs.lemmas.List.{append-nil, drop-drop}
-use Rattle.attr_words.specs.Lines.{is_line, line_len}
-use Rattle.attr_words.specs.Words.{Part, Cut, is_gap, word_text, word_bytes, are_parts, ends_word, first_word, gap_len}
-use Rattle.attr_words.proofs.PartLemmas.{word_written}
-use Rattle.attr_words.proofs.SayLemmas.{word_read, open_read}
-use Rattle.attr_words.proofs.LineLemmas.{line_from_len, line_len_le, word_line}
+use Rattle.attr_tuples.specs.Lines.{is_line, line_len}
+use Rattle.attr_tuples.specs.Words.{Part, Cut, is_gap, word_text, word_bytes, are_parts, ends_word, first_word, gap_len}
+use Rattle.attr_tuples.proofs.PartLemmas.{word_written}
+use Rattle.attr_tuples.proofs.SayLemmas.{word_read, open_read}
+use Rattle.attr_tuples.proofs.LineLemmas.{line_from_len, line_len_le, word_line}
 use Rattle.attr_tuples.specs.declared.attr.Attr.{Attr}
 use Rattle.attr_tuples.specs.declared.fault.TupleFault.{TupleFault}
 use Rattle.attr_tuples.specs.declared.fault.TupleFault.TheVariants.{NotText, Quote, Name, TooMany}

@@ -3,8 +3,8 @@
 -- whole texts and answers; how a text is read from left to right (tuple_of) is given apart, and they agree by law.
 use Rattle.std.specs.Prelude.{◌≡◌, ℕ, zero, suc, ◌+◌, ◌-◌, ◌<◌, List, [], ◌∷◌, ◌++◌, Bool, true, false, ◌&&◌, ◌==◌, nat_lt, length, take, drop, position, Option, Some, None, Result, Ok, Err, if◌then◌else◌}
 use Rattle.std.specs.List.{slice_index}
-use Rattle.attr_words.specs.Lines.{is_line, line_len}
-use Rattle.attr_words.specs.Words.{Part, Cut, IsWord, IsOpen, is_gap, word_text, word_bytes, are_parts, ends_word, first_word, gap_len}
+use Rattle.attr_tuples.specs.Lines.{is_line, line_len}
+use Rattle.attr_tuples.specs.Words.{Part, Cut, IsWord, IsOpen, is_gap, word_text, word_bytes, are_parts, ends_word, first_word, gap_len}
 use Rattle.attr_tuples.specs.Attributes.{is_name, is_tuple}
 use Rattle.attr_tuples.specs.declared.attr.Attr.{Attr}
 use Rattle.attr_tuples.specs.declared.attr.Value.TheVariants.{Is, Ask, Bare}

@@ -1,7 +1,7 @@
-pub use Rattle.attr_words.specs.Cutting
-pub use Rattle.attr_words.specs.Lines
-pub use Rattle.attr_words.specs.Words
-pub use Rattle.wire_base.specs.Rules
+pub mod Lines
+pub mod Cutting
+pub mod Words
+pub mod Taking
 pub mod Attributes
 pub mod Printing
 pub mod Equality

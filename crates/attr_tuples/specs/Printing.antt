@@ -2,7 +2,7 @@
 -- in quotes where a reader would cut it, and what is shown of a tuple with secrets.
 use Rattle.std.specs.Prelude.{ℕ, List, [], ◌∷◌, ◌++◌, map, if◌then◌else◌}
 use Rattle.std.specs.List.{join_with_byte}
-use Rattle.attr_words.specs.Words.{value_text}
+use Rattle.attr_tuples.specs.Words.{value_text}
 use Rattle.attr_tuples.specs.Attributes.{is_secret}
 use Rattle.attr_tuples.specs.declared.attr.Attr.{Attr}
 use Rattle.attr_tuples.specs.declared.attr.Value.{Value}

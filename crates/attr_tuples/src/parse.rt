@@ -1,7 +1,7 @@
 // Tuples read from text.
 ghost use Rattle.std.specs.Prelude.{◌≡◌, ◌==◌, Err, false, true, position, IfOk};
 ghost use Rattle.wire_base.specs.Texts.{is_text};
-ghost use Rattle.attr_words.specs.Lines.{is_line, line_len};
+ghost use Rattle.attr_tuples.specs.Lines.{is_line, line_len};
 ghost use Rattle.attr_tuples.specs.Attributes.{is_value};
 ghost use Rattle.attr_tuples.specs.Grammar.{attr_of, words_from, tuple_of, Answers};
 ghost use Rattle.attr_tuples.specs.Steps.{ending_value, ReadsName};
@@ -9,8 +9,9 @@ ghost use Rattle.attr_tuples.specs.declared.fault.TupleFault.TheVariants.{NotTex
 
 use crate::attr::{Attr, Value, build_text};
 use crate::fault::TupleFault;
+use crate::line::line_len;
 use crate::tuple::{MOST_ATTRIBUTES, Tuple, check_name};
-use attr_words::{WordFault, gap_end, line_len, take_word};
+use crate::word::{WordFault, gap_end, take_word};
 use std::alloc::Global;
 use wire_base::{Bytes, NoMemory};
 

@@ -6,7 +6,7 @@ ghost use Rattle.attr_tuples.specs.Steps.{seen, others_text};
 use crate::attr::{Attr, Value};
 use crate::compare::is_secret_name;
 use crate::tuple::Tuple;
-use attr_words::put_value;
+use crate::value::put_value;
 use wire_base::{Bytes, NoMemory};
 
 /// Whether secrets are printed or hidden.

@@ -1,12 +1,12 @@
 // A tuple: attributes in order, each such as a line of text can give.
 ghost use Rattle.std.specs.Prelude.{◌≡◌, [], ◌∷◌, ◌++◌, ◌&&◌, nat_lt, length, true, IfOk, OnErr, if◌then◌else◌};
 ghost use Rattle.std.specs.List.{list_all};
-ghost use Rattle.attr_words.specs.Lines.{is_line_byte};
+ghost use Rattle.attr_tuples.specs.Lines.{is_line_byte};
 ghost use Rattle.wire_base.specs.Texts.{is_text};
 ghost use Rattle.attr_tuples.specs.Attributes.{is_attr, is_tuple, is_name, is_value, is_name_byte};
 
 use crate::attr::{Attr, Value};
-use attr_words::check_line_byte;
+use crate::line::check_line_byte;
 use std::alloc::Global;
 use std::marker::Model;
 use wire_base::{NoMemory, Text};

@@ -3,14 +3,14 @@ use Rattle.std.proofs.Common.{◌≡◌, ℕ, ◌<◌, List, [], ◌∷◌, ◌+
 use Rattle.std.proofs.lemmas.Bool.{cond-true, eq-eqb}
 use Rattle.std.proofs.lemmas.List.{length-take, length-take-le}
 use Rattle.wire_base.specs.Names.{name_field}
-use Rattle.seal_mode.proofs.SealLaws.{length-sealed}
-use Rattle.ticket_codec.specs.declared.request.TicketReq.{TicketReq}
-use Rattle.ticket_codec.specs.declared.ticket.Ticket.{Ticket}
-use Rattle.ticket_codec.specs.Fields.{HoldsName, field}
-use Rattle.ticket_codec.specs.Request.{IsRequest, request_of}
-use Rattle.ticket_codec.specs.Ticket.{ticket_text}
-use Rattle.ticket_codec.proofs.FieldLaws.{length-name_field}
-use Rattle.ticket_codec.proofs.RequestLaws.{request_layout}
+use Rattle.sealing.proofs.SealLaws.{length-sealed}
+use Rattle.sealing.specs.declared.request.TicketReq.{TicketReq}
+use Rattle.sealing.specs.declared.ticket.Ticket.{Ticket}
+use Rattle.sealing.specs.Fields.{HoldsName, field}
+use Rattle.sealing.specs.Request.{IsRequest, request_of}
+use Rattle.sealing.specs.Ticket.{ticket_text}
+use Rattle.sealing.proofs.FieldLaws.{length-name_field}
+use Rattle.sealing.proofs.RequestLaws.{request_layout}
 use Rattle.auth_tables.specs.Keys.{UserKey}
 use Rattle.wire_base.specs.Kinds.{ticket_request}
 use Rattle.auth_server.specs.Requests.{Asked}

@@ -9,3 +9,4 @@ pub mod ToldLaws
 pub mod CompleteLaws
 pub mod SpentLaws
 pub mod GrantLaws
+mod ListenLemmas

@@ -1,6 +1,6 @@
 -- What a step makes of a session is what its requests leave.
 use Rattle.std.proofs.Common.{◌≡◌, ◌↔◌, ℕ, ◌+◌, List, ◌∷◌, true, leb, Option, sym, ap, ◌∙◌}
-use Rattle.ticket_codec.specs.Request.{request_of}
+use Rattle.sealing.specs.Request.{request_of}
 use Rattle.auth_server.specs.declared.session.AsStep.{AsStep}
 use Rattle.auth_server.specs.declared.session.AsStep.TheVariants.{TooManyWrong}
 use Rattle.auth_server.specs.Requests.{Asked, Challenge}

@@ -7,13 +7,13 @@ use Rattle.std.specs.List.{slice_index_or}
 use Rattle.std.specs.Str.{bytes_eq}
 use Rattle.std.specs.Fmt.{decimal}
 use Rattle.hex.specs.Hex.{encode_lower}
-use Rattle.seal_mode.specs.Sealing.{sealed}
-use Rattle.md5_answers.specs.Answer.{apop_digits, cram_digits}
-use Rattle.ticket_codec.specs.declared.fault.FieldFault.{FieldFault}
-use Rattle.ticket_codec.specs.declared.request.TicketReq.{TicketReq}
-use Rattle.ticket_codec.specs.Request.{request_of}
-use Rattle.ticket_codec.specs.Ticket.{ticket_text}
-use Rattle.ticket_codec.specs.Authenticator.{authenticator_text}
+use Rattle.sealing.specs.Sealing.{sealed}
+use Rattle.sealing.specs.Answer.{apop_digits, cram_digits}
+use Rattle.sealing.specs.declared.fault.FieldFault.{FieldFault}
+use Rattle.sealing.specs.declared.request.TicketReq.{TicketReq}
+use Rattle.sealing.specs.Request.{request_of}
+use Rattle.sealing.specs.Ticket.{ticket_text}
+use Rattle.sealing.specs.Authenticator.{authenticator_text}
 use Rattle.auth_tables.specs.Keys.{UserKey}
 use Rattle.wire_base.specs.Kinds.{ticket_request, apop_request, answer_ok, answer_error, answer_counted, server_ticket, client_ticket, client_authenticator}
 use Rattle.auth_server.specs.Requests.{Asked, Challenge}

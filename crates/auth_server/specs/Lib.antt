@@ -1,9 +1,7 @@
-pub use Rattle.auth_tables.specs.Keys
-pub use Rattle.auth_tables.specs.Lines
-pub use Rattle.auth_tables.specs.Speaks
 pub mod Requests
 pub mod Answers
 pub mod Standing
 pub mod Sessions
 pub mod Serving
 pub mod Steps
+pub mod Clients

@@ -3,8 +3,8 @@ use Rattle.std.specs.Prelude.{◌≡◌, ◌+◌, ◌<◌, ◌≤◌, ℕ, List,
 use Rattle.std.specs.Io.KnownBytes.{Consumes, IsAtEnd, Keeps}
 use Rattle.wire_streams.specs.declared.source.Got.{Got}
 use Rattle.wire_streams.specs.declared.source.Got.TheVariants.{Bytes, End, Failed}
-use Rattle.ticket_codec.specs.declared.fault.FieldFault.{FieldFault}
-use Rattle.ticket_codec.specs.declared.request.TicketReq.{TicketReq}
+use Rattle.sealing.specs.declared.fault.FieldFault.{FieldFault}
+use Rattle.sealing.specs.declared.request.TicketReq.{TicketReq}
 use Rattle.auth_server.specs.declared.serve.AuthEnd.{AuthEnd}
 use Rattle.auth_server.specs.declared.serve.AuthEnd.TheVariants as e
 use Rattle.auth_server.specs.declared.serve.Progress.{Progress}

@@ -1,7 +1,7 @@
 // Laws of the definitions, each the contract of a function that does nothing.
 ghost use Rattle.std.specs.Prelude.{◌≡◌, ◌⊎◌, ◌++◌, ℕ, List, Ok};
-ghost use Rattle.ticket_codec.specs.declared.request.TicketReq.{TicketReq};
-ghost use Rattle.ticket_codec.specs.Request.{request_of};
+ghost use Rattle.sealing.specs.declared.request.TicketReq.{TicketReq};
+ghost use Rattle.sealing.specs.Request.{request_of};
 ghost use Rattle.wire_base.specs.Kinds.{ticket_request};
 ghost use Rattle.auth_server.specs.Requests.{Asked};
 ghost use Rattle.auth_server.specs.Answers.{HasKeys, HasWords, IsGrant, Knowledge, answer};

@@ -1,14 +1,21 @@
-//! Plan 9's authentication server: what it answers to a client's requests, and how it serves one client.
+//! Plan 9's authentication server: what it answers to a client's requests, how it serves one client, and how it
+//! serves many: each connection that comes is a job for a spawner, over one core.
 #![tactic(auto)]
 
+mod client;
 mod incoming;
 mod laws;
+mod listen;
 mod records;
 mod serve;
 mod server;
 mod session;
+#[cfg(test)]
+mod tests;
 
+pub use client::AuthJob;
 pub use laws::{a_stream_has_one_session, every_ticket_request_gets_two_tickets};
+pub use listen::{ListenEnd, accept_clients};
 pub use serve::{AuthEnd, serve_auth};
 pub use server::AuthCore;
 pub use session::{AsStep, Session};

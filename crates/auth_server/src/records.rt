@@ -4,11 +4,11 @@ ghost use Rattle.hex.specs.Hex.{encode_lower};
 ghost use Rattle.auth_server.specs.Answers.{challenge_answer, challenge_at, refusal, ticket, tickets, vouch_text, word_key};
 
 use crate::session::MOST_CHALLENGE;
-use seal_mode::Key7;
-use ticket_codec::{
-    AUTH_AC, AUTH_ERR, AUTH_OK, AUTH_OK_VAR, AUTH_TC, AUTH_TS, Authenticator, Name, RecordWriter,
+use sealing::{
+    AUTH_AC, AUTH_ERR, AUTH_OK, AUTH_OK_VAR, AUTH_TC, AUTH_TS, Authenticator, Key7, RecordWriter,
     Ticket, TicketReq, seal_auth, seal_ticket,
 };
+use wire_base::Name;
 
 /// How many bytes a challenge's length is written in.
 const LENGTH_BYTES: usize = 5;

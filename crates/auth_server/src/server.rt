@@ -4,9 +4,8 @@ use crate::records::{
 };
 use crate::session::{AsStep, Challenge, Session, Verdict, digits_for};
 use auth_tables::{KeyTable, SpeaksTable};
-use seal_mode::Key7;
+use sealing::{AUTH_APOP, AUTH_CRAM, AUTH_TREQ, Key7, TicketReq, read_req};
 use std::marker::Model;
-use ticket_codec::{AUTH_APOP, AUTH_CRAM, AUTH_TREQ, TicketReq, read_req};
 use wire_base::{Bytes, NoMemory, Text};
 
 /// How many bytes a request has, without the digits that answer a challenge.
@@ -41,7 +40,7 @@ impl AuthCore {
     ghost use Rattle.auth_tables.specs.Keys.{key_of};
     ghost use Rattle.auth_server.specs.Requests.{Asked, asked_so, kind_of, needed};
     ghost use Rattle.auth_server.specs.Answers.{answer, answer_to, are_digits, grant, granted_key, is_over, judged, mail_answer, most_wrong, password_of, vouch};
-    ghost use Rattle.ticket_codec.specs.Request.{request_of};
+    ghost use Rattle.sealing.specs.Request.{request_of};
     ghost use Rattle.auth_server.specs.Standing.{StandsFor, knowledge};
     ghost use Rattle.auth_server.specs.Steps.{MailMoves, Moves};
 

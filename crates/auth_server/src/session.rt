@@ -2,9 +2,8 @@
 ghost use Rattle.std.specs.Prelude.{◌≡◌};
 ghost use Rattle.auth_server.specs.Answers.{digits_for};
 
-use md5_answers::{apop_answer, cram_answer};
+use sealing::{AUTH_APOP, RecordWriter, apop_answer, cram_answer};
 use std::marker::Model;
-use ticket_codec::{AUTH_APOP, RecordWriter};
 
 /// How many bytes a challenge has at most: a digit for each half of a word's byte, a domain, and three signs.
 pub(crate) const MOST_CHALLENGE: usize = 66;

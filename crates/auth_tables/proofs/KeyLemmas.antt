@@ -12,7 +12,7 @@ use Rattle.attr_tuples.specs.Attributes.{is_named, is_given}
 use Rattle.attr_tuples.specs.Forms.{is_user, is_hex_key}
 use Rattle.attr_tuples.specs.Giving.{gives, gives_once, is_any}
 use Rattle.attr_tuples.specs.Matching.{value_of, texts_of, given_text}
-use Rattle.key_digits.specs.Digits.{digits_or_password}
+use Rattle.key_lists.specs.Digits.{digits_or_password}
 use Rattle.auth_tables.specs.Keys.{UserKey, gives_only, is_user_key, key_given}
 
 only_step : (named : Bool) (v : Value) (texts : List (List ℕ)) (test : List ℕ → Bool) (text : List ℕ) → (not named || is_given test v) ≡ true → slice_get (cons_option (cond named (given_text v) None) texts) 0 ≡ Some text

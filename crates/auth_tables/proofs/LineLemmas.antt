@@ -4,7 +4,7 @@ use Rattle.std.specs.Prelude.{IfSome}
 use Rattle.std.specs.Borrow.{Bor}
 use Rattle.std.proofs.lemmas.List.{append_assoc}
 use Rattle.std.proofs.lemmas.Bool.{cond-true, cond-false}
-use Rattle.attr_words.specs.Cutting.{text_lines, lines_left, turns_left}
+use Rattle.attr_tuples.specs.Cutting.{text_lines, lines_left, turns_left}
 use Rattle.auth_tables.specs.Lines.{first_bad, first_bad_behind, is_bad}
 use Rattle.auth_tables.specs.Steps.{IsBehind, HasRead}
 

@@ -4,13 +4,13 @@ use Rattle.std.specs.Prelude.{ℕ, List, [], Bool, true, false, not, ◌&&◌, �
 use Rattle.std.specs.List.{list_all, filter_map}
 use Rattle.std.specs.Map.{lookup}
 use Rattle.std.specs.Str.{bytes_eq}
-use Rattle.attr_words.specs.Cutting.{text_lines}
+use Rattle.attr_tuples.specs.Cutting.{text_lines}
 use Rattle.attr_tuples.specs.declared.attr.Attr.{Attr}
 use Rattle.attr_tuples.specs.Attributes.{is_named, is_given}
 use Rattle.attr_tuples.specs.Forms.{is_user, is_hex_key}
 use Rattle.attr_tuples.specs.Giving.{gives, gives_once, is_any}
 use Rattle.attr_tuples.specs.Matching.{value_of}
-use Rattle.key_digits.specs.Digits.{digits_or_password}
+use Rattle.key_lists.specs.Digits.{digits_or_password}
 use Rattle.auth_tables.specs.Lines.{counted, first_bad, tuple_in}
 
 -- what the server knows of a user: the DES key, and the password where there is one

@@ -5,7 +5,7 @@ use Rattle.std.specs.Prelude.{◌≡◌, ◌⊎◌, ℕ, List, [], ◌∷◌, Bo
 use Rattle.std.specs.List.{Contains, list_any, flat_map, filter_map}
 use Rattle.std.specs.Map.{lookup}
 use Rattle.std.specs.Str.{bytes_eq}
-use Rattle.attr_words.specs.Cutting.{text_lines}
+use Rattle.attr_tuples.specs.Cutting.{text_lines}
 use Rattle.attr_tuples.specs.declared.attr.Attr.{Attr}
 use Rattle.attr_tuples.specs.Matching.{texts_of, value_of}
 use Rattle.auth_tables.specs.Lines.{counted, first_bad, tuple_in}

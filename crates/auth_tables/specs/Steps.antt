@@ -1,7 +1,7 @@
 -- Words for the steps of reading a table. No public contract cites them.
 use Rattle.std.specs.Prelude.{◌≡◌, ℕ, ◌+◌, ◌≤◌, List, [], ◌∷◌, ◌++◌, true, not, Bool, Option, Some, None, Result, Ok, Err, length, if◌then◌else◌}
 use Rattle.std.specs.Borrow.{Bor}
-use Rattle.attr_words.specs.Cutting.{lines_left, turns_left}
+use Rattle.attr_tuples.specs.Cutting.{lines_left, turns_left}
 use Rattle.auth_tables.specs.Lines.{counted, first_bad_behind}
 use Rattle.auth_tables.specs.Keys.{KeyLine, key_of, keys_in}
 use Rattle.auth_tables.specs.Speaks.{SpeakLine, names_in, names_of, speaks_in}

@@ -8,8 +8,8 @@ ghost use Rattle.auth_tables.specs.declared.lines.TableFault.TheVariants.{Line};
 
 use crate::lines::{Table, TableFault, read_table, read_tuple};
 use attr_tuples::{Attr, Tuple, Value, gives_any, gives_user, is_named, value_of};
-use key_digits::{choose_key, decode_key};
-use seal_mode::Key7;
+use key_lists::{choose_key, decode_key};
+use sealing::Key7;
 use std::alloc::Global;
 use std::collections::BTreeMap;
 use std::marker::Model;

@@ -1,12 +1,11 @@
 // A table read line by line, whatever its kind.
 ghost use Rattle.std.specs.Prelude.{◌≡◌, ℕ, ◌+◌, ◌-◌, ◌<◌, ◌^◌, List, [], ◌∷◌, ◌++◌, None, Some, true, false, length, IfOk, IfErr, OnOk};
-ghost use Rattle.attr_words.specs.Cutting.{text_lines};
+ghost use Rattle.attr_tuples.specs.Cutting.{text_lines};
 ghost use Rattle.auth_tables.specs.Lines.{counts, counted, first_bad, is_bad, tuple_in};
 ghost use Rattle.auth_tables.specs.Steps.{IsBehind};
 ghost use Rattle.auth_tables.specs.declared.lines.TableFault.TheVariants.{Line};
 
-use attr_tuples::{Tuple, TupleFault, parse_tuple};
-use attr_words::cut_line;
+use attr_tuples::{Tuple, TupleFault, cut_line, parse_tuple};
 use std::alloc::Global;
 use wire_base as base;
 
@@ -22,7 +21,7 @@ pub enum TableFault {
 }
 
 impl From<base::NoMemory> for TableFault {
-    ghost use Rattle.std.specs.Prelude.{◌≡◌};
+    ghost use Rattle.std.specs.Prelude.{◌≡◌, ℕ, List, [], ◌∷◌, ◌++◌, Bool, true, IfOk};
     ghost use Rattle.auth_tables.specs.declared.lines.TableFault.TheVariants.{NoMemory};
 
     ghost from_gives = { λ _ e. e ≡ NoMemory };
@@ -34,8 +33,6 @@ impl From<base::NoMemory> for TableFault {
 
 /// A table that is filled line by line.
 pub(crate) trait Table {
-    ghost use Rattle.std.specs.Prelude.{◌≡◌, ℕ, List, [], ◌∷◌, ◌++◌, Bool, true, IfOk};
-
     // Whether a line fits behind others, all of which count.
     ghost fits: { List (List ℕ) → List ℕ → Bool };
 

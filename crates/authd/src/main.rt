@@ -4,21 +4,20 @@
 
 ghost use Rattle.std.specs.Prelude.{◌≡◌, IfErr, true};
 ghost use Rattle.attr_tuples.specs.Forms.{is_dom};
-ghost use Rattle.authsrv_program.specs.Statuses.{is_printable};
-ghost use Rattle.authd_program.specs.Endings.{is_told};
+ghost use Rattle.auth_program.specs.Statuses.{is_printable};
+ghost use Rattle.auth_program.specs.Endings.{is_told};
 
-use auth_listening::accept_clients;
-use auth_server::AuthCore;
-use authd_program::{AuthdWords, ClientSpawner, Ending, read_authd_words};
-use authsrv_program::{AuthsrvWords, Status, read_core};
-use socket_listener::SocketListener;
+use auth_program::{
+    AuthdWords, AuthsrvWords, ClientSpawner, Ending, Status, read_authd_words, read_core,
+};
+use auth_server::{AuthCore, accept_clients};
+use sockets::{SocketListener, ThreadSpawner};
 use std::alloc::Global;
 use std::env;
 use std::fs::File;
 use std::io::{self, ErrorKind, Read};
 use std::process::ExitCode;
 use std::sync::Arc;
-use thread_spawner::ThreadSpawner;
 use wire_base::{Bytes, Text, TextList};
 use wire_streams::{ReadSource, WriteSink, write_all};
 

@@ -4,10 +4,11 @@
 #![tactic(auto)]
 
 ghost use Rattle.std.specs.Prelude.{◌≡◌, IfOk, true};
-ghost use Rattle.authsrv_program.specs.Statuses.{is_printable};
+ghost use Rattle.auth_program.specs.Statuses.{is_printable};
 
 use anyhow::bail;
-use factotum_program::{Status, print_status, run_command};
+use auth_program::{Status, print_status};
+use factotum_program::run_command;
 use std::alloc::Global;
 use std::fs::File;
 use std::process::ExitCode;

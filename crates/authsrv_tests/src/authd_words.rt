@@ -1,7 +1,6 @@
 // Command lines and endings, by hand.
-use auth_listening::ListenEnd;
-use authd_program::{Ending, read_authd_words};
-use authsrv_program::Status;
+use auth_program::{Ending, Status, read_authd_words};
+use auth_server::ListenEnd;
 use std::alloc::Global;
 use std::process::Abort;
 use std::test::Fail;

@@ -1,7 +1,7 @@
 // The authentication server's command on objects in memory, by hand from authsrv(6) and this project's statuses; the grant
 // is that of an independent script (bench/vectors/authsrv.py).
+use auth_program::{Status, read_authsrv_words, serve};
 use auth_server::AuthEnd;
-use authsrv_program::{Status, read_authsrv_words, serve};
 use std::alloc::Global;
 use std::process::Abort;
 use std::test::Fail;

@@ -1,6 +1,6 @@
 // Lines and words, by hand.
 use crate::expect::{expect, expect_at};
-use attr_words::{WordFault, check_line_byte, gap_end, line_len, put_value, take_word};
+use attr_tuples::{WordFault, check_line_byte, gap_end, line_len, put_value, take_word};
 use std::alloc::Global;
 use std::process::Abort;
 use std::test::Fail;

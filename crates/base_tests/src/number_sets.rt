@@ -1,8 +1,8 @@
 // Numbers that are put into a set one after the other.
 use crate::expect::expect_at;
-use number_ranges::Ranges;
 use std::process::Abort;
 use std::test::Fail;
+use wire_base::Ranges;
 
 static ADDED: [u64; 11] = [5, 5, 3, 4, 0, 1, 2, u64::MAX, 7, 6, 4];
 

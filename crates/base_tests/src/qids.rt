@@ -1,6 +1,6 @@
 // Qids in a list.
 use crate::expect::expect;
-use nine_messages::{Qid, QidList};
+use nine::{Qid, QidList};
 use std::test::Fail;
 
 #[test]

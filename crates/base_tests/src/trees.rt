@@ -3,7 +3,7 @@ use crate::expect::{expect, expect_at};
 use std::alloc::Global;
 use std::process::Abort;
 use std::test::Fail;
-use term_trees::{MacKind, Places, Proof, ProofStep, Term, Terms};
+use terms::{MacKind, Places, Proof, ProofStep, Term, Terms};
 use wire_base::{Bytes, NoMemory, Text};
 
 fn name(alloc: Global, text: &str) -> Result<Text, Fail> {

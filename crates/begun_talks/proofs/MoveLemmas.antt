@@ -6,8 +6,7 @@ use Rattle.roles.specs.declared.answer.Gave.{Gave}
 use Rattle.roles.specs.declared.key.SkKey.{SkKey}
 use Rattle.roles.specs.declared.need.Need.{Need}
 use Rattle.roles.specs.Starts.{Start}
-use Rattle.roles.specs.Talks.{found}
-use Rattle.roles.specs.Talks.{Call as Move}
+use Rattle.roles.specs.Talks.{found, Call as Move}
 use Rattle.rpc_file.specs.declared.answer.RpcAnswer.{RpcAnswer}
 use Rattle.rpc_file.specs.declared.answer.RpcAnswer.TheVariants as a
 use Rattle.talks.specs.Answers.{move_answer, told_key}

@@ -8,9 +8,8 @@ use Rattle.roles.specs.declared.answer.StartFault.{StartFault}
 use Rattle.roles.specs.declared.need.Need.{Need}
 use Rattle.roles.specs.declared.need.Need.TheVariants.{Nothing, Key, Offers, Pick, Exchange}
 use Rattle.roles.specs.Starts.{Start}
-use Rattle.roles.specs.Talks.{get}
-use Rattle.roles.specs.Talks.{Call as Move}
-use Rattle.talks.specs.Conv.{Conv}
+use Rattle.roles.specs.Talks.{get, Call as Move}
+use Rattle.talks.specs.declared.conv.Conv.{Conv}
 use Rattle.talks.specs.Protocols.{answers, needs, puts, refuses}
 use Rattle.talks.specs.Standing.{Stands}
 use Rattle.rpc_file.specs.declared.answer.RpcAnswer.{RpcAnswer}

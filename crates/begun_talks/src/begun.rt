@@ -5,8 +5,7 @@ ghost use Rattle.attr_tuples.specs.Matching.{value_of};
 ghost use Rattle.attr_tuples.specs.Merging.{merged};
 ghost use Rattle.roles.specs.declared.need.Need.TheVariants.{Nothing};
 ghost use Rattle.roles.specs.Answers.{IsKey, IsOffers, IsPick};
-ghost use Rattle.roles.specs.Talks.{Call as Move};
-ghost use Rattle.roles.specs.Talks.{get, give, heard, offered, picked, roomless, undone, unheard};
+ghost use Rattle.roles.specs.Talks.{Call as Move, get, give, heard, offered, picked, roomless, undone, unheard};
 ghost use Rattle.talks.specs.Answers.{attributes, info_answer, key_attrs, move_answer, text_or_none, told_key};
 ghost use Rattle.talks.specs.Protocols.{answers, ends, has_ended, needs, puts};
 ghost use Rattle.talks.specs.Standings.{Begun as Beginning, chosen_for, kept_key, role_in, template_in, told_of_key, with_move};
@@ -17,10 +16,11 @@ use crate::answer::{answer_info, answer_move};
 use crate::machine::{get_message, give_answer, give_key, give_message};
 use crate::phase::{Phase, choose_phase};
 use attr_tuples::{MergeFault, Tuple, merge, value_of};
+use key_ring::{Key, KeyRing};
 use roles::{Gave, Machine, Need, Outcome, SkKey};
 use rpc_file::RpcAnswer;
 use std::alloc::Global;
-use talks::{Conv, Key, KeyRing, pick_template};
+use talks::{Conv, pick_template};
 use wire_base::{Bytes, Name, NoMemory, Shape, Text};
 
 /// A conversation that was started. It has no Debug, which would print its key.

@@ -2,9 +2,9 @@
 -- last result, from a fixed first input on.
 use Rattle.std.specs.Prelude.{ℕ, zero, suc, List, [], ◌∷◌, ◌++◌, codes, drop, replicate}
 use Rattle.des_block.specs.Schedule.{enciphered}
-use Rattle.seal_mode.specs.Passwords.{password_key}
-use Rattle.seal_mode.specs.Sealing.{sealed}
-use Rattle.md5_answers.specs.Answer.{cram_digits}
+use Rattle.sealing.specs.Passwords.{password_key}
+use Rattle.sealing.specs.Sealing.{sealed}
+use Rattle.sealing.specs.Answer.{cram_digits}
 use Rattle.cipher_bench.specs.declared.work.Work.{Work}
 use Rattle.cipher_bench.specs.declared.work.Work.TheVariants.{Encrypt, Seal, Cram, Keyed, Password, Tickets}
 

@@ -4,10 +4,9 @@
 
 use anyhow::bail;
 use std::env;
+use work::{Work, final_digits};
 
 mod work;
-
-use work::{Work, final_digits};
 
 // The rounds of each work in a run without arguments.
 const FEW_ROUNDS: u64 = 3;

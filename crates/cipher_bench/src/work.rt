@@ -4,13 +4,12 @@ ghost use Rattle.std.specs.Prelude.{◌≡◌, ◌↔◌, ◌≤◌, IfOk, codes
 ghost use Rattle.std.specs.String.{string_bytes};
 ghost use Rattle.hex.specs.Hex.{encode_lower};
 ghost use Rattle.des_block.specs.Schedule.{enciphered};
-ghost use Rattle.md5_answers.specs.Answer.{cram_digits};
-ghost use Rattle.seal_mode.specs.Sealing.{sealed};
+ghost use Rattle.sealing.specs.Answer.{cram_digits};
+ghost use Rattle.sealing.specs.Sealing.{sealed};
 ghost use Rattle.cipher_bench.specs.Work.{final_bytes, next_password, repeated, sealed_by_both};
 
 use des_block::Schedule;
-use md5_answers::cram_answer;
-use seal_mode::{Key7, pass_to_key, seal};
+use sealing::{Key7, cram_answer, pass_to_key, seal};
 use std::alloc::{AllocError, Allocator};
 
 const DES_KEY: [u8; 8] = [0x13, 0x34, 0x57, 0x79, 0x9b, 0xbc, 0xdf, 0xf1];

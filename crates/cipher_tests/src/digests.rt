@@ -2,7 +2,7 @@
 // and hmac.
 
 use crate::expect::expect;
-use md5_answers::{apop_answer, cram_answer, hmac_md5};
+use sealing::{apop_answer, cram_answer, hmac_md5};
 
 // A call by its name.
 #[derive(Clone, Copy)]

@@ -1,6 +1,6 @@
 // Answers that were computed elsewhere.
 use crate::expect::expect_at;
-use seal_mode::{Key7, expand56, open_seal, pass_to_key, seal};
+use sealing::{Key7, expand56, open_seal, pass_to_key, seal};
 
 // What bench/vectors/passwords.py prints: answers of a script written from the manual, over OpenSSL's DES.
 // A prefix key is that of so many letters of ALPHABET; a sealed text is 0, 1, 2 .. sealed under the key of

@@ -1,6 +1,6 @@
 // Digits and passwords by hand; the passwords' keys are those of an independent script (bench/vectors/sealing.py).
 use crate::expect::{expect, expect_at};
-use key_digits::{choose_key, decode_key};
+use key_lists::{choose_key, decode_key};
 use std::process::Abort;
 use std::test::Fail;
 use wire_base::Text;

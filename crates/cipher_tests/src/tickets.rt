@@ -1,14 +1,13 @@
 // Records that were written elsewhere.
 use crate::expect::{expect, expect_at};
-use seal_mode::Key7;
+use sealing::{
+    Authenticator, FieldFault, Key7, Ticket, TicketReq, open_auth, open_ticket, read_info,
+    read_req, seal_auth, seal_ticket, write_info, write_req,
+};
 use std::alloc::Global;
 use std::process::Abort;
 use std::test::Fail;
-use ticket_codec::{
-    AuthInfo, Authenticator, FieldFault, Name, Ticket, TicketReq, open_auth, open_ticket,
-    read_info, read_req, seal_auth, seal_ticket, write_info, write_req,
-};
-use wire_base::Bytes;
+use wire_base::{AuthInfo, Bytes, Name};
 
 // What bench/vectors/tickets.py prints: records of a script written from the manual, one line a field, and
 // sealed by OpenSSL's DES.

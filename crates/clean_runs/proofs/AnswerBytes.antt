@@ -7,22 +7,22 @@ use Rattle.std.proofs.lemmas.List.Elements.{All-head}
 use Rattle.hex.specs.Hex.{encode_lower, encode_with, lower_digits}
 use Rattle.md5.proofs.StandardFacts.{length-md5}
 use Rattle.md5.specs.Md5.{md5}
-use Rattle.md5_answers.specs.Answer.{apop_digits, cram_digits}
-use Rattle.md5_answers.specs.Hmac.{hmac}
-use Rattle.seal_mode.specs.Sealing.{sealed}
+use Rattle.sealing.specs.Answer.{apop_digits, cram_digits}
+use Rattle.sealing.specs.Hmac.{hmac}
+use Rattle.sealing.specs.Sealing.{sealed}
 use Rattle.wire_base.specs.Names.{name_field}
-use Rattle.ticket_codec.specs.Authenticator.{authenticator_text}
-use Rattle.ticket_codec.specs.Fields.{HoldsName, field}
-use Rattle.ticket_codec.specs.Fitting.{IsBlock}
-use Rattle.ticket_codec.specs.Ticket.{ticket_text}
-use Rattle.ticket_codec.specs.declared.request.TicketReq.{TicketReq}
-use Rattle.ticket_codec.proofs.FieldLaws.{behind_field, field_here, length-name_field}
+use Rattle.sealing.specs.Authenticator.{authenticator_text}
+use Rattle.sealing.specs.Fields.{HoldsName, field}
+use Rattle.sealing.specs.Fitting.{IsBlock}
+use Rattle.sealing.specs.Ticket.{ticket_text}
+use Rattle.sealing.specs.declared.request.TicketReq.{TicketReq}
+use Rattle.sealing.proofs.FieldLaws.{behind_field, field_here, length-name_field}
 use Rattle.auth_tables.specs.Keys.{UserKey}
 use Rattle.auth_server.specs.Answers.{challenge_answer, challenge_at, grant, granted_key, shared_key, ticket as ticket_bytes, tickets as tickets_bytes, vouch as vouch_bytes, vouch_text, word}
-use Rattle.term_trees.specs.declared.kind.MacKind.{MacKind}
-use Rattle.term_trees.specs.declared.kind.MacKind.TheVariants.{Apop, Cram}
-use Rattle.term_trees.specs.Trees.{Tree, Trees, plain, challenge, long_key, ticket_key, junk_key, joined, seal, digest, none, piece}
-use Rattle.term_trees.specs.Spellings.{Atoms, Spelling, and_then, atom_bytes, digest_bytes, spelling}
+use Rattle.terms.specs.declared.kind.MacKind.{MacKind}
+use Rattle.terms.specs.declared.kind.MacKind.TheVariants.{Apop, Cram}
+use Rattle.terms.specs.Trees.{Tree, Trees, plain, challenge, long_key, ticket_key, junk_key, joined, seal, digest, none, piece}
+use Rattle.terms.specs.Spellings.{Atoms, Spelling, and_then, atom_bytes, digest_bytes, spelling}
 use Rattle.symbolic_runs.specs.Forms.{answer_ok, by_client, Fields, AreFields, authenticator, mail_challenge, pair, request, ticket}
 use Rattle.symbolic_runs.specs.Gifts.{part as piece_of}
 use Rattle.symbolic_runs.specs.Sessions.{client_key, server_key, ticket_for_client, ticket_for_server, tickets_given, vouch_given, vouched_proof, vouched_ticket}

@@ -1,7 +1,7 @@
 -- A p9any client's acts are talk that anybody may know, until the choice is made, and then the moves of a symbolic client.
 use Rattle.std.proofs.Common.{◌≡◌, ℕ, List, [], ◌∷◌, ◌++◌, true, false, inl, inr, refl, sym, ap, subst, ◌∙◌}
 use Rattle.std.specs.Prelude.{codes}
-use Rattle.term_trees.specs.Spellings.{Atoms}
+use Rattle.terms.specs.Spellings.{Atoms}
 use Rattle.roles.specs.declared.stage.Role.{Role as SkRole}
 use Rattle.roles.specs.Starts.{Start, role_of}
 use Rattle.roles.specs.Talks.{Call}
@@ -10,7 +10,7 @@ use Rattle.conv_p9any.specs.Offers.{consents, dom_in}
 use Rattle.conv_p9any.specs.Texts.{text_with_nul}
 use Rattle.talks.specs.Protocols.{P9any, P9sk1, protocol_of}
 use Rattle.talks.specs.Lines.{cause_text}
-use Rattle.wire_model.specs.declared.step.Protocol.TheVariants as protocol
+use Rattle.wire_histories.specs.declared.step.Protocol.TheVariants as protocol
 use Rattle.symbolic_runs.specs.Moves.{Role, client, fails, Own}
 use Rattle.wire_histories.specs.Histories.{Act, started, gave, took, failed}
 use Rattle.wire_histories.specs.Conversations.{acts_from, met_by, part_as, protocol_as, role_as, speaks, started_by}

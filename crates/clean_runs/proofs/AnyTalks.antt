@@ -2,10 +2,10 @@
 -- p9sk1.
 use Rattle.std.proofs.Common.{◌≡◌, ℕ, List, [], ◌∷◌, ◌++◌, append_assoc, Bool, true, false, Option, Some, None, Result, Ok, Err, nat_lt, length, length-append, ◌+◌, ◌==◌, ◌&&◌, if◌then◌else◌, refl, sym, ap, ◌∙◌, arith}
 use Rattle.std.proofs.lemmas.Bool.{eqb-true}
-use Rattle.ticket_codec.specs.Fields.{before_nul}
-use Rattle.ticket_codec.specs.declared.fault.FieldFault.{FieldFault}
-use Rattle.ticket_codec.specs.declared.request.TicketReq.{TicketReq}
-use Rattle.ticket_codec.proofs.FieldLaws.{before_is}
+use Rattle.sealing.specs.Fields.{before_nul}
+use Rattle.sealing.specs.declared.fault.FieldFault.{FieldFault}
+use Rattle.sealing.specs.declared.request.TicketReq.{TicketReq}
+use Rattle.sealing.proofs.FieldLaws.{before_is}
 use Rattle.roles.specs.declared.answer.Cause.{Cause}
 use Rattle.roles.specs.declared.answer.Gave.{Gave}
 use Rattle.roles.specs.declared.answer.Gave.TheVariants as g
@@ -21,7 +21,7 @@ use Rattle.roles.specs.Courses as sk
 use Rattle.roles.specs.Starts.{Start}
 use Rattle.roles.specs.Talks.{Call, Progress, Verdict, give, get, found, heard, unheard, roomless, undone, offered, picked, stays}
 use Rattle.roles.specs.declared.key.SkKey.{SkKey}
-use Rattle.ticket_codec.specs.Request.{request_of}
+use Rattle.sealing.specs.Request.{request_of}
 use Rattle.conv_p9any.specs.declared.stage.Stage.{Stage}
 use Rattle.conv_p9any.specs.declared.stage.TheConstants.{MOST_TEXT}
 use Rattle.conv_p9any.specs.Courses as choice

@@ -3,10 +3,10 @@
 use Rattle.std.proofs.Common.{◌≡◌, ℕ, ◌<◌, ◌≤◌, List, [], ◌∷◌, ◌++◌, Some, None, Bool, true, false, if◌then◌else◌, inl, inr, refl, sym, ap, subst, ◌∙◌, arith}
 use Rattle.std.proofs.lemmas.Bool.{cases_Bool, eq-eqb}
 use Rattle.std.specs.Str.{bytes_eq}
-use Rattle.wire_model.specs.declared.step.Protocol.{Protocol}
-use Rattle.wire_model.specs.declared.step.Role.{Role as Part}
-use Rattle.wire_model.specs.declared.step.Step.{Step}
-use Rattle.wire_model.specs.declared.step.Step.TheVariants.{Start}
+use Rattle.wire_histories.specs.declared.step.Protocol.{Protocol}
+use Rattle.wire_histories.specs.declared.step.Role.{Role as Part}
+use Rattle.wire_histories.specs.declared.step.Step.{Step}
+use Rattle.wire_histories.specs.declared.step.Step.TheVariants.{Start}
 use Rattle.wire_histories.specs.Histories.{History, Act, act_in, acts_of, if_named, started}
 use Rattle.clean_runs.specs.Labels.{Labelling, started_as, starts_in}
 use Rattle.clean_runs.specs.Runs.{holder_at, role_at, role_by}

@@ -4,13 +4,13 @@ use Rattle.std.proofs.Common.{◌≡◌, ℕ, ◌<◌, ◌≤◌, List, [], ◌�
 use Rattle.std.proofs.lemmas.Bool.{cases_Bool}
 use Rattle.std.proofs.lemmas.Slice.Eq.{bytes_eq-Decides}
 use Rattle.std.specs.Str.{bytes_eq}
-use Rattle.term_trees.specs.Trees.{Tree}
-use Rattle.term_trees.specs.Derivations.{Derives}
-use Rattle.term_trees.specs.Spellings.{Atoms}
-use Rattle.wire_model.specs.declared.step.Protocol.{Protocol}
-use Rattle.wire_model.specs.declared.step.Role.{Role as Part}
-use Rattle.wire_model.specs.declared.step.Step.{Step}
-use Rattle.wire_model.specs.declared.step.Step.TheVariants.{Start}
+use Rattle.terms.specs.Trees.{Tree}
+use Rattle.terms.specs.Derivations.{Derives}
+use Rattle.terms.specs.Spellings.{Atoms}
+use Rattle.wire_histories.specs.declared.step.Protocol.{Protocol}
+use Rattle.wire_histories.specs.declared.step.Role.{Role as Part}
+use Rattle.wire_histories.specs.declared.step.Step.{Step}
+use Rattle.wire_histories.specs.declared.step.Step.TheVariants.{Start}
 use Rattle.conv_challenge.specs.Starts.{proto_of, side_of}
 use Rattle.talks.specs.Protocols.{protocol_of}
 use Rattle.roles.specs.Starts.{role_of}

@@ -8,24 +8,24 @@ use Rattle.std.specs.List.{list_all, list_any}
 use Rattle.std.specs.Prelude.{nat_lt}
 use Rattle.hex.specs.Hex.{encode_with, lower_digits}
 use Rattle.md5.specs.Md5.{md5}
-use Rattle.md5_answers.specs.Answer.{apop_digits, cram_digits}
-use Rattle.md5_answers.specs.Hmac.{hmac}
-use Rattle.seal_mode.proofs.SealLaws.{IsBytes-sealed}
+use Rattle.sealing.specs.Answer.{apop_digits, cram_digits}
+use Rattle.sealing.specs.Hmac.{hmac}
+use Rattle.sealing.proofs.SealLaws.{IsBytes-sealed}
 use Rattle.wire_base.specs.Names.{name_field}
 use Rattle.wire_base.specs.Texts.{is_text}
-use Rattle.ticket_codec.specs.Authenticator.{authenticator_text}
-use Rattle.ticket_codec.specs.Fields.{HoldsName, field}
-use Rattle.ticket_codec.specs.Fitting.{FitsRequest}
-use Rattle.ticket_codec.specs.Request.{request_text}
-use Rattle.ticket_codec.specs.Ticket.{ticket_of}
-use Rattle.ticket_codec.specs.declared.request.TicketReq.{TicketReq}
-use Rattle.ticket_codec.specs.declared.ticket.Ticket.{Ticket}
-use Rattle.ticket_codec.proofs.FieldLaws.{behind_field, field_here, length-name_field}
-use Rattle.ticket_codec.proofs.TicketLaws.{ticket_layout}
-use Rattle.term_trees.specs.declared.kind.MacKind.{MacKind}
-use Rattle.term_trees.specs.declared.kind.MacKind.TheVariants.{Apop, Cram}
-use Rattle.term_trees.specs.Trees.{Tree, Trees, plain, nonce, challenge, long_key, ticket_key, junk_key, password, joined, seal, digest, none, piece}
-use Rattle.term_trees.specs.Spellings.{Atoms, Spelling, and_then, atom_bytes, bytes_of, digest_bytes, spelling, spelling_all}
+use Rattle.sealing.specs.Authenticator.{authenticator_text}
+use Rattle.sealing.specs.Fields.{HoldsName, field}
+use Rattle.sealing.specs.Fitting.{FitsRequest}
+use Rattle.sealing.specs.Request.{request_text}
+use Rattle.sealing.specs.Ticket.{ticket_of}
+use Rattle.sealing.specs.declared.request.TicketReq.{TicketReq}
+use Rattle.sealing.specs.declared.ticket.Ticket.{Ticket}
+use Rattle.sealing.proofs.FieldLaws.{behind_field, field_here, length-name_field}
+use Rattle.sealing.proofs.TicketLaws.{ticket_layout}
+use Rattle.terms.specs.declared.kind.MacKind.{MacKind}
+use Rattle.terms.specs.declared.kind.MacKind.TheVariants.{Apop, Cram}
+use Rattle.terms.specs.Trees.{Tree, Trees, plain, nonce, challenge, long_key, ticket_key, junk_key, password, joined, seal, digest, none, piece}
+use Rattle.terms.specs.Spellings.{Atoms, Spelling, and_then, atom_bytes, bytes_of, digest_bytes, spelling, spelling_all}
 use Rattle.symbolic_runs.specs.Forms.{Fields, authenticator, name_text, request, ticket}
 use Rattle.clean_runs.specs.Clean.{AllHoldBytes, GivesBytes, HoldsBytes}
 use Rattle.clean_runs.specs.Runs.{names_in}

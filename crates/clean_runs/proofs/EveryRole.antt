@@ -6,7 +6,7 @@ use Rattle.std.specs.List.{list_all, list_any, slice_get}
 use Rattle.wire_base.specs.Names.{IsName}
 use Rattle.wire_base.specs.Rules.{Rule, first_told}
 use Rattle.wire_base.specs.Texts.{is_text}
-use Rattle.attr_words.specs.Lines.{is_line_byte}
+use Rattle.attr_tuples.specs.Lines.{is_line_byte}
 use Rattle.attr_tuples.specs.declared.attr.Attr.{Attr}
 use Rattle.attr_tuples.specs.declared.attr.Value.{Value}
 use Rattle.attr_tuples.specs.declared.attr.Value.TheVariants.{Is, Ask, Bare}

@@ -1,8 +1,8 @@
 -- On what the acts of a role of p9sk1 stand: its start alone, or the acts by which p9any chose it. They are no moves, and behind
 -- them p9any isn't choosing.
 use Rattle.std.proofs.Common.{◌≡◌, ℕ, List, [], ◌∷◌, ◌++◌, Option, false, refl, ap, ◌∙◌}
-use Rattle.wire_model.specs.declared.step.Protocol.TheVariants as protocol
-use Rattle.wire_model.specs.declared.step.Role.{Role as Part}
+use Rattle.wire_histories.specs.declared.step.Protocol.TheVariants as protocol
+use Rattle.wire_histories.specs.declared.step.Role.{Role as Part}
 use Rattle.roles.specs.declared.key.SkKey.{SkKey}
 use Rattle.roles.specs.Talks.{Call, found}
 use Rattle.symbolic_runs.specs.Moves.{Own, Role}

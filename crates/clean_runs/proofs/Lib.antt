@@ -30,3 +30,18 @@ pub mod AnyLemmas
 pub mod AnyServerLaw
 pub mod AnyClientLaw
 pub mod EveryRole
+pub mod Places
+pub mod Servers
+pub mod Gifts
+pub mod Grants
+pub mod Agreeing
+pub mod Apart
+pub mod Clients
+pub mod Texts
+pub mod Users
+mod Readings
+mod LoginPlaces
+mod Taken
+mod Forms
+mod LoginLaw
+mod WordLaw

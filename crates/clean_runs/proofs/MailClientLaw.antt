@@ -1,9 +1,9 @@
 -- A mail client's acts are the moves of a symbolic mail client: it takes a challenge and gives its digest.
 use Rattle.std.proofs.Common.{◌≡◌, ℕ, List, [], ◌∷◌, ◌++◌, Option, Some, unwrap_or, false, Ok, refl, sym, ap, subst, ◌∙◌}
-use Rattle.term_trees.specs.declared.kind.MacKind.{MacKind}
-use Rattle.term_trees.specs.declared.kind.MacKind.TheVariants as mac
-use Rattle.term_trees.specs.Trees.{Tree, digest, password}
-use Rattle.term_trees.specs.Spellings.{Atoms, and_then, atom_bytes, bytes_of, digest_bytes, spelling}
+use Rattle.terms.specs.declared.kind.MacKind.{MacKind}
+use Rattle.terms.specs.declared.kind.MacKind.TheVariants as mac
+use Rattle.terms.specs.Trees.{Tree, digest, password}
+use Rattle.terms.specs.Spellings.{Atoms, and_then, atom_bytes, bytes_of, digest_bytes, spelling}
 use Rattle.roles.specs.declared.key.SkKey.{SkKey}
 use Rattle.roles.specs.Starts.{Start, role_of}
 use Rattle.roles.specs.Talks.{Call, found}
@@ -13,8 +13,8 @@ use Rattle.conv_challenge.specs.declared.stage.Side.TheVariants.{Client}
 use Rattle.conv_challenge.specs.Clients.{digits_by}
 use Rattle.conv_challenge.specs.Starts.{proto_of, side_of}
 use Rattle.talks.specs.Protocols.{Mail, protocol_of}
-use Rattle.wire_model.specs.declared.step.Role.{Role as Part}
-use Rattle.wire_model.specs.declared.step.Role.TheVariants as part
+use Rattle.wire_histories.specs.declared.step.Role.{Role as Part}
+use Rattle.wire_histories.specs.declared.step.Role.TheVariants as part
 use Rattle.symbolic_runs.specs.Moves.{Role, mail_client, takes, gives, Own, mail_client_challenge, mail_client_answer}
 use Rattle.wire_histories.specs.Histories.{Act, started, gave, took}
 use Rattle.wire_histories.specs.Conversations.{acts_from, mail_protocol, met_by, protocol_as, role_as, side_as, speaks, started_by}

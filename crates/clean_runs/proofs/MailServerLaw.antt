@@ -3,16 +3,16 @@
 use Rattle.std.proofs.Common.{◌≡◌, ℕ, List, [], ◌∷◌, ◌++◌, All, append-nil, length, take, drop, Option, Some, None, Bool, false, Ok, if◌then◌else◌, refl, sym, ap, subst, ◌∙◌, arith}
 use Rattle.std.proofs.lemmas.List.{take_at, drop_at}
 use Rattle.std.proofs.lemmas.List.Elements.{All-head}
-use Rattle.seal_mode.specs.Sealing.{opened as opened_bytes, sealed}
-use Rattle.seal_mode.proofs.SealLaws.{length-sealed, sealed_undone}
+use Rattle.sealing.specs.Sealing.{opened as opened_bytes, sealed}
+use Rattle.sealing.proofs.SealLaws.{length-sealed, sealed_undone}
 use Rattle.wire_base.specs.Names.{IsName}
-use Rattle.ticket_codec.specs.Fitting.{FitsRequest}
-use Rattle.ticket_codec.specs.Ticket.{ticket_of}
-use Rattle.ticket_codec.specs.declared.request.TicketReq.{TicketReq}
-use Rattle.ticket_codec.specs.declared.ticket.Ticket.{Ticket}
-use Rattle.term_trees.specs.declared.kind.MacKind.{MacKind}
-use Rattle.term_trees.specs.Trees.{Tree, same_tree, nonce, long_key, seal, none, piece, plain}
-use Rattle.term_trees.specs.Spellings.{Atoms, atom_bytes, bytes_of, spelling}
+use Rattle.sealing.specs.Fitting.{FitsRequest}
+use Rattle.sealing.specs.Ticket.{ticket_of}
+use Rattle.sealing.specs.declared.request.TicketReq.{TicketReq}
+use Rattle.sealing.specs.declared.ticket.Ticket.{Ticket}
+use Rattle.terms.specs.declared.kind.MacKind.{MacKind}
+use Rattle.terms.specs.Trees.{Tree, same_tree, nonce, long_key, seal, none, piece, plain}
+use Rattle.terms.specs.Spellings.{Atoms, atom_bytes, bytes_of, spelling}
 use Rattle.roles.specs.declared.key.SkKey.{SkKey}
 use Rattle.roles.specs.Starts.{Start, role_of}
 use Rattle.roles.specs.Talks.{Call, found}
@@ -25,7 +25,7 @@ use Rattle.conv_challenge.specs.Servers.{challenge_question, request_about, requ
 use Rattle.conv_challenge.specs.Starts.{proto_of, side_of}
 use Rattle.talks.specs.Protocols.{Mail, protocol_of}
 use Rattle.talks.specs.Lines.{cause_text}
-use Rattle.wire_model.specs.declared.step.Role.TheVariants as part
+use Rattle.wire_histories.specs.declared.step.Role.TheVariants as part
 use Rattle.symbolic_runs.specs.Forms.{by_client, for_server, mail_request, Fields, authenticator, name_text, pair, request, ticket, vouch}
 use Rattle.symbolic_runs.specs.Gifts.{bytes, next_gift, opened, part as piece_of}
 use Rattle.symbolic_runs.specs.Moves.{Role, mail_server, Move, takes, hears, gives, asks, accepts, fails, Own, Row, mail_question, mail_answer, mail_challenge_on, mail_user, mail_digest, mail_second_question, mail_second_answer, mail_accepts}

@@ -7,9 +7,9 @@ use Rattle.wire_base.specs.Names.{IsName}
 use Rattle.wire_base.specs.Rules.{Rule, first_told}
 use Rattle.wire_base.specs.Texts.{is_text}
 use Rattle.attr_tuples.specs.Forms.{is_user}
-use Rattle.ticket_codec.specs.declared.fault.FieldFault.{FieldFault}
-use Rattle.ticket_codec.specs.declared.kind.TheConstants.{AUTH_OK, AUTH_TS, AUTH_AC}
-use Rattle.ticket_codec.specs.declared.ticket.Ticket.{Ticket}
+use Rattle.sealing.specs.declared.fault.FieldFault.{FieldFault}
+use Rattle.sealing.specs.declared.kind.TheConstants.{AUTH_OK, AUTH_TS, AUTH_AC}
+use Rattle.sealing.specs.declared.ticket.Ticket.{Ticket}
 use Rattle.roles.specs.declared.answer.Cause.{Cause}
 use Rattle.roles.specs.declared.answer.Cause.TheVariants.{WrongKind, WrongChallenge, WrongUser, ServerSaidNo, NoServer, NoRoom, BadKey}
 use Rattle.roles.specs.declared.answer.Gave.{Gave}

@@ -4,8 +4,8 @@ use Rattle.std.proofs.Common.{◌≡◌, ℕ, ◌+◌, ◌<◌, ◌≤◌, List,
 use Rattle.std.proofs.lemmas.Bool.{cases_Bool, eq-eqb, eqb-true}
 use Rattle.std.proofs.lemmas.Slice.Eq.{bytes_eq-Decides}
 use Rattle.std.specs.Str.{bytes_eq}
-use Rattle.wire_model.specs.declared.step.Step.{Step}
-use Rattle.wire_model.specs.declared.step.Step.TheVariants.{Start}
+use Rattle.wire_histories.specs.declared.step.Step.{Step}
+use Rattle.wire_histories.specs.declared.step.Step.TheVariants.{Start}
 use Rattle.symbolic_runs.specs.Moves.{Move}
 use Rattle.symbolic_runs.specs.Sessions.{Deed}
 use Rattle.symbolic_runs.specs.Runs.{Setting as Symbolic, Event, Run, starts, talks, moves, serves, moves_of, own_of, started as started_run}

@@ -3,13 +3,13 @@
 use Rattle.std.proofs.Common.{◌≡◌, ℕ, ◌+◌, ◌<◌, ◌≤◌, List, [], ◌∷◌, ◌++◌, map, length, Option, Some, None, Bool, true, false, eqb, ◌==◌, if◌then◌else◌, inl, inr, refl, sym, ap, subst, ◌∙◌, arith}
 use Rattle.std.proofs.lemmas.Bool.{cases_Bool, eq-eqb}
 use Rattle.std.specs.Str.{bytes_eq}
-use Rattle.ticket_codec.specs.Request.{request_of}
+use Rattle.sealing.specs.Request.{request_of}
 use Rattle.auth_server.specs.Requests.{kind_of}
 use Rattle.auth_server.specs.Standing.{Server}
-use Rattle.term_trees.specs.Trees.{Tree}
-use Rattle.term_trees.specs.declared.kind.MacKind.{MacKind}
-use Rattle.wire_model.specs.declared.step.Step.{Step}
-use Rattle.wire_model.specs.declared.step.Step.TheVariants.{AsGot}
+use Rattle.terms.specs.Trees.{Tree}
+use Rattle.terms.specs.declared.kind.MacKind.{MacKind}
+use Rattle.wire_histories.specs.declared.step.Step.{Step}
+use Rattle.wire_histories.specs.declared.step.Step.TheVariants.{AsGot}
 use Rattle.symbolic_runs.specs.Sessions.{Deed, got, gives_tickets, gives_challenge, held, refuses}
 use Rattle.symbolic_runs.specs.Runs.{Setting as Symbolic, serves, deeds_of, requests as requests_run}
 use Rattle.wire_histories.specs.Histories.{History, Deal, requested, replied, ended}

@@ -1,17 +1,17 @@
 -- What a session answers is what the table of the authentication server's deeds allows, and is spelled by its one label.
 use Rattle.std.proofs.Common.{◌≡◌, ℕ, ◌<◌, List, [], ◌∷◌, ◌++◌, append-nil, length, take, Option, Some, Ok, Bool, true, false, ◌==◌, if◌then◌else◌, refl, sym, ap, subst, ◌∙◌}
 use Rattle.std.proofs.lemmas.Bool.{eq-eqb}
-use Rattle.ticket_codec.specs.Fields.{field}
-use Rattle.ticket_codec.specs.Request.{request_of}
-use Rattle.ticket_codec.specs.declared.request.TicketReq.{TicketReq}
-use Rattle.ticket_codec.proofs.RequestLaws.{request_taken}
+use Rattle.sealing.specs.Fields.{field}
+use Rattle.sealing.specs.Request.{request_of}
+use Rattle.sealing.specs.declared.request.TicketReq.{TicketReq}
+use Rattle.sealing.proofs.RequestLaws.{request_taken}
 use Rattle.auth_server.specs.Requests.{Asked, Challenge, is_for, kind_of, needed}
 use Rattle.auth_server.specs.Answers.{Knowledge, answer, held, word}
 use Rattle.auth_server.specs.Standing.{knowledge}
-use Rattle.term_trees.specs.declared.kind.MacKind.{MacKind}
-use Rattle.term_trees.specs.declared.kind.MacKind.TheVariants.{Apop, Cram}
-use Rattle.term_trees.specs.Trees.{Tree, plain, password, digest}
-use Rattle.term_trees.specs.Spellings.{Atoms, spelling}
+use Rattle.terms.specs.declared.kind.MacKind.{MacKind}
+use Rattle.terms.specs.declared.kind.MacKind.TheVariants.{Apop, Cram}
+use Rattle.terms.specs.Trees.{Tree, plain, password, digest}
+use Rattle.terms.specs.Spellings.{Atoms, spelling}
 use Rattle.symbolic_runs.specs.Forms.{ticket_request, mail_request, mail_challenge, pair, request}
 use Rattle.symbolic_runs.specs.Gifts.{part as piece_of}
 use Rattle.symbolic_runs.specs.Sessions.{Deed, Grant, MaySpeak, SessionRow, got, gives_tickets, gives_challenge, gives_vouch, keys, key_and_password, grants_tickets, challenges, vouches, refusal, deed_labels, tickets_given, vouch_given}

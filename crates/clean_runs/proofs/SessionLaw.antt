@@ -1,12 +1,12 @@
 -- Each deal of a session goes on with the run of a clean legal history: a request comes to a session that owes no answer, an
 -- answer is what the table of the server's deeds allows, and the end of a session is no event.
 use Rattle.std.proofs.Common.{◌≡◌, ℕ, ◌≤◌, List, [], ◌∷◌, ◌++◌, append_assoc, map, length, false, true, refl, sym, ap, subst, ◌∙◌, arith}
-use Rattle.ticket_codec.specs.Request.{request_of}
+use Rattle.sealing.specs.Request.{request_of}
 use Rattle.auth_server.specs.Requests.{Asked, is_served, kind_of}
 use Rattle.auth_server.specs.Answers.{Knowledge, answer}
-use Rattle.term_trees.specs.Spellings.{spelling}
-use Rattle.wire_model.specs.declared.step.Step.{Step}
-use Rattle.wire_model.specs.declared.step.Step.TheVariants.{Start, Out, In, Ask, Heard, Unheard, Accept, Fail, Reply, Refused, AsGot, AsGave, AsEnd}
+use Rattle.terms.specs.Spellings.{spelling}
+use Rattle.wire_histories.specs.declared.step.Step.{Step}
+use Rattle.wire_histories.specs.declared.step.Step.TheVariants.{Start, Out, In, Ask, Heard, Unheard, Accept, Fail, Reply, Refused, AsGot, AsGave, AsEnd}
 use Rattle.symbolic_runs.specs.Sessions.{SessionRow, got, is_idle, comes as comes_row}
 use Rattle.symbolic_runs.specs.Runs.{Event, IsRun, then_serves, serves, deeds_of, given as labels_given}
 use Rattle.wire_histories.specs.Histories.{History, Deal, requested, replied, deal_in, deals_of}

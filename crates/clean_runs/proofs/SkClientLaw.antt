@@ -4,20 +4,20 @@ use Rattle.std.proofs.Common.{◌≡◌, ℕ, List, [], ◌∷◌, ◌++◌, All
 use Rattle.std.specs.Prelude.{◌⊎◌}
 use Rattle.std.proofs.lemmas.List.{take_at, drop_at}
 use Rattle.std.proofs.lemmas.List.Elements.{All-head}
-use Rattle.seal_mode.specs.Sealing.{opened as opened_bytes, sealed}
-use Rattle.seal_mode.proofs.SealLaws.{length-sealed, sealed_undone}
+use Rattle.sealing.specs.Sealing.{opened as opened_bytes, sealed}
+use Rattle.sealing.proofs.SealLaws.{length-sealed, sealed_undone}
 use Rattle.wire_base.specs.Names.{IsName}
-use Rattle.ticket_codec.specs.Authenticator.{authenticator_text}
-use Rattle.ticket_codec.specs.Fields.{HoldsName, field}
-use Rattle.ticket_codec.specs.Fitting.{FitsRequest}
-use Rattle.ticket_codec.specs.Request.{request_of}
-use Rattle.ticket_codec.specs.Ticket.{ticket_of}
-use Rattle.ticket_codec.specs.declared.request.TicketReq.{TicketReq}
-use Rattle.ticket_codec.specs.declared.ticket.Ticket.{Ticket}
-use Rattle.ticket_codec.proofs.FieldLaws.{behind_field, field_here}
-use Rattle.ticket_codec.proofs.RequestLaws.{request_taken}
-use Rattle.term_trees.specs.Trees.{Tree, same_tree, nonce, long_key, seal, none, piece, plain}
-use Rattle.term_trees.specs.Spellings.{Atoms, atom_bytes, bytes_of, spelling}
+use Rattle.sealing.specs.Authenticator.{authenticator_text}
+use Rattle.sealing.specs.Fields.{HoldsName, field}
+use Rattle.sealing.specs.Fitting.{FitsRequest}
+use Rattle.sealing.specs.Request.{request_of}
+use Rattle.sealing.specs.Ticket.{ticket_of}
+use Rattle.sealing.specs.declared.request.TicketReq.{TicketReq}
+use Rattle.sealing.specs.declared.ticket.Ticket.{Ticket}
+use Rattle.sealing.proofs.FieldLaws.{behind_field, field_here}
+use Rattle.sealing.proofs.RequestLaws.{request_taken}
+use Rattle.terms.specs.Trees.{Tree, same_tree, nonce, long_key, seal, none, piece, plain}
+use Rattle.terms.specs.Spellings.{Atoms, atom_bytes, bytes_of, spelling}
 use Rattle.roles.specs.declared.key.SkKey.{SkKey}
 use Rattle.roles.specs.declared.stage.Role.{Role as SkRole}
 use Rattle.roles.specs.Answers.{is_sought}
@@ -29,7 +29,7 @@ use Rattle.roles.specs.Tickets.{challenge_in, rest_part, ticket_part, ticket_und
 use Rattle.conv_challenge.specs.Starts.{proto_of, side_of}
 use Rattle.talks.specs.Protocols.{P9sk1, protocol_of}
 use Rattle.talks.specs.Lines.{cause_text}
-use Rattle.wire_model.specs.declared.step.Protocol.TheVariants as protocol
+use Rattle.wire_histories.specs.declared.step.Protocol.TheVariants as protocol
 use Rattle.symbolic_runs.specs.Forms.{Fields, by_client, for_client, ticket_request, authenticator, client_message, request, server_message, ticket, tickets}
 use Rattle.symbolic_runs.specs.Gifts.{are_whole, bytes, fields_of, is_request, next_gift, opened, part as piece_of}
 use Rattle.symbolic_runs.specs.Moves.{Role, client, Move, takes, hears, gives, asks, accepts, fails, Own, Row, client_accepts, client_answer, client_challenge, client_proof, client_question, client_request, client_ticket}

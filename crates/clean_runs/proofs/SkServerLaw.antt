@@ -4,14 +4,14 @@ use Rattle.std.proofs.Common.{◌≡◌, ℕ, List, [], ◌∷◌, ◌++◌, All
 use Rattle.std.specs.Prelude.{◌⊎◌}
 use Rattle.std.proofs.lemmas.List.{take_at}
 use Rattle.std.proofs.lemmas.List.Elements.{All-head}
-use Rattle.seal_mode.specs.Sealing.{opened, sealed}
-use Rattle.seal_mode.proofs.SealLaws.{length-sealed, sealed_undone}
-use Rattle.ticket_codec.specs.Fitting.{FitsRequest}
-use Rattle.ticket_codec.specs.Ticket.{ticket_of}
-use Rattle.ticket_codec.specs.declared.request.TicketReq.{TicketReq}
-use Rattle.ticket_codec.specs.declared.ticket.Ticket.{Ticket}
-use Rattle.term_trees.specs.Trees.{Tree, nonce, long_key, seal, none, piece}
-use Rattle.term_trees.specs.Spellings.{Atoms, Spelling, atom_bytes, bytes_of, spelling}
+use Rattle.sealing.specs.Sealing.{opened, sealed}
+use Rattle.sealing.proofs.SealLaws.{length-sealed, sealed_undone}
+use Rattle.sealing.specs.Fitting.{FitsRequest}
+use Rattle.sealing.specs.Ticket.{ticket_of}
+use Rattle.sealing.specs.declared.request.TicketReq.{TicketReq}
+use Rattle.sealing.specs.declared.ticket.Ticket.{Ticket}
+use Rattle.terms.specs.Trees.{Tree, nonce, long_key, seal, none, piece}
+use Rattle.terms.specs.Spellings.{Atoms, Spelling, atom_bytes, bytes_of, spelling}
 use Rattle.roles.specs.declared.key.SkKey.{SkKey}
 use Rattle.roles.specs.declared.stage.Role.TheVariants as sk_role
 use Rattle.roles.specs.Answers.{is_sought}
@@ -24,8 +24,8 @@ use Rattle.roles.proofs.StartLemmas.{nobody_is_name}
 use Rattle.conv_challenge.specs.Starts.{proto_of, side_of}
 use Rattle.talks.specs.Protocols.{P9sk1, protocol_of}
 use Rattle.talks.specs.Lines.{cause_text}
-use Rattle.wire_model.specs.declared.step.Protocol.TheVariants as protocol
-use Rattle.wire_model.specs.declared.step.Role.TheVariants as part
+use Rattle.wire_histories.specs.declared.step.Protocol.TheVariants as protocol
+use Rattle.wire_histories.specs.declared.step.Role.TheVariants as part
 use Rattle.symbolic_runs.specs.Forms.{Fields, by_client, by_server, for_server, ticket_request, authenticator, name_text, pair, request, server_message, ticket}
 use Rattle.symbolic_runs.specs.Gifts.{bytes, next_gift, part as piece_of, shown as shown_in}
 use Rattle.symbolic_runs.specs.Moves.{Role, server, Move, takes, gives, accepts, fails, Own, Row, server_accepts, server_challenge, server_proof, server_request as server_request_row, server_ticket}

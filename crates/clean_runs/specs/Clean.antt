@@ -5,15 +5,15 @@
 -- label of a message whose tests all passed has the form of its move.
 use Rattle.std.specs.Prelude.{◌≡◌, ℕ, ◌+◌, ◌*◌, ◌<◌, ◌^◌, List, [], ◌∷◌, ◌++◌, All, Bool, true, false, length, Option, Some, None, Ok, unwrap_or}
 use Rattle.hex.specs.Hex.{encode_lower}
-use Rattle.term_trees.specs.Trees.{Tree, Trees, plain, nonce, challenge, long_key, ticket_key, junk_key, password, joined, seal, digest, none, piece}
-use Rattle.term_trees.specs.Derivations.{Derives}
-use Rattle.term_trees.specs.Spellings.{Atoms, bytes_of, spelling}
+use Rattle.terms.specs.Trees.{Tree, Trees, plain, nonce, challenge, long_key, ticket_key, junk_key, password, joined, seal, digest, none, piece}
+use Rattle.terms.specs.Derivations.{Derives}
+use Rattle.terms.specs.Spellings.{Atoms, bytes_of, spelling}
 use Rattle.auth_tables.specs.Keys.{UserKey}
 use Rattle.auth_server.specs.Answers.{word, word_key}
 use Rattle.roles.specs.declared.key.SkKey.{SkKey}
 use Rattle.roles.specs.Talks.{Call, found}
-use Rattle.wire_model.specs.declared.step.Step.{Step}
-use Rattle.wire_model.specs.declared.step.Step.TheVariants.{Start, Out, In, Ask, Heard, Accept, AsGot, AsGave}
+use Rattle.wire_histories.specs.declared.step.Step.{Step}
+use Rattle.wire_histories.specs.declared.step.Step.TheVariants.{Start, Out, In, Ask, Heard, Accept, AsGot, AsGave}
 use Rattle.symbolic_runs.specs.Moves.{Role, client, server, mail_client, mail_server}
 use Rattle.symbolic_runs.specs.Sessions.{Deed}
 use Rattle.symbolic_runs.specs.Runs.{Setting as Symbolic, known, own_of}

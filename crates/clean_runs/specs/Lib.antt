@@ -1,10 +1,9 @@
-pub use Rattle.symbolic_agreement.specs.Agreement
-pub use Rattle.talks.specs.Protocols
-pub use Rattle.wire_histories.specs.Conversations
-pub use Rattle.wire_histories.specs.Histories
-pub use Rattle.wire_histories.specs.Legal
 pub mod Labels
 pub mod Runs
 pub mod Forms
 pub mod Clean
 pub mod Statements
+pub mod Agreement
+pub mod AgreementStatements
+pub mod Login
+pub mod ExampleStatements

@@ -5,24 +5,24 @@
 use Rattle.std.specs.Prelude.{ℕ, ◌==◌, List, [], ◌∷◌, ◌++◌, Bool, true, false, length, take, map, filter, is_some, Option, Some, None, Result, Ok, Err, if◌then◌else◌}
 use Rattle.std.specs.List.{list_any}
 use Rattle.wire_base.specs.Names.{name_field}
-use Rattle.term_trees.specs.declared.kind.MacKind.{MacKind}
-use Rattle.term_trees.specs.declared.kind.MacKind.TheVariants as mac
-use Rattle.term_trees.specs.Trees.{Tree, plain}
-use Rattle.ticket_codec.specs.Fields.{field}
-use Rattle.ticket_codec.specs.Request.{request_of}
-use Rattle.ticket_codec.specs.declared.fault.FieldFault.{FieldFault}
-use Rattle.ticket_codec.specs.declared.request.TicketReq.{TicketReq}
+use Rattle.terms.specs.declared.kind.MacKind.{MacKind}
+use Rattle.terms.specs.declared.kind.MacKind.TheVariants as mac
+use Rattle.terms.specs.Trees.{Tree, plain}
+use Rattle.sealing.specs.Fields.{field}
+use Rattle.sealing.specs.Request.{request_of}
+use Rattle.sealing.specs.declared.fault.FieldFault.{FieldFault}
+use Rattle.sealing.specs.declared.request.TicketReq.{TicketReq}
 use Rattle.auth_tables.specs.Speaks.{may_speak, names_of}
 use Rattle.auth_server.specs.Requests.{kind_of}
 use Rattle.auth_server.specs.Answers.{Knowledge}
 use Rattle.auth_server.specs.Standing.{Server, knowledge}
 use Rattle.conv_p9any.specs.Offers.{consents}
-use Rattle.wire_model.specs.declared.step.Protocol.{Protocol}
-use Rattle.wire_model.specs.declared.step.Protocol.TheVariants.{P9sk1, P9any, Apop, Cram}
-use Rattle.wire_model.specs.declared.step.Role.{Role as Part}
-use Rattle.wire_model.specs.declared.step.Role.TheVariants as part
-use Rattle.wire_model.specs.declared.step.Step.{Step}
-use Rattle.wire_model.specs.declared.step.Step.TheVariants.{Start, Out, In, Ask, Heard, Unheard, Accept, Fail, Reply, Refused, AsGot, AsGave, AsEnd}
+use Rattle.wire_histories.specs.declared.step.Protocol.{Protocol}
+use Rattle.wire_histories.specs.declared.step.Protocol.TheVariants.{P9sk1, P9any, Apop, Cram}
+use Rattle.wire_histories.specs.declared.step.Role.{Role as Part}
+use Rattle.wire_histories.specs.declared.step.Role.TheVariants as part
+use Rattle.wire_histories.specs.declared.step.Step.{Step}
+use Rattle.wire_histories.specs.declared.step.Step.TheVariants.{Start, Out, In, Ask, Heard, Unheard, Accept, Fail, Reply, Refused, AsGot, AsGave, AsEnd}
 use Rattle.symbolic_runs.specs.Forms.{Fields}
 use Rattle.symbolic_runs.specs.Moves.{Role, client, server, mail_client, mail_server, Move, takes, hears, gives, accepts, fails, Own}
 use Rattle.symbolic_runs.specs.Sessions.{keys, key_and_password, Grant, Deed, got, gives_tickets, gives_challenge, gives_vouch, refuses, held}

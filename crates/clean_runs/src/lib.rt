@@ -1,6 +1,15 @@
-//! Clean histories: labelled histories of real bytes, and the symbolic runs that they are.
+//! Clean histories: labelled histories of real bytes, the symbolic runs that they are, and agreement in them: whom
+//! a server accepts was there, and who answered a client was a server. A login whose record is clean, and one that
+//! uses a word twice and isn't, show that the premise is neither empty nor free.
 #![tactic(auto)]
 
+mod agreement_laws;
+mod example_laws;
 mod laws;
 
+pub use agreement_laws::{
+    acceptances_name_the_user, client_agreement, different_grants, different_tickets,
+    matching_conversation, server_agreement,
+};
+pub use example_laws::{a_clean_record_uses_a_word_once, a_login_is_clean};
 pub use laws::{clean_histories_are_symbolic_runs, clean_histories_keep_their_secrets};

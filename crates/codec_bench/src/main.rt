@@ -4,10 +4,9 @@
 
 use anyhow::bail;
 use std::env;
+use work::{decoded_sum, encoded_sum};
 
 mod work;
-
-use work::{decoded_sum, encoded_sum};
 
 // The rounds of each work in a run without arguments.
 const FEW_ROUNDS: u64 = 3;

@@ -1,10 +1,10 @@
 // What is measured: six frames, three of each direction, read or written in each round. A sum of what comes out keeps
 // any of it from being left out.
-ghost use Rattle.nine_messages.specs.Decoding.{IsFrame};
-ghost use Rattle.nine_messages.specs.Messages.{t_given, r_given};
+ghost use Rattle.nine.specs.Decoding.{IsFrame};
+ghost use Rattle.nine.specs.Messages.{t_given, r_given};
 ghost use Rattle.std.specs.Prelude.{IfSome};
 
-use nine_codec::{RBody, RMsg, TBody, TMsg, decode_r, decode_t, encode_r, encode_t};
+use nine::{RBody, RMsg, TBody, TMsg, decode_r, decode_t, encode_r, encode_t};
 use std::alloc::Global;
 use wire_base::{Bytes, u32_at};
 

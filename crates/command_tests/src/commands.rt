@@ -1,5 +1,6 @@
 // The command on objects in memory, by hand from section 5 of the Plan 9 manual and factotum(4).
-use factotum_program::{Status, run_command};
+use auth_program::Status;
+use factotum_program::run_command;
 use std::alloc::Global;
 use std::io::{self, Read};
 use std::process::Abort;

@@ -5,8 +5,8 @@ use Rattle.std.specs.Fmt.{digits}
 use Rattle.hex.specs.Hex.{encode_lower, encode_with, lower_digits}
 use Rattle.md5.specs.Md5.{md5}
 use Rattle.md5.proofs.StandardFacts.{length-md5}
-use Rattle.md5_answers.specs.Answer.{apop_digits, cram_digits}
-use Rattle.md5_answers.specs.Hmac.{hmac}
+use Rattle.sealing.specs.Answer.{apop_digits, cram_digits}
+use Rattle.sealing.specs.Hmac.{hmac}
 use Rattle.auth_server.specs.Answers.{challenge_at}
 use Rattle.conv_challenge.specs.Clients.{digits_by}
 use Rattle.conv_challenge.specs.Numbers.{told_length}

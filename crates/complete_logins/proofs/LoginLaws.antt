@@ -3,17 +3,17 @@
 use Rattle.std.proofs.Common.{◌≡◌, ℕ, ◌<◌, List, [], ◌∷◌, ◌++◌, length, Bool, true, false, not, ◌&&◌, ◌||◌, ◌==◌, Option, Some, Ok, if◌then◌else◌, refl, sym, ap, ◌∙◌, arith, length-append}
 use Rattle.std.proofs.lemmas.Bool.{ne_eqb}
 use Rattle.std.specs.Str.{bytes_eq}
-use Rattle.seal_mode.specs.Sealing.{opened, sealed}
-use Rattle.ticket_codec.specs.Authenticator.{authenticator_text}
-use Rattle.ticket_codec.specs.Fitting.{FitsAuthenticator, FitsRequest, FitsTicket, IsBlock}
-use Rattle.ticket_codec.specs.Request.{request_text}
-use Rattle.ticket_codec.specs.Ticket.{ticket_of, ticket_text}
-use Rattle.ticket_codec.specs.declared.authenticator.Authenticator.{Authenticator}
-use Rattle.ticket_codec.specs.declared.kind.TheConstants.{AUTH_TREQ, AUTH_AC, AUTH_AS}
-use Rattle.ticket_codec.specs.declared.request.TicketReq.{TicketReq}
-use Rattle.ticket_codec.specs.declared.ticket.Ticket.{Ticket}
-use Rattle.ticket_codec.proofs.RequestLaws.{request_written}
-use Rattle.ticket_codec.proofs.SealedLaws.{authenticator_opened}
+use Rattle.sealing.specs.Sealing.{opened, sealed}
+use Rattle.sealing.specs.Authenticator.{authenticator_text}
+use Rattle.sealing.specs.Fitting.{FitsAuthenticator, FitsRequest, FitsTicket, IsBlock}
+use Rattle.sealing.specs.Request.{request_text}
+use Rattle.sealing.specs.Ticket.{ticket_of, ticket_text}
+use Rattle.sealing.specs.declared.authenticator.Authenticator.{Authenticator}
+use Rattle.sealing.specs.declared.kind.TheConstants.{AUTH_TREQ, AUTH_AC, AUTH_AS}
+use Rattle.sealing.specs.declared.request.TicketReq.{TicketReq}
+use Rattle.sealing.specs.declared.ticket.Ticket.{Ticket}
+use Rattle.sealing.proofs.RequestLaws.{request_written}
+use Rattle.sealing.proofs.SealedLaws.{authenticator_opened}
 use Rattle.auth_tables.specs.Keys.{UserKey}
 use Rattle.auth_server.specs.Requests.{asked_so}
 use Rattle.auth_server.specs.Answers.{answer, answer_to, granted_key, held, shared_key, tickets, word}

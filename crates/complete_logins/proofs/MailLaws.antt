@@ -6,17 +6,17 @@ use Rattle.std.proofs.lemmas.List.{drop-append-le, drop_at, length-drop, take-ap
 use Rattle.std.specs.Str.{bytes_eq}
 use Rattle.wire_base.specs.Texts.{is_text}
 use Rattle.attr_tuples.specs.Forms.{is_dom}
-use Rattle.seal_mode.specs.Sealing.{opened, sealed}
-use Rattle.ticket_codec.specs.Authenticator.{authenticator_text}
-use Rattle.ticket_codec.specs.Fields.{HoldsName, field}
-use Rattle.ticket_codec.specs.Fitting.{FitsAuthenticator, FitsRequest, FitsTicket}
-use Rattle.ticket_codec.specs.Request.{request_of, request_text}
-use Rattle.ticket_codec.specs.Ticket.{ticket_of, ticket_text}
-use Rattle.ticket_codec.specs.declared.authenticator.Authenticator.{Authenticator}
-use Rattle.ticket_codec.specs.declared.request.TicketReq.{TicketReq}
-use Rattle.ticket_codec.specs.declared.ticket.Ticket.{Ticket}
-use Rattle.ticket_codec.proofs.RequestLaws.{request_again, request_written}
-use Rattle.ticket_codec.proofs.SealedLaws.{authenticator_opened}
+use Rattle.sealing.specs.Sealing.{opened, sealed}
+use Rattle.sealing.specs.Authenticator.{authenticator_text}
+use Rattle.sealing.specs.Fields.{HoldsName, field}
+use Rattle.sealing.specs.Fitting.{FitsAuthenticator, FitsRequest, FitsTicket}
+use Rattle.sealing.specs.Request.{request_of, request_text}
+use Rattle.sealing.specs.Ticket.{ticket_of, ticket_text}
+use Rattle.sealing.specs.declared.authenticator.Authenticator.{Authenticator}
+use Rattle.sealing.specs.declared.request.TicketReq.{TicketReq}
+use Rattle.sealing.specs.declared.ticket.Ticket.{Ticket}
+use Rattle.sealing.proofs.RequestLaws.{request_again, request_written}
+use Rattle.sealing.proofs.SealedLaws.{authenticator_opened}
 use Rattle.auth_server.specs.Requests.{Challenge, asked_so}
 use Rattle.auth_server.specs.Answers.{answer, answer_to, are_digits, challenge_answer, challenge_text, digits_for, grant, held, held_after, is_right, judged, key_or, mail_answer, password_of, shared_key, vouch, vouch_text, word}
 use Rattle.roles.specs.declared.answer.Cause.TheVariants.{WrongKind, ServerSaidNo, BadKey}

@@ -4,18 +4,18 @@ use Rattle.std.specs.Int.{w32, to_le_bytes}
 use Rattle.std.proofs.lemmas.List.{length-take-le, drop_at, take_at}
 use Rattle.std.proofs.lemmas.List.Elements.{All-take}
 use Rattle.wire_base.specs.Names.{name_field}
-use Rattle.seal_mode.specs.Sealing.{opened, sealed}
-use Rattle.seal_mode.proofs.SealLaws.{length-sealed}
-use Rattle.ticket_codec.specs.Authenticator.{authenticator_text}
-use Rattle.ticket_codec.specs.Fitting.{FitsRequest, FitsTicket, IsBlock}
-use Rattle.ticket_codec.specs.Request.{request_of, request_text}
-use Rattle.ticket_codec.specs.Ticket.{ticket_of, ticket_text}
-use Rattle.ticket_codec.specs.declared.authenticator.Authenticator.{Authenticator}
-use Rattle.ticket_codec.specs.declared.request.TicketReq.{TicketReq}
-use Rattle.ticket_codec.specs.declared.ticket.Ticket.{Ticket}
-use Rattle.ticket_codec.proofs.FieldLaws.{length-name_field}
-use Rattle.ticket_codec.proofs.RequestLaws.{request_again, request_written}
-use Rattle.ticket_codec.proofs.SealedLaws.{ticket_opened}
+use Rattle.sealing.specs.Sealing.{opened, sealed}
+use Rattle.sealing.proofs.SealLaws.{length-sealed}
+use Rattle.sealing.specs.Authenticator.{authenticator_text}
+use Rattle.sealing.specs.Fitting.{FitsRequest, FitsTicket, IsBlock}
+use Rattle.sealing.specs.Request.{request_of, request_text}
+use Rattle.sealing.specs.Ticket.{ticket_of, ticket_text}
+use Rattle.sealing.specs.declared.authenticator.Authenticator.{Authenticator}
+use Rattle.sealing.specs.declared.request.TicketReq.{TicketReq}
+use Rattle.sealing.specs.declared.ticket.Ticket.{Ticket}
+use Rattle.sealing.proofs.FieldLaws.{length-name_field}
+use Rattle.sealing.proofs.RequestLaws.{request_again, request_written}
+use Rattle.sealing.proofs.SealedLaws.{ticket_opened}
 
 -- ---- lengths
 

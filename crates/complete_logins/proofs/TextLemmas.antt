@@ -6,8 +6,8 @@ use Rattle.std.specs.Str.{bytes_eq}
 use Rattle.std.proofs.lemmas.Bool.{and_parts, cases_Bool, eq-eqb, le-ltb, leb-true}
 use Rattle.wire_base.specs.Texts.{is_text}
 use Rattle.attr_tuples.specs.Forms.{is_dom}
-use Rattle.ticket_codec.specs.Fields.{before_nul}
-use Rattle.ticket_codec.proofs.FieldLaws.{before}
+use Rattle.sealing.specs.Fields.{before_nul}
+use Rattle.sealing.proofs.FieldLaws.{before}
 use Rattle.roles.specs.declared.answer.Gave.TheVariants.{TooLong}
 use Rattle.roles.specs.Starts.{Start}
 use Rattle.conv_p9any.specs.declared.stage.TheConstants.{MOST_TEXT}

@@ -5,8 +5,8 @@ use Rattle.wire_base.specs.Names.{IsName}
 use Rattle.wire_base.specs.declared.name.AuthInfo.{AuthInfo}
 use Rattle.attr_tuples.specs.Forms.{is_dom}
 use Rattle.attr_tuples.specs.Matching.{value_of}
-use Rattle.seal_mode.specs.Keys.{expanded}
-use Rattle.ticket_codec.specs.Fitting.{FitsName, IsBlock}
+use Rattle.sealing.specs.Keys.{expanded}
+use Rattle.sealing.specs.Fitting.{FitsName, IsBlock}
 use Rattle.auth_tables.specs.Keys.{UserKey}
 use Rattle.auth_server.specs.Requests.{Asked, asked_so}
 use Rattle.auth_server.specs.Answers.{Knowledge, answer, shared_key, word}

@@ -5,8 +5,8 @@ use Rattle.std.specs.Prelude.{◌≡◌, ℕ, List, [], ◌∷◌, true, Option,
 use Rattle.wire_base.specs.Names.{IsName}
 use Rattle.wire_base.specs.declared.name.AuthInfo.{AuthInfo}
 use Rattle.attr_tuples.specs.Forms.{is_dom, is_user}
-use Rattle.seal_mode.specs.Keys.{expanded}
-use Rattle.ticket_codec.specs.Fitting.{IsBlock}
+use Rattle.sealing.specs.Keys.{expanded}
+use Rattle.sealing.specs.Fitting.{IsBlock}
 use Rattle.auth_tables.specs.Keys.{UserKey}
 use Rattle.auth_server.specs.Requests.{Asked, asked_so}
 use Rattle.auth_server.specs.Answers.{Knowledge, answer, shared_key, word}

@@ -9,11 +9,11 @@ use Rattle.attr_tuples.specs.Matching.{value_of}
 use Rattle.wire_base.specs.Rules.{first_told}
 use Rattle.hex.specs.Hex.{encode_with}
 use Rattle.md5.specs.Md5.{block_words, compress, digest_bytes, hash_after, md5, rounds}
-use Rattle.md5_answers.specs.Answer.{apop_digits, cram_digits}
-use Rattle.md5_answers.specs.Hmac.{block_key, hmac}
-use Rattle.ticket_codec.specs.Request.{request_text}
-use Rattle.ticket_codec.specs.declared.authenticator.Authenticator.{Authenticator}
-use Rattle.ticket_codec.specs.declared.ticket.Ticket.{Ticket}
+use Rattle.sealing.specs.Answer.{apop_digits, cram_digits}
+use Rattle.sealing.specs.Hmac.{block_key, hmac}
+use Rattle.sealing.specs.Request.{request_text}
+use Rattle.sealing.specs.declared.authenticator.Authenticator.{Authenticator}
+use Rattle.sealing.specs.declared.ticket.Ticket.{Ticket}
 use Rattle.roles.specs.declared.answer.Cause.{Cause}
 use Rattle.roles.specs.declared.answer.Cause.TheVariants.{WrongKind, WrongChallenge, WrongUser, BadKey, ServerSaidNo, NoServer, NoRoom}
 use Rattle.roles.specs.declared.answer.Gave.{Gave}

@@ -1,7 +1,7 @@
 -- The client of APOP and CRAM (RFC 1939, RFC 2195): an equation a move. The lengths that a challenge may have are this
 -- project's.
 use Rattle.std.specs.Prelude.{ℕ, List, [], nat_lt, length, Option, unwrap_or, if◌then◌else◌}
-use Rattle.md5_answers.specs.Answer.{apop_digits, cram_digits}
+use Rattle.sealing.specs.Answer.{apop_digits, cram_digits}
 use Rattle.roles.specs.declared.answer.Gave.TheVariants as g
 use Rattle.roles.specs.Starts.{Start}
 use Rattle.roles.specs.Talks.{Verdict, goes, stays}

@@ -6,10 +6,10 @@ use Rattle.std.specs.Str.{bytes_eq}
 use Rattle.wire_base.specs.Rules.{Rule}
 use Rattle.wire_base.specs.Texts.{is_text}
 use Rattle.attr_tuples.specs.Forms.{is_user}
-use Rattle.ticket_codec.specs.Request.{request_text}
-use Rattle.ticket_codec.specs.declared.authenticator.Authenticator.{Authenticator}
-use Rattle.ticket_codec.specs.declared.kind.TheConstants.{AUTH_APOP, AUTH_CRAM, AUTH_OK, AUTH_OK_VAR, AUTH_TS, AUTH_AC}
-use Rattle.ticket_codec.specs.declared.ticket.Ticket.{Ticket}
+use Rattle.sealing.specs.Request.{request_text}
+use Rattle.sealing.specs.declared.authenticator.Authenticator.{Authenticator}
+use Rattle.sealing.specs.declared.kind.TheConstants.{AUTH_APOP, AUTH_CRAM, AUTH_OK, AUTH_OK_VAR, AUTH_TS, AUTH_AC}
+use Rattle.sealing.specs.declared.ticket.Ticket.{Ticket}
 use Rattle.roles.specs.declared.answer.Cause.{Cause}
 use Rattle.roles.specs.declared.answer.Cause.TheVariants.{WrongKind, WrongChallenge, WrongUser, ServerSaidNo, BadKey}
 use Rattle.roles.specs.declared.answer.Gave.TheVariants as g

@@ -5,7 +5,7 @@ use Rattle.std.specs.List.{list_any}
 use Rattle.wire_base.specs.Rules.{Rule, first_told}
 use Rattle.attr_tuples.specs.declared.attr.Attr.{Attr}
 use Rattle.attr_tuples.specs.Matching.{value_of}
-use Rattle.roles.specs.Lists.{tells_secret}
+use Rattle.key_lists.specs.Lists.{tells_secret}
 use Rattle.roles.specs.declared.answer.StartFault.{StartFault}
 use Rattle.roles.specs.declared.answer.StartFault.TheVariants.{SecretValue, UnknownProto, UnknownRole}
 use Rattle.roles.specs.declared.stage.Role.TheVariants as role

@@ -7,7 +7,7 @@ ghost use Rattle.conv_challenge.specs.Steps.{NeedsNothing, start_of, verdict_of,
 use crate::own::Own;
 use crate::stage::{MOST_CHALLENGE, Proto, Stage};
 use crate::step::{Step, find_misfit};
-use md5_answers::{apop_answer, cram_answer};
+use sealing::{apop_answer, cram_answer};
 use std::alloc::Global;
 use wire_base::{Bytes, NoMemory, Text};
 

@@ -13,8 +13,8 @@ use crate::stage::{Proto, Stage};
 use crate::step::Step;
 use attr_tuples::Tuple;
 use roles::{Need, Role, SkKey, build_asked, find_dom, no_name};
+use sealing::{AUTH_APOP, AUTH_CRAM, TicketReq, write_req};
 use std::alloc::Global;
-use ticket_codec::{AUTH_APOP, AUTH_CRAM, TicketReq, write_req};
 use wire_base::{Bytes, Name, NoMemory, Shape};
 
 /// What the next stage of a step needs.

@@ -10,8 +10,8 @@ use crate::stage::{MOST_CHALLENGE, Stage};
 use crate::step::{Step, find_misfit};
 use attr_tuples::is_user;
 use roles::{Cause, SkKey, is_refusal, proof_in, test_proof, ticket_in};
+use sealing::{AUTH_AC, AUTH_OK, AUTH_OK_VAR, AUTH_TS, Authenticator, Ticket};
 use std::alloc::Global;
-use ticket_codec::{AUTH_AC, AUTH_OK, AUTH_OK_VAR, AUTH_TS, Authenticator, Ticket};
 use wire_base::{Bytes, Name, NoMemory, check_text};
 
 // ---- the start

@@ -6,7 +6,7 @@ use lib.Utf8.{encode}
 use Rattle.wire_base.specs.Texts.{is_text}
 use Rattle.attr_tuples.specs.declared.attr.Attr.{Attr}
 use Rattle.attr_tuples.specs.Matching.{value_of}
-use Rattle.ticket_codec.specs.Fields.{before_nul}
+use Rattle.sealing.specs.Fields.{before_nul}
 use Rattle.conv_p9any.specs.Texts.{text_in}
 use Rattle.roles.specs.declared.answer.Cause.TheVariants.{NotOffered, WrongKind}
 use Rattle.roles.specs.declared.answer.Gave.{Gave}

@@ -9,7 +9,7 @@ use Rattle.attr_tuples.specs.declared.attr.Attr.{Attr}
 use Rattle.attr_tuples.specs.declared.attr.Value.{Value}
 use Rattle.attr_tuples.specs.Attributes.{is_named}
 use Rattle.attr_tuples.specs.Matching.{given_text, texts_of, value_of}
-use Rattle.roles.specs.Lists.{tells_secret}
+use Rattle.key_lists.specs.Lists.{tells_secret}
 use Rattle.roles.specs.declared.answer.StartFault.TheVariants.{SecretValue, UnknownProto, UnknownRole, BadUser}
 use Rattle.roles.specs.Starts.{fault_of, fits_start, is_some_user, is_text_of, names_role, others, says, speaks_for_nobody}
 use Rattle.conv_p9any.specs.Inner.{inner_template, is_replaced, left_part}

@@ -1,6 +1,6 @@
 -- A text that a NUL ends. The most bytes that it may have are this project's.
 use Rattle.std.specs.Prelude.{ℕ, ◌+◌, ◌==◌, List, [], ◌∷◌, ◌++◌, nat_lt, length, Option, Some, None, Result, Ok, Err, if◌then◌else◌}
-use Rattle.ticket_codec.specs.Fields.{before_nul}
+use Rattle.sealing.specs.Fields.{before_nul}
 use Rattle.roles.specs.declared.answer.Gave.{Gave}
 use Rattle.roles.specs.declared.answer.Gave.TheVariants.{TooSmall, TooLong}
 use Rattle.roles.specs.Talks.{Verdict, stays}

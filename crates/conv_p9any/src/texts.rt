@@ -9,7 +9,7 @@ use roles::Gave;
 use wire_base::{Bytes, NoMemory};
 
 /// The text in a message, or what is told where it has none.
-#[tactic(auto, unfolding(crate::specs::Texts::text_in, ticket_codec::specs::Fields::before_nul))]
+#[tactic(auto, unfolding(crate::specs::Texts::text_in, sealing::specs::Fields::before_nul))]
 pub fn read_text(bytes: &[u8]) -> Result<&[u8], Gave>
     ensures { Reads result bytes.now }
 {

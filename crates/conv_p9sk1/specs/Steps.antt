@@ -1,9 +1,9 @@
 -- Words for the steps of the machine. No public contract cites them.
 use Rattle.std.specs.Prelude.{◌≡◌, true, ℕ, List, [], length, Result, Ok, Err}
-use Rattle.roles.specs.Forms.{is_dom}
-use Rattle.ticket_codec.specs.Request.{request_of}
-use Rattle.ticket_codec.specs.declared.fault.FieldFault.{FieldFault}
-use Rattle.ticket_codec.specs.declared.request.TicketReq.{TicketReq}
+use Rattle.attr_tuples.specs.Forms.{is_dom}
+use Rattle.sealing.specs.Request.{request_of}
+use Rattle.sealing.specs.declared.fault.FieldFault.{FieldFault}
+use Rattle.sealing.specs.declared.request.TicketReq.{TicketReq}
 use Rattle.roles.specs.declared.answer.Gave.TheVariants as g
 use Rattle.roles.specs.declared.stage.Stage.{Stage}
 use Rattle.roles.specs.declared.stage.Stage.TheVariants.{ClientKey}

@@ -8,8 +8,9 @@ ghost use Rattle.conv_p9sk1.specs.Steps.{LeadsOn, start_of, verdict_of};
 
 use crate::own::Own;
 use crate::step::{Step, take_sized};
-use roles::{Cause, Role, SkKey, Stage, is_dom, is_elsewhere, is_refusal, test_proof, ticket_in};
-use ticket_codec::{
+use attr_tuples::is_dom;
+use roles::{Cause, Role, SkKey, Stage, is_elsewhere, is_refusal, test_proof, ticket_in};
+use sealing::{
     AUTH_AC, AUTH_AS, AUTH_OK, AUTH_TC, AUTH_TREQ, Authenticator, Ticket, TicketReq, open_auth,
     read_req, seal_auth,
 };

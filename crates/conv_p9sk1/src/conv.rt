@@ -1,6 +1,6 @@
 // The machine of p9sk1.
 ghost use Rattle.std.specs.Prelude.{◌≡◌, ◌≢◌, ◌++◌, [], true, None, IfOk, List, ℕ, Option, option_map};
-ghost use Rattle.roles.specs.Attributes.{is_tuple};
+ghost use Rattle.attr_tuples.specs.Attributes.{is_tuple};
 ghost use Rattle.roles.specs.Answers.{bytes_with};
 ghost use Rattle.roles.specs.Courses.{answer_of, bytes_of, first_stage, is_last};
 ghost use Rattle.roles.specs.Starts.{fits_start, role_of, start_with};
@@ -15,8 +15,9 @@ use crate::need::{make_need, make_next};
 use crate::outcome::find_outcome;
 use crate::own::Own;
 use crate::step::Step;
+use attr_tuples::Tuple;
 use roles::{
-    Cause, Gave, Machine, Need, Offered, Outcome, PhaseWord, Role, SkKey, Stage, StartFault, Tuple,
+    Cause, Gave, Machine, Need, Offered, Outcome, PhaseWord, Role, SkKey, Stage, StartFault,
     read_start, refuse,
 };
 use std::alloc::Global;

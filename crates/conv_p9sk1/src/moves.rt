@@ -11,7 +11,7 @@ use crate::own::Own;
 use crate::server::{make_proof, make_request, take_challenge, take_shown};
 use crate::step::{Step, idle};
 use roles::{Cause, SkKey, Stage, ticket_in};
-use ticket_codec::read_req;
+use sealing::read_req;
 use wire_base::{Bytes, NoMemory};
 
 /// A message was given.

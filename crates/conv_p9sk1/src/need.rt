@@ -3,7 +3,7 @@ ghost use Rattle.std.specs.Prelude.{◌≡◌, true, IfOk};
 ghost use Rattle.roles.specs.Clients.{question_for};
 ghost use Rattle.roles.specs.Courses.{need_of};
 ghost use Rattle.roles.specs.Templates.{asked_first, asked_in};
-ghost use Rattle.roles.specs.Forms.{is_dom};
+ghost use Rattle.attr_tuples.specs.Forms.{is_dom};
 ghost use Rattle.roles.specs.declared.stage.Stage.TheVariants.{ClientAsk, ClientKey};
 ghost use Rattle.conv_p9sk1.specs.Standing.{Needs};
 ghost use Rattle.conv_p9sk1.specs.Steps.{IsReady, LeadsOn, start_of};
@@ -11,9 +11,10 @@ ghost use Rattle.conv_p9sk1.specs.Steps.{IsReady, LeadsOn, start_of};
 use crate::client::wanted_user;
 use crate::own::Own;
 use crate::step::Step;
-use roles::{Need, Role, SkKey, Stage, Tuple, build_asked, find_dom};
+use attr_tuples::Tuple;
+use roles::{Need, Role, SkKey, Stage, build_asked, find_dom};
+use sealing::{AUTH_TREQ, TicketReq, read_req, write_req};
 use std::alloc::Global;
-use ticket_codec::{AUTH_TREQ, TicketReq, read_req, write_req};
 use wire_base::{Bytes, Name, NoMemory, Shape};
 
 /// What the next stage of a step needs.

@@ -1,9 +1,10 @@
 // What a conversation was started with.
 ghost use Rattle.std.specs.Prelude.{◌≡◌, true};
-ghost use Rattle.roles.specs.Attributes.{is_tuple};
+ghost use Rattle.attr_tuples.specs.Attributes.{is_tuple};
 ghost use Rattle.roles.specs.Starts.{fits_start, role_of};
 
-use roles::{Role, Tuple};
+use attr_tuples::Tuple;
+use roles::Role;
 
 /// The template and the word of a start, and the role that the template names.
 #[derive(Drop)]

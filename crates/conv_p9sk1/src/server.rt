@@ -11,7 +11,7 @@ ghost use Rattle.conv_p9sk1.specs.Steps.{LeadsOn, start_of, verdict_of};
 use crate::own::Own;
 use crate::step::{Step, take_sized};
 use roles::{Cause, SkKey, Stage, no_name, proof_in, test_proof, ticket_in};
-use ticket_codec::{
+use sealing::{
     AUTH_AC, AUTH_AS, AUTH_TREQ, AUTH_TS, Authenticator, Ticket, TicketReq, seal_auth, write_req,
 };
 

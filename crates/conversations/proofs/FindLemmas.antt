@@ -11,7 +11,7 @@ use Rattle.talks.specs.Searches.{found_by}
 use Rattle.talks.specs.Standings.{Begun, found_for, need_in, role_name}
 use Rattle.talks.specs.declared.said.Said.{Said}
 use Rattle.talks.specs.declared.said.Asking.{Asking}
-use Rattle.conv_set.specs.Protocols.{needs}
+use Rattle.talks.specs.Protocols.{needs}
 use Rattle.begun_talks.specs.declared.begun.Begun.{Begun as Held}
 use Rattle.begun_talks.specs.Begins.{IsBegun}
 use Rattle.conversations.specs.Fits.{BothBegun}

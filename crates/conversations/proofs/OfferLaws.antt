@@ -15,12 +15,12 @@ use Rattle.conv_p9any.specs.declared.stage.Stage.TheVariants.{ServerOffers, Serv
 use Rattle.conv_p9any.specs.Standing as any
 use Rattle.conv_p9any.specs.Talks.{Standing, choosing, within}
 use Rattle.conv_p9any.specs.Courses.{chosen_start, course, need_of, verdict}
-use Rattle.conv_set.proofs.NeedLaws as mail
+use Rattle.conv_challenge.proofs.NeedLaws as mail
 use Rattle.conv_p9sk1.specs.Standing as sk
-use Rattle.conv_set.specs.declared.conv.Conv.{Conv}
-use Rattle.conv_set.specs.declared.conv.Conv.TheVariants as c
-use Rattle.conv_set.specs.Protocols.{Protocol, P9sk1, P9any, Mail, needs, needs_by, p9sk1, protocol_of}
-use Rattle.conv_set.specs.Standing.{Stands}
+use Rattle.talks.specs.declared.conv.Conv.{Conv}
+use Rattle.talks.specs.declared.conv.Conv.TheVariants as c
+use Rattle.talks.specs.Protocols.{Protocol, P9sk1, P9any, Mail, needs, needs_by, p9sk1, protocol_of}
+use Rattle.talks.specs.Standing.{Stands}
 use Rattle.talks.specs.Standings.{template_in}
 
 differ : false ≡ true → ⊥

@@ -19,7 +19,7 @@ use Rattle.talks.specs.Calls.{Call, Found, Chosen, AsksConsent, AsksKey, Denied,
 use Rattle.talks.specs.Searches.{found_by, offered_by, picked_by}
 use Rattle.talks.specs.declared.said.Said.{Said}
 use Rattle.talks.specs.declared.said.Asking.{Asking}
-use Rattle.conv_set.specs.Protocols.{answers, needs, refuses}
+use Rattle.talks.specs.Protocols.{answers, needs, refuses}
 use Rattle.roles.specs.Talks.{get, give, offered, picked}
 use Rattle.talks.specs.Standings.{Begun, Phase, Resting, Waiting, Seeking, OnConfirm, OnNeedkey, OnServer, Kept, Standing, begin_once, carried_out, finds, found_for, if_begun, in_phase, is_for, made, make_move, need_in, phase_after, role_in, role_name, sought, standing, start_by, started, template_in, template_of, told_of_key, with_key}
 use Rattle.begun_talks.specs.Shown.{asks_for_key, is_seeking, serial_in}

@@ -16,7 +16,7 @@ use Rattle.talks.specs.Calls.{Call, Found, Chosen, AsksConsent, AsksKey, Denied,
 use Rattle.talks.specs.Searches.{found_by, offered_by}
 use Rattle.talks.specs.declared.said.Said.{Said}
 use Rattle.talks.specs.declared.said.Asking.{Asking}
-use Rattle.conv_set.specs.Protocols.{answers, needs, protocol_of, needs_by}
+use Rattle.talks.specs.Protocols.{answers, needs, protocol_of, needs_by}
 use Rattle.talks.specs.Standings.{Begun, Phase, Resting, Waiting, Seeking, OnConfirm, OnNeedkey, OnServer, Kept, Standing, chosen_for, finds, found_for, in_phase, is_for, kept_key, made, need_in, phase_after, role_in, role_name, says_of, sought, sought_if, standing, template_in, template_of, then_stands, told_of, told_of_key, with_key, with_move}
 use Rattle.begun_talks.specs.declared.begun.Begun.{Begun as Held}
 use Rattle.begun_talks.specs.declared.phase.Phase.{Phase as HeldPhase}

@@ -12,7 +12,7 @@ use Rattle.talks.specs.Answers.{move_answer}
 use Rattle.talks.specs.Calls.{Found, Offered, Picked}
 use Rattle.talks.specs.declared.said.Said.{Said}
 use Rattle.talks.specs.declared.said.Asking.{Asking}
-use Rattle.conv_set.specs.Protocols.{answers, needs}
+use Rattle.talks.specs.Protocols.{answers, needs}
 use Rattle.talks.specs.Standings.{Begun, Phase, Resting, Waiting, Seeking, OnConfirm, OnNeedkey, OnServer, Kept, Standing, chosen_for, finds, found_for, made, moved, need_in, phase_after, role_in, role_name, sought, told_of_key, with_key, with_move}
 use Rattle.begun_talks.specs.declared.begun.Begun.{Begun as Held}
 use Rattle.conversations.specs.declared.conversation.Conversation.{Conversation}

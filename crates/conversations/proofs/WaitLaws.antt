@@ -13,15 +13,14 @@ use Rattle.roles.specs.declared.answer.StartFault.{StartFault}
 use Rattle.roles.specs.declared.need.Need.{Need}
 use Rattle.roles.specs.declared.need.Need.TheVariants.{Nothing, Key, Offers, Pick, Exchange}
 use Rattle.roles.specs.Answers.{IsExchange, IsKey, IsOffers, IsPick, is_sought}
-use Rattle.roles.specs.Talks.{found, get, give, heard, offered, picked, roomless, undone, unheard}
-use Rattle.roles.specs.Talks.{Call as Move}
-use Rattle.conv_set.proofs.Laws.{found_needs, heard_needs, offers_stay, picked_needs, roomless_needs, roomless_tells, undone_needs, unheard_needs, unheard_tells}
+use Rattle.roles.specs.Talks.{found, get, give, heard, offered, picked, roomless, undone, unheard, Call as Move}
+use Rattle.talks.proofs.Laws.{found_needs, heard_needs, offers_stay, picked_needs, roomless_needs, roomless_tells, undone_needs, unheard_needs, unheard_tells}
 use Rattle.rpc_file.specs.Requests.{RpcRequest, starts, reads, writes, asks_info, asks_attributes}
 use Rattle.rpc_file.specs.declared.answer.RpcAnswer.{RpcAnswer}
 use Rattle.rpc_file.specs.declared.answer.RpcAnswer.TheVariants as a
 use Rattle.talks.specs.Answers.{attributes, cause_answer, move_answer, told_key}
 use Rattle.talks.specs.Calls.{Call, Found, Chosen, AsksConsent, AsksKey, Denied, NoneServes, Offered, Picked, Stored, CarriedOut, Sought, Consented, KeyTold, Shut, Heard, Unheard, Roomless, Took}
-use Rattle.conv_set.specs.Protocols.{answers, needs, puts, refuses}
+use Rattle.talks.specs.Protocols.{answers, needs, puts, refuses}
 use Rattle.talks.specs.Standings.{Begun, Phase, Resting, Waiting, Seeking, OnConfirm, OnNeedkey, OnServer, Kept, Standing, begin, begin_once, carried_out, chosen_for, if_begun, is_for, made, make_move, need_in, phase_after, sought, sought_if, standing, start_by, started, taken_back, then_stands, told_of_key, with_key, with_move}
 use Rattle.conversations.specs.Fits.{IsIdle}
 use Rattle.begun_talks.specs.Shown.{asks_user}

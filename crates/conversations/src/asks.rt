@@ -7,9 +7,9 @@ ghost use Rattle.side_files.specs.Questions.{no_questions};
 ghost use Rattle.conversations.specs.Asking.{IsMade, SameAsks};
 
 use attr_tuples::{Tuple, print_public, print_tuple};
+use key_ring::Key;
 use side_files::{PromptKind, Prompts};
 use std::alloc::Global;
-use talks::Key;
 use wire_base::{Bytes, NoMemory};
 
 /// The questions to users: whether a key may be used, and that a key be added.

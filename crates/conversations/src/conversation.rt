@@ -8,7 +8,7 @@ ghost use Rattle.roles.specs.Talks.{Call as Move};
 ghost use Rattle.rpc_file.specs.Requests.{RpcRequest, asks_attributes, asks_info, meant as request_meant, reads, writes};
 ghost use Rattle.talks.specs.Calls as c;
 ghost use Rattle.talks.specs.Meanings.{meant};
-ghost use Rattle.conv_set.specs.Protocols.{needs, refuses};
+ghost use Rattle.talks.specs.Protocols.{needs, refuses};
 ghost use Rattle.talks.specs.Standings.{Begun as Beginning, Standing, Waiting, answered, begin_once, carried_out, finds, key_of, moved, nothing_said, outcome_of, found_for, need_in, question_of, refused, role_name, sought, start_by, started, taken_back, template_of, then_stands, with_key, with_move};
 ghost use Rattle.begun_talks.specs.Begins.{IsBegun};
 ghost use Rattle.attr_tuples.specs.Printing.{public_text};
@@ -23,11 +23,12 @@ use attr_tuples::Tuple;
 use begun_talks::{
     Begun, Opening, Phase, Stored as Request, Wanted, open, phase, read_template, store_request,
 };
+use key_ring::{Key, KeyRing};
 use roles::Outcome;
 use rpc_file::{Request as Written, RpcAnswer};
 use std::alloc::Global;
 use std::mem;
-use talks::{Asking, Found, Key, KeyRing, Said, search_keys};
+use talks::{Asking, Found, Said, search_keys};
 use wire_base::{List, NoMemory, Shape};
 
 /// A conversation of rpc. It has no Debug, which would print secrets.

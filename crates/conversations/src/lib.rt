@@ -8,4 +8,3 @@ mod shown;
 
 pub use asks::Asks;
 pub use conversation::Conversation;
-pub use talks::{Key, KeyRing};

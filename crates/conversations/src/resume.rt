@@ -10,9 +10,10 @@ ghost use Rattle.conversations.specs.Fits.{Carries, Fits, Resumes, UsesList, sea
 use crate::asks::Asks;
 use crate::conversation::Conversation;
 use begun_talks::{Phase, phase};
+use key_ring::KeyRing;
 use std::alloc::Global;
 use std::mem;
-use talks::{Asking, KeyRing, Said};
+use talks::{Asking, Said};
 use wire_base::{Bytes, List, NoMemory};
 
 impl Conversation {

@@ -3,10 +3,9 @@
 use Rattle.std.proofs.Common.{◌≡◌, ℕ, zero, suc, ◌+◌, ◌-◌, ◌*◌, ◌/◌, ◌%◌, ◌^◌, ◌<◌, ◌≤◌, ◌==◌, Bool, true, false, List, [], ◌∷◌, ◌++◌, length, take, drop, map, get_or, reverse, refl, sym, ap, ◌∙◌, arith, bit_and, bit_or, bit_xor, subst, append_assoc, append-nil, pow-add, eqb-true, take-add, take_all}
 use Rattle.std.proofs.Math.Bool.{xor}
 use Rattle.std.proofs.Math.Pow.{shr_lt}
-use Rattle.std.proofs.lemmas.Nat.{and_mask, or_shifted, shl_whole}
+use Rattle.std.proofs.lemmas.Nat.{and_mask, or_shifted, shl_whole, from_be_bytes-to_be_bytes_8}
 use Rattle.std.proofs.Math.Nat.{div-div-eq-div-mul, zero-div}
 use Rattle.std.specs.Int.{bit_at, from_bool, from_be_bytes, to_be_bytes, w64}
-use Rattle.std.proofs.lemmas.Nat.{from_be_bytes-to_be_bytes_8}
 use Rattle.std.proofs.lemmas.Nat.Bits.{bit_at_xor, bit_at_cat_low, bit_at_cat_high, bit_at-lt}
 use Rattle.std.proofs.lemmas.Bool.{and_parts}
 use Rattle.std.proofs.lemmas.List.Elements.{All-get_or, All-from_get_or}

@@ -1,12 +1,12 @@
 -- What every deed keeps that is no line of ctl and no walk, and the lines of a write and the walks keep, holds of every history.
 use Rattle.std.proofs.Common.{codes, ◌≡◌, ℕ, List, [], ◌∷◌, Bool, true, false, cond, eqb, ◌&&◌, not, Option, Some, None, refl}
 use Rattle.std.specs.Prelude.{◌⊎◌, Result, Ok, Err, is_some}
-use Rattle.nine_messages.specs.declared.message.TMsg.{TMsg}
-use Rattle.nine_messages.specs.Decoding.{request_of}
-use Rattle.nine_messages.specs.declared.message.RMsg.{RMsg}
-use Rattle.nine_messages.specs.declared.message.RBody.{RBody}
-use Rattle.nine_messages.specs.declared.message.TBody.{TBody}
-use Rattle.nine_messages.specs.declared.message.TBody.TheVariants as t
+use Rattle.nine.specs.declared.message.TMsg.{TMsg}
+use Rattle.nine.specs.Decoding.{request_of}
+use Rattle.nine.specs.declared.message.RMsg.{RMsg}
+use Rattle.nine.specs.declared.message.RBody.{RBody}
+use Rattle.nine.specs.declared.message.TBody.{TBody}
+use Rattle.nine.specs.declared.message.TBody.TheVariants as t
 use Rattle.file_tree.specs.declared.tree.Node.{Node}
 use Rattle.file_tree.specs.declared.tree.Node.TheVariants.{Root, Factotum, Rpc, Ctl, Confirm, Needkey, Proto, Log}
 use Rattle.file_tree.specs.Tree.{lead_to}

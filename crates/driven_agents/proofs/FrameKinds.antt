@@ -4,13 +4,13 @@ use Rattle.std.proofs.lemmas.Nat.{mod_below}
 use Rattle.std.specs.Int.{w8, w16, w32, w64, to_le_bytes}
 use Rattle.wire_base.specs.Readers.{FitsList, IsString, Reader, ◌>>=◌, block, both, converted, listed, listing, spelled, no_more, number, string}
 use Rattle.wire_base.proofs.ReaderLaws.{bind_ok, no_more_taken}
-use Rattle.nine_messages.specs.declared.message.TMsg.{TMsg}
-use Rattle.nine_messages.specs.declared.message.TBody.{TBody}
-use Rattle.nine_messages.specs.declared.message.TBody.TheVariants as t
-use Rattle.nine_messages.specs.Messages.{frame, t_fields, t_frame, t_kind}
-use Rattle.nine_messages.specs.Decoding.{attach_at, clunk_at, open_at, read_at, request_of, t_body_at, t_reading, version_at, walk_at, write_at}
-use Rattle.nine_messages.proofs.FieldLaws.{n8}
-use Rattle.nine_messages.proofs.RequestLaws.{t_body_again, t_kind_small}
+use Rattle.nine.specs.declared.message.TMsg.{TMsg}
+use Rattle.nine.specs.declared.message.TBody.{TBody}
+use Rattle.nine.specs.declared.message.TBody.TheVariants as t
+use Rattle.nine.specs.Messages.{frame, t_fields, t_frame, t_kind}
+use Rattle.nine.specs.Decoding.{attach_at, clunk_at, open_at, read_at, request_of, t_body_at, t_reading, version_at, walk_at, write_at}
+use Rattle.nine.proofs.FieldLaws.{n8}
+use Rattle.nine.proofs.RequestLaws.{t_body_again, t_kind_small}
 
 -- its fields are those that stand behind its tag
 pub record BodyRead (kind : ℕ) (bytes : List ℕ) (body : TBody) : Type 0 where

@@ -19,15 +19,15 @@ use Rattle.attr_tuples.specs.declared.attr.Value.TheVariants.{Is}
 use Rattle.attr_tuples.specs.Attributes.{is_attr, is_tuple, is_value}
 use Rattle.attr_tuples.specs.Forms.{is_above_blank, is_dom, is_dom_byte, is_hex_digit, is_hex_key, is_user}
 use Rattle.attr_tuples.specs.Matching.{value_of}
-use Rattle.seal_mode.specs.Passwords.{key_after, password_key, window_key}
-use Rattle.seal_mode.specs.Sealing.{changed_at, sealed}
-use Rattle.key_digits.specs.Digits.{digits_or_password, spelled}
-use Rattle.key_digits.proofs.HexLemmas.{same_digit}
+use Rattle.sealing.specs.Passwords.{key_after, password_key, window_key}
+use Rattle.sealing.specs.Sealing.{changed_at, sealed}
+use Rattle.key_lists.specs.Digits.{digits_or_password, spelled}
+use Rattle.key_lists.proofs.HexLemmas.{same_digit}
 use Rattle.key_lists.specs.KeyFaults.{key_fault}
 use Rattle.key_lists.specs.Lists.{KeyEntry}
 use Rattle.key_ring.specs.DesKeys.{des_key, hex_of}
 use Rattle.key_ring.proofs.KeyLemmas.{good_digits, good_dom, good_user}
-use Rattle.ticket_codec.specs.Fitting.{FitsName, IsBlock}
+use Rattle.sealing.specs.Fitting.{FitsName, IsBlock}
 use Rattle.roles.proofs.ValueLemmas.{given_is_value}
 use Rattle.talks.specs.Answers.{text_or_none, told_key}
 use Rattle.wire_histories.specs.Legal.{IsRingKey}

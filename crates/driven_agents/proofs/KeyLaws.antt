@@ -5,8 +5,8 @@ use Rattle.std.specs.Prelude.{option_map, if◌then◌else◌}
 use Rattle.std.specs.Str.{bytes_eq}
 use Rattle.std.proofs.lemmas.Option.{cond_some}
 use Rattle.wire_base.specs.Rules.{Rule, first_told}
-use Rattle.nine_messages.specs.declared.message.TBody.{TBody}
-use Rattle.nine_messages.specs.declared.message.TBody.TheVariants as t
+use Rattle.nine.specs.declared.message.TBody.{TBody}
+use Rattle.nine.specs.declared.message.TBody.TheVariants as t
 use Rattle.file_tree.specs.declared.tree.Node.{Node}
 use Rattle.file_tree.specs.Tree.{lead_to}
 use Rattle.file_tree.specs.Calls.{node_of}

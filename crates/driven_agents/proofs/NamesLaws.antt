@@ -6,10 +6,10 @@ use lib.Utf8.{encode}
 use Rattle.std.proofs.lemmas.Bool.{and_from}
 use Rattle.wire_base.specs.Readers.{FitsList, IsString}
 use Rattle.wire_base.specs.Texts.{is_text}
-use Rattle.nine_messages.specs.declared.message.TMsg.{TMsg}
-use Rattle.nine_messages.specs.declared.message.TBody.{TBody}
-use Rattle.nine_messages.specs.declared.message.TBody.TheVariants as t
-use Rattle.nine_messages.specs.Messages.{t_frame}
+use Rattle.nine.specs.declared.message.TMsg.{TMsg}
+use Rattle.nine.specs.declared.message.TBody.{TBody}
+use Rattle.nine.specs.declared.message.TBody.TheVariants as t
+use Rattle.nine.specs.Messages.{t_frame}
 use Rattle.file_tree.specs.declared.tree.Node.{Node}
 use Rattle.file_tree.specs.declared.tree.Node.TheVariants.{Root, Factotum, Rpc, Ctl, Confirm, Needkey, Proto, Log}
 use Rattle.file_tree.specs.Tree.{lead_to, step}

@@ -1,6 +1,6 @@
 -- Takes of replies and of questions change no conversation.
 use Rattle.std.proofs.Common.{◌≡◌, ℕ, zero, suc, List, [], ◌∷◌, Bool, true, false, cond, refl, ap, ◌∙◌}
-use Rattle.nine_messages.specs.declared.message.RMsg.{RMsg}
+use Rattle.nine.specs.declared.message.RMsg.{RMsg}
 use Rattle.talks.specs.Standings.{standing}
 use Rattle.agent_history.specs.declared.event.Event.{Event}
 use Rattle.agent_history.specs.declared.event.Event.TheVariants.{Take, TakeAsk}

@@ -1,12 +1,12 @@
 -- Where no fid ever came to name a file of lines, a write starts nothing and moves nothing, and a closing changes no conversation.
 use Rattle.std.proofs.Common.{◌≡◌, ℕ, List, [], ◌∷◌, Bool, true, false, cond, eqb, Option, Some, None, Result, Ok, Err, refl, ap, ◌∙◌}
 use Rattle.std.specs.Prelude.{is_some}
-use Rattle.nine_messages.specs.declared.message.TMsg.{TMsg}
-use Rattle.nine_messages.specs.declared.message.TBody.{TBody}
-use Rattle.nine_messages.specs.declared.message.TBody.TheVariants as t
-use Rattle.nine_messages.specs.declared.message.RBody.{RBody}
-use Rattle.nine_messages.specs.Messages.{t_frame}
-use Rattle.nine_messages.specs.Decoding.{request_of}
+use Rattle.nine.specs.declared.message.TMsg.{TMsg}
+use Rattle.nine.specs.declared.message.TBody.{TBody}
+use Rattle.nine.specs.declared.message.TBody.TheVariants as t
+use Rattle.nine.specs.declared.message.RBody.{RBody}
+use Rattle.nine.specs.Messages.{t_frame}
+use Rattle.nine.specs.Decoding.{request_of}
 use Rattle.file_tree.specs.Calls.{node_of}
 use Rattle.key_lists.specs.CtlLines.{CtlLine, carried_out, lines_of}
 use Rattle.rpc_file.specs.Requests.{RpcRequest}

@@ -1,10 +1,4 @@
-pub use Rattle.agent_laws.specs.Laws
-pub use Rattle.wire_histories.specs.Conversations
-pub use Rattle.wire_histories.specs.Histories
-pub use Rattle.wire_histories.specs.Legal
-pub use Rattle.wire_histories.specs.Sessions
-pub use Rattle.world_history.specs.Driving
-pub use Rattle.world_history.specs.declared.question.Question
 pub mod Keys
 pub mod Driven
 pub mod Quiet
+pub mod Idle

@@ -5,17 +5,17 @@
 
 ghost use Rattle.std.specs.Prelude.{◌≡◌, IfErr, IfOk, true};
 ghost use Rattle.std.specs.Arc.{arc_value};
-ghost use Rattle.authsrv_program.specs.Statuses.{is_printable};
-ghost use Rattle.serve_program.specs.Submits.{IsSeatOf};
-ghost use Rattle.serve_program.specs.Words.{IsWithin};
+ghost use Rattle.auth_program.specs.Statuses.{is_printable};
+ghost use Rattle.agent_serving.specs.Submits.{IsSeatOf};
+ghost use Rattle.agent_serving.specs.Words.{IsWithin};
 
-use factotum_program::{Status, Task, print_status, read_words, run_command};
-use serve_program::{
+use agent_serving::{
     Again, Agent, Hub, HubSeat, HubSpawner, ServeEnd, Task as JobTask, Tools, end_number,
     print_end, read_serve_words, serve,
 };
-use socket_dialer::TcpDialer;
-use socket_listener::SocketListener;
+use auth_program::{Status, print_status};
+use factotum_program::{Task, read_words, run_command};
+use sockets::{SocketListener, TcpDialer, ThreadSpawner};
 use std::alloc::Global;
 use std::env;
 use std::fs::{File, Files};
@@ -24,7 +24,6 @@ use std::net::Net;
 use std::process::ExitCode;
 use std::sync::Arc;
 use std::time::{Clock, Duration};
-use thread_spawner::ThreadSpawner;
 use wire_base::{Bytes, Text, TextList};
 use wire_streams::{ReadSource, ReadWords, WriteSink, write_all};
 

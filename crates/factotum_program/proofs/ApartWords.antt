@@ -1,8 +1,8 @@
 -- No words are those of `world` and of `gen`.
 use Rattle.std.proofs.Common.{◌≡◌, ℕ, List, [], ◌∷◌, Bool, true, false, refl, codes, length, arith, Option, Some, None, is_some, ap}
 use Rattle.std.specs.Prelude.{if◌then◌else◌}
-use Rattle.authsrv_program.proofs.WordLemmas.{short_form}
-use Rattle.authsrv_program.specs.Words.{is_authsrv}
+use Rattle.auth_program.proofs.WordLemmas.{short_form}
+use Rattle.auth_program.specs.Words.{is_authsrv}
 use Rattle.factotum_program.specs.Words.{is_pipe}
 use Rattle.world_program.specs.declared.words.GenWords.{GenWords}
 use Rattle.world_program.specs.Words.{both, gen_given, gen_value, has_gen_form, is_world, plain_number, rounds_of}

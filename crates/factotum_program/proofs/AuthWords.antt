@@ -10,12 +10,12 @@ use Rattle.clap.specs.Simple.{Shape, built}
 use Rattle.clap.specs.Takes.{step_passes, turn_passes, walk_passes}
 use Rattle.clap.specs.declared.parser.matches.ArgMatches.{ArgMatches}
 use Rattle.clap.proofs.OnLiterals.{clap_on_literals}
-use Rattle.authsrv_program.specs.Reading.{HasText}
-use Rattle.authsrv_program.specs.Words.{is_value}
+use Rattle.auth_program.specs.Reading.{HasText}
+use Rattle.auth_program.specs.Words.{is_value}
 use Rattle.factotum_program.specs.Reading.{pipe_app}
 use Rattle.factotum_program.specs.Words.{auth_given, has_auth_form}
-use Rattle.authsrv_program.proofs.ClapLemmas.{IsPlainWord, at_option, behind, both_pass, either_passes, flag_passes, met_plain, pass_end, pass_on}
-use Rattle.authsrv_program.proofs.WordLemmas.{and_left, and_right, plain_value, same_first, short_form}
+use Rattle.auth_program.proofs.ClapLemmas.{IsPlainWord, at_option, behind, both_pass, either_passes, flag_passes, met_plain, pass_end, pass_on}
+use Rattle.auth_program.proofs.WordLemmas.{and_left, and_right, plain_value, same_first, short_form}
 
 abbrev top : Shape
 top = (built pipe_app).top

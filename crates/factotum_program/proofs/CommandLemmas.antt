@@ -1,11 +1,11 @@
 -- Valid input without faults leaves two statuses.
 use Rattle.std.proofs.Common.{◌≡◌, ℕ, ◌≤◌, List, [], ◌++◌, length, Option, Some, refl, ap, subst, ◌∙◌, inl, inr, arith, append_assoc, append-nil, length-append}
 use Rattle.std.specs.Prelude.{◌⊎◌}
-use Rattle.nine_frames.specs.Streams.{IsFrames}
-use Rattle.nine_frames.proofs.StreamLaws.{no_bad_size}
-use Rattle.nine_frames.proofs.InputLaws.{front_of, all_read}
-use Rattle.authsrv_program.specs.declared.status.Status.{Status}
-use Rattle.authsrv_program.specs.declared.status.Status.TheVariants.{Fine, Usage, ReadFault, WriteFault, WordFault, BadFrame, Torn, BadScript, BadTables, AsEnded, NoMemory, Flood}
+use Rattle.nine.specs.Streams.{IsFrames}
+use Rattle.nine.proofs.StreamLaws.{no_bad_size}
+use Rattle.nine.proofs.InputLaws.{front_of, all_read}
+use Rattle.auth_program.specs.declared.status.Status.{Status}
+use Rattle.auth_program.specs.declared.status.Status.TheVariants.{Fine, Usage, ReadFault, WriteFault, WordFault, BadFrame, Torn, BadScript, BadTables, AsEnded, NoMemory, Flood}
 use Rattle.factotum_program.specs.Pipe.{most_frame}
 use Rattle.factotum_program.specs.Sights.{Sight}
 use Rattle.factotum_program.specs.Commands.{most_input, MeetsBadFrame, EndsInside, EndsSo, Floods}

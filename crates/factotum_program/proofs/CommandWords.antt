@@ -1,21 +1,21 @@
 -- Words, and what they ask for.
 use Rattle.std.proofs.Common.{◌≡◌, ◌||◌, ℕ, List, Bool, true, false, Option, Some, None, refl, sym, subst, inl, inr, ◌∙◌}
 use Rattle.attr_tuples.specs.Forms.{is_dom}
-use Rattle.authsrv_program.specs.declared.status.Status.{Status}
-use Rattle.authsrv_program.specs.declared.status.Status.TheVariants.{Fine, Usage, ReadFault, WriteFault, WordFault, BadFrame, Torn, BadScript, BadTables, AsEnded, NoMemory, Flood}
-use Rattle.authsrv_program.specs.declared.words.AuthsrvWords.{AuthsrvWords}
-use Rattle.authsrv_program.specs.Words.{HasValues, has_authsrv_form, is_authsrv}
+use Rattle.auth_program.specs.declared.status.Status.{Status}
+use Rattle.auth_program.specs.declared.status.Status.TheVariants.{Fine, Usage, ReadFault, WriteFault, WordFault, BadFrame, Torn, BadScript, BadTables, AsEnded, NoMemory, Flood}
+use Rattle.auth_program.specs.declared.words.AuthsrvWords.{AuthsrvWords}
+use Rattle.auth_program.specs.Words.{HasValues, has_authsrv_form, is_authsrv}
 use Rattle.world_program.specs.declared.words.GenWords.{GenWords}
 use Rattle.world_program.specs.Playing.{WorldSo}
 use Rattle.world_program.specs.Summing.{GenSo}
 use Rattle.world_program.specs.Words.{gen_given, is_world}
 use Rattle.factotum_program.specs.Words.{IsUnread, is_command, is_pipe}
 use Rattle.factotum_program.specs.Commands.{EndsSo as Piped}
-use Rattle.authsrv_program.specs.Serving.{Outside, ServesSo}
+use Rattle.auth_program.specs.Serving.{Outside, ServesSo}
 use Rattle.factotum_program.specs.Sights.{Sight}
-use Rattle.authsrv_program.specs.Statuses.{is_printable}
-use Rattle.authsrv_program.proofs.ServeLemmas.{served_printable}
-use Rattle.authsrv_program.proofs.WordLemmas.{and_right}
+use Rattle.auth_program.specs.Statuses.{is_printable}
+use Rattle.auth_program.proofs.ServeLemmas.{served_printable}
+use Rattle.auth_program.proofs.WordLemmas.{and_right}
 use Rattle.world_program.proofs.EndLemmas.{played_printable, summed_printable}
 
 pub dom_given : (words : List (List ℕ)) (given : AuthsrvWords) → is_authsrv words ≡ true → HasValues words given → is_dom given.dom ≡ true

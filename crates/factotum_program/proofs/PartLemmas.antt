@@ -2,8 +2,8 @@
 use Rattle.std.proofs.Common.{◌≡◌, ℕ, List, [], ◌++◌, length-append, Option, sym, ap, subst, ◌∙◌, append_assoc, append-nil, arith}
 use Rattle.wire_streams.specs.Streams.{Gains}
 use Rattle.wire_streams.proofs.StreamLemmas.{Gains-nil, Gains-trans}
-use Rattle.authsrv_program.specs.declared.status.Status.{Status}
-use Rattle.authsrv_program.specs.declared.status.Status.TheVariants.{NoMemory}
+use Rattle.auth_program.specs.declared.status.Status.{Status}
+use Rattle.auth_program.specs.declared.status.Status.TheVariants.{NoMemory}
 use Rattle.factotum_program.specs.Commands.{GainsPart}
 use Rattle.factotum_program.specs.Gathers.{Gathers, GathersPart}
 

@@ -5,17 +5,17 @@ use Rattle.std.specs.Io.KnownBytes.{Consumes, IsAtEnd}
 use Rattle.std.proofs.KnownBytes.{Consumes-nil, Consumes-trans}
 use Rattle.std.proofs.lemmas.List.{take-take, length-take-le}
 use Rattle.wire_streams.specs.Streams.{Gains}
-use Rattle.nine_frames.specs.Streams.{front, IsBad, IsShort, frames}
-use Rattle.nine_frames.specs.Framed.{Framing}
-use Rattle.nine_frames.specs.Framing.{HasHandedOut, Answers as Gives}
-use Rattle.nine_frames.specs.declared.framer.Next.TheVariants.{Whole, NotYet, BadSize}
-use Rattle.nine_frames.proofs.StreamLaws.{continues, more_frames, front_none, handed_then, length_fed, no_frames, behind_frames, all_frames}
+use Rattle.nine.specs.Streams.{front, IsBad, IsShort, frames}
+use Rattle.nine.specs.Framed.{Framing}
+use Rattle.nine.specs.Framing.{HasHandedOut, Answers as Gives}
+use Rattle.nine.specs.declared.framer.Next.TheVariants.{Whole, NotYet, BadSize}
+use Rattle.nine.proofs.StreamLaws.{continues, more_frames, front_none, handed_then, length_fed, no_frames, behind_frames, all_frames}
 use Rattle.auth_server.specs.Sessions.{DrawsAll}
 use Rattle.agent_history.specs.Histories.{History}
 use Rattle.agent_core.specs.declared.agent.Agent.{Agent}
 use Rattle.agent_core.specs.Agents.{StandsFor}
-use Rattle.authsrv_program.specs.declared.status.Status.{Status}
-use Rattle.authsrv_program.specs.declared.status.Status.TheVariants.{Fine, Usage, ReadFault, WriteFault, WordFault, BadFrame, Torn, BadScript, BadTables, AsEnded, NoMemory, Flood}
+use Rattle.auth_program.specs.declared.status.Status.{Status}
+use Rattle.auth_program.specs.declared.status.Status.TheVariants.{Fine, Usage, ReadFault, WriteFault, WordFault, BadFrame, Torn, BadScript, BadTables, AsEnded, NoMemory, Flood}
 use Rattle.factotum_program.specs.declared.pipe.Session.{Session}
 use Rattle.factotum_program.specs.Pipe.{Turn, after_turn, after_turns, frames_of, most_frame, replies_text, text_of, turn_of}
 use Rattle.factotum_program.specs.Sights.{GoesPart, Sight, sight}

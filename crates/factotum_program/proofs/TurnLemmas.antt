@@ -10,7 +10,7 @@ use Rattle.agent_history.specs.Histories.{History}
 use Rattle.factotum_program.specs.Pipe.{Turn, after_turn, after_turns, all_met, all_met_from, asked_in, calls_from, calls_of, frames_of, turn_of, words_of}
 use Rattle.factotum_program.specs.Sights.{Goes, GoesPart, MakesAll, MakesPart, Sight, sight}
 use Rattle.factotum_program.proofs.MadeLemmas.{made_more, made_none, part_all, part_more}
-use Rattle.authsrv_program.proofs.WordLemmas.{and_left, and_right}
+use Rattle.auth_program.proofs.WordLemmas.{and_left, and_right}
 
 pub after_one : (H : History) (turns : List Turn) (turn : Turn) → after_turns H (turns ++ turn ∷ []) ≡ after_turn (after_turns H turns) turn
 after_one H [] turn = refl

@@ -10,7 +10,7 @@ use Rattle.agent_history.specs.declared.event.Event.TheVariants.{TakeAsk}
 use Rattle.agent_history.specs.Histories.{History, answer}
 use Rattle.agent_core.specs.declared.agent.Agent.{Agent}
 use Rattle.agent_core.specs.Agents.{StandsFor}
-use Rattle.authsrv_program.specs.declared.status.Status.{Status}
+use Rattle.auth_program.specs.declared.status.Status.{Status}
 use Rattle.factotum_program.specs.Pipe.{after_turn, ask_all, asked_in, close_next, event_of, exchange_next, is_ask, is_drop, text_of, told_next, turn_of}
 use Rattle.factotum_program.specs.Sights.{MakesAll, MakesPart}
 use Rattle.factotum_program.specs.Gathers.{Gathers, GathersPart}

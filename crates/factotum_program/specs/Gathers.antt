@@ -1,8 +1,8 @@
 -- Of the code alone: what is told of a text, of which some was written and the rest is gathered.
 use Rattle.std.specs.Prelude.{◌≡◌, ◌<◌, ℕ, List, ◌++◌, length, Option}
 use Rattle.wire_streams.specs.Streams.{Gains}
-use Rattle.authsrv_program.specs.declared.status.Status.{Status}
-use Rattle.authsrv_program.specs.declared.status.Status.TheVariants.{WriteFault}
+use Rattle.auth_program.specs.declared.status.Status.{Status}
+use Rattle.auth_program.specs.declared.status.Status.TheVariants.{WriteFault}
 
 -- a front of the text was written, and the rest is gathered, to be written behind it
 pub record Gathers (origin held : Option (List ℕ)) (gathered text : List ℕ) : Type 0 where

@@ -1,15 +1,15 @@
 -- Of the code alone: where a pipe stands between two reads, and what its parts tell each other.
 use Rattle.std.specs.Prelude.{◌≡◌, ◌<◌, ◌≤◌, ℕ, ◌+◌, List, [], ◌∷◌, ◌++◌, length, Option, Some, None, ◌⊎◌, true}
 use Rattle.std.specs.Io.KnownBytes.{Consumes}
-use Rattle.nine_frames.specs.Streams.{front, IsBad, IsShort, end_of, HasBadSize}
-use Rattle.nine_frames.specs.Framed.{Framing}
-use Rattle.nine_frames.specs.Framing.{HasHandedOut}
-use Rattle.nine_frames.specs.declared.framer.Next.{Next}
-use Rattle.nine_frames.specs.declared.framer.Next.TheVariants.{Whole, NotYet}
+use Rattle.nine.specs.Streams.{front, IsBad, IsShort, end_of, HasBadSize}
+use Rattle.nine.specs.Framed.{Framing}
+use Rattle.nine.specs.Framing.{HasHandedOut}
+use Rattle.nine.specs.declared.framer.Next.{Next}
+use Rattle.nine.specs.declared.framer.Next.TheVariants.{Whole, NotYet}
 use Rattle.agent_core.specs.declared.agent.Agent.{Agent}
 use Rattle.agent_core.specs.Agents.{StandsFor}
-use Rattle.authsrv_program.specs.declared.status.Status.{Status}
-use Rattle.authsrv_program.specs.declared.status.Status.TheVariants.{NoMemory, WordFault, WriteFault, BadFrame}
+use Rattle.auth_program.specs.declared.status.Status.{Status}
+use Rattle.auth_program.specs.declared.status.Status.TheVariants.{NoMemory, WordFault, WriteFault, BadFrame}
 use Rattle.factotum_program.specs.declared.pipe.Session.{Session}
 use Rattle.factotum_program.specs.Pipe.{Turn, after_turns, all_met, frames_of, most_frame, replies_text}
 use Rattle.factotum_program.specs.Sights.{Goes, GoesPart, Sight}

@@ -2,10 +2,10 @@
 -- value behind it. Options go by their long names (getopt_long(3), Argument Syntax), without `=` or `--` alone.
 use Rattle.std.specs.Prelude.{◌≡◌, ◌&&◌, ◌||◌, ℕ, List, [], ◌∷◌, Bool, true, false, codes, Option, Some, None, ◌⊎◌}
 use Rattle.std.specs.Str.{bytes_eq}
-use Rattle.authsrv_program.specs.Words.{IsAuthsrv, has_authsrv_form, is_authsrv, is_value}
+use Rattle.auth_program.specs.Words.{IsAuthsrv, has_authsrv_form, is_authsrv, is_value}
 use Rattle.world_program.specs.Words.{gen_given, has_gen_form, is_gen, is_world}
-use Rattle.authsrv_program.specs.declared.status.Status.{Status}
-use Rattle.authsrv_program.specs.declared.status.Status.TheVariants.{NoMemory, Usage}
+use Rattle.auth_program.specs.declared.status.Status.{Status}
+use Rattle.auth_program.specs.declared.status.Status.TheVariants.{NoMemory, Usage}
 use Rattle.factotum_program.specs.declared.words.Task.{Task}
 use Rattle.factotum_program.specs.declared.words.Task.TheVariants.{Pipe, Authsrv, World, Gen}
 

@@ -7,9 +7,10 @@ ghost use Rattle.agent_core.specs.Events.{IsEvent};
 ghost use Rattle.agent_core.specs.Agents.{StandsFor, left_in};
 ghost use Rattle.factotum_program.specs.Asks.{AsksAll, AsksOne, AsksSome, Exchanges};
 
-use agent_core::{Agent, Event, Shape, StepAnswer};
+use agent_core::Agent;
+use agent_history::{Event, StepAnswer};
 use std::alloc::Global;
-use wire_base::{Bytes, NoMemory};
+use wire_base::{Bytes, NoMemory, Shape};
 use wire_streams::{Dial, Dialer};
 
 // Asks one question. The event tells what that came to.

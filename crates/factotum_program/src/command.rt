@@ -1,15 +1,15 @@
 // The command words, and what each command does.
 ghost use Rattle.std.specs.Prelude.{◌≡◌, ◌≤◌, ◌⊎◌, List, ℕ, length, None, Some, true, false, codes};
 ghost use Rattle.wire_streams.specs.Causes.{Rose};
-ghost use Rattle.nine_frames.specs.Streams.{IsFrames};
+ghost use Rattle.nine.specs.Streams.{IsFrames};
 ghost use Rattle.factotum_program.specs.Pipe.{most_frame};
 ghost use Rattle.factotum_program.specs.Commands.{EndsSo, most_input};
 ghost use Rattle.factotum_program.specs.Sights.{sight};
-ghost use Rattle.authsrv_program.specs.Serving.{IsServableAll, ServesSo, outside};
-ghost use Rattle.authsrv_program.specs.Statuses.{is_printable};
-ghost use Rattle.authsrv_program.specs.Words.{authsrv_value, is_authsrv};
+ghost use Rattle.auth_program.specs.Serving.{IsServableAll, ServesSo, outside};
+ghost use Rattle.auth_program.specs.Statuses.{is_printable};
+ghost use Rattle.auth_program.specs.Words.{authsrv_value, is_authsrv};
 ghost use Rattle.world_history.specs.Scripts.{play};
-ghost use Rattle.world_gen.specs.Generated.{gen_text};
+ghost use Rattle.world_scripts.specs.Generated.{gen_text};
 ghost use Rattle.world_program.specs.declared.words.GenWords.{GenWords};
 ghost use Rattle.world_program.specs.Playing.{IsPlayable, WorldSo};
 ghost use Rattle.world_program.specs.Summing.{GenSo};
@@ -18,7 +18,7 @@ ghost use Rattle.factotum_program.specs.Words.{IsUnread, draws_words, is_command
 
 use crate::pipe::answer_input;
 use crate::words::{Task, read_words};
-use authsrv_program::{Status, serve};
+use auth_program::{Status, serve};
 use std::alloc::Global;
 use wire_base::Text;
 use wire_streams::{Dialer, Sink, Source, Words};

@@ -4,8 +4,8 @@
 ghost use Rattle.std.specs.Prelude.{◌≡◌, ◌∷◌, ◌+◌, ◌<◌, ◌≤◌, [], List, ℕ, Option, true, length, IfOk, IfErr, OnOk, OnErr};
 ghost use Rattle.wire_streams.specs.Causes.{Rose};
 ghost use Rattle.wire_streams.specs.Streams.{Gains};
-ghost use Rattle.nine_messages.specs.Decoding.{IsFrame};
-ghost use Rattle.nine_frames.specs.Framing.{Answers};
+ghost use Rattle.nine.specs.Decoding.{IsFrame};
+ghost use Rattle.nine.specs.Framing.{Answers};
 ghost use Rattle.agent_history.specs.declared.event.Event.TheVariants.{Request, Take};
 ghost use Rattle.agent_history.specs.Replies.{untaken};
 ghost use Rattle.agent_history.specs.Histories.{History, deeds};
@@ -20,9 +20,10 @@ ghost use Rattle.factotum_program.specs.declared.frames.TheConstants.{MOST_GATHE
 ghost use Rattle.factotum_program.specs.Sessions.{next_of, HasNoNext, Handed, AllHanded, StopsAt, IsCut};
 
 use crate::asks::ask_all;
-use agent_core::{Agent, Event};
-use authsrv_program::Status;
-use nine_frames::{Framer, Next};
+use agent_core::Agent;
+use agent_history::Event;
+use auth_program::Status;
+use nine::{Framer, Next};
 use std::alloc::Global;
 use wire_base::{Bytes, NoMemory};
 use wire_streams::{Dialer, Sink, Words, write_all};

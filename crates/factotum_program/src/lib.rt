@@ -8,6 +8,5 @@ mod frames;
 mod pipe;
 mod words;
 
-pub use authsrv_program::{AuthsrvWords, Status, print_status};
 pub use command::run_command;
 pub use words::{Task, read_words};

@@ -8,9 +8,10 @@ ghost use Rattle.factotum_program.specs.Sights.{Sight, sight};
 ghost use Rattle.factotum_program.specs.Sessions.{AllHanded, Piped, StopsAt, taken_by};
 
 use crate::frames::{CONNECTION, answer_frames};
-use agent_core::{Agent, Event};
-use authsrv_program::Status;
-use nine_frames::Framer;
+use agent_core::Agent;
+use agent_history::Event;
+use auth_program::Status;
+use nine::Framer;
 use std::alloc::Global;
 use wire_base::{Bytes, NoMemory};
 use wire_streams::{Dialer, Got, Sink, Source, Words};

@@ -3,12 +3,12 @@ ghost use Rattle.std.specs.Prelude.{◌≡◌, ◌&&◌, codes, IfErr, IfOk, Som
 ghost use Rattle.std.specs.List.{list_all};
 ghost use Rattle.clap.specs.Words.{app_of};
 ghost use Rattle.wire_base.specs.Texts.{is_text};
-ghost use Rattle.authsrv_program.specs.Words.{is_value};
-ghost use Rattle.authsrv_program.specs.Reading.{bytes_of};
+ghost use Rattle.auth_program.specs.Words.{is_value};
+ghost use Rattle.auth_program.specs.Reading.{bytes_of};
 ghost use Rattle.factotum_program.specs.Words.{IsTask, IsUnread, auth_given, has_auth_form, is_pipe_alone};
 ghost use Rattle.factotum_program.specs.Reading.{pipe_app};
 
-use authsrv_program::{
+use auth_program::{
     AuthsrvWords, Status, as_str, copy_value, is_value, read_authsrv_words, required_option,
 };
 use clap::Command;

@@ -3,3 +3,4 @@ pub mod Stats
 pub mod Faults
 pub mod Calls
 pub mod Directories
+pub mod Held

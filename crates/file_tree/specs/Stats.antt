@@ -2,8 +2,8 @@
 use Rattle.std.specs.Prelude.{◌≡◌, ℕ, List, ◌++◌, codes}
 use Rattle.std.specs.Int.{w16, w32, w64, to_le_bytes}
 use Rattle.wire_base.specs.Readers.{counted, spelled}
-use Rattle.nine_messages.specs.declared.qid.Qid.{Qid}
-use Rattle.nine_messages.specs.Messages.{qid_text}
+use Rattle.nine.specs.declared.qid.Qid.{Qid}
+use Rattle.nine.specs.Messages.{qid_text}
 use Rattle.file_tree.specs.declared.tree.Node.{Node}
 use Rattle.file_tree.specs.Tree.{file, qid_of}
 

@@ -1,7 +1,7 @@
 -- The fixed tree of files that an agent serves, as one table, and where a name leads in it. After factotum(4) and
 -- section 5 of the Plan 9 manual (intro(5), walk(5)); the paths and the modes are this project's own.
 use Rattle.std.specs.Prelude.{ℕ, ◌==◌, List, [], ◌∷◌, Bool, true, false, Option, Some, None, find, codes, bytes_eq, if◌then◌else◌}
-use Rattle.nine_messages.specs.declared.qid.Qid.{Qid}
+use Rattle.nine.specs.declared.qid.Qid.{Qid}
 use Rattle.file_tree.specs.declared.tree.Node.{Node}
 use Rattle.file_tree.specs.declared.tree.Node.TheVariants.{Root, Factotum, Rpc, Ctl, Confirm, Needkey, Proto, Log}
 

@@ -2,7 +2,7 @@
 ghost use Rattle.std.specs.Prelude.{◌≡◌, ◌≤◌, find, bytes_eq, length};
 ghost use Rattle.file_tree.specs.Tree.{file, files_in, is_directory, is_exclusive, parent, qid_of, step, up};
 
-use nine_messages::Qid;
+use nine::Qid;
 
 /// A file of the tree: the root, the directory `factotum` in it, and the six files there.
 #[derive(Clone, Copy, Debug, PartialEq, Eq)]

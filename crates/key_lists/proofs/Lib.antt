@@ -6,3 +6,4 @@ pub mod RuleLaws
 pub mod FindLaws
 pub mod BoundLaws
 pub mod OfferLaws
+pub mod HexLemmas

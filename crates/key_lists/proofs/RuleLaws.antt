@@ -3,7 +3,7 @@ use Rattle.std.proofs.Common.{◌≡◌, zero, suc, List, [], ◌∷◌, ◌++�
 use Rattle.std.specs.List.{All}
 use Rattle.std.proofs.lemmas.Bool.{cases_Bool}
 use Rattle.key_lists.specs.declared.fault.AddFault.{AddFault}
-use Rattle.attr_tuples.specs.Rules.{Rule, first_told}
+use Rattle.wire_base.specs.Rules.{Rule, first_told}
 
 abbrev pub IsKept : Rule AddFault → Type 0
 IsKept rule = rule.0 ≡ false

@@ -5,3 +5,4 @@ pub mod Edits
 pub mod Finding
 pub mod Batches
 pub mod CtlLines
+pub mod Digits

@@ -12,7 +12,7 @@ use Rattle.key_lists.specs.declared.fault.AddFault.{AddFault}
 use Rattle.key_lists.specs.declared.fault.AddFault.TheVariants.{Full}
 use Rattle.key_lists.specs.declared.fault.DeleteFault.{DeleteFault}
 use Rattle.key_lists.specs.declared.fault.DeleteFault.TheVariants.{SecretValue, NoneMatched}
-use Rattle.attr_tuples.specs.Rules.{first_told}
+use Rattle.wire_base.specs.Rules.{first_told}
 use Rattle.attr_tuples.specs.Giving.{gives, is_any}
 use Rattle.key_lists.specs.KeyFaults.{key_rules}
 

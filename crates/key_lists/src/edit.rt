@@ -4,9 +4,10 @@ ghost use Rattle.key_lists.specs.Edits.{additions};
 ghost use Rattle.key_lists.specs.Batches.{adds, edit_of};
 
 use crate::fault::{AddFault, DeleteFault};
-use attr_tuples::{NoMemory, Tuple};
+use attr_tuples::Tuple;
 use std::alloc::Global;
 use std::marker::Model;
+use wire_base::NoMemory;
 
 /// An edit of a list of keys. It has no Debug, which would print their secrets.
 #[derive(Drop)]

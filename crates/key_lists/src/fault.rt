@@ -45,10 +45,10 @@ impl From<AllocError> for AddFault {
     }
 }
 
-impl From<attr_tuples::NoMemory> for AddFault {
+impl From<wire_base::NoMemory> for AddFault {
     ghost from_gives = { λ _ e. e ≡ NoMemory };
 
-    fn from(_: attr_tuples::NoMemory) -> Self {
+    fn from(_: wire_base::NoMemory) -> Self {
         AddFault::NoMemory
     }
 }

@@ -7,7 +7,7 @@ ghost use Rattle.attr_tuples.specs.Forms.{is_dom};
 ghost use Rattle.attr_tuples.specs.Matching.{matches};
 ghost use Rattle.attr_tuples.specs.Printing.{hidden};
 ghost use Rattle.key_lists.specs.declared.fault.AddFault.{AddFault};
-ghost use Rattle.attr_tuples.specs.Rules.{Rule, first_told};
+ghost use Rattle.wire_base.specs.Rules.{Rule, first_told};
 ghost use Rattle.key_lists.specs.Lists.{KeyEntry, KeyList, added, deleted, first_serving, is_full, matching, next_serving, no_keys, serves};
 ghost use Rattle.key_lists.specs.Listing.{each_once, fitting, list_text, offer_of, offers_text};
 ghost use Rattle.key_lists.specs.Finding.{in_turn, offered_doms};

@@ -15,7 +15,7 @@ use Rattle.key_lists.specs.declared.fault.AddFault.{AddFault}
 use Rattle.key_lists.specs.declared.fault.AddFault.TheVariants.{AskInKey}
 use Rattle.attr_tuples.specs.Forms.{is_user, is_dom, is_hex_key}
 use Rattle.attr_tuples.specs.Giving.{gives, gives_once, is_any}
-use Rattle.key_digits.specs.Digits.{digits_or_password}
+use Rattle.key_lists.specs.Digits.{digits_or_password}
 use Rattle.key_ring.specs.DesKeys.{hex_of, des_key}
 use Rattle.wire_base.specs.Rules.{Rule, first_told}
 use Rattle.key_lists.specs.KeyFaults.{key_rules, key_fault, is_p9sk1, is_bad_hex, has_bad_name, has_secret}

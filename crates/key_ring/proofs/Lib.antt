@@ -3,3 +3,4 @@ pub mod PlaceLemmas
 pub mod AnswerLemmas
 pub mod OfferLemmas
 pub mod SearchLemmas
+pub mod WriteLemmas

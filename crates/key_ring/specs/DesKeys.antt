@@ -3,7 +3,7 @@
 use Rattle.std.specs.Prelude.{ℕ, List, codes, Option, None, if◌then◌else◌}
 use Rattle.attr_tuples.specs.declared.attr.Attr.{Attr}
 use Rattle.attr_tuples.specs.Matching.{value_of}
-use Rattle.key_digits.specs.Digits.{digits_or_password}
+use Rattle.key_lists.specs.Digits.{digits_or_password}
 use Rattle.key_lists.specs.KeyFaults.{is_p9sk1}
 
 -- the digits of a key of p9sk1, if it has some

@@ -12,8 +12,7 @@ use attr_tuples::{
     Attr, Tuple, Value, gives, gives_any, gives_dom, gives_user, has_name, is_given, is_named,
     is_named_once, is_secret_name,
 };
-use key_digits::decode_key;
-use key_lists::AddFault;
+use key_lists::{AddFault, decode_key};
 
 /// The first rule of keys that the tuple breaks, if it breaks one.
 #[tactic(auto, unfolding(key_lists::specs::KeyFaults::key_fault))]

@@ -5,7 +5,7 @@ ghost use Rattle.key_ring.specs.DesKeys.{des_key, hex_of};
 
 use crate::check::check_p9sk1;
 use attr_tuples::{Tuple, value_of};
-use key_digits::{Key7, choose_key};
+use key_lists::{Key7, choose_key};
 use wire_base::Text;
 
 /// The DES key of a key.

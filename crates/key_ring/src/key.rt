@@ -2,7 +2,7 @@
 
 use crate::des::make_des;
 use attr_tuples::{Tuple, value_of};
-use key_digits::Key7;
+use key_lists::Key7;
 use std::marker::Model;
 use wire_base::{NoMemory, Text};
 

@@ -1,14 +1,24 @@
-//! The ring of keys, as Plan 9's factotum keeps it: keys in order under numbers that rise, each with its DES key.
+//! The ring of keys, as Plan 9's factotum keeps it: keys in order under numbers that rise, each with its DES key; a
+//! write of ctl, carried out on it line by line; and the ring with the text of its list, which is made once for all
+//! that read the same list.
 #![tactic(auto)]
 
 mod batch;
 mod check;
 mod des;
+mod fault;
 mod key;
+mod line;
+mod listed;
 mod offer;
 mod ring;
+mod shared_text;
+mod write;
 
 pub use batch::Batch;
+pub use fault::LineFault;
 pub use key::Key;
-pub use key_lists::{AddFault, DeleteFault, Edit, EditFault, EditList};
+pub use listed::ListedRing;
 pub use ring::KeyRing;
+pub use shared_text::SharedText;
+pub use write::{Written, write_ctl};

@@ -1,6 +1,6 @@
 // A list is kept while it is read, and a write of ctl leaves it to those that read it.
 use crate::expect::expect;
-use listed_ring::ListedRing;
+use key_ring::ListedRing;
 use std::test::Fail;
 
 const ANN: &[u8] = b"key proto=apop user=ann !password=one";

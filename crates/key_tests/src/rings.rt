@@ -3,8 +3,8 @@ ghost use Rattle.std.specs.Prelude.{◌+◌, ◌≤◌, ◌<◌, length, IfOk};
 
 use crate::expect::{expect, expect_at};
 use attr_tuples::{Attr, Tuple, Value};
-use key_lists::{Edit, EditFault, EditList};
-use key_ring::{AddFault, DeleteFault, Key, KeyRing};
+use key_lists::{AddFault, DeleteFault, Edit, EditFault, EditList};
+use key_ring::{Key, KeyRing};
 use std::alloc::Global;
 use std::process::Abort;
 use std::test::Fail;

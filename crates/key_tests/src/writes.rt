@@ -2,8 +2,7 @@
 ghost use Rattle.std.specs.Prelude.{◌+◌, ◌≤◌, ◌<◌};
 
 use crate::expect::{expect, expect_at};
-use ctl_lines::write_ctl;
-use key_ring::KeyRing;
+use key_ring::{KeyRing, write_ctl};
 use std::alloc::Global;
 use std::process::Abort;
 use std::test::Fail;

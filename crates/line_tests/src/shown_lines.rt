@@ -3,12 +3,12 @@ use crate::expect::expect;
 use crate::prompts::{is_kept, reserve};
 use attr_tuples::{Tuple, parse_tuple};
 use file_tree::Node;
-use line_files::{EndLine, LineFiles, build_start};
 use roles::{Cause, Outcome};
 use side_files::PromptKind;
 use std::alloc::Global;
 use std::process::Abort;
 use std::test::Fail;
+use told_talks::{EndLine, LineFiles, build_start};
 use wire_base::{AuthInfo, Name};
 
 fn check_told(

@@ -5,13 +5,13 @@ use Rattle.std.specs.List.{list_any, filter_map}
 use Rattle.std.proofs.lemmas.Bool.{cases_Bool, eq-eqb, eqb-true, ltb-true, ltb-false, false≢true}
 use Rattle.std.proofs.lemmas.List.{length-map, drop_all, drop-drop, drop-append-le, length-reverse, reverse-append, reverse-reverse, map-append}
 use Rattle.file_tree.specs.declared.tree.Node.{Node}
-use Rattle.nine_messages.specs.declared.message.RMsg.{RMsg}
-use Rattle.nine_messages.specs.declared.message.RBody.{RBody}
-use Rattle.nine_messages.specs.Messages.{r_frame}
+use Rattle.nine.specs.declared.message.RMsg.{RMsg}
+use Rattle.nine.specs.declared.message.RBody.{RBody}
+use Rattle.nine.specs.Messages.{r_frame}
 use Rattle.side_files.specs.Calls as side
 use Rattle.side_files.specs.declared.line.PromptKind.{PromptKind}
 use Rattle.agent_history.specs.Deeds.{Deed, OfFids, OfKeys, OfReplies, OfConnection, OfTalk, OfPrompts, OfLog, Raised, HandedOut, DropTaken, Swept, Halted, Entered, Versioned, Attached, Walked, Opened, Listed, Browsed, KeyDeed, Clunked, Answered, Awaited, Settled, Flushed, Taken, Hung, was_hung}
-use Rattle.agent_history.specs.Calls.{Call}
+use Rattle.talks.specs.Calls.{Call}
 use Rattle.agent_history.specs.Replies as told
 use Rattle.agent_history.specs.Replies.{Wait, waits, waits_under, waits_for, has_settled, replies, taken, untaken, fid_given_up, reply_in}
 use Rattle.mailboxes.specs.declared.mailboxes.Mailboxes.{Mailboxes}

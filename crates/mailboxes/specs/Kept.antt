@@ -1,7 +1,7 @@
 -- What the code keeps, as the frames and the reads that it stands for.
 use Rattle.std.specs.Prelude.{ℕ, List, [], ◌∷◌, Bool, Option, Some, None, option_map, if◌then◌else◌}
-use Rattle.nine_messages.specs.declared.message.RBody.TheVariants as r
-use Rattle.nine_messages.specs.Messages.{r_frame}
+use Rattle.nine.specs.declared.message.RBody.TheVariants as r
+use Rattle.nine.specs.Messages.{r_frame}
 use Rattle.mailboxes.specs.declared.reply.Reply.{Reply}
 use Rattle.mailboxes.specs.declared.reply.Reply.TheVariants as y
 use Rattle.mailboxes.specs.declared.wait.Read.{Read}

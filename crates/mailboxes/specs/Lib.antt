@@ -1,9 +1,3 @@
-pub use Rattle.agent_history.specs.Conversations
-pub use Rattle.agent_history.specs.Deeds
-pub use Rattle.agent_history.specs.Histories
-pub use Rattle.agent_history.specs.Replies
-pub use Rattle.agent_history.specs.Requests
-pub use Rattle.agent_history.specs.SideFiles
 pub mod Mails
 pub mod Kept
 pub mod Deliveries

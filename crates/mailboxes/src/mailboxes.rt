@@ -21,8 +21,8 @@ pub struct Mailboxes {
 
 impl Mailboxes {
     ghost use Rattle.std.specs.Prelude.{◌≡◌, ◌∷◌, ◌||◌, ◌==◌, ◌&&◌, [], ℕ, List, Option, false, true, drop, find, length, map, option_map, IsOk, IfNone, IfSome, OnErr, OnOk};
-    ghost use Rattle.nine_messages.specs.declared.message.RBody.{RBody};
-    ghost use Rattle.nine_messages.specs.Messages.{r_frame};
+    ghost use Rattle.nine.specs.declared.message.RBody.{RBody};
+    ghost use Rattle.nine.specs.Messages.{r_frame};
     ghost use Rattle.agent_history.specs.Deeds.{Deed, OfFids, OfReplies, OfConnection, Versioned, Clunked, Answered, Awaited, Settled, Flushed, Hung, Taken, was_hung};
     ghost use Rattle.agent_history.specs.Replies.{is_unsettled, swept, waits, waits_for, waits_under};
     ghost use Rattle.mailboxes.specs.Kept.{reply_bytes};

@@ -1,5 +1,5 @@
 // A reply that wasn't taken yet.
-use nine_codec::{put_error, put_read};
+use nine::{put_error, put_read};
 use rpc_file::{RpcAnswer, print_answer};
 use std::alloc::Global;
 use std::marker::Model;

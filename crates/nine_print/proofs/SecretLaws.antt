@@ -3,8 +3,8 @@ use Rattle.std.proofs.Common.{◌≡◌, ℕ, zero, suc, List, [], ◌∷◌, �
 use Rattle.std.specs.Prelude.{codes}
 use Rattle.std.specs.List.{list_all}
 use Rattle.std.proofs.lemmas.Bool.{cases_Bool}
-use Rattle.nine_messages.specs.declared.message.TBody.TheVariants.{Write}
-use Rattle.nine_messages.specs.declared.message.RBody.TheVariants.{Read}
+use Rattle.nine.specs.declared.message.TBody.TheVariants.{Write}
+use Rattle.nine.specs.declared.message.RBody.TheVariants.{Read}
 use Rattle.nine_print.specs.Values.{number_text, fid_text, tag_text, open_part, is_in_line, shown_part, piece_text, content_text}
 use Rattle.nine_print.specs.Lines.{t_line, r_line}
 

@@ -7,11 +7,11 @@ use Rattle.std.proofs.KnownBytes.{Consumes-nil, Consumes-trans}
 use Rattle.wire_streams.specs.Streams.{Gains}
 use Rattle.wire_streams.specs.Whole.{GainsFront}
 use Rattle.wire_streams.proofs.StreamLemmas.{Gains-nil, Gains-trans}
-use Rattle.nine_frames.specs.Streams.{front, IsBad, IsShort, frames, end_of, HasNoBadSize, IsFrames}
-use Rattle.nine_frames.specs.Framed.{Framing}
-use Rattle.nine_frames.specs.Framing.{HasHandedOut, Answers}
-use Rattle.nine_frames.specs.declared.framer.Next.TheVariants.{Whole, NotYet, BadSize as BadNext}
-use Rattle.nine_frames.proofs.StreamLaws.{continues, more_frames, front_none, handed_then, length_fed, no_frames, behind_frames, all_frames}
+use Rattle.nine.specs.Streams.{front, IsBad, IsShort, frames, end_of, HasNoBadSize, IsFrames}
+use Rattle.nine.specs.Framed.{Framing}
+use Rattle.nine.specs.Framing.{HasHandedOut, Answers}
+use Rattle.nine.specs.declared.framer.Next.TheVariants.{Whole, NotYet, BadSize as BadNext}
+use Rattle.nine.proofs.StreamLaws.{continues, more_frames, front_none, handed_then, length_fed, no_frames, behind_frames, all_frames}
 use Rattle.nine_print.specs.declared.stream.ShowEnd.{ShowEnd}
 use Rattle.nine_print.specs.declared.stream.ShowEnd.TheVariants.{Fine, ReadFault, WriteFault, BadSize, Torn, NoMemory, Flood}
 use Rattle.nine_print.specs.declared.stream.Showing.{Showing}

@@ -1,9 +1,9 @@
 -- Whole frames that are read without faults are shown, unless memory runs out.
 use Rattle.std.proofs.Common.{◌≡◌, ℕ, ◌+◌, ◌≤◌, List, length, Option, Some, refl, ap, subst, length-append, ◌⊎◌, inl, inr, arith}
 use Rattle.std.specs.Io.KnownBytes.{Consumes, IsAtEnd}
-use Rattle.nine_frames.specs.Streams.{IsFrames}
-use Rattle.nine_frames.proofs.StreamLaws.{no_bad_size}
-use Rattle.nine_frames.proofs.InputLaws.{front_of, all_read}
+use Rattle.nine.specs.Streams.{IsFrames}
+use Rattle.nine.proofs.StreamLaws.{no_bad_size}
+use Rattle.nine.proofs.InputLaws.{front_of, all_read}
 use Rattle.nine_print.specs.declared.stream.ShowEnd.{ShowEnd}
 use Rattle.nine_print.specs.declared.stream.ShowEnd.TheVariants.{Fine, ReadFault, WriteFault, BadSize, Torn, NoMemory, Flood}
 use Rattle.nine_print.specs.Shown.{most_frame, most_input, IsBadText, IsTornText, Shows}

@@ -3,14 +3,14 @@ use Rattle.std.specs.Prelude.{ℕ, List, [], ◌∷◌, ◌++◌, length, codes,
 use Rattle.std.specs.List.{flat_map}
 use Rattle.std.specs.Int.{w8, w16}
 use Rattle.wire_base.specs.Readers.{number, value_of}
-use Rattle.nine_messages.specs.declared.qid.Qid.{Qid}
-use Rattle.nine_messages.specs.declared.message.TMsg.{TMsg}
-use Rattle.nine_messages.specs.declared.message.TBody.{TBody}
-use Rattle.nine_messages.specs.declared.message.TBody.TheVariants as t
-use Rattle.nine_messages.specs.declared.message.RMsg.{RMsg}
-use Rattle.nine_messages.specs.declared.message.RBody.{RBody}
-use Rattle.nine_messages.specs.declared.message.RBody.TheVariants as r
-use Rattle.nine_messages.specs.Decoding.{t_reading, r_reading}
+use Rattle.nine.specs.declared.qid.Qid.{Qid}
+use Rattle.nine.specs.declared.message.TMsg.{TMsg}
+use Rattle.nine.specs.declared.message.TBody.{TBody}
+use Rattle.nine.specs.declared.message.TBody.TheVariants as t
+use Rattle.nine.specs.declared.message.RMsg.{RMsg}
+use Rattle.nine.specs.declared.message.RBody.{RBody}
+use Rattle.nine.specs.declared.message.RBody.TheVariants as r
+use Rattle.nine.specs.Decoding.{t_reading, r_reading}
 use Rattle.nine_print.specs.Values.{number_text, fid_text, tag_text, perm_text, string_text, qid_shown, content_text}
 
 -- names and qids, each behind a blank, behind their number

@@ -3,9 +3,9 @@ use Rattle.std.specs.Prelude.{◌≡◌, ◌≤◌, ℕ, ◌+◌, List, [], ◌+
 use Rattle.std.specs.Io.KnownBytes.{Consumes}
 use Rattle.wire_streams.specs.Streams.{Gains}
 use Rattle.wire_streams.specs.Whole.{GainsFront}
-use Rattle.nine_frames.specs.Streams.{front, IsShort}
-use Rattle.nine_frames.specs.Framed.{Framing}
-use Rattle.nine_frames.specs.Framing.{HasHandedOut}
+use Rattle.nine.specs.Streams.{front, IsShort}
+use Rattle.nine.specs.Framed.{Framing}
+use Rattle.nine.specs.Framing.{HasHandedOut}
 use Rattle.nine_print.specs.declared.stream.ShowEnd.{ShowEnd}
 use Rattle.nine_print.specs.declared.stream.ShowEnd.TheVariants.{Fine, ReadFault, WriteFault, BadSize, Torn, NoMemory, Flood}
 use Rattle.nine_print.specs.declared.stream.Showing.{Showing}

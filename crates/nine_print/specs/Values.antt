@@ -6,7 +6,7 @@ use Rattle.std.specs.List.{flat_map, list_all}
 use Rattle.std.specs.Int.{w32, w64, to_be_bytes}
 use Rattle.std.specs.Fmt.{decimal}
 use Rattle.hex.specs.Hex.{encode_lower}
-use Rattle.nine_messages.specs.declared.qid.Qid.{Qid}
+use Rattle.nine.specs.declared.qid.Qid.{Qid}
 
 -- a field is its name, with blanks round it, and its value
 unfoldable pub number_text : List ℕ → ℕ → List ℕ

@@ -1,8 +1,8 @@
 // Laws of the definitions, each the contract of a function that does nothing.
 ghost use Rattle.std.specs.Prelude.{◌≡◌, ℕ, List, ◌∷◌, ◌++◌, length, true};
 ghost use Rattle.std.specs.List.{list_all};
-ghost use Rattle.nine_messages.specs.declared.message.TBody.TheVariants.{Write};
-ghost use Rattle.nine_messages.specs.declared.message.RBody.TheVariants.{Read};
+ghost use Rattle.nine.specs.declared.message.TBody.TheVariants.{Write};
+ghost use Rattle.nine.specs.declared.message.RBody.TheVariants.{Read};
 ghost use Rattle.nine_print.specs.Values.{is_in_line};
 ghost use Rattle.nine_print.specs.Lines.{t_line, r_line};
 

@@ -10,5 +10,4 @@ mod value;
 
 pub use laws::no_secret_is_shown;
 pub use line::put_line;
-pub use nine_messages::{Bytes, NoMemory};
 pub use stream::{ShowEnd, show};

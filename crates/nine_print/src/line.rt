@@ -1,16 +1,15 @@
 // The line of a frame.
 ghost use Rattle.std.specs.Prelude.{◌≡◌, ◌++◌, OnOk, OnErr};
-ghost use Rattle.nine_codec.specs.Encoded.{Extends};
-ghost use Rattle.nine_messages.specs.Decoding.{IsFrame, t_reading, r_reading};
+ghost use Rattle.nine.specs.Encoded.{Extends};
+ghost use Rattle.nine.specs.Decoding.{IsFrame, t_reading, r_reading};
 ghost use Rattle.nine_print.specs.Lines.{type_of, tag_of, bad_text, t_line_of, r_line_of, line_of};
 
 use crate::reply::put_reply;
 use crate::request::put_request;
 use crate::value::{put_number, put_tag};
-use nine_codec::{DecodeFault, decode_r, decode_t};
-use nine_messages::{Bytes, NoMemory};
+use nine::{DecodeFault, decode_r, decode_t};
 use std::alloc::Global;
-use wire_base::{u8_at, u16_at};
+use wire_base::{Bytes, NoMemory, u8_at, u16_at};
 
 fn type_of(frame: &[u8]) -> u8
     ensures { result ≡ type_of frame.now }

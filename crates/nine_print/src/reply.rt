@@ -1,14 +1,15 @@
 // The lines of replies.
 ghost use Rattle.std.specs.Prelude.{◌≡◌, ◌++◌, OnOk, OnErr, codes};
-ghost use Rattle.nine_codec.specs.Encoded.{Extends};
+ghost use Rattle.nine.specs.Encoded.{Extends};
 ghost use Rattle.std.specs.List.{flat_map};
 ghost use Rattle.nine_print.specs.Values.{number_text, qid_shown};
 ghost use Rattle.nine_print.specs.Lines.{qids_text, r_word, r_shown, r_line};
 
 use crate::request::put_version;
 use crate::value::{put_content, put_number, put_qid, put_string, put_tag};
-use nine_messages::{Bytes, NoMemory, Qid, RBody, RMsg};
+use nine::{Qid, RBody, RMsg};
 use std::alloc::Global;
+use wire_base::{Bytes, NoMemory};
 
 // Qids, each behind a blank.
 fn put_each_qid(alloc: Global, qids: &[Qid], out: &mut Bytes) -> Result<(), NoMemory>

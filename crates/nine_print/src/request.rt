@@ -1,13 +1,14 @@
 // The lines of requests.
 ghost use Rattle.std.specs.Prelude.{◌≡◌, ◌++◌, OnOk, OnErr, codes};
-ghost use Rattle.nine_codec.specs.Encoded.{Extends};
+ghost use Rattle.nine.specs.Encoded.{Extends};
 ghost use Rattle.std.specs.List.{flat_map};
 ghost use Rattle.nine_print.specs.Values.{number_text, fid_text, perm_text, string_text, content_text};
 ghost use Rattle.nine_print.specs.Lines.{names_text, t_word, t_shown, t_line};
 
 use crate::value::{put_content, put_fid, put_number, put_perm, put_string, put_tag};
-use nine_messages::{Bytes, NoMemory, TBody, TMsg, Text};
+use nine::{TBody, TMsg};
 use std::alloc::Global;
+use wire_base::{Bytes, NoMemory, Text};
 
 // Strings, each behind a blank.
 fn put_strings(alloc: Global, names: &[Text], out: &mut Bytes) -> Result<(), NoMemory>

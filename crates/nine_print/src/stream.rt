@@ -5,8 +5,8 @@ ghost use Rattle.std.specs.Io.KnownBytes.{IsAtEnd};
 ghost use Rattle.wire_streams.specs.Causes.{Rose};
 ghost use Rattle.wire_streams.specs.Streams.{Gains};
 ghost use Rattle.wire_streams.specs.Whole.{GainsFront};
-ghost use Rattle.nine_frames.specs.Streams.{IsFrames};
-ghost use Rattle.nine_codec.specs.Encoded.{Extends};
+ghost use Rattle.nine.specs.Streams.{IsFrames};
+ghost use Rattle.nine.specs.Encoded.{Extends};
 ghost use Rattle.nine_print.specs.Lines.{bad_size_line, torn_line};
 ghost use Rattle.nine_print.specs.declared.stream.ShowEnd.TheVariants.{NoMemory};
 ghost use Rattle.nine_print.specs.Shown.{end_number, most_frame, most_input, Shows};
@@ -14,9 +14,9 @@ ghost use Rattle.nine_print.specs.Showing.{Handed, AllHanded, StopsAt, CutsAt, T
 
 use crate::line::put_line;
 use crate::value::put_number;
-use nine_frames::{Framer, Next};
-use nine_messages::{Bytes, NoMemory};
+use nine::{Framer, Next};
 use std::alloc::Global;
+use wire_base::{Bytes, NoMemory};
 use wire_streams::{Got, Sink, Source, write_all};
 
 /// The greatest size of a frame.

@@ -1,13 +1,14 @@
 // The values of a message, written as text behind what the output holds.
 ghost use Rattle.std.specs.Prelude.{◌≡◌, ◌++◌, [], OnOk, OnErr, IfOk, string_bytes, length, take, ◌≤◌};
-ghost use Rattle.nine_codec.specs.Encoded.{Extends};
+ghost use Rattle.nine.specs.Encoded.{Extends};
 ghost use Rattle.std.specs.List.{flat_map};
 ghost use Rattle.std.specs.Fmt.{decimal};
 ghost use Rattle.hex.specs.Hex.{encode_lower};
 ghost use Rattle.nine_print.specs.Values.{number_text, fid_text, tag_text, perm_text, is_seen, byte_text, string_text, letter_text, kind_text, qid_shown, open_part, shown_part, is_printable, piece_text, dots, content_text};
 
-use nine_messages::{Bytes, NoMemory, Qid};
+use nine::Qid;
 use std::alloc::Global;
+use wire_base::{Bytes, NoMemory};
 
 const NOFID: u32 = 0xffff_ffff;
 

@@ -2,7 +2,7 @@
 ghost use Rattle.std.specs.Prelude.{◌<◌};
 
 use crate::expect::{expect, expect_at};
-use nine_frames::{Framer, Next};
+use nine::{Framer, Next};
 use std::process::Abort;
 use std::test::Fail;
 use wire_base::Bytes;

@@ -1,17 +1,16 @@
 // The bytes of a session over a ctl file, and frames that are no requests, each written out by hand from
 // section 5 of the Plan 9 manual.
-ghost use Rattle.nine_messages.specs.Decoding.{IsFrame};
+ghost use Rattle.nine.specs.Decoding.{IsFrame};
 
 mod frames;
 
 use crate::expect::{expect, expect_at};
 use frames::{COUNT, FRAMES, NO_FAULT};
-use nine_codec::{
-    DecodeFault, decode_r, decode_t, encode_r, encode_t, put_attach, put_auth, put_clunk,
-    put_create, put_error, put_flush, put_open, put_read, put_remove, put_stat, put_version,
-    put_walk, put_write, put_wstat,
+use nine::{
+    DecodeFault, Qid, QidList, RBody, RMsg, TBody, TMsg, decode_r, decode_t, encode_r, encode_t,
+    put_attach, put_auth, put_clunk, put_create, put_error, put_flush, put_open, put_read,
+    put_remove, put_stat, put_version, put_walk, put_write, put_wstat,
 };
-use nine_messages::{Qid, QidList, RBody, RMsg, TBody, TMsg};
 use std::alloc::Global;
 use std::process::Abort;
 use std::test::Fail;

@@ -1,16 +1,15 @@
 // Lines of frames, of bad frames and of streams that end badly; and what isn't shown.
-ghost use Rattle.nine_messages.specs.Decoding.{IsFrame};
+ghost use Rattle.nine.specs.Decoding.{IsFrame};
 
 mod shown;
 
 use crate::expect::expect;
-use nine_messages::Bytes;
 use nine_print::{ShowEnd, put_line, show};
 use shown::{LINES, STREAM};
 use std::alloc::Global;
 use std::process::Abort;
 use std::test::Fail;
-use wire_base::u32_at;
+use wire_base::{Bytes, u32_at};
 use wire_streams::{MemSink, MemSource};
 
 // A frame's bytes are its size.

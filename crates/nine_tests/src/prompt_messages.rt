@@ -1,9 +1,8 @@
 // Requests and replies beside those that were written down elsewhere.
 use crate::expect::expect;
 use attr_tuples::parse_tuple;
-use prompt_agent::Say;
-use prompt_frames::{
-    First, IN_USE, TOO_SMALL, file_read, has_tag, is_refusal, is_refused_by, question_read,
+use prompters::{
+    First, IN_USE, Say, TOO_SMALL, file_read, has_tag, is_refusal, is_refused_by, question_read,
     read_request, write_request,
 };
 use side_files::{PromptKind, Question};

@@ -5,7 +5,7 @@ use attr_tuples::{Tuple, parse_tuple, print_tuple};
 use conv_p9any::AnyConv;
 use probe::Probe;
 use roles::{Cause, Gave, Machine, Need, Outcome, PhaseWord, SkKey, StartFault, fits_start};
-use seal_mode::Key7;
+use sealing::Key7;
 use std::alloc::Global;
 use std::process::Abort;
 use std::test::Fail;

@@ -1,12 +1,12 @@
 // Whole talks of each protocol, and starts. The messages are those of a login of ann at srv in the domain x, made by
 // bench/vectors over OpenSSL's DES, and the example of RFC 1939.
 use attr_tuples::{Tuple, parse_tuple, print_tuple};
-use conv_set::Conv;
 use roles::{Gave, Machine, Need, Outcome, SkKey, StartFault, fits_start};
-use seal_mode::Key7;
+use sealing::Key7;
 use std::alloc::Global;
 use std::process::Abort;
 use std::test::Fail;
+use talks::Conv;
 use wire_base::{Bytes, Name, NoMemory, Text};
 
 const ANN: [u8; 7] = *b"1234567";

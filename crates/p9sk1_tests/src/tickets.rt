@@ -5,7 +5,7 @@ use attr_tuples::{parse_tuple, print_tuple};
 use conv_p9sk1::SkConv;
 use messages::*;
 use roles::{Cause, Gave, Machine, Need, Outcome, PhaseWord, SkKey, fits_start};
-use seal_mode::Key7;
+use sealing::Key7;
 use std::alloc::Global;
 use std::process::Abort;
 use std::test::Fail;

@@ -1,4 +1,3 @@
-pub use Rattle.key_lists.proofs.FindLaws
 pub mod StartLemmas
 pub mod TemplateLemmas
 pub mod ValueLemmas

@@ -1,8 +1,8 @@
 -- p9sk1 needs keys and the authentication server's answers, and nothing else.
 use Rattle.std.proofs.Common.{◌≡◌, ℕ, List, [], ◌∷◌, true, false, Option, Some, None, Result, Ok, Err, refl, ap, ◌∙◌}
-use Rattle.ticket_codec.specs.Request.{request_of}
-use Rattle.ticket_codec.specs.declared.fault.FieldFault.{FieldFault}
-use Rattle.ticket_codec.specs.declared.request.TicketReq.{TicketReq}
+use Rattle.sealing.specs.Request.{request_of}
+use Rattle.sealing.specs.declared.fault.FieldFault.{FieldFault}
+use Rattle.sealing.specs.declared.request.TicketReq.{TicketReq}
 use Rattle.roles.specs.declared.answer.Cause.{Cause}
 use Rattle.roles.specs.declared.answer.Cause.TheVariants.{WrongKind}
 use Rattle.roles.specs.declared.answer.Gave.TheVariants as g

@@ -8,8 +8,8 @@ use Rattle.wire_base.specs.declared.shape.Shape.TheVariants.{Tickets}
 use Rattle.attr_tuples.specs.declared.attr.Attr.{Attr}
 use Rattle.attr_tuples.specs.Matching.{value_of}
 use Rattle.attr_tuples.specs.Printing.{printed_text}
-use Rattle.ticket_codec.specs.Fields.{name_in, before_nul}
-use Rattle.ticket_codec.specs.Request.{request_of, request_fields, request_text}
+use Rattle.sealing.specs.Fields.{name_in, before_nul}
+use Rattle.sealing.specs.Request.{request_of, request_fields, request_text}
 use Rattle.roles.specs.declared.answer.Cause.TheVariants.{WrongKind, NotOffered, ServerSaidNo, NoServer, NoRoom}
 use Rattle.roles.specs.declared.answer.Gave.TheVariants as g
 use Rattle.roles.specs.declared.answer.PhaseWord.TheVariants.{AwaitsRead, AwaitsWrite, Broken}

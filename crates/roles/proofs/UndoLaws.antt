@@ -2,11 +2,11 @@
 -- far it had come before it.
 use Rattle.std.proofs.Common.{◌≡◌, ℕ, List, [], ◌∷◌, Bool, true, false, Option, Some, None, Result, Ok, Err, nat_lt, length, drop, if◌then◌else◌, refl, ap, subst, ◌∙◌, ◌⊎◌, inl, inr}
 use Rattle.wire_base.specs.Rules.{Rule, first_told}
-use Rattle.ticket_codec.specs.Request.{request_of}
-use Rattle.ticket_codec.specs.declared.fault.FieldFault.{FieldFault}
-use Rattle.ticket_codec.specs.declared.kind.TheConstants.{AUTH_AS}
-use Rattle.ticket_codec.specs.declared.request.TicketReq.{TicketReq}
-use Rattle.ticket_codec.specs.declared.ticket.Ticket.{Ticket}
+use Rattle.sealing.specs.Request.{request_of}
+use Rattle.sealing.specs.declared.fault.FieldFault.{FieldFault}
+use Rattle.sealing.specs.declared.kind.TheConstants.{AUTH_AS}
+use Rattle.sealing.specs.declared.request.TicketReq.{TicketReq}
+use Rattle.sealing.specs.declared.ticket.Ticket.{Ticket}
 use Rattle.roles.specs.declared.answer.Cause.{Cause}
 use Rattle.roles.specs.declared.answer.Cause.TheVariants.{WrongKind, ServerSaidNo, BadKey}
 use Rattle.roles.specs.declared.answer.Gave.TheVariants as g

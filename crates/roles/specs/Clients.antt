@@ -5,11 +5,11 @@ use Rattle.std.specs.Str.{bytes_eq}
 use Rattle.wire_base.specs.Rules.{Rule}
 use Rattle.attr_tuples.specs.Forms.{is_dom}
 use Rattle.attr_tuples.specs.Matching.{value_of}
-use Rattle.ticket_codec.specs.Request.{request_of, request_text}
-use Rattle.ticket_codec.specs.declared.authenticator.Authenticator.{Authenticator}
-use Rattle.ticket_codec.specs.declared.kind.TheConstants.{AUTH_TREQ, AUTH_OK, AUTH_ERR, AUTH_TC, AUTH_AC, AUTH_AS}
-use Rattle.ticket_codec.specs.declared.request.TicketReq.{TicketReq}
-use Rattle.ticket_codec.specs.declared.ticket.Ticket.{Ticket}
+use Rattle.sealing.specs.Request.{request_of, request_text}
+use Rattle.sealing.specs.declared.authenticator.Authenticator.{Authenticator}
+use Rattle.sealing.specs.declared.kind.TheConstants.{AUTH_TREQ, AUTH_OK, AUTH_ERR, AUTH_TC, AUTH_AC, AUTH_AS}
+use Rattle.sealing.specs.declared.request.TicketReq.{TicketReq}
+use Rattle.sealing.specs.declared.ticket.Ticket.{Ticket}
 use Rattle.roles.specs.declared.answer.Cause.{Cause}
 use Rattle.roles.specs.declared.answer.Cause.TheVariants.{WrongKind, WrongChallenge, WrongUser, NotOffered, ServerSaidNo, BadKey}
 use Rattle.roles.specs.declared.answer.Gave.TheVariants as g

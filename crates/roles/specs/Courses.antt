@@ -3,11 +3,11 @@
 use Rattle.std.specs.Prelude.{ℕ, List, [], ◌∷◌, Bool, true, false, Option, Some, None, Result, Ok, Err}
 use Rattle.wire_base.specs.declared.name.AuthInfo.{AuthInfo}
 use Rattle.wire_base.specs.declared.shape.Shape.TheVariants.{Tickets}
-use Rattle.ticket_codec.specs.Keys.{expanded}
-use Rattle.ticket_codec.specs.Request.{request_of}
-use Rattle.ticket_codec.specs.declared.fault.FieldFault.{FieldFault}
-use Rattle.ticket_codec.specs.declared.request.TicketReq.{TicketReq}
-use Rattle.ticket_codec.specs.declared.ticket.Ticket.{Ticket}
+use Rattle.sealing.specs.Keys.{expanded}
+use Rattle.sealing.specs.Request.{request_of}
+use Rattle.sealing.specs.declared.fault.FieldFault.{FieldFault}
+use Rattle.sealing.specs.declared.request.TicketReq.{TicketReq}
+use Rattle.sealing.specs.declared.ticket.Ticket.{Ticket}
 use Rattle.roles.specs.declared.answer.Cause.{Cause}
 use Rattle.roles.specs.declared.answer.Cause.TheVariants.{WrongKind, WrongChallenge, WrongUser, NotOffered, ServerSaidNo, NoServer, NoRoom, BadKey}
 use Rattle.roles.specs.declared.answer.Gave.{Gave}

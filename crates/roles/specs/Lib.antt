@@ -1,13 +1,3 @@
-pub use Rattle.attr_tuples.specs.Attributes
-pub use Rattle.attr_tuples.specs.Forms
-pub use Rattle.attr_tuples.specs.declared.attr.Attr
-pub use Rattle.key_lists.specs.CtlLines
-pub use Rattle.key_lists.specs.Edits
-pub use Rattle.key_lists.specs.Finding
-pub use Rattle.key_lists.specs.Listing
-pub use Rattle.key_lists.specs.Lists
-pub use Rattle.ticket_codec.specs.Fields
-pub use Rattle.ticket_codec.specs.Request
 pub mod Starts
 pub mod Templates
 pub mod Talks

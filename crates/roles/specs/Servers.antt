@@ -3,10 +3,10 @@
 use Rattle.std.specs.Prelude.{ℕ, ◌==◌, not, List, [], ◌∷◌, length}
 use Rattle.std.specs.Str.{bytes_eq}
 use Rattle.wire_base.specs.Rules.{Rule}
-use Rattle.ticket_codec.specs.Request.{request_text}
-use Rattle.ticket_codec.specs.declared.kind.TheConstants.{AUTH_TREQ, AUTH_TS, AUTH_AC, AUTH_AS}
-use Rattle.ticket_codec.specs.declared.authenticator.Authenticator.{Authenticator}
-use Rattle.ticket_codec.specs.declared.ticket.Ticket.{Ticket}
+use Rattle.sealing.specs.Request.{request_text}
+use Rattle.sealing.specs.declared.kind.TheConstants.{AUTH_TREQ, AUTH_TS, AUTH_AC, AUTH_AS}
+use Rattle.sealing.specs.declared.authenticator.Authenticator.{Authenticator}
+use Rattle.sealing.specs.declared.ticket.Ticket.{Ticket}
 use Rattle.roles.specs.declared.answer.Cause.{Cause}
 use Rattle.roles.specs.declared.answer.Cause.TheVariants.{WrongKind, WrongChallenge, WrongUser}
 use Rattle.roles.specs.declared.answer.Gave.TheVariants as g

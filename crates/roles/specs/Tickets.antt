@@ -1,13 +1,13 @@
 -- The messages of p9sk1 as its roles make and open them (authsrv(6) of the Plan 9 manual).
 use Rattle.std.specs.Prelude.{ℕ, List, take, drop, Result, Ok, Err}
-use Rattle.ticket_codec.specs.Sealing.{opened, sealed}
-use Rattle.ticket_codec.specs.Authenticator.{authenticator_of, authenticator_text}
-use Rattle.ticket_codec.specs.Fields.{field}
-use Rattle.ticket_codec.specs.Ticket.{ticket_of}
-use Rattle.ticket_codec.specs.declared.authenticator.Authenticator.{Authenticator}
-use Rattle.ticket_codec.specs.declared.fault.FieldFault.{FieldFault}
-use Rattle.ticket_codec.specs.declared.request.TicketReq.{TicketReq}
-use Rattle.ticket_codec.specs.declared.ticket.Ticket.{Ticket}
+use Rattle.sealing.specs.Sealing.{opened, sealed}
+use Rattle.sealing.specs.Authenticator.{authenticator_of, authenticator_text}
+use Rattle.sealing.specs.Fields.{field}
+use Rattle.sealing.specs.Ticket.{ticket_of}
+use Rattle.sealing.specs.declared.authenticator.Authenticator.{Authenticator}
+use Rattle.sealing.specs.declared.fault.FieldFault.{FieldFault}
+use Rattle.sealing.specs.declared.request.TicketReq.{TicketReq}
+use Rattle.sealing.specs.declared.ticket.Ticket.{Ticket}
 use Rattle.roles.specs.declared.answer.Cause.{Cause}
 use Rattle.roles.specs.declared.key.SkKey.{SkKey}
 use Rattle.roles.specs.Talks.{Verdict, breaks}

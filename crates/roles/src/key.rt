@@ -1,6 +1,6 @@
 // What a key tells a conversation.
 
-use ticket_codec::Key7;
+use sealing::Key7;
 use wire_base::Name;
 
 /// What p9sk1 uses of a key that was found. It has no Debug, which would print the key.

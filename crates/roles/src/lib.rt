@@ -12,7 +12,6 @@ mod template;
 mod tickets;
 
 pub use answer::{Cause, Gave, PhaseWord, StartFault, refuse};
-pub use attr_tuples::{Tuple, is_dom};
 pub use key::SkKey;
 pub use machine::{Machine, Offered};
 pub use need::{Need, Outcome, Tuples};

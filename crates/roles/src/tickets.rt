@@ -9,7 +9,7 @@ ghost use Rattle.roles.specs.Tickets.{proof_under, rest_part, ticket_part, ticke
 use crate::answer::Cause;
 use crate::key::SkKey;
 use crate::need::Outcome;
-use ticket_codec::{AUTH_ERR, Authenticator, FieldFault, Ticket, expand56, open_auth, open_ticket};
+use sealing::{AUTH_ERR, Authenticator, FieldFault, Ticket, expand56, open_auth, open_ticket};
 use wire_base::{AuthInfo, Name};
 
 /// Whether an answer of the authentication server is a refusal.

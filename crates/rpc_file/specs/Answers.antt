@@ -2,7 +2,7 @@
 use Rattle.std.specs.Prelude.{ℕ, List, [], ◌++◌, codes}
 use Rattle.std.specs.Fmt.{decimal}
 use Rattle.attr_tuples.specs.Printing.{public_text}
-use Rattle.ticket_codec.specs.Info.{info_text}
+use Rattle.sealing.specs.Info.{info_text}
 use Rattle.roles.specs.Templates.{shown_text}
 use Rattle.rpc_file.specs.declared.answer.RpcAnswer.{RpcAnswer}
 use Rattle.rpc_file.specs.declared.answer.RpcAnswer.TheVariants as a

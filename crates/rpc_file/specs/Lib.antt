@@ -1,4 +1,3 @@
-pub use Rattle.roles.specs.declared.need.Outcome
 pub mod Requests
 pub mod Answers
 pub mod Sizes

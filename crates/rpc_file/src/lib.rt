@@ -10,5 +10,4 @@ mod size;
 pub use answer::RpcAnswer;
 pub use print::print_answer;
 pub use request::{MOST_REQUEST, Request, RpcFault, parse_request};
-pub use roles::Outcome;
 pub use size::answer_fits;

@@ -6,7 +6,7 @@ ghost use Rattle.roles.specs.Templates.{shown_text};
 
 use crate::answer::RpcAnswer;
 use attr_tuples::{Tuple, print_public, print_tuple};
-use ticket_codec::write_info;
+use sealing::write_info;
 use wire_base::{Bytes, NoMemory};
 
 /// Appends the text of an answer. Where memory runs out, nothing is appended.

@@ -6,7 +6,7 @@ ghost use Rattle.std.specs.List.{list_any};
 ghost use Rattle.attr_tuples.specs.Words.{ends_unquoted, needs_quotes, quoted, quoted_byte, value_text};
 ghost use Rattle.attr_tuples.specs.Printing.{attr_text, ending_text, printed_text, public_text};
 ghost use Rattle.wire_base.specs.Readers.{counted};
-ghost use Rattle.ticket_codec.specs.Info.{info_text};
+ghost use Rattle.sealing.specs.Info.{info_text};
 ghost use Rattle.roles.specs.Templates.{shown_text};
 ghost use Rattle.rpc_file.specs.Answers.{answer_text, detail_of};
 ghost use Rattle.rpc_file.specs.Sizes.{behind, left, others_text, seen};
@@ -95,7 +95,7 @@ fn spend_number(budget: Option<usize>, number: u32) -> Option<usize>
 }
 
 // Two names and a secret of eight bytes, each with its length, and the length of no capability.
-#[tactic(auto, unfolding(ticket_codec::specs::Info::info_text), using(crate::proofs::SizeLemmas::behind_both))]
+#[tactic(auto, unfolding(sealing::specs::Info::info_text), using(crate::proofs::SizeLemmas::behind_both))]
 fn spend_info(budget: Option<usize>, info: &AuthInfo) -> Option<usize>
     ensures { result ≡ behind budget (info_text info.now) }
 {

@@ -1,10 +1,11 @@
 // New nodes that are driven, by hand from the Plan 9 manual and RFC 1939.
 ghost use Rattle.std.specs.Prelude.{IfOk};
-ghost use Rattle.agent_driver.specs.Events.{IsEvent};
+ghost use Rattle.agent_core.specs.Events.{IsEvent};
 
-use agent_driver::{
-    Agent, CTL, Event, clunks, content_in, drive, error_in, is_refused, new_node, open_rpc, reads,
-    writes,
+use agent_core::Agent;
+use agent_history::Event;
+use agent_turns::{
+    CTL, clunks, content_in, drive, error_in, is_refused, new_node, open_rpc, reads, writes,
 };
 use std::alloc::Global;
 use std::process::Abort;

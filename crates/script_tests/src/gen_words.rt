@@ -1,5 +1,5 @@
 // The words of `gen` and of `world`.
-use authsrv_program::Status;
+use auth_program::Status;
 use std::alloc::Global;
 use std::process::Abort;
 use std::test::Fail;

@@ -1,9 +1,10 @@
 // Lines that are refused, each the last of its script.
+use auth_program::ScriptCause;
 use std::alloc::Global;
 use std::process::Abort;
 use std::test::Fail;
 use wire_streams::MemSink;
-use world_program::{ScriptCause, WorldEnd, run_world};
+use world_run::{WorldEnd, run_world};
 
 struct Row {
     script: &'static str,

@@ -4,7 +4,7 @@ use std::alloc::Global;
 use std::process::Abort;
 use std::test::Fail;
 use wire_streams::MemSink;
-use world_program::run_world;
+use world_run::run_world;
 
 // A script of at most 2^22 bytes has this record, and ends so.
 fn check(rt: &impl Abort, alloc: Global, world: &World) {

@@ -3,13 +3,13 @@ ghost use Rattle.std.specs.Prelude.{◌<◌, ◌^◌, length};
 ghost use Rattle.agent_turns.specs.Turning.{IsTurn, said_asks};
 ghost use Rattle.world_history.specs.Talking.{request_text};
 
-use agent_driver::{Agent, new_node, open_rpc};
-use agent_turns::{Asks, Turn, take_turn};
+use agent_core::Agent;
+use agent_turns::{Asks, Turn, new_node, open_rpc, take_turn};
 use std::alloc::Global;
 use std::process::Abort;
 use std::test::Fail;
 use wire_base::Bytes;
-use wire_model::print_step;
+use wire_histories::print_step;
 
 const FID: u32 = 2;
 

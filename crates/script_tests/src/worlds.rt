@@ -1,5 +1,6 @@
 // Scripts with their records, and how each ends. Those that are Done are of docs/worlds.
-use world_program::{ScriptCause, WorldEnd};
+use auth_program::ScriptCause;
+use world_run::WorldEnd;
 
 pub(crate) struct World {
     pub(crate) name: &'static str,

@@ -3,11 +3,10 @@
 use attr_tuples::is_dom;
 use auth_server::{AsStep, AuthCore, AuthEnd, Session, serve_auth};
 use auth_tables::{KeyTable, SpeaksTable, parse_keys, parse_speaks};
-use seal_mode::Key7;
+use sealing::{AUTH_TC, Key7, open_ticket};
 use std::alloc::Global;
 use std::process::Abort;
 use std::test::Fail;
-use ticket_codec::{AUTH_TC, open_ticket};
 use wire_base::{Bytes, Text};
 use wire_streams::{MemSink, MemSource, MemWords};
 

@@ -5,18 +5,22 @@ ghost use Rattle.wire_streams.specs.Dials.{IsAnswer};
 
 mod sessions;
 
+use agent_core::Agent;
+use agent_hub::Hub;
+use agent_serving::{Again, HubSpawner, ServeEnd, Tools, serve};
 use auth_server::{AuthCore, Session};
 use auth_tables::{parse_keys, parse_speaks};
-use listeners::{ListenFault, Listener, MemListener};
-use serve_program::{Again, Agent, Hub, HubSpawner, ServeEnd, Tools, serve};
 use sessions::{LOG_IN, READ_KEYS};
+use sockets::ThreadSpawner;
 use std::alloc::Global;
 use std::sync::Arc;
 use std::sync::atomic::{AtomicU64, Ordering};
 use std::test::Fail;
-use thread_spawner::ThreadSpawner;
 use wire_base::{Bytes, Shape, Text, get_u32};
-use wire_streams::{Dial, Dialer, Got, MemWords, Put, Sink, Source, SteadySink, SteadySource};
+use wire_streams::{
+    Dial, Dialer, Got, ListenFault, Listener, MemListener, MemWords, Put, Sink, Source, SteadySink,
+    SteadySource,
+};
 
 /// The users of the authentication server.
 const KEYS: &[u8; 43] = b"user=ann !password=a\nuser=srv !password=b\n\n";
@@ -148,8 +152,8 @@ struct Two {
 impl Listener for Two {
     ghost use Rattle.std.specs.Prelude.{Some};
     ghost use Rattle.std.specs.Result.{is_err};
-    ghost use Rattle.listeners.specs.Listening.{Accepts};
-    ghost use Rattle.listeners.specs.Memory.{listener_plan, pairs_left};
+    ghost use Rattle.wire_streams.specs.Listening.{Accepts};
+    ghost use Rattle.wire_streams.specs.ListenerMemory.{listener_plan, pairs_left};
     ghost use Rattle.wire_streams.specs.Causes.{CountsOutcome};
     ghost use Rattle.wire_streams.specs.Memory.{faults_of};
 

@@ -1,14 +1,14 @@
 // The hub on objects in memory and in threads.
 ghost use Rattle.std.specs.Prelude.{◌<◌, ◌≤◌, length, IfOk};
-ghost use Rattle.nine_messages.specs.Decoding.{IsFrame};
-ghost use Rattle.agent_hub.specs.Events.{IsEvent};
+ghost use Rattle.nine.specs.Decoding.{IsFrame};
+ghost use Rattle.agent_core.specs.Events.{IsEvent};
 ghost use Rattle.agent_hub.specs.Submits.{IsSeatOf};
 
 mod sessions;
 
-use agent_hub::{
-    Agent, AsksEnd, Event, Hub, HubSeat, InEnd, OutEnd, StepAnswer, serve_asks, serve_in, serve_out,
-};
+use agent_core::Agent;
+use agent_history::{Event, StepAnswer};
+use agent_hub::{AsksEnd, Hub, HubSeat, InEnd, OutEnd, serve_asks, serve_in, serve_out};
 use sessions::{ADD_KEY, AGREED, BAD_SIZE, KEY_ADDED, KEYS_READ, LOG_IN, READ_KEYS, VERSION};
 use std::alloc::Global;
 use std::process::Abort;

@@ -1,14 +1,15 @@
 // Served connections and answered questions in memory.
 ghost use Rattle.std.specs.Prelude.{IfOk};
-ghost use Rattle.nine_messages.specs.Decoding.{IsFrame};
+ghost use Rattle.nine.specs.Decoding.{IsFrame};
 ghost use Rattle.agent_hub.specs.Submits.{IsSeatOf};
 ghost use Rattle.agent_serving.specs.Jobs.{seat_of};
 
-use agent_hub::{Agent, AsksEnd, Event, Hub, HubSeat, InEnd, OutEnd, StepAnswer};
+use agent_core::Agent;
+use agent_history::{Event, StepAnswer};
+use agent_hub::{AsksEnd, Hub, HubSeat, InEnd, OutEnd};
 use agent_serving::{Job, JobEnd, PromptsEnd, ServeEnd, run_job, serve};
 use attr_tuples::Tuple;
-use listeners::{MemListener, MemSpawner};
-use prompt_agent::{Chain, Deny, Limited, Prompter};
+use prompters::{Chain, Deny, Limited, Prompter};
 use std::alloc::Global;
 use std::process::Abort;
 use std::sync::Wait;
@@ -16,7 +17,7 @@ use std::sync::atomic::{AtomicU64, Ordering};
 use std::test::Fail;
 use std::thread::join;
 use wire_base::{Bytes, get_u32};
-use wire_streams::{MemDialer, MemSink, MemSource, MemWords};
+use wire_streams::{MemDialer, MemListener, MemSink, MemSource, MemSpawner, MemWords};
 
 type ServedJob = Job<MemSource, MemSink>;
 

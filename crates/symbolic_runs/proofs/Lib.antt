@@ -7,3 +7,11 @@ pub mod OnceLaws
 pub mod SessionLaws
 pub mod FormLaws
 pub mod GiftLaws
+pub mod Makers
+pub mod Servers
+pub mod Matching
+pub mod Apart
+pub mod Clients
+pub mod Making
+pub mod ExampleLaws
+pub mod AttackLaws

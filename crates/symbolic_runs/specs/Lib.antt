@@ -1,5 +1,3 @@
-pub use Rattle.term_trees.specs.Trees
-pub use Rattle.term_trees.specs.Derivations
 pub mod Forms
 pub mod Moves
 pub mod Sessions
@@ -10,3 +8,8 @@ pub mod Secrets
 pub mod Origins
 pub mod Logins
 pub mod Statements
+pub mod Agreement
+pub mod AgreementStatements
+pub mod Cast
+pub mod Examples
+pub mod Attacks

@@ -1,9 +1,15 @@
-//! Runs of the authentication protocols as an attacker sees them who has the whole network in hands, and the laws that
-//! hold of every such run.
+//! Runs of the authentication protocols as an attacker sees them who has the whole network in hands, and the laws
+//! that hold of every such run: what stays secret, and agreement: whom a server accepts was there, and who answered
+//! a client was a server.
 #![tactic(auto)]
 
+mod agreement_laws;
 mod laws;
+mod runs;
 
+pub use agreement_laws::{
+    client_agreement, different_grants, different_tickets, matching_conversation, server_agreement,
+};
 pub use laws::{
     a_challenge_is_vouched_for_in_its_session, a_challenge_is_vouched_for_once,
     a_conversation_accepts_once, a_conversation_moves_behind_its_start, a_conversation_starts_once,
@@ -13,4 +19,11 @@ pub use laws::{
     each_request_is_answered_once, each_turn_is_taken_once, forms_are_injective,
     gifts_are_computed, guarded_terms_are_closed, seals_have_an_origin, symbolic_secrecy,
     what_follows_from_less_follows_from_more, what_is_known_stays_known,
+};
+pub use runs::{
+    a_betrayed_server_accepts_without_a_grant, a_betrayed_speaker_is_accepted_without_a_match,
+    a_client_is_turned_to_another_server, a_key_is_made_up, a_mail_client_answers_anybody,
+    a_mail_login_satisfies_a_p9sk1_server, a_p9sk1_login_satisfies_a_mail_server,
+    an_exposed_grant_deceives_a_client, the_authentication_server_refuses,
+    two_clients_hold_one_ticket,
 };

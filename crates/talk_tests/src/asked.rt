@@ -1,6 +1,5 @@
 // Conversations that ask their users for a key, and what becomes of them when they are told, or end.
 use crate::expect::{expect, expect_told};
-use agent_shared::AskingTalks;
 use file_tree::Node;
 use key_ring::KeyRing;
 use rpc_file::Request;
@@ -9,6 +8,7 @@ use std::alloc::Global;
 use std::process::Abort;
 use std::test::Fail;
 use talks::Asking;
+use told_talks::AskingTalks;
 use wire_base::NoMemory;
 
 const WORD: [u8; 8] = *b"\x01#Eg\x89\xab\xcd\xef";

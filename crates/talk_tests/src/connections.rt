@@ -1,8 +1,8 @@
 // Conversations that come to keep a connection to the authentication server, and how they part with it.
 use crate::expect::expect;
 use crate::rings::ring_of;
+use agent_talks::{Due, KeepingTalks};
 use conversations::Asks;
-use kept_calls::{Due, KeepingTalks};
 use key_ring::KeyRing;
 use rpc_file::Request;
 use std::alloc::Global;

@@ -1,7 +1,6 @@
 // What becomes of conversations, as the log tells it.
 use crate::expect::expect;
 use crate::rings::ring_of;
-use agent_shared::LoggedTalks;
 use file_tree::Node;
 use key_ring::KeyRing;
 use rpc_file::Request;
@@ -10,6 +9,7 @@ use std::alloc::Global;
 use std::process::Abort;
 use std::test::Fail;
 use talks::Asking;
+use told_talks::LoggedTalks;
 use wire_base::NoMemory;
 
 const WORD: [u8; 8] = *b"\x01#Eg\x89\xab\xcd\xef";

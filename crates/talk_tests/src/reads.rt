@@ -2,7 +2,7 @@
 use crate::expect::expect;
 use agent_shared::Shared;
 use file_tree::Node;
-use listed_ring::ListedRing;
+use key_ring::ListedRing;
 use mailboxes::Read;
 use rpc_file::Request;
 use std::alloc::Global;

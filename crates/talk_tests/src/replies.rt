@@ -1,7 +1,7 @@
 // The few calls that no request of the agent makes yet, and the order of replies.
 use crate::expect::expect;
 use mailboxes::{ErrorText, Mailboxes, Read, Reply, SettledFor, ToldAnswer};
-use nine_codec::put_flush;
+use nine::put_flush;
 use rpc_file::{RpcAnswer, answer_fits};
 use std::alloc::Global;
 use std::process::Abort;

@@ -1,4 +1,5 @@
-pub use Rattle.conv_set.proofs.EndLaws
-pub use Rattle.conv_set.proofs.Laws
+pub mod Laws
+pub mod StandLemmas
+pub mod EndLaws
 pub mod SeekLemmas
 mod Rows

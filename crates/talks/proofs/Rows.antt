@@ -13,10 +13,10 @@ use Rattle.attr_tuples.specs.declared.attr.Value.TheVariants.{Bare}
 use Rattle.attr_tuples.specs.Grammar.{attr_of, words_from, tuple_of}
 use Rattle.attr_tuples.specs.Matching.{matches, value_of}
 use Rattle.attr_tuples.specs.Printing.{printed_text}
-use Rattle.roles.specs.Lists.{KeyEntry, KeyList, no_keys}
-use Rattle.roles.specs.CtlLines.{few_of}
-use Rattle.roles.specs.Fields.{name_in, before_nul}
-use Rattle.roles.specs.Request.{request_of, request_fields, request_text}
+use Rattle.key_lists.specs.Lists.{KeyEntry, KeyList, no_keys}
+use Rattle.key_lists.specs.CtlLines.{few_of}
+use Rattle.sealing.specs.Fields.{name_in, before_nul}
+use Rattle.sealing.specs.Request.{request_of, request_fields, request_text}
 use Rattle.roles.specs.Starts.{role_of, start_fault}
 use Rattle.roles.specs.Talks.{give, get}
 use Rattle.roles.specs.Templates.{asked, given_as, asked_as, shown_text}
@@ -26,7 +26,7 @@ use Rattle.rpc_file.specs.declared.answer.RpcAnswer.TheVariants as a
 use Rattle.talks.specs.declared.said.Said.{Said}
 use Rattle.talks.specs.declared.said.Asking.{Asking}
 use Rattle.talks.specs.Calls.{Call, Chosen, AsksConsent, AsksKey, Denied, NoneServes, Stored, CarriedOut, Sought, Consented, Shut, Took, Found}
-use Rattle.conv_set.specs.Protocols.{protocol_of}
+use Rattle.talks.specs.Protocols.{protocol_of}
 use Rattle.talks.specs.Searches.{found_by}
 use Rattle.talks.specs.Standings.{Begun, Phase, Seeking, OnConfirm, OnServer, Kept, Standing, begin, finds, nothing_said, standing, then_stands}
 

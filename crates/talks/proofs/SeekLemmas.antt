@@ -3,10 +3,10 @@ use Rattle.std.proofs.Common.{◌≡◌, ℕ, suc, ◌+◌, ◌-◌, ◌<◌, �
 use Rattle.std.specs.Prelude.{find}
 use Rattle.std.specs.List.{list_any}
 use Rattle.attr_tuples.specs.declared.attr.Attr.{Attr}
-use Rattle.roles.specs.Lists.{KeyEntry, KeyList, first_serving, next_serving}
-use Rattle.roles.specs.Edits.{IsOrdered}
-use Rattle.roles.specs.Finding.{in_turn}
-use Rattle.roles.proofs.FindLaws.{found_in_turn}
+use Rattle.key_lists.specs.Lists.{KeyEntry, KeyList, first_serving, next_serving}
+use Rattle.key_lists.specs.Edits.{IsOrdered}
+use Rattle.key_lists.specs.Finding.{in_turn}
+use Rattle.key_lists.proofs.FindLaws.{found_in_turn}
 use Rattle.talks.specs.Calls.{Found}
 use Rattle.talks.specs.Searches.{first_left, found_at, found_by, is_passed_over, one_left, serving}
 use Rattle.talks.specs.Seeking.{past, past_at, found_past, none_past}

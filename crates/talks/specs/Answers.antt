@@ -3,7 +3,7 @@ use Rattle.std.specs.Prelude.{ℕ, List, [], Bool, true, false, nat_le, length, 
 use Rattle.attr_tuples.specs.declared.attr.Attr.{Attr}
 use Rattle.attr_tuples.specs.Matching.{value_of}
 use Rattle.attr_tuples.specs.Merging.{merged}
-use Rattle.roles.specs.Lists.{KeyEntry}
+use Rattle.key_lists.specs.Lists.{KeyEntry}
 use Rattle.key_ring.specs.DesKeys.{des_key}
 use Rattle.roles.specs.declared.answer.Cause.{Cause}
 use Rattle.roles.specs.declared.answer.Cause.TheVariants as c

@@ -1,7 +1,7 @@
 -- What a conversation of rpc met, as a list of calls, the newest first. What stands behind a call is all that the
 -- conversation met before it. After factotum(4) of the Plan 9 manual (rpc, confirm, needkey).
 use Rattle.std.specs.Prelude.{ℕ, List, Bool}
-use Rattle.roles.specs.Lists.{KeyEntry}
+use Rattle.key_lists.specs.Lists.{KeyEntry}
 use Rattle.rpc_file.specs.Requests.{RpcRequest}
 
 -- what a search among the keys of a moment comes to: a key, a list of offers, or a pick is searched for

@@ -5,7 +5,7 @@ use Rattle.std.specs.Fmt.{decimal}
 use Rattle.attr_tuples.specs.Words.{value_text}
 use Rattle.attr_tuples.specs.declared.attr.Attr.{Attr}
 use Rattle.attr_tuples.specs.Matching.{value_of}
-use Rattle.conv_set.specs.Protocols.{is_over}
+use Rattle.talks.specs.Protocols.{is_over}
 use Rattle.roles.specs.declared.answer.Cause.{Cause}
 use Rattle.roles.specs.declared.answer.Cause.TheVariants as c
 use Rattle.roles.specs.declared.need.Outcome.{Outcome}

@@ -5,8 +5,8 @@ use Rattle.std.specs.Prelude.{ℕ, List, Bool, not, ◌&&◌, ◌||◌, ◌==◌
 use Rattle.std.specs.List.{list_any}
 use Rattle.attr_tuples.specs.declared.attr.Attr.{Attr}
 use Rattle.attr_tuples.specs.Matching.{has_name}
-use Rattle.roles.specs.Lists.{KeyEntry, KeyList, first_serving, serves}
-use Rattle.roles.specs.Listing.{most_offered, offers, offers_text}
+use Rattle.key_lists.specs.Lists.{KeyEntry, KeyList, first_serving, serves}
+use Rattle.key_lists.specs.Listing.{most_offered, offers, offers_text}
 use Rattle.talks.specs.declared.said.Said.{Said}
 use Rattle.talks.specs.declared.said.Asking.{Asking}
 use Rattle.talks.specs.Calls.{Found, Chosen, AsksConsent, AsksKey, Denied, NoneServes}

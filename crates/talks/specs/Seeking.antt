@@ -1,7 +1,7 @@
 -- A search that goes from key to key. No public contract cites these words.
 use Rattle.std.specs.Prelude.{List, Bool, not, ◌&&◌, ◌||◌, nat_lt, length, find, Option, Some, None, if◌then◌else◌}
 use Rattle.std.specs.List.{list_any}
-use Rattle.roles.specs.Lists.{KeyEntry}
+use Rattle.key_lists.specs.Lists.{KeyEntry}
 use Rattle.talks.specs.Calls.{Found, AsksKey, Denied, NoneServes}
 use Rattle.talks.specs.Searches.{is_passed_over, one_left}
 use Rattle.talks.specs.declared.said.Said.{Said}

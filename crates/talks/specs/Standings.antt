@@ -4,15 +4,14 @@
 use Rattle.std.specs.Prelude.{ℕ, List, [], ◌∷◌, ◌++◌, Bool, true, false, Option, Some, None, codes, option_map}
 use Rattle.attr_tuples.specs.declared.attr.Attr.{Attr}
 use Rattle.attr_tuples.specs.Matching.{value_of}
-use Rattle.roles.specs.Lists.{KeyEntry, KeyList}
-use Rattle.roles.specs.CtlLines.{few_of}
+use Rattle.key_lists.specs.Lists.{KeyEntry, KeyList}
+use Rattle.key_lists.specs.CtlLines.{few_of}
 use Rattle.roles.specs.declared.need.Need.{Need}
 use Rattle.roles.specs.declared.need.Need.TheVariants.{Nothing, Key, Offers, Pick, Exchange}
 use Rattle.roles.specs.declared.need.Outcome.{Outcome}
 use Rattle.roles.specs.declared.answer.StartFault.{StartFault}
 use Rattle.roles.specs.Starts.{Start, start_with}
-use Rattle.roles.specs.Talks.{give, get, found, heard, unheard, roomless, undone, offered, picked}
-use Rattle.roles.specs.Talks.{Call as Move}
+use Rattle.roles.specs.Talks.{give, get, found, heard, unheard, roomless, undone, offered, picked, Call as Move}
 use Rattle.rpc_file.specs.Requests.{RpcRequest, starts, reads, writes, asks_info, asks_attributes}
 use Rattle.rpc_file.specs.declared.answer.RpcAnswer.{RpcAnswer}
 use Rattle.rpc_file.specs.declared.answer.RpcAnswer.TheVariants as a
@@ -20,7 +19,7 @@ use Rattle.talks.specs.Calls.{Call, Found, Chosen, AsksConsent, AsksKey, Denied,
 use Rattle.talks.specs.declared.said.Said.{Said}
 use Rattle.talks.specs.declared.said.Asking.{Asking}
 use Rattle.talks.specs.Searches.{found_by, offered_by, picked_by}
-use Rattle.conv_set.specs.Protocols.{refuses, answers, puts, needs, ends, has_ended}
+use Rattle.talks.specs.Protocols.{refuses, answers, puts, needs, ends, has_ended}
 use Rattle.talks.specs.Answers.{told_key, start_answer, move_answer, info_answer, attributes}
 
 -- a conversation that was started: with what, what its role met since, the newest first, and the key that was chosen

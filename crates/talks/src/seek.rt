@@ -1,6 +1,6 @@
 // The search for a key among those of a ring. Nothing here takes memory.
 ghost use Rattle.std.specs.Prelude.{◌≡◌, ◌<◌, ◌≤◌, IfSome, length, position, take};
-ghost use Rattle.roles.specs.Listing.{most_offered};
+ghost use Rattle.key_lists.specs.Listing.{most_offered};
 ghost use Rattle.talks.specs.Meanings.{meant};
 ghost use Rattle.talks.specs.Searches.{found_by, is_among, is_passed_over, is_refused, is_served, one_left, picked_by, wants_consent};
 ghost use Rattle.talks.specs.Seeking.{none_past};

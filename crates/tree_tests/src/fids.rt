@@ -1,7 +1,7 @@
 // Requests on the fids of one connection, one after the other.
 
 use crate::expect::{expect, expect_at};
-use fid_table::{FidFault, FidState, Fids, Node};
+use file_tree::{FidFault, FidState, Fids, Node};
 use std::alloc::Global;
 use std::process::Abort;
 use std::test::Fail;

@@ -1,8 +1,13 @@
-//! The turn lock: one value behind a lock, whose callers take turns in the order of tickets, and one history of what
-//! they did. The history isn't stored. Each caller has a seat, a token without bytes, which says what of the history
-//! this caller has seen, and which entries of it are the caller's own.
+//! The turn lock: one value behind a lock, whose callers take turns in the order of tickets, and one history of
+//! what they did. The history isn't stored. Each caller has a seat, a token without bytes, which says what of the
+//! history this caller has seen, and which entries of it are the caller's own. Beside it bells, by which threads
+//! that have something for others wake those that wait for it; a bell carries no claim.
 #![tactic(auto)]
 
+mod bell;
+#[cfg(test)]
+mod bell_tests;
+mod bells;
 mod laws;
 mod lock;
 mod logged;
@@ -13,6 +18,8 @@ mod tests;
 mod turn;
 mod views;
 
+pub use bell::Bell;
+pub use bells::Bells;
 pub use laws::{
     a_joined_seat_owns_the_entries_of_both, a_longest_front_exists,
     a_new_seat_is_numbered_by_the_count, a_number_is_in_one_view, a_turn_adds_its_own_entry_alone,

@@ -1,10 +1,10 @@
 // The lock.
 ghost use Rattle.std.specs.Prelude.{◌≡◌};
 
+use crate::bells::Bells;
 use crate::logged::Logged;
 use crate::views::{Turns, View};
 use atomic_table::Table;
-use bells::Bells;
 use std::alloc::Global;
 
 /// A caller's place at a lock. It has no bytes. Contracts see in it the front of the history that the caller has seen,

@@ -2,11 +2,11 @@
 ghost use Rattle.std.specs.Prelude.{◌≡◌, [], ◌∷◌, IfOk, IfErr};
 ghost use Rattle.turn_lock.specs.Seats.{front, numbers, IsSeatOf, Parted, Joined};
 
+use crate::bells::Bells;
 use crate::lock::{DRAWN, MORE_BELLS, Seat, TurnLock};
 use crate::logged::Logged;
 use crate::plays::{Cut, Enter, Settle, Tell, Weigh};
 use atomic_table::{Refused, Table};
-use bells::Bells;
 use std::alloc::{AllocFailed, Global};
 
 impl<S: Logged> TurnLock<S> {

@@ -6,10 +6,10 @@ ghost use Rattle.turn_lock.specs.Fronts.{among, events};
 ghost use Rattle.turn_lock.specs.Seats.{front, numbers, IsSeatOf, IsSame, HoldsValue, Turned};
 ghost use Rattle.turn_lock.specs.Steps.{with_ticket, after_turn, Took};
 
+use crate::bell::Bell;
 use crate::lock::{DRAWN, GIVEN, MOST_LOOKS, Seat, TurnLock, VALUE};
 use crate::logged::{Logged, TurnCall};
 use crate::plays::{Draw, Give, Look, Made};
-use bells::Bell;
 use std::hint::spin_loop;
 use std::marker::Brand;
 use std::snapshot::Snapshot;

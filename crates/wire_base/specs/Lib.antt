@@ -3,3 +3,4 @@ pub mod Readers
 pub mod Kinds
 pub mod Names
 pub mod Rules
+pub mod Spans

@@ -6,10 +6,10 @@ use Rattle.std.proofs.lemmas.List.Elements.{All-cons, All-nil}
 use Rattle.std.specs.Str.{bytes_eq, is_utf8, chars}
 use lib.Utf8.{encode}
 use Rattle.wire_base.specs.Texts.{is_text}
-use Rattle.md5_answers.specs.Answer.{apop_digits}
+use Rattle.sealing.specs.Answer.{apop_digits}
 use Rattle.attr_tuples.specs.Matching.{value_of}
 use Rattle.wire_base.specs.Names.{IsName}
-use Rattle.ticket_codec.specs.Fitting.{IsBlock}
+use Rattle.sealing.specs.Fitting.{IsBlock}
 use Rattle.roles.specs.Starts.{role_of}
 use Rattle.roles.specs.Talks.{Call, give, get, found}
 use Rattle.conv_challenge.specs.Starts.{proto_of, side_of, start_fault}
@@ -18,8 +18,8 @@ use Rattle.wire_histories.specs.Histories.{Act, started, took, gave}
 use Rattle.wire_histories.specs.Conversations.{met_in, talk_acts}
 use Rattle.wire_histories.specs.Legal.{IsConversation, IsLegal, IsMet, IsRingKey, IsServed, IsTalk, MayBe, known_to}
 use Rattle.wire_histories.specs.Examples.{challenge, conv, eight_zeros, mail_history, mail_key, mail_setting, mail_spoken, mail_start, password}
-use Rattle.wire_model.specs.declared.step.Protocol.TheVariants.{Apop}
-use Rattle.wire_model.specs.declared.step.Role.TheVariants.{Client}
+use Rattle.wire_histories.specs.declared.step.Protocol.TheVariants.{Apop}
+use Rattle.wire_histories.specs.declared.step.Role.TheVariants.{Client}
 
 abbrev talk : List ℕ → List Call
 talk des = get ∷ get ∷ found (mail_key des) (Some password) ∷ give challenge ∷ []

@@ -1,10 +1,10 @@
 -- What a conversation's talk leaves in the record. The talk is the list of all its calls; what each comes to is what its
 -- role says (factotum(4) and authsrv(6) of the Plan 9 manual). The form of the record is this project's.
 use Rattle.std.specs.Prelude.{ℕ, List, [], ◌∷◌, ◌++◌, Bool, true, false, not, ◌&&◌, if◌then◌else◌}
-use Rattle.wire_model.specs.declared.step.Protocol.{Protocol}
-use Rattle.wire_model.specs.declared.step.Protocol.TheVariants as protocol
-use Rattle.wire_model.specs.declared.step.Role.{Role}
-use Rattle.wire_model.specs.declared.step.Role.TheVariants as role
+use Rattle.wire_histories.specs.declared.step.Protocol.{Protocol}
+use Rattle.wire_histories.specs.declared.step.Protocol.TheVariants as protocol
+use Rattle.wire_histories.specs.declared.step.Role.{Role}
+use Rattle.wire_histories.specs.declared.step.Role.TheVariants as role
 use Rattle.roles.specs.declared.answer.Gave.{Gave}
 use Rattle.roles.specs.declared.answer.Gave.TheVariants as g
 use Rattle.roles.specs.declared.need.Need.{Need}

@@ -2,14 +2,14 @@
 -- with the password tanstaaf answers the challenge of RFC 1939, and its next read is told that it is done.
 use Rattle.std.specs.Prelude.{ℕ, List, [], ◌∷◌, codes, Some, None, if◌then◌else◌}
 use Rattle.std.specs.Str.{bytes_eq}
-use Rattle.md5_answers.specs.Answer.{apop_digits}
+use Rattle.sealing.specs.Answer.{apop_digits}
 use Rattle.roles.specs.declared.key.SkKey.{SkKey}
 use Rattle.roles.specs.Starts.{Start, start_with}
 use Rattle.roles.specs.Talks.{found}
 use Rattle.roles.specs.Templates.{given_as}
-use Rattle.wire_model.specs.declared.step.Protocol.TheVariants.{Apop}
-use Rattle.wire_model.specs.declared.step.Role.TheVariants.{Client}
-use Rattle.wire_model.specs.declared.step.Step.TheVariants as step
+use Rattle.wire_histories.specs.declared.step.Protocol.TheVariants.{Apop}
+use Rattle.wire_histories.specs.declared.step.Role.TheVariants.{Client}
+use Rattle.wire_histories.specs.declared.step.Step.TheVariants as step
 use Rattle.wire_histories.specs.Histories.{History}
 use Rattle.wire_histories.specs.Legal.{Setting, Spoken}
 

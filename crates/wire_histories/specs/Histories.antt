@@ -4,10 +4,10 @@
 -- were refused carry no message, and say nothing here.
 use Rattle.std.specs.Prelude.{◌≡◌, ℕ, ◌+◌, List, [], ◌∷◌, ◌++◌, Option, Some, None, if◌then◌else◌}
 use Rattle.std.specs.Str.{bytes_eq}
-use Rattle.wire_model.specs.declared.step.Protocol.{Protocol}
-use Rattle.wire_model.specs.declared.step.Role.{Role}
-use Rattle.wire_model.specs.declared.step.Step.{Step}
-use Rattle.wire_model.specs.declared.step.Step.TheVariants.{Start, Out, In, Ask, Heard, Unheard, Accept, Fail, AsGot, AsGave, AsEnd}
+use Rattle.wire_histories.specs.declared.step.Protocol.{Protocol}
+use Rattle.wire_histories.specs.declared.step.Role.{Role}
+use Rattle.wire_histories.specs.declared.step.Step.{Step}
+use Rattle.wire_histories.specs.declared.step.Step.TheVariants.{Start, Out, In, Ask, Heard, Unheard, Accept, Fail, AsGot, AsGave, AsEnd}
 
 abbrev pub History : Type 0
 History = List Step

@@ -5,7 +5,7 @@
 use Rattle.std.specs.Prelude.{◌≡◌, ℕ, List, [], ◌++◌, All, None, Some, Option, true}
 use Rattle.wire_base.specs.Names.{IsName}
 use Rattle.attr_tuples.specs.Attributes.{is_tuple}
-use Rattle.ticket_codec.specs.Fitting.{FitsName, IsBlock}
+use Rattle.sealing.specs.Fitting.{FitsName, IsBlock}
 use Rattle.auth_server.specs.Requests.{Asked}
 use Rattle.auth_server.specs.Answers.{Knowledge}
 use Rattle.auth_server.specs.Standing.{Server, knowledge}

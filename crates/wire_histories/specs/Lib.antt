@@ -1,4 +1,4 @@
-pub use Rattle.wire_model.specs.Lines
+pub mod Lines
 pub mod Histories
 pub mod Conversations
 pub mod Sessions

@@ -1,7 +1,7 @@
 -- What a session of the authentication server leaves in the record, by its requests, the newest first. A request of a kind
 -- that isn't served ends the session without an answer; so does, with its answer, one wrong answer too many.
 use Rattle.std.specs.Prelude.{◌≡◌, ℕ, ◌<◌, List, [], ◌∷◌, ◌++◌, All, Bool, false, not, ◌||◌, length, Option, Some, None, if◌then◌else◌}
-use Rattle.ticket_codec.specs.Fitting.{IsBlock}
+use Rattle.sealing.specs.Fitting.{IsBlock}
 use Rattle.auth_server.specs.Requests.{Asked, is_served, kind_of, needed}
 use Rattle.auth_server.specs.Answers.{Knowledge, answer, held, is_over}
 use Rattle.wire_histories.specs.Histories.{Deal, requested, replied, ended}

@@ -1,6 +1,6 @@
 // Laws of histories, each the contract of a function that does nothing.
 ghost use Rattle.std.specs.Prelude.{ℕ, List};
-ghost use Rattle.ticket_codec.specs.Fitting.{IsBlock};
+ghost use Rattle.sealing.specs.Fitting.{IsBlock};
 ghost use Rattle.wire_histories.specs.Examples.{mail_history, mail_setting};
 ghost use Rattle.wire_histories.specs.Legal.{IsLegal};
 

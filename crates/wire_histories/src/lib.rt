@@ -1,7 +1,15 @@
-//! Which histories a network can have: the record of several agents and an authentication server, in which each
-//! conversation and each session does what its role says, and nothing ties what is taken to what was given.
+//! The record of a network: one step for each message, question and answer of several agents and an authentication
+//! server, its text, and which histories a network can have: each conversation and each session does what its role
+//! says, and nothing ties what is taken to what was given.
 #![tactic(auto)]
 
 mod laws;
+mod line;
+mod print;
+mod step;
+mod wire;
 
 pub use laws::a_mail_client_has_a_legal_history;
+pub use print::print_step;
+pub use step::{Protocol, Role, Step};
+pub use wire::Wire;

@@ -7,3 +7,6 @@ pub mod Steady
 pub mod Streams
 pub mod Whole
 pub mod Words
+pub mod Spawning
+pub mod Listening
+pub mod ListenerMemory

@@ -4,3 +4,7 @@ pub mod Talking
 pub mod Turns
 pub mod Worlds
 pub mod Scripts
+pub mod Writing
+pub mod Told
+pub mod Servers
+pub mod Telling

@@ -4,14 +4,14 @@ use Rattle.std.specs.Prelude.{ℕ, ◌+◌, List, [], ◌∷◌, ◌++◌, lengt
 use Rattle.attr_tuples.specs.Forms.{is_dom}
 use Rattle.hex.specs.Hex.{decode_of}
 use Rattle.std.specs.Result.{result_unwrap_or}
-use Rattle.auth_server.specs.Lines.{first_bad}
-use Rattle.auth_server.specs.Keys.{fits_keys}
-use Rattle.auth_server.specs.Speaks.{fits_speaks}
+use Rattle.auth_tables.specs.Lines.{first_bad}
+use Rattle.auth_tables.specs.Keys.{fits_keys}
+use Rattle.auth_tables.specs.Speaks.{fits_speaks}
 use Rattle.auth_server.specs.Requests.{is_served, kind_of, needed}
 use Rattle.auth_server.specs.Answers.{held}
-use Rattle.wire_model.specs.declared.step.Step.{Step}
-use Rattle.world_history.specs.declared.cause.ScriptCause.{ScriptCause}
-use Rattle.world_history.specs.declared.cause.ScriptCause.TheVariants.{BadLine, UnknownNode, UnknownConv, NoSuchMessage}
+use Rattle.wire_histories.specs.declared.step.Step.{Step}
+use Rattle.auth_program.specs.declared.cause.ScriptCause.{ScriptCause}
+use Rattle.auth_program.specs.declared.cause.ScriptCause.TheVariants.{BadLine, UnknownNode, UnknownConv, NoSuchMessage}
 use Rattle.world_scripts.specs.Pieces.{Piece}
 use Rattle.world_scripts.specs.Pieces as p
 use Rattle.world_scripts.specs.Lines.{ScriptLine}

@@ -4,9 +4,9 @@
 use Rattle.std.specs.Prelude.{ℕ, ◌+◌, List, [], ◌∷◌, ◌++◌, length, drop, nat_eq, Bool, true, false, not, ◌&&◌, ◌||◌, codes, Option, Some, None, is_some, if◌then◌else◌}
 use Rattle.std.specs.List.{starts_with}
 use Rattle.std.specs.Str.{bytes_eq}
-use Rattle.nine_messages.specs.declared.message.RMsg.{RMsg}
-use Rattle.nine_messages.specs.declared.message.RBody.{RBody}
-use Rattle.nine_messages.specs.declared.message.RBody.TheVariants as r
+use Rattle.nine.specs.declared.message.RMsg.{RMsg}
+use Rattle.nine.specs.declared.message.RBody.{RBody}
+use Rattle.nine.specs.declared.message.RBody.TheVariants as r
 use Rattle.attr_tuples.specs.declared.attr.Attr.{Attr}
 use Rattle.key_lists.specs.CtlLines.{few_of}
 use Rattle.roles.specs.Starts.{says}
@@ -16,12 +16,12 @@ use Rattle.agent_history.specs.Lines.{cause_text, is_end}
 use Rattle.agent_history.specs.declared.event.Event.{Event}
 use Rattle.agent_history.specs.Conversations.{outcome_at}
 use Rattle.agent_history.specs.Histories.{History, deeds}
-use Rattle.wire_model.specs.declared.step.Step.{Step}
-use Rattle.wire_model.specs.declared.step.Step.TheVariants as s
-use Rattle.wire_model.specs.declared.step.Protocol.{Protocol}
-use Rattle.wire_model.specs.declared.step.Protocol.TheVariants.{P9sk1, P9any, Apop, Cram}
-use Rattle.wire_model.specs.declared.step.Role.{Role}
-use Rattle.wire_model.specs.declared.step.Role.TheVariants.{Client, Server, Speakfor}
+use Rattle.wire_histories.specs.declared.step.Step.{Step}
+use Rattle.wire_histories.specs.declared.step.Step.TheVariants as s
+use Rattle.wire_histories.specs.declared.step.Protocol.{Protocol}
+use Rattle.wire_histories.specs.declared.step.Protocol.TheVariants.{P9sk1, P9any, Apop, Cram}
+use Rattle.wire_histories.specs.declared.step.Role.{Role}
+use Rattle.wire_histories.specs.declared.step.Role.TheVariants.{Client, Server, Speakfor}
 use Rattle.world_history.specs.declared.question.Question.{Question}
 use Rattle.world_history.specs.Driving.{drive, is_refused, no_word, questions_to, reads, replies_to, writes}
 

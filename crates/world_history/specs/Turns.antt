@@ -1,14 +1,14 @@
 -- What is done to one agent of a network: what its history is then, what is recorded, and the questions that come of it.
 use Rattle.std.specs.Prelude.{ℕ, List, [], ◌∷◌, false}
 use Rattle.std.specs.List.{flat_map}
-use Rattle.nine_messages.specs.declared.message.RMsg.{RMsg}
-use Rattle.nine_messages.specs.declared.message.RBody.{RBody}
-use Rattle.nine_messages.specs.declared.message.RBody.TheVariants as r
+use Rattle.nine.specs.declared.message.RMsg.{RMsg}
+use Rattle.nine.specs.declared.message.RBody.{RBody}
+use Rattle.nine.specs.declared.message.RBody.TheVariants as r
 use Rattle.agent_history.specs.declared.event.Event.TheVariants.{NoAnswer}
 use Rattle.agent_history.specs.declared.event.Event.TheVariants as events
 use Rattle.agent_history.specs.Histories.{History}
-use Rattle.wire_model.specs.declared.step.Step.{Step}
-use Rattle.wire_model.specs.declared.step.Step.TheVariants as s
+use Rattle.wire_histories.specs.declared.step.Step.{Step}
+use Rattle.wire_histories.specs.declared.step.Step.TheVariants as s
 use Rattle.world_history.specs.declared.question.Question.{Question}
 use Rattle.world_history.specs.Driving.{clunks, drive, opened, questions_to, replies_to, told, writes}
 use Rattle.world_history.specs.Talking.{Asks, all_reply_steps, came, following, request_questions, request_steps, requested}

@@ -4,16 +4,16 @@
 use Rattle.std.specs.Prelude.{ℕ, List, [], ◌∷◌, ◌++◌, length, Bool, true, false, Option, Some, None, if◌then◌else◌}
 use Rattle.std.specs.List.{filter_map}
 use Rattle.std.specs.Str.{bytes_eq}
-use Rattle.auth_server.specs.Lines.{counted}
-use Rattle.auth_server.specs.Keys.{key_of, keys_in}
-use Rattle.auth_server.specs.Speaks.{may_speak, names_in, speaks_in}
+use Rattle.auth_tables.specs.Lines.{counted}
+use Rattle.auth_tables.specs.Keys.{key_of, keys_in}
+use Rattle.auth_tables.specs.Speaks.{may_speak, names_in, speaks_in}
 use Rattle.auth_server.specs.Requests as req
 use Rattle.auth_server.specs.Requests.{asked_so, is_served, kind_of}
 use Rattle.auth_server.specs.Answers.{Knowledge, is_over}
 use Rattle.auth_server.specs.Answers as server
 use Rattle.agent_history.specs.Histories.{History}
-use Rattle.wire_model.specs.declared.step.Step.{Step}
-use Rattle.wire_model.specs.declared.step.Step.TheVariants as s
+use Rattle.wire_histories.specs.declared.step.Step.{Step}
+use Rattle.wire_histories.specs.declared.step.Step.TheVariants as s
 use Rattle.world_history.specs.declared.question.Question.{Question}
 use Rattle.world_history.specs.Acts.{Act, Talk, Domain, KeyLine, SpeakLine, Made, Told, Opened, Started, Got, Given, Answered, Unanswered, Asked, Closed, domain, key_lines, least_fid, fids_on, speak_lines, talk_of, talks}
 use Rattle.world_history.specs.Driving.{new_node}

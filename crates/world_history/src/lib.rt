@@ -1,10 +1,16 @@
-//! What a script of a network means: the acts that its lines come to, the histories of the agents that they drive, the
-//! requests of the sessions of an authentication server, and the record of their steps. These are definitions; the crate
-//! `world_run` runs scripts.
+//! What a script of a network means: the acts that its lines come to, the histories of the agents that they drive,
+//! the requests of the sessions of an authentication server, and the record of their steps; the record while it is
+//! made, and the server's tables as the script's lines tell of them. The crate `world_run` runs scripts.
 #![tactic(auto)]
 
-mod cause;
+mod laws;
 mod question;
+mod record;
+mod spelling;
+mod tables;
+mod told;
 
-pub use cause::ScriptCause;
+pub use laws::tables_are_told_in_time;
 pub use question::{Question, Questions};
+pub use record::{Cut, Record};
+pub use tables::{Tables, read_tables};

@@ -6,14 +6,14 @@ use Rattle.std.proofs.lemmas.Slice.Eq.{bytes_eq-Decides}
 use Rattle.auth_server.specs.Requests.{asked_so}
 use Rattle.agent_history.specs.Conversations.{opened_talks}
 use Rattle.agent_history.specs.Histories.{History, deeds}
-use Rattle.driven_agents.specs.Histories.{Act as Does, acts_of}
+use Rattle.wire_histories.specs.Histories.{Act as Does, acts_of}
 use Rattle.world_history.specs.Acts.{Act, Talk, Domain, KeyLine, SpeakLine, Made, Told, Opened, Started, Got, Given, Answered, Unanswered, Asked, Closed, talk_of}
 use Rattle.world_history.specs.Driving.{new_node, replies_to, writes}
 use Rattle.world_history.specs.Talking.{gets, gives, starts}
 use Rattle.world_history.specs.Turns.{Turn, after, asks, closes, hears, lets_open, misses, tells, turn_steps}
 use Rattle.world_history.specs.Worlds.{Done, done_by, fid_for, history, history_by, known, messages_in, on_talk, requests, steps, steps_by, steps_to}
 use Rattle.driven_agents.proofs.NamesLaws.{names_no_lines}
-use Rattle.recorded_talks.specs.Telling.{acts_in}
+use Rattle.world_legality.specs.Telling.{acts_in}
 use Rattle.world_legality.specs.Agents.{AgentDoes, AgentsDo, DoesTo, Leaves, TurnDoes, begun_in, conv_in}
 use Rattle.world_legality.specs.Conditions.{AreDone}
 use Rattle.world_legality.specs.Settings.{Place, place_of}

@@ -5,17 +5,17 @@ use Rattle.std.specs.Prelude.{if◌then◌else◌}
 use Rattle.std.proofs.lemmas.List.Elements.{All-cons, All-nil}
 use Rattle.roles.specs.Talks.{Call as Move}
 use Rattle.talks.specs.Standings.{Begun}
-use Rattle.driven_agents.specs.Histories.{acts_of}
-use Rattle.driven_agents.specs.Conversations.{Speaker, meets, met_by, speaker}
-use Rattle.driven_agents.specs.Legal.{IsConversation, IsLegal, IsMet, MayBe}
+use Rattle.wire_histories.specs.Histories.{acts_of}
+use Rattle.wire_histories.specs.Conversations.{Speaker, meets, met_by, speaker}
+use Rattle.wire_histories.specs.Legal.{IsConversation, IsLegal, IsMet, MayBe}
 use Rattle.world_history.specs.Acts.{Act}
 use Rattle.world_history.specs.Scripts.{play, world}
 use Rattle.world_history.specs.Worlds.{history}
 use Rattle.agent_history.specs.Conversations.{talk}
 use Rattle.agent_history.specs.Histories.{deeds}
-use Rattle.recorded_talks.specs.Begun.{BegunWith, StartsWell}
-use Rattle.recorded_talks.specs.Telling.{acts_in}
-use Rattle.recorded_talks.proofs.BegunLaws.{starts_well}
+use Rattle.world_legality.specs.Begun.{BegunWith, StartsWell}
+use Rattle.world_legality.specs.Telling.{acts_in}
+use Rattle.world_legality.proofs.BegunLaws.{starts_well}
 use Rattle.driven_agents.specs.Keys.{AreMet}
 use Rattle.driven_agents.proofs.ToldLaws.{told_ring_keys}
 use Rattle.world_legality.specs.Agents.{AgentsDo}

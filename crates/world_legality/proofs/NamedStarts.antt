@@ -7,8 +7,8 @@ use Rattle.wire_base.specs.Rules.{first_told}
 use Rattle.attr_tuples.specs.declared.attr.Attr.{Attr}
 use Rattle.attr_tuples.specs.Matching.{value_of}
 use Rattle.key_lists.specs.Lists.{tells_secret}
-use Rattle.wire_model.specs.declared.step.Protocol.TheVariants as p
-use Rattle.wire_model.specs.declared.step.Role.TheVariants as q
+use Rattle.wire_histories.specs.declared.step.Protocol.TheVariants as p
+use Rattle.wire_histories.specs.declared.step.Role.TheVariants as q
 use Rattle.roles.specs.declared.stage.Role.TheVariants as k
 use Rattle.roles.specs.declared.answer.StartFault.TheVariants.{SecretValue, UnknownProto, UnknownRole}
 use Rattle.roles.specs.Starts.{is_text_of, role_of, says, start_with}
@@ -16,8 +16,8 @@ use Rattle.conv_challenge.specs.declared.stage.Proto.TheVariants as m
 use Rattle.conv_challenge.specs.declared.stage.Side.TheVariants as d
 use Rattle.conv_challenge.specs.Starts.{names_proto, names_side, proto_of, side_of, start_fault}
 use Rattle.talks.specs.Protocols.{Protocol as Spoken, Mail, P9any, P9sk1, protocol_of, refuses, refuses_by}
-use Rattle.driven_agents.specs.Histories.{started}
-use Rattle.driven_agents.specs.Conversations.{part_as, protocol_as, role_as, side_as, started_by}
+use Rattle.wire_histories.specs.Histories.{started}
+use Rattle.wire_histories.specs.Conversations.{part_as, protocol_as, role_as, side_as, started_by}
 use Rattle.world_history.specs.Talking.{protocol_named, role_named}
 
 -- a template that says one text of a name says no other

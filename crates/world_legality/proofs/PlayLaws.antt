@@ -5,15 +5,15 @@ use Rattle.std.proofs.lemmas.Bool.{and_parts, eqb-true, ltb-true}
 use Rattle.std.proofs.lemmas.List.Elements.{All-cons, All-nil}
 use Rattle.wire_base.specs.Texts.{is_text}
 use Rattle.attr_tuples.specs.Forms.{is_dom}
-use Rattle.ticket_codec.specs.Fitting.{IsBlock}
+use Rattle.sealing.specs.Fitting.{IsBlock}
 use Rattle.world_scripts.specs.Lines as l
 use Rattle.world_scripts.specs.Lines.{ScriptLine, is_formed, is_name, is_random}
 use Rattle.world_scripts.specs.Pieces.{are_pieces}
 use Rattle.world_scripts.specs.Reading.{line_of}
 use Rattle.world_scripts.specs.Scripts.{Numbered, script_lines}
 use Rattle.world_scripts.proofs.LineLemmas.{line_parts}
-use Rattle.world_history.specs.declared.cause.ScriptCause.{ScriptCause}
-use Rattle.world_history.specs.declared.cause.ScriptCause.TheVariants.{BadLine, UnknownNode}
+use Rattle.auth_program.specs.declared.cause.ScriptCause.{ScriptCause}
+use Rattle.auth_program.specs.declared.cause.ScriptCause.TheVariants.{BadLine, UnknownNode}
 use Rattle.world_history.specs.Acts.{Act, Domain, KeyLine, SpeakLine, Made, Told, Opened, Started, Got, Given, Answered, Unanswered, Asked, Closed, is_node}
 use Rattle.world_history.specs.Scripts.{Played, act_of, call_now, fitting, go_on, is_unfit, judged, misnamed, named, play, plays, spelled}
 use Rattle.world_history.specs.Worlds.{messages}

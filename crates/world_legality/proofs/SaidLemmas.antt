@@ -3,21 +3,21 @@ use Rattle.std.proofs.Common.{◌≡◌, ℕ, ◌+◌, List, [], ◌∷◌, ◌+
 use Rattle.std.specs.Str.{bytes_eq}
 use Rattle.std.proofs.lemmas.List.{append_assoc, append-nil}
 use Rattle.std.proofs.lemmas.Slice.Eq.{bytes_eq-Decides}
-use Rattle.nine_messages.specs.declared.message.RMsg.{RMsg}
-use Rattle.nine_messages.specs.declared.message.RBody.{RBody}
-use Rattle.nine_messages.specs.declared.message.RBody.TheVariants as r
+use Rattle.nine.specs.declared.message.RMsg.{RMsg}
+use Rattle.nine.specs.declared.message.RBody.{RBody}
+use Rattle.nine.specs.declared.message.RBody.TheVariants as r
 use Rattle.key_lists.specs.CtlLines.{few_of}
 use Rattle.roles.specs.declared.need.Need.{Need}
 use Rattle.roles.specs.declared.need.Need.TheVariants.{Nothing, Key, Offers, Pick, Exchange}
 use Rattle.roles.specs.declared.need.Outcome.{Outcome}
 use Rattle.roles.specs.declared.need.Outcome.TheVariants.{Running, Accepted, Finished, Broken}
 use Rattle.roles.specs.Starts.{start_with}
-use Rattle.wire_model.specs.declared.step.Step.{Step}
-use Rattle.wire_model.specs.declared.step.Step.TheVariants as s
+use Rattle.wire_histories.specs.declared.step.Step.{Step}
+use Rattle.wire_histories.specs.declared.step.Step.TheVariants as s
 use Rattle.talks.specs.Lines.{is_end}
 use Rattle.talks.specs.Standings.{Phase, Resting, Waiting, Seeking, OnConfirm, OnNeedkey, OnServer, Kept, Standing, need_in, outcome_of}
-use Rattle.driven_agents.specs.Histories.{Act, acts_of, act_in, asked, gave, if_named, took}
-use Rattle.driven_agents.specs.Conversations.{asked_now, started_by}
+use Rattle.wire_histories.specs.Histories.{Act, acts_of, act_in, asked, gave, if_named, took}
+use Rattle.wire_histories.specs.Conversations.{asked_now, started_by}
 use Rattle.auth_server.specs.Requests as req
 use Rattle.auth_server.specs.Requests.{is_served, kind_of}
 use Rattle.auth_server.specs.Answers.{Knowledge, is_over}
@@ -26,7 +26,7 @@ use Rattle.world_history.specs.Turns.{refused_by, told_steps}
 use Rattle.world_history.specs.Worlds.{session_steps}
 use Rattle.world_history.specs.declared.question.Question.{Question}
 use Rattle.world_history.specs.Talking.{Asks, Came, all_reply_steps, answer_steps, ask_steps, begins, breaks, end_of, end_steps, following, gets, gives, is_out, is_taken, is_taken_by, own_steps, reply_steps, start_step, starts, tuple_in, word_of}
-use Rattle.recorded_talks.specs.Telling.{answer_acts, answer_recorded, end_acts, end_in, is_taken_in, own_acts, question_acts, request_acts, told_acts}
+use Rattle.world_legality.specs.Telling.{answer_acts, answer_recorded, end_acts, end_in, is_taken_in, own_acts, question_acts, request_acts, told_acts}
 use Rattle.world_legality.specs.Agents.{Answers, Comes, reads_all, reads_none, GiveNothing, answers_in, asked_as, asked_in, bodies, is_read, question_in, questions_in}
 use Rattle.world_legality.proofs.StepLemmas.{acts_behind}
 

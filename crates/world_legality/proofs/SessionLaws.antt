@@ -7,18 +7,18 @@ use Rattle.std.specs.Prelude.{unwrap_or}
 use Rattle.std.proofs.Math.Path.{fun_ext}
 use Rattle.std.proofs.lemmas.Bool.{eqb-true, or_parts}
 use Rattle.std.proofs.lemmas.Slice.Eq.{bytes_eq-Decides}
-use Rattle.wire_model.specs.declared.step.Step.{Step}
-use Rattle.wire_model.specs.declared.step.Step.TheVariants as s
+use Rattle.wire_histories.specs.declared.step.Step.{Step}
+use Rattle.wire_histories.specs.declared.step.Step.TheVariants as s
 use Rattle.auth_tables.specs.Lines as tables
 use Rattle.auth_tables.specs.Keys.{key_of, keys_in}
 use Rattle.auth_tables.specs.Speaks.{SpeakLine as HostLine, may_speak, names_in, names_of, speaks_in}
 use Rattle.auth_server.specs.Requests as req
 use Rattle.auth_server.specs.Requests.{asked_so, is_served, kind_of, needed}
 use Rattle.auth_server.specs.Answers.{Knowledge, answer, held, is_over}
-use Rattle.driven_agents.specs.Histories.{Deal, deals_of, ended, replied, requested}
-use Rattle.driven_agents.specs.Legal.{IsServed, known_to}
-use Rattle.driven_agents.specs.Sessions.{IsLong, IsSession, MayCome, ends_by, replies_to, session_deals}
-use Rattle.driven_agents.specs.Sessions as w
+use Rattle.wire_histories.specs.Histories.{Deal, deals_of, ended, replied, requested}
+use Rattle.wire_histories.specs.Legal.{IsServed, known_to}
+use Rattle.wire_histories.specs.Sessions.{IsLong, IsSession, MayCome, ends_by, replies_to, session_deals}
+use Rattle.wire_histories.specs.Sessions as w
 use Rattle.world_history.specs.Acts.{Act, Domain, KeyLine, SpeakLine, Asked, domain, key_lines, speak_lines, was_asked}
 use Rattle.world_history.specs.Scripts.{has_length, is_misshaped, is_unfit}
 use Rattle.world_history.specs.Worlds.{Done, done_by, has_ended, history, known, messages_in, requests, session_steps, steps, steps_by, steps_to, was_misasked}

@@ -6,10 +6,10 @@ use Rattle.roles.specs.Starts.{start_with}
 use Rattle.roles.specs.Talks.{Call as Move, heard, unheard}
 use Rattle.talks.specs.Protocols.{refuses}
 use Rattle.talks.specs.Standings.{Begun, Waiting, carried_out, made, outcome_of}
-use Rattle.wire_model.specs.declared.step.Step.{Step}
-use Rattle.wire_model.specs.declared.step.Step.TheVariants as s
-use Rattle.driven_agents.specs.Histories.{Act, act_in, answered, if_named, unanswered}
-use Rattle.driven_agents.specs.Conversations.{started_by}
+use Rattle.wire_histories.specs.declared.step.Step.{Step}
+use Rattle.wire_histories.specs.declared.step.Step.TheVariants as s
+use Rattle.wire_histories.specs.Histories.{Act, act_in, answered, if_named, unanswered}
+use Rattle.wire_histories.specs.Conversations.{started_by}
 use Rattle.agent_history.specs.declared.event.Event.{Event}
 use Rattle.agent_history.specs.declared.event.Event.TheVariants.{NoAnswer}
 use Rattle.agent_history.specs.declared.event.Event.TheVariants as events
@@ -18,9 +18,9 @@ use Rattle.driven_agents.specs.Quiet.{NamesNoLines}
 use Rattle.world_history.specs.Driving.{clunks, drive, is_refused, reads, replies_to, writes}
 use Rattle.world_history.specs.Talking.{Asks, all_reply_steps, came, following, gets, gives, own_steps, request_steps, request_text, requested, start_step, starts, tuple_in, word_of}
 use Rattle.world_history.specs.Turns.{Turn, after, asks, closes, hears, lets_open, misses, tells, turn_steps}
-use Rattle.recorded_talks.specs.Telling.{AnswersLeave, Searches, acts_in, answer_recorded, idle, is_driven, on_server, request_acts}
-use Rattle.recorded_talks.proofs.LeaveLaws.{absence_leaves, answers_leave, requests_leave}
-use Rattle.recorded_talks.proofs.StartLaws.{started_unrefused}
+use Rattle.world_legality.specs.Telling.{AnswersLeave, Searches, acts_in, answer_recorded, idle, is_driven, on_server, request_acts}
+use Rattle.world_legality.proofs.LeaveLaws.{absence_leaves, answers_leave, requests_leave}
+use Rattle.world_legality.proofs.StartLaws.{started_unrefused}
 use Rattle.world_legality.specs.Agents.{AnswerDoes, IsCarried, IsUnread, RequestDoes, TurnDoes, asked_as, begun_in, conv_in, is_carried, is_turned_away, isnt_read, write_of}
 use Rattle.world_legality.proofs.LeaveLemmas.{behind_takes, close_stays, opening_leaves, stays_so, write_stays}
 use Rattle.world_legality.proofs.NamedStarts.{start_named}

@@ -2,7 +2,7 @@
 use Rattle.std.proofs.Common.{◌≡◌, ℕ, List, [], ◌∷◌, Option, Some, None, Bool, true, false, ◌⊎◌, inl, inr, if◌then◌else◌, refl, sym, ap, subst, ◌∙◌}
 use Rattle.std.specs.Str.{bytes_eq}
 use Rattle.std.proofs.lemmas.Bool.{cases_Bool}
-use Rattle.ticket_codec.specs.Fitting.{IsBlock}
+use Rattle.sealing.specs.Fitting.{IsBlock}
 use Rattle.roles.specs.Starts.{Start}
 use Rattle.roles.specs.Talks.{Call as Move, heard, unheard}
 use Rattle.talks.specs.Standings.{Begun, Waiting, carried_out, made}
@@ -18,9 +18,9 @@ use Rattle.world_history.specs.Turns.{Turn, after, asks, closes, hears, lets_ope
 use Rattle.world_history.specs.Worlds.{Done, done_by, fid_for, history, history_by, on_talk}
 use Rattle.driven_agents.specs.Quiet.{NamesNoLines}
 use Rattle.driven_agents.proofs.NamesLaws.{names_no_lines}
-use Rattle.recorded_talks.specs.Begun.{BegunWith}
-use Rattle.recorded_talks.specs.Telling.{idle, on_server}
-use Rattle.recorded_talks.proofs.BegunLaws.{IsNew, carried_of, made_of, searched_of}
+use Rattle.world_legality.specs.Begun.{BegunWith}
+use Rattle.world_legality.specs.Telling.{idle, on_server}
+use Rattle.world_legality.proofs.BegunLaws.{IsNew, carried_of, made_of, searched_of}
 use Rattle.world_legality.specs.Agents.{AgentDoes, AgentsDo, AnswerDoes, DoesTo, IsCarried, RequestDoes, TurnDoes, asked_as, begun_in, conv_in, is_carried, is_turned_away, isnt_read, write_of}
 use Rattle.world_legality.specs.Conditions.{AreDone}
 use Rattle.world_legality.specs.Settings.{Place, place_of}

@@ -2,9 +2,9 @@
 -- authentication server, and of a closing.
 use Rattle.std.specs.Prelude.{◌≡◌, ℕ, List, [], ◌∷◌, map, Bool, true, false, Option, Some, None}
 use Rattle.std.specs.Str.{bytes_eq}
-use Rattle.nine_messages.specs.declared.message.RMsg.{RMsg}
-use Rattle.nine_messages.specs.declared.message.RBody.{RBody}
-use Rattle.nine_messages.specs.declared.message.RBody.TheVariants as r
+use Rattle.nine.specs.declared.message.RMsg.{RMsg}
+use Rattle.nine.specs.declared.message.RBody.{RBody}
+use Rattle.nine.specs.declared.message.RBody.TheVariants as r
 use Rattle.roles.specs.declared.need.Need.{Need}
 use Rattle.roles.specs.declared.need.Need.TheVariants.{Nothing, Key, Offers, Pick, Exchange}
 use Rattle.roles.specs.Talks.{Call as Move, heard, unheard}
@@ -19,13 +19,13 @@ use Rattle.agent_history.specs.declared.event.Event.TheVariants as events
 use Rattle.agent_history.specs.declared.event.Event.TheVariants.{NoAnswer}
 use Rattle.agent_history.specs.Conversations.{opened_talks, standing_of}
 use Rattle.agent_history.specs.Histories.{History, deeds}
-use Rattle.driven_agents.specs.Conversations.{is_asked}
+use Rattle.wire_histories.specs.Conversations.{is_asked}
 use Rattle.world_history.specs.Acts.{Act}
 use Rattle.world_history.specs.Driving.{clunks, drive, is_refused, reads, replies_to, writes}
 use Rattle.world_history.specs.Talking.{Asks, Came, came, gets, gives, is_taken, request_text, starts, word_of}
 use Rattle.world_history.specs.Turns.{Turn, after, asks, closes, hears, lets_open, misses, tells}
 use Rattle.world_history.specs.Worlds.{Done, done_by, history}
-use Rattle.recorded_talks.specs.Telling.{Searches, answer_acts, idle, is_taken_in, on_server}
+use Rattle.world_legality.specs.Telling.{Searches, answer_acts, idle, is_taken_in, on_server}
 use Rattle.world_legality.specs.Settings.{Place, place_of}
 
 -- with what the conversation of a number was started, and what it met since

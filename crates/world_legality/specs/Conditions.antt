@@ -1,7 +1,7 @@
 -- What is so of the acts of a script: each fits behind those before it, is one that a line can spell, and names what there is.
 use Rattle.std.specs.Prelude.{◌≡◌, List, [], ◌∷◌, All, true, false, length}
 use Rattle.wire_base.specs.Texts.{is_text}
-use Rattle.ticket_codec.specs.Fitting.{IsBlock}
+use Rattle.sealing.specs.Fitting.{IsBlock}
 use Rattle.world_history.specs.Acts.{Act, Domain, Told, Opened, Started, Answered, Unanswered, Asked, is_node}
 use Rattle.world_history.specs.Scripts.{call_now, is_unfit}
 

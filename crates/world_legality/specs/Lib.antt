@@ -1,7 +1,6 @@
-pub use Rattle.driven_agents.specs.Keys
-pub use Rattle.driven_agents.specs.Quiet
-pub use Rattle.recorded_talks.specs.Begun
-pub use Rattle.recorded_talks.specs.Telling
+pub mod Roles
+pub mod Begun
+pub mod Telling
 pub mod Conditions
 pub mod Settings
 pub mod Agents

@@ -9,8 +9,8 @@ use Rattle.auth_server.specs.Standing.{Server}
 use Rattle.talks.specs.Standings.{Begun, Standing}
 use Rattle.agent_history.specs.Conversations.{opened_talks, standing_of}
 use Rattle.agent_history.specs.Histories.{deeds}
-use Rattle.driven_agents.specs.Conversations.{met_in}
-use Rattle.driven_agents.specs.Legal.{Setting, Spoken}
+use Rattle.wire_histories.specs.Conversations.{met_in}
+use Rattle.wire_histories.specs.Legal.{Setting, Spoken}
 use Rattle.world_history.specs.Acts.{Act, Opened, domain, key_lines, speak_lines}
 use Rattle.world_history.specs.Worlds.{history}
 

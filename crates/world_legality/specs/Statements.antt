@@ -1,8 +1,8 @@
 -- The record of the network that some acts make is legal.
 use Rattle.std.specs.Prelude.{◌≡◌, ℕ, List, All, Some, reverse}
 use Rattle.talks.specs.Standings.{Begun}
-use Rattle.driven_agents.specs.Histories.{History, acts_of, deals_of}
-use Rattle.driven_agents.specs.Legal.{IsConversation, IsMet, IsServed, known_to}
+use Rattle.wire_histories.specs.Histories.{History, acts_of, deals_of}
+use Rattle.wire_histories.specs.Legal.{IsConversation, IsMet, IsServed, known_to}
 use Rattle.world_history.specs.Acts.{Act}
 use Rattle.world_history.specs.Worlds.{steps}
 use Rattle.world_legality.specs.Settings.{Place, place_of, setting, spoken_by, standing_at}

@@ -1,8 +1,8 @@
 // Laws of what a script does, each the contract of a function that does nothing.
 ghost use Rattle.std.specs.Prelude.{ℕ, List, reverse};
 ghost use Rattle.wire_base.specs.Names.{IsName};
-ghost use Rattle.driven_agents.specs.Histories.{IsNumbered};
-ghost use Rattle.driven_agents.specs.Legal.{IsLegal};
+ghost use Rattle.wire_histories.specs.Histories.{IsNumbered};
+ghost use Rattle.wire_histories.specs.Legal.{IsLegal};
 ghost use Rattle.world_history.specs.Acts.{Act, domain};
 ghost use Rattle.world_history.specs.Scripts.{play, world};
 ghost use Rattle.world_legality.specs.Agents.{AgentsDo};

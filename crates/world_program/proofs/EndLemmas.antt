@@ -1,12 +1,12 @@
 -- What is left of the ends of `world` and `gen` where nothing stands in their way, and that each has a line.
 use Rattle.std.proofs.Common.{◌≡◌, ◌⊎◌, ◌∙◌, ℕ, List, true, false, Option, Some, None, is_some, refl, ap, sym, inl, inr}
-use Rattle.world_history.specs.declared.cause.ScriptCause.{ScriptCause}
+use Rattle.auth_program.specs.declared.cause.ScriptCause.{ScriptCause}
 use Rattle.world_history.specs.Scripts.{play}
-use Rattle.world_gen.specs.Generated.{gen_text}
-use Rattle.authsrv_program.specs.Statuses.{is_printable}
-use Rattle.authsrv_program.specs.declared.status.Status.{Status}
-use Rattle.authsrv_program.specs.declared.status.Status.TheVariants.{Fine, Usage, ReadFault, WriteFault, WordFault, BadFrame, Torn, BadScript, BadTables, AsEnded, NoMemory, Flood}
-use Rattle.authsrv_program.proofs.FileLemmas.{no_flood, told_file}
+use Rattle.world_scripts.specs.Generated.{gen_text}
+use Rattle.auth_program.specs.Statuses.{is_printable}
+use Rattle.auth_program.specs.declared.status.Status.{Status}
+use Rattle.auth_program.specs.declared.status.Status.TheVariants.{Fine, Usage, ReadFault, WriteFault, WordFault, BadFrame, Torn, BadScript, BadTables, AsEnded, NoMemory, Flood}
+use Rattle.auth_program.proofs.FileLemmas.{no_flood, told_file}
 use Rattle.world_program.specs.Playing.{IsPlayable, WorldSo}
 use Rattle.world_program.specs.Summing.{GenSo}
 

@@ -11,12 +11,12 @@ use Rattle.clap.specs.Simple.{Shape, built}
 use Rattle.clap.specs.Takes.{step_passes, turn_passes, walk_passes}
 use Rattle.clap.specs.declared.parser.matches.ArgMatches.{ArgMatches}
 use Rattle.clap.proofs.OnLiterals.{clap_on_literals}
-use Rattle.authsrv_program.specs.Reading.{HasText}
-use Rattle.authsrv_program.specs.Words.{is_among, is_value, value_of}
+use Rattle.auth_program.specs.Reading.{HasText}
+use Rattle.auth_program.specs.Words.{is_among, is_value, value_of}
 use Rattle.world_program.specs.Reading.{gen_app}
 use Rattle.world_program.specs.Words.{gen_options, gen_value, has_gen_form}
-use Rattle.authsrv_program.proofs.ClapLemmas.{IsPlainWord, at_option, behind, both_pass, either_passes, flag_passes, met_plain, pass_end, pass_on, row}
-use Rattle.authsrv_program.proofs.WordLemmas.{and_left, and_right, plain_value, same_first, short_form, texts_from}
+use Rattle.auth_program.proofs.ClapLemmas.{IsPlainWord, at_option, behind, both_pass, either_passes, flag_passes, met_plain, pass_end, pass_on, row}
+use Rattle.auth_program.proofs.WordLemmas.{and_left, and_right, plain_value, same_first, short_form, texts_from}
 
 abbrev top : Shape
 top = (built gen_app).top

@@ -2,7 +2,7 @@
 use Rattle.std.proofs.Common.{◌≡◌, ◌≤◌, ◌&&◌, ℕ, List, Bool, true, false, refl, ap, subst, codes, Option, Some, None}
 use Rattle.std.specs.Prelude.{if◌then◌else◌, nat_le, nat_lt, unwrap_or}
 use Rattle.std.proofs.lemmas.Bool.{leb-true}
-use Rattle.authsrv_program.proofs.WordLemmas.{and_right}
+use Rattle.auth_program.proofs.WordLemmas.{and_right}
 use Rattle.world_program.specs.declared.words.GenWords.{GenWords}
 use Rattle.world_program.specs.Words.{both, gen_given, gen_value, has_gen_form, plain_number, rounds_in}
 

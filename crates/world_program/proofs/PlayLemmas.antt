@@ -4,19 +4,19 @@ use Rattle.std.specs.Prelude.{filter}
 use Rattle.std.proofs.lemmas.Grind.{flat_map-append}
 use Rattle.wire_streams.specs.Streams.{Gains}
 use Rattle.wire_streams.specs.Whole.{GainsFront}
-use Rattle.wire_model.specs.declared.step.Step.{Step}
-use Rattle.wire_model.specs.Lines.{step_line}
+use Rattle.wire_histories.specs.declared.step.Step.{Step}
+use Rattle.wire_histories.specs.Lines.{step_line}
 use Rattle.world_history.specs.Scripts.{world}
 use Rattle.world_history.specs.Worlds.{message_in, messages_in}
-use Rattle.world_record.specs.Writing.{lines_of}
+use Rattle.world_history.specs.Writing.{lines_of}
 use Rattle.world_run.specs.declared.play.WorldEnd.{WorldEnd}
 use Rattle.world_run.specs.declared.play.WorldEnd.TheVariants as ends
 use Rattle.world_run.specs.Runs.{RunsSo}
-use Rattle.world_gen.specs.Generated.{gen_text}
+use Rattle.world_scripts.specs.Generated.{gen_text}
 use Rattle.world_promises.proofs.EveryPromise.{promised}
-use Rattle.authsrv_program.specs.Files.{ReadsFile, StopsSo}
-use Rattle.authsrv_program.specs.declared.status.Status.{Status}
-use Rattle.authsrv_program.specs.declared.status.Status.TheVariants.{Fine, Usage, ReadFault, WriteFault, WordFault, BadFrame, Torn, BadScript, BadTables, AsEnded, NoMemory, Flood}
+use Rattle.auth_program.specs.Files.{ReadsFile, StopsSo}
+use Rattle.auth_program.specs.declared.status.Status.{Status}
+use Rattle.auth_program.specs.declared.status.Status.TheVariants.{Fine, Usage, ReadFault, WriteFault, WordFault, BadFrame, Torn, BadScript, BadTables, AsEnded, NoMemory, Flood}
 use Rattle.world_program.specs.Counts.{is_sought}
 use Rattle.world_program.specs.declared.summary.Sought.TheVariants.{Message}
 use Rattle.world_program.specs.Playing.{WorldSo}

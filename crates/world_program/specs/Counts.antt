@@ -1,6 +1,6 @@
 -- Of the code alone: the steps of a record that are counted.
 use Rattle.std.specs.Prelude.{Bool, is_some}
-use Rattle.wire_model.specs.declared.step.Step.{Step}
+use Rattle.wire_histories.specs.declared.step.Step.{Step}
 use Rattle.world_history.specs.Worlds.{message_in}
 use Rattle.world_program.specs.Summing.{is_accept, is_fail}
 use Rattle.world_program.specs.declared.summary.Sought.{Sought}

@@ -2,14 +2,14 @@
 use Rattle.std.specs.Prelude.{◌≡◌, ◌≤◌, ℕ, List, ◌++◌, length, Option, Some, None, ◌⊎◌}
 use Rattle.wire_streams.specs.Streams.{Gains}
 use Rattle.wire_streams.specs.Whole.{GainsFront}
-use Rattle.wire_model.specs.declared.step.Step.{Step}
-use Rattle.world_history.specs.declared.cause.ScriptCause.{ScriptCause}
+use Rattle.wire_histories.specs.declared.step.Step.{Step}
+use Rattle.auth_program.specs.declared.cause.ScriptCause.{ScriptCause}
 use Rattle.world_history.specs.Scripts.{play, world}
-use Rattle.world_record.specs.Writing.{lines_of}
+use Rattle.world_history.specs.Writing.{lines_of}
 use Rattle.world_promises.specs.Statements.{IsPromised}
-use Rattle.authsrv_program.specs.Files.{FloodsFile, ReadsFile, ReadsPart, most_file}
-use Rattle.authsrv_program.specs.declared.status.Status.{Status}
-use Rattle.authsrv_program.specs.declared.status.Status.TheVariants.{Fine, ReadFault, WriteFault, BadScript, NoMemory, Flood}
+use Rattle.auth_program.specs.Files.{FloodsFile, ReadsFile, ReadsPart, most_file}
+use Rattle.auth_program.specs.declared.status.Status.{Status}
+use Rattle.auth_program.specs.declared.status.Status.TheVariants.{Fine, ReadFault, WriteFault, BadScript, NoMemory, Flood}
 
 -- a script was read to its end and all of its lines were carried out, and the lines of its record were written
 pub record PlaysAll (left_old left_new holds_old holds_new : Option (List ℕ)) : Type 0 where

@@ -1,11 +1,11 @@
 -- Of the code alone: what a run of a script tells the command that has it run.
 use Rattle.std.specs.Prelude.{◌≡◌, ℕ, List, Some, None, ⊤}
-use Rattle.wire_model.specs.declared.step.Step.{Step}
+use Rattle.wire_histories.specs.declared.step.Step.{Step}
 use Rattle.world_run.specs.declared.play.WorldEnd.{WorldEnd}
 use Rattle.world_run.specs.declared.play.WorldEnd.TheVariants as ends
 use Rattle.world_history.specs.Scripts.{play, world}
-use Rattle.authsrv_program.specs.declared.status.Status.{Status}
-use Rattle.authsrv_program.specs.declared.status.Status.TheVariants.{Fine, WriteFault, BadScript, NoMemory}
+use Rattle.auth_program.specs.declared.status.Status.{Status}
+use Rattle.auth_program.specs.declared.status.Status.TheVariants.{Fine, WriteFault, BadScript, NoMemory}
 
 -- the status of an end of a run
 abbrev pub status_of : WorldEnd → Status

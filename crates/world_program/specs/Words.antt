@@ -4,9 +4,9 @@ use Rattle.std.specs.Prelude.{◌≡◌, ◌==◌, ◌&&◌, nat_le, nat_lt, len
 use Rattle.std.specs.List.{list_all}
 use Rattle.std.specs.Str.{bytes_eq}
 use Rattle.side_files.specs.Decimals.{number_of}
-use Rattle.authsrv_program.specs.Words.{is_among, is_value, value_of}
-use Rattle.authsrv_program.specs.declared.status.Status.{Status}
-use Rattle.authsrv_program.specs.declared.status.Status.TheVariants.{NoMemory, Usage}
+use Rattle.auth_program.specs.Words.{is_among, is_value, value_of}
+use Rattle.auth_program.specs.declared.status.Status.{Status}
+use Rattle.auth_program.specs.declared.status.Status.TheVariants.{NoMemory, Usage}
 use Rattle.world_program.specs.declared.words.GenWords.{GenWords}
 
 -- ---- world

@@ -1,20 +1,20 @@
 // The script of a number.
 ghost use Rattle.std.specs.Prelude.{◌≡◌, ◌≤◌, ◌^◌, length, IfErr, IfOk};
 ghost use Rattle.wire_streams.specs.Causes.{Rose};
-ghost use Rattle.world_gen.specs.Generated.{gen_text};
+ghost use Rattle.world_scripts.specs.Generated.{gen_text};
 ghost use Rattle.world_program.specs.Running.{HasNotRun, HasRun};
 ghost use Rattle.world_program.specs.Summing.{GenSo};
 
 use crate::nowhere::Nowhere;
 use crate::summary::summary;
 use crate::words::GenWords;
-use authsrv_program::Status;
+use auth_program::Status;
 use std::alloc::Global;
 use wire_base::NoMemory;
-use wire_model::Wire;
+use wire_histories::Wire;
 use wire_streams::{Sink, WriteFault, write_all};
-use world_gen::gen_script;
 use world_run::{WorldEnd, run_world};
+use world_scripts::gen_script;
 
 // Runs a script, and writes its record nowhere.
 fn run_unseen(alloc: Global, script: &[u8]) -> Result<Wire, Status>

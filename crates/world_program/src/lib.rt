@@ -11,4 +11,3 @@ mod words;
 pub use generated::play_gen;
 pub use played::play_world;
 pub use words::{GenWords, has_gen_form, is_world, read_gen_words};
-pub use world_run::{ScriptCause, WorldEnd, run_world};

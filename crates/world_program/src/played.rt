@@ -4,7 +4,7 @@ ghost use Rattle.wire_streams.specs.Causes.{Rose};
 ghost use Rattle.world_program.specs.Playing.{WorldSo};
 ghost use Rattle.world_program.specs.Running.{status_of};
 
-use authsrv_program::{Status, read_file};
+use auth_program::{Status, read_file};
 use std::alloc::Global;
 use wire_streams::{Sink, Source};
 use world_run::{WorldEnd, run_world};

@@ -6,7 +6,7 @@ ghost use Rattle.world_program.specs.Summing.{is_accept, is_fail, summary, told}
 
 use std::alloc::Global;
 use wire_base::NoMemory;
-use wire_model::Step;
+use wire_histories::Step;
 
 // What is counted of a record.
 #[derive(Clone, Copy, Debug, PartialEq, Eq)]

@@ -4,12 +4,12 @@ ghost use Rattle.std.specs.Prelude.{◌≡◌, ◌&&◌, ◌∷◌, [], IfErr, I
 ghost use Rattle.std.specs.List.{list_all};
 ghost use Rattle.clap.specs.Words.{app_of};
 ghost use Rattle.wire_base.specs.Texts.{is_text};
-ghost use Rattle.authsrv_program.specs.Words.{is_among, is_value};
-ghost use Rattle.authsrv_program.specs.Reading.{bytes_of};
+ghost use Rattle.auth_program.specs.Words.{is_among, is_value};
+ghost use Rattle.auth_program.specs.Reading.{bytes_of};
 ghost use Rattle.world_program.specs.Words.{IsUnreadGen, gen_given, gen_options, has_gen_form, is_world, plain_number, rounds_of};
 ghost use Rattle.world_program.specs.Reading.{HasTexts, gen_app};
 
-use authsrv_program::{Status, as_str, copy_value, is_value, required_option};
+use auth_program::{Status, as_str, copy_value, is_value, required_option};
 use clap::Command;
 use clap::error::ErrorKind;
 use side_files::parse_decimal;

@@ -3,13 +3,13 @@ use Rattle.std.proofs.Common.{ℕ, List}
 use Rattle.clean_runs.specs.Statements.{IsBridged, IsSecret}
 use Rattle.clean_runs.proofs.SessionLaw.{sessions_go}
 use Rattle.clean_runs.proofs.Shown.{all_bridged, all_secret, case_of}
-use Rattle.clean_agreement.specs.Statements.{ClientsAreAnswered, ClientsAreHosts, ClientsMatch, EachByATicket, OneByAMatch, OneByAText, OneByATicket, OneUnderAGrant, ServersAgree, ServersNameTheUser}
-use Rattle.clean_agreement.proofs.Agreeing.{clients_match, servers_agree}
-use Rattle.clean_agreement.proofs.Clients.{clients_are_answered, clients_are_hosts}
-use Rattle.clean_agreement.proofs.Apart.{each_by_a_ticket, one_by_a_match, one_by_a_ticket, one_under_a_grant}
-use Rattle.clean_agreement.proofs.Texts.{one_by_a_text}
-use Rattle.clean_agreement.proofs.Users.{servers_name_the_user}
-use Rattle.world_agents.proofs.ScriptLaws.{scripts_are_legal}
+use Rattle.clean_runs.specs.AgreementStatements.{ClientsAreAnswered, ClientsAreHosts, ClientsMatch, EachByATicket, OneByAMatch, OneByAText, OneByATicket, OneUnderAGrant, ServersAgree, ServersNameTheUser}
+use Rattle.clean_runs.proofs.Agreeing.{clients_match, servers_agree}
+use Rattle.clean_runs.proofs.Clients.{clients_are_answered, clients_are_hosts}
+use Rattle.clean_runs.proofs.Apart.{each_by_a_ticket, one_by_a_match, one_by_a_ticket, one_under_a_grant}
+use Rattle.clean_runs.proofs.Texts.{one_by_a_text}
+use Rattle.clean_runs.proofs.Users.{servers_name_the_user}
+use Rattle.world_promises.proofs.ScriptLaws.{scripts_are_legal}
 use Rattle.world_promises.specs.Statements.{IsPromised, OfEveryCleanScript}
 use Rattle.world_promises.proofs.EveryScript.{of_scripts}
 

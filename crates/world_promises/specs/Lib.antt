@@ -1,1 +1,4 @@
+pub mod Requests
+pub mod Answers
+pub mod Worlds
 pub mod Statements

@@ -1,16 +1,16 @@
 -- What is promised of every script: of its record, the newest step first, and of its setting, under every reading of words as
 -- terms and every labelling under which it is clean.
 use Rattle.std.specs.Prelude.{ℕ, ◌≤◌, List, length, reverse}
-use Rattle.term_trees.specs.Spellings.{Atoms}
+use Rattle.terms.specs.Spellings.{Atoms}
 use Rattle.wire_histories.specs.Histories.{History}
 use Rattle.wire_histories.specs.Legal.{IsLegal, Setting}
 use Rattle.clean_runs.specs.Labels.{Labelling}
 use Rattle.clean_runs.specs.Clean.{IsClean}
 use Rattle.clean_runs.specs.Statements.{IsBridged, IsSecret}
-use Rattle.clean_agreement.specs.Statements.{ClientsAreAnswered, ClientsAreHosts, ClientsMatch, EachByATicket, OneByAMatch, OneByAText, OneByATicket, OneUnderAGrant, ServersAgree, ServersNameTheUser}
+use Rattle.clean_runs.specs.AgreementStatements.{ClientsAreAnswered, ClientsAreHosts, ClientsMatch, EachByATicket, OneByAMatch, OneByAText, OneByATicket, OneUnderAGrant, ServersAgree, ServersNameTheUser}
 use Rattle.world_history.specs.Scripts.{play, world}
-use Rattle.world_agents.specs.Worlds.{most_script}
-use Rattle.world_agents.specs.Settings.{setting}
+use Rattle.world_promises.specs.Worlds.{most_script}
+use Rattle.world_legality.specs.Settings.{setting}
 
 -- this holds of the record of a script that is no longer than one may be, where it is clean
 abbrev pub OfCleanScript : (History → Setting → Atoms → Labelling → Type 0) → List ℕ → Type 0

@@ -1,6 +1,6 @@
 // Laws of every script, each the contract of a function that does nothing.
 ghost use Rattle.clean_runs.specs.Statements.{IsBridged, IsSecret};
-ghost use Rattle.clean_agreement.specs.Statements.{ClientsAreAnswered, ClientsAreHosts, ClientsMatch, EachByATicket, OneByAMatch, OneByAText, OneByATicket, OneUnderAGrant, ServersAgree, ServersNameTheUser};
+ghost use Rattle.clean_runs.specs.AgreementStatements.{ClientsAreAnswered, ClientsAreHosts, ClientsMatch, EachByATicket, OneByAMatch, OneByAText, OneByATicket, OneUnderAGrant, ServersAgree, ServersNameTheUser};
 ghost use Rattle.world_promises.specs.Statements.{EachIsPromised, OfEveryCleanScript};
 
 /// Where the record of a script is clean it is a symbolic run, and each message that it gives is spelled by its label.

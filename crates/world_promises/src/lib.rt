@@ -1,10 +1,21 @@
-//! What is promised of the record of every script of a network, whoever carries its messages and whatever he makes of them:
-//! no uncompromised secret is learnt, each acceptance has its partner, and no ticket serves twice.
+//! What is promised of the record of every script of a network, whoever carries its messages and whatever he makes
+//! of them: no uncompromised secret is learnt, each acceptance has its partner, and no ticket serves twice. For
+//! this, what a request and an answer do to a driven agent, and that no agent stops and all are idle between acts.
 #![tactic(auto)]
 
+mod act_laws;
+mod answer_laws;
 mod laws;
+mod request_laws;
 
+pub use act_laws::{
+    agents_are_idle_between_acts, agents_do_what_their_conversations_do,
+    agents_of_a_script_do_what_their_conversations_do, agents_of_a_script_run,
+    records_of_scripts_are_legal,
+};
+pub use answer_laws::{absences_do, absences_leave, answers_do, answers_leave};
 pub use laws::{
     every_script_is_promised, scripts_are_symbolic_runs, scripts_keep_their_secrets,
     servers_accept_by_grants, tickets_serve_once,
 };
+pub use request_laws::{requests_are_done, requests_leave_the_others};

@@ -1,3 +1,11 @@
+pub mod NamedLemmas
+pub mod SessionLemmas
+pub mod FidLemmas
+pub mod NodeLemmas
+pub mod ListLemmas
+pub mod TalkLemmas
+pub mod LineLemmas
+pub mod PlayLemmas
 pub mod NameLemmas
 pub mod PlayingLemmas
 pub mod RunLemmas

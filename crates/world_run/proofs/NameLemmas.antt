@@ -12,35 +12,35 @@ use Rattle.auth_server.specs.Requests as req
 use Rattle.auth_server.specs.Requests.{asked_so, is_served, kind_of}
 use Rattle.auth_server.specs.Standing.{knowledge}
 use Rattle.agent_history.specs.Histories.{History}
-use Rattle.world_nodes.specs.Turned.{Turned}
-use Rattle.wire_model.specs.declared.step.Step.{Step}
-use Rattle.wire_model.specs.declared.step.Step.TheVariants as s
+use Rattle.agent_turns.specs.declared.turns.Turned.{Turned}
+use Rattle.wire_histories.specs.declared.step.Step.{Step}
+use Rattle.wire_histories.specs.declared.step.Step.TheVariants as s
 use Rattle.world_scripts.specs.Reading.{line_of}
 use Rattle.world_scripts.specs.Scripts.{Numbered}
 use Rattle.world_history.specs.Acts as acts
 use Rattle.world_history.specs.Acts.{Act, Domain, KeyLine, SpeakLine, Made, Opened, Asked, Closed, has_name, is_node, key_lines, nodes, opened_names, speak_lines, talk_of, was_asked}
 use Rattle.world_scripts.specs.Lines as l
 use Rattle.world_scripts.specs.Pieces.{Piece}
-use Rattle.world_history.specs.declared.cause.ScriptCause.TheVariants.{NoSuchMessage}
+use Rattle.auth_program.specs.declared.cause.ScriptCause.TheVariants.{NoSuchMessage}
 use Rattle.world_history.specs.Scripts.{fitting, is_unfit, judged, spelled}
 use Rattle.world_history.specs.Turns.{Turn, closes, lets_open, turn_steps}
 use Rattle.world_history.specs.Worlds.{Done, done_to, fid_for, history, history_by, known, messages, messages_in, on_talk, requests, session_steps, steps, steps_by, steps_to, was_misasked}
-use Rattle.world_standing.specs.Standing.{IsFree, IsOpen, conv_on}
-use Rattle.world_standing.proofs.ListLemmas.{fids_named, left_on, one_more}
-use Rattle.world_standing.proofs.TalkLemmas.{SameNames, now_open, free_beside, closed_beside, open_beside, now_closed, free_left, closed_left, open_left, done_on_open}
-use Rattle.world_standing.proofs.LineLemmas.{fits}
-use Rattle.world_names.specs.declared.clients.Served.{Served}
-use Rattle.world_names.specs.declared.clients.Served.TheVariants as served
-use Rattle.world_names.specs.declared.live.Client.{Client}
-use Rattle.world_names.specs.declared.named_talks.Talk.{Talk as Kept}
-use Rattle.world_names.specs.Names.{changed_under, put_under}
-use Rattle.world_names.specs.Sessions.{ClientsAre, ServesSo}
-use Rattle.world_names.specs.Sessions as sessions
-use Rattle.world_nodes.specs.declared.node.Node.{Node}
-use Rattle.world_nodes.specs.declared.nodes.Nodes.{Nodes}
-use Rattle.world_nodes.specs.Nodes.{NodeIs, NodesAre, TurnsTo, View, done_on, next_fid, node_at}
-use Rattle.world_nodes.specs.Nodes as n
-use Rattle.world_tables.proofs.TellLemmas.{tells_on}
+use Rattle.world_run.specs.PlayStanding.{IsFree, IsOpen, conv_on}
+use Rattle.world_run.proofs.ListLemmas.{fids_named, left_on, one_more}
+use Rattle.world_run.proofs.TalkLemmas.{SameNames, now_open, free_beside, closed_beside, open_beside, now_closed, free_left, closed_left, open_left, done_on_open}
+use Rattle.world_run.proofs.LineLemmas.{fits}
+use Rattle.world_run.specs.declared.clients.Served.{Served}
+use Rattle.world_run.specs.declared.clients.Served.TheVariants as served
+use Rattle.world_run.specs.declared.live.Client.{Client}
+use Rattle.world_run.specs.declared.named_talks.Talk.{Talk as Kept}
+use Rattle.world_run.specs.Names.{changed_under, put_under}
+use Rattle.world_run.specs.Sessions.{ClientsAre, ServesSo}
+use Rattle.world_run.specs.Sessions as sessions
+use Rattle.world_run.specs.declared.node.Node.{Node}
+use Rattle.world_run.specs.declared.nodes.Nodes.{Nodes}
+use Rattle.world_run.specs.Nodes.{NodeIs, NodesAre, TurnsTo, View, done_on, next_fid, node_at}
+use Rattle.world_run.specs.Nodes as n
+use Rattle.world_history.proofs.TellLemmas.{tells_on}
 use Rattle.world_run.specs.declared.run.Run.{Run}
 use Rattle.world_run.specs.Serving.{served_steps}
 use Rattle.world_run.specs.Standing.{IsDone, Stands, TalkIs, TalksAre, nodes_by, sessions_by}

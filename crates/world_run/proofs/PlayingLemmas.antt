@@ -3,22 +3,22 @@ use Rattle.std.proofs.Common.{◌≡◌, ℕ, ◌+◌, ◌<◌, ◌≤◌, ◌^�
 use Rattle.wire_streams.specs.Streams.{Gains}
 use Rattle.wire_streams.proofs.StreamLemmas.{Gains-trans}
 use Rattle.std.proofs.lemmas.Grind.{flat_map-append}
-use Rattle.wire_model.specs.Lines.{step_line}
-use Rattle.world_record.proofs.RecordLemmas.{by_cut}
-use Rattle.wire_model.specs.declared.step.Step.{Step}
+use Rattle.wire_histories.specs.Lines.{step_line}
+use Rattle.world_history.proofs.RecordLemmas.{by_cut}
+use Rattle.wire_histories.specs.declared.step.Step.{Step}
 use Rattle.world_scripts.specs.Lines.{IsWritten, ScriptLine}
 use Rattle.world_scripts.specs.Lines as l
 use Rattle.world_scripts.specs.Reading.{line_of}
 use Rattle.world_scripts.specs.Scripts.{Numbered, script_lines}
 use Rattle.hex.specs.Hex.{encode_lower}
-use Rattle.world_history.specs.declared.cause.ScriptCause.{ScriptCause}
+use Rattle.auth_program.specs.declared.cause.ScriptCause.{ScriptCause}
 use Rattle.world_history.specs.Acts.{Act}
 use Rattle.world_history.specs.Scripts.{Played, judged, play, played, plays}
 use Rattle.world_history.specs.Worlds.{messages, steps, steps_by}
-use Rattle.world_standing.proofs.PlayLemmas.{is_behind, plays_no_more, plays_on}
-use Rattle.world_record.specs.Writing.{StopsBy, WritesBy, lines_of}
-use Rattle.world_record.specs.declared.record.Cut.{Cut}
-use Rattle.world_record.specs.declared.record.Cut.TheVariants as cut
+use Rattle.world_run.proofs.PlayLemmas.{is_behind, plays_no_more, plays_on}
+use Rattle.world_history.specs.Writing.{StopsBy, WritesBy, lines_of}
+use Rattle.world_history.specs.declared.record.Cut.{Cut}
+use Rattle.world_history.specs.declared.record.Cut.TheVariants as cut
 use Rattle.world_run.specs.declared.run.Run.{Run}
 use Rattle.world_run.specs.Runs.{RunsAll, RunsFrom, RunsPart, RunsSo}
 use Rattle.world_run.specs.declared.play.WorldEnd.{WorldEnd}

@@ -1,8 +1,7 @@
 -- What carrying out a line does to a run, act by act.
 use Rattle.std.proofs.Common.{◌≡◌, ℕ, suc, ◌+◌, ◌<◌, ◌≤◌, List, [], ◌∷◌, ◌++◌, map, filter, length, Bool, true, false, cond, ◌||◌, Option, Some, None, Ok, Err, ◌⊎◌, refl, sym, ap, subst, ◌∙◌, inl, inr, arith}
-use Rattle.std.specs.Prelude.{is_some, option_map, nat_lt}
+use Rattle.std.specs.Prelude.{is_some, option_map, nat_lt, Result}
 use Rattle.std.specs.Global.{Vec}
-use Rattle.std.specs.Prelude.{Result}
 use Rattle.std.specs.Map.{lookup}
 use Rattle.std.specs.Str.{bytes_eq}
 use Rattle.std.specs.Cmp.Lexicographic.{bytes_decides}
@@ -11,8 +10,8 @@ use Rattle.auth_server.specs.Answers.{Knowledge}
 use Rattle.auth_server.specs.Requests as server
 use Rattle.auth_server.specs.Standing.{knowledge}
 use Rattle.agent_history.specs.Histories.{History}
-use Rattle.world_nodes.specs.Turned.{Turned}
-use Rattle.wire_model.specs.declared.step.Step.{Step}
+use Rattle.agent_turns.specs.declared.turns.Turned.{Turned}
+use Rattle.wire_histories.specs.declared.step.Step.{Step}
 use Rattle.world_scripts.specs.Lines as l
 use Rattle.world_scripts.specs.Lines.{ScriptLine}
 use Rattle.world_scripts.specs.Reading.{line_of}
@@ -24,21 +23,21 @@ use Rattle.world_history.specs.Scripts.{judged, most_request, spelled}
 use Rattle.world_history.specs.Talking as talk
 use Rattle.world_history.specs.Turns.{Turn, tells, asks, hears, misses, closes, turn_questions, turn_steps}
 use Rattle.world_history.specs.Worlds.{Done, call_by, done_by, done_to, fid_for, history, history_by, last_call, messages, messages_in, on_talk, outstanding, requests, steps, steps_by, steps_to, was_misasked}
-use Rattle.world_standing.specs.Standing.{IsClosed, IsFree, IsOpen, conv_on, or_else}
-use Rattle.world_standing.proofs.ListLemmas.{fids_named, left_on, none_of, one_more, same_name}
-use Rattle.world_standing.proofs.TalkLemmas.{SameNames, free_stays, closed_stays, open_stays, now_open, free_beside, closed_beside, open_beside, now_closed, free_left, closed_left, open_left, last_or, done_on_open}
-use Rattle.world_names.specs.declared.named_talks.Talk.{Talk as Kept}
-use Rattle.world_names.specs.declared.live.Client.{Client}
-use Rattle.world_names.specs.Sessions.{ClientIs}
-use Rattle.world_names.specs.Names.{changed_under, put_under, still_open, with_call}
-use Rattle.world_nodes.specs.declared.node.Node.{Node}
-use Rattle.world_nodes.specs.declared.nodes.Nodes.{Nodes}
-use Rattle.world_nodes.specs.Nodes.{NodeIs, NodesAre, TurnsTo, View, done_on, node_at}
-use Rattle.world_nodes.specs.Nodes as n
-use Rattle.world_tables.proofs.TellLemmas.{tells_on}
+use Rattle.world_run.specs.PlayStanding.{IsClosed, IsFree, IsOpen, conv_on, or_else}
+use Rattle.world_run.proofs.ListLemmas.{fids_named, left_on, none_of, one_more, same_name}
+use Rattle.world_run.proofs.TalkLemmas.{SameNames, free_stays, closed_stays, open_stays, now_open, free_beside, closed_beside, open_beside, now_closed, free_left, closed_left, open_left, last_or, done_on_open}
+use Rattle.world_run.specs.declared.named_talks.Talk.{Talk as Kept}
+use Rattle.world_run.specs.declared.live.Client.{Client}
+use Rattle.world_run.specs.Sessions.{ClientIs}
+use Rattle.world_run.specs.Names.{changed_under, put_under, still_open, with_call}
+use Rattle.world_run.specs.declared.node.Node.{Node}
+use Rattle.world_run.specs.declared.nodes.Nodes.{Nodes}
+use Rattle.world_run.specs.Nodes.{NodeIs, NodesAre, TurnsTo, View, done_on, node_at}
+use Rattle.world_run.specs.Nodes as n
+use Rattle.world_history.proofs.TellLemmas.{tells_on}
 use Rattle.world_scripts.specs.Pieces.{Piece}
-use Rattle.world_history.specs.declared.cause.ScriptCause.{ScriptCause}
-use Rattle.world_history.specs.declared.cause.ScriptCause.TheVariants.{NoSuchMessage, UnknownConv}
+use Rattle.auth_program.specs.declared.cause.ScriptCause.{ScriptCause}
+use Rattle.auth_program.specs.declared.cause.ScriptCause.TheVariants.{NoSuchMessage, UnknownConv}
 use Rattle.world_run.specs.declared.found.Found.{Found}
 use Rattle.world_run.specs.declared.stops.Stop.{Stop}
 use Rattle.world_run.specs.declared.stops.Stop.TheVariants as stop

@@ -1,3 +1,9 @@
+pub mod Names
+pub mod Sessions
+pub mod Fids
+pub mod Nodes
+pub mod Opening
+pub mod PlayStanding
 pub mod Looking
 pub mod Playing
 pub mod Runs

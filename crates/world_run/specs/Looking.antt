@@ -2,18 +2,18 @@
 use Rattle.std.specs.Prelude.{◌≡◌, ℕ, List, length, Option, Some, None, true, Result, Ok, Err}
 use Rattle.std.specs.Map.{lookup}
 use Rattle.std.specs.Str.{bytes_eq}
-use Rattle.wire_model.specs.declared.step.Step.{Step}
-use Rattle.world_nodes.specs.Turned.{Turned}
-use Rattle.world_history.specs.declared.cause.ScriptCause.{ScriptCause}
-use Rattle.world_history.specs.declared.cause.ScriptCause.TheVariants.{NoSuchMessage, UnknownConv}
+use Rattle.wire_histories.specs.declared.step.Step.{Step}
+use Rattle.agent_turns.specs.declared.turns.Turned.{Turned}
+use Rattle.auth_program.specs.declared.cause.ScriptCause.{ScriptCause}
+use Rattle.auth_program.specs.declared.cause.ScriptCause.TheVariants.{NoSuchMessage, UnknownConv}
 use Rattle.world_history.specs.Scripts.{spelled}
 use Rattle.world_history.specs.Turns.{Turn}
 use Rattle.world_history.specs.Worlds.{messages_in}
 use Rattle.world_scripts.specs.Pieces.{Piece}
-use Rattle.world_nodes.specs.declared.nodes.Nodes.{Nodes}
-use Rattle.world_names.specs.declared.named_talks.Talk.{Talk}
-use Rattle.world_names.specs.Names.{still_open}
-use Rattle.world_nodes.specs.Nodes.{NodesAre, TurnsTo, View}
+use Rattle.world_run.specs.declared.nodes.Nodes.{Nodes}
+use Rattle.world_run.specs.declared.named_talks.Talk.{Talk}
+use Rattle.world_run.specs.Names.{still_open}
+use Rattle.world_run.specs.Nodes.{NodesAre, TurnsTo, View}
 use Rattle.world_run.specs.declared.found.Found.{Found}
 use Rattle.world_run.specs.declared.stops.Stop.{Stop}
 use Rattle.world_run.specs.declared.stops.Stop.TheVariants as stop

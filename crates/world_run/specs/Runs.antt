@@ -2,12 +2,12 @@
 -- it is told.
 use Rattle.std.specs.Prelude.{◌≡◌, ℕ, List, [], ◌++◌, Bool, true, false, Option, Some, None}
 use Rattle.wire_streams.specs.Streams.{Gains}
-use Rattle.wire_model.specs.declared.step.Step.{Step}
+use Rattle.wire_histories.specs.declared.step.Step.{Step}
 use Rattle.world_history.specs.Scripts.{Played, play}
 use Rattle.world_history.specs.Worlds.{steps}
-use Rattle.world_record.specs.declared.record.Cut.{Cut}
-use Rattle.world_record.specs.declared.record.Cut.TheVariants as cut
-use Rattle.world_record.specs.Writing.{WritesBy, lines_of}
+use Rattle.world_history.specs.declared.record.Cut.{Cut}
+use Rattle.world_history.specs.declared.record.Cut.TheVariants as cut
+use Rattle.world_history.specs.Writing.{WritesBy, lines_of}
 use Rattle.world_run.specs.declared.play.WorldEnd.{WorldEnd}
 use Rattle.world_run.specs.declared.play.WorldEnd.TheVariants.{Done, Bad, WriteFault, NoMemory}
 

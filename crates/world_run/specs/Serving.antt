@@ -1,9 +1,9 @@
 -- The steps of a request to a session, by what became of it. This serves proofs alone.
 use Rattle.std.specs.Prelude.{ℕ, List, [], ◌∷◌, ◌++◌, Bool, true, if◌then◌else◌}
-use Rattle.wire_model.specs.declared.step.Step.{Step}
-use Rattle.wire_model.specs.declared.step.Step.TheVariants.{AsEnd, AsGave, AsGot}
-use Rattle.world_names.specs.declared.clients.Served.{Served}
-use Rattle.world_names.specs.declared.clients.Served.TheVariants as served
+use Rattle.wire_histories.specs.declared.step.Step.{Step}
+use Rattle.wire_histories.specs.declared.step.Step.TheVariants.{AsEnd, AsGave, AsGot}
+use Rattle.world_run.specs.declared.clients.Served.{Served}
+use Rattle.world_run.specs.declared.clients.Served.TheVariants as served
 
 abbrev pub end_if : List ℕ → Bool → List Step
 end_if session ends = if ends then AsEnd session ∷ [] else []

@@ -4,7 +4,7 @@ use Rattle.std.specs.Global.{Vec}
 use Rattle.std.specs.Map.{lookup}
 use Rattle.std.specs.Str.{bytes_eq}
 use Rattle.auth_server.specs.Standing.{knowledge}
-use Rattle.wire_model.specs.declared.step.Step.{Step}
+use Rattle.wire_histories.specs.declared.step.Step.{Step}
 use Rattle.world_scripts.specs.Lines.{ScriptLine}
 use Rattle.world_scripts.specs.Lines as l
 use Rattle.world_scripts.specs.Reading.{line_of}
@@ -12,16 +12,16 @@ use Rattle.world_scripts.specs.Scripts.{Numbered}
 use Rattle.world_history.specs.Acts.{Act, Started, Got, Given, is_node, key_lines, speak_lines, talk_of, talks, was_asked}
 use Rattle.world_history.specs.Acts as a
 use Rattle.world_history.specs.Scripts.{judged}
-use Rattle.world_history.specs.declared.cause.ScriptCause.TheVariants.{UnknownConv}
+use Rattle.auth_program.specs.declared.cause.ScriptCause.TheVariants.{UnknownConv}
 use Rattle.world_history.specs.Talking.{Asks, starts, gets, gives}
 use Rattle.world_history.specs.Worlds.{history, messages, requests, steps, steps_by, was_misasked}
-use Rattle.world_standing.specs.Standing.{IsClosed, IsFree, IsOpen, conv_on}
-use Rattle.world_tables.specs.Telling.{Tells}
-use Rattle.world_names.specs.declared.named_talks.Talk.{Talk}
-use Rattle.world_nodes.specs.Nodes.{NodesAre}
-use Rattle.world_nodes.specs.Nodes as n
-use Rattle.world_names.specs.Sessions.{ClientsAre}
-use Rattle.world_names.specs.Sessions as s
+use Rattle.world_run.specs.PlayStanding.{IsClosed, IsFree, IsOpen, conv_on}
+use Rattle.world_history.specs.Telling.{Tells}
+use Rattle.world_run.specs.declared.named_talks.Talk.{Talk}
+use Rattle.world_run.specs.Nodes.{NodesAre}
+use Rattle.world_run.specs.Nodes as n
+use Rattle.world_run.specs.Sessions.{ClientsAre}
+use Rattle.world_run.specs.Sessions as s
 use Rattle.world_run.specs.declared.found.Found.{Found}
 use Rattle.world_run.specs.declared.run.Run.{Run}
 use Rattle.world_run.specs.declared.stops.Stop.{Stop}

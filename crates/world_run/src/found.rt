@@ -1,14 +1,15 @@
 // What is looked up for a line: conversations, bytes, and what becomes of a node.
 ghost use Rattle.std.specs.Prelude.{◌≡◌};
-ghost use Rattle.world_nodes.specs.Turning.{IsTurn, said_turn};
-ghost use Rattle.world_standing.specs.Standing.{or_else};
+ghost use Rattle.agent_turns.specs.Turning.{IsTurn, said_turn};
+ghost use Rattle.world_run.specs.PlayStanding.{or_else};
 ghost use Rattle.world_run.specs.Looking.{FindsSo, SpellsSo, TakesSo};
 
+use crate::named_talks::Talks;
+use crate::nodes::Nodes;
 use crate::stops::{NO_SUCH_MESSAGE, Stop, UNKNOWN_CONV, UNKNOWN_NODE};
+use agent_turns::{Turn, Turned};
 use wire_base::Bytes;
-use world_names::Talks;
-use world_nodes::{Nodes, Turn, Turned};
-use world_record::Record;
+use world_history::Record;
 use world_scripts::Pieces;
 
 /// A conversation that is open.

@@ -2,8 +2,8 @@
 use crate::found::take;
 use crate::run::Run;
 use crate::stops::{BAD_LINE, Done, Stop, UNKNOWN_NODE};
+use agent_turns::{Turn, new_node};
 use std::vec::Vec;
-use world_nodes::{Turn, new_node};
 
 /// The most nodes.
 const MOST_NODES: usize = 64;

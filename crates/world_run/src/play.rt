@@ -5,14 +5,13 @@ ghost use Rattle.world_run.specs.Runs.{RunsSo, is_fault};
 
 use crate::run::Run;
 use crate::stops::{BAD_LINE, Done, Stop};
+use auth_program::ScriptCause;
 use std::alloc::Global;
 use wire_base::NoMemory;
-use wire_model::Wire;
+use wire_histories::Wire;
 use wire_streams::Sink;
-use world_history::ScriptCause;
-use world_record::Cut;
+use world_history::{Cut, read_tables};
 use world_scripts::{BadForm, Line, NumberedLine, ScriptLines, parse_line};
-use world_tables::read_tables;
 
 /// The most bytes of a script.
 const MOST_SCRIPT: usize = 4194304;

@@ -3,11 +3,11 @@ ghost use Rattle.std.specs.Prelude.{[]};
 ghost use Rattle.world_scripts.specs.Scripts.{Numbered};
 ghost use Rattle.world_run.specs.Standing.{Stands};
 
+use crate::clients::Clients;
+use crate::named_talks::Talks;
+use crate::nodes::Nodes;
 use std::alloc::Global;
-use world_names::{Clients, Talks};
-use world_nodes::Nodes;
-use world_record::Record;
-use world_tables::Tables;
+use world_history::{Record, Tables};
 
 /// The network: the nodes, the conversations, the sessions of the authentication server, that server, what was recorded, and how
 /// much was told of: how many nodes, how many lines of each table, and whether the server was asked since.
@@ -28,7 +28,7 @@ pub(crate) struct Run {
 impl Run {
     ghost use Rattle.std.specs.Prelude.{[], List};
     ghost use Rattle.world_scripts.specs.Scripts.{Numbered};
-    ghost use Rattle.world_tables.specs.Telling.{Tells};
+    ghost use Rattle.world_history.specs.Telling.{Tells};
     ghost use Rattle.world_run.specs.Standing.{Stands};
 
     /// A network without nodes, whose authentication server is this.

@@ -1,15 +1,15 @@
 // What a line does that concerns a session of the authentication server.
 ghost use Rattle.std.specs.Prelude.{◌≡◌, ◌∷◌, ◌++◌, [], IfOk, OnOk};
-ghost use Rattle.wire_model.specs.declared.step.Step.TheVariants.{AsGave, AsGot};
+ghost use Rattle.wire_histories.specs.declared.step.Step.TheVariants.{AsGave, AsGot};
 ghost use Rattle.world_run.specs.Serving.{end_if, served_steps};
 
+use crate::clients::Served;
 use crate::found::spell;
 use crate::run::Run;
 use crate::stops::{BAD_LINE, Done};
 use std::alloc::Global;
 use wire_base::{Bytes, NoMemory};
-use wire_model::Step;
-use world_names::Served;
+use wire_histories::Step;
 use world_scripts::Pieces;
 
 fn put_got(

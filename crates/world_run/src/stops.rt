@@ -1,7 +1,7 @@
 // Why a line isn't carried out.
+use auth_program::ScriptCause;
 use wire_base::NoMemory;
-use wire_model::Step;
-use world_history::ScriptCause;
+use wire_histories::Step;
 
 /// Why a line isn't carried out.
 #[derive(Clone, Copy)]

@@ -2,7 +2,7 @@
 use crate::found::{Found, either, find, spell, take};
 use crate::run::Run;
 use crate::stops::{BAD_LINE, Done};
-use world_nodes::{Asks, Turn};
+use agent_turns::{Asks, Turn};
 use world_scripts::Pieces;
 
 /// The most bytes of a message in a request, and of an answer.
@@ -12,7 +12,7 @@ const MOST_ANSWER: usize = 160;
 
 impl Run {
     ghost use Rattle.std.specs.Prelude.{◌≡◌, ◌<◌, ◌^◌, length};
-    ghost use Rattle.world_nodes.specs.Turning.{said_asks};
+    ghost use Rattle.agent_turns.specs.Turning.{said_asks};
     ghost use Rattle.world_history.specs.Talking.{request_text};
     ghost use Rattle.world_scripts.specs.Lines as l;
     ghost use Rattle.world_run.specs.Standing.{Asked, AskedIt, Carries};

@@ -6,3 +6,5 @@ pub mod RandomLemmas
 pub mod SpellLemmas
 pub mod PieceLemmas
 pub mod LineLemmas
+pub mod ScriptLemmas
+pub mod LengthLemmas

@@ -5,3 +5,6 @@ pub mod Scripts
 pub mod Parts
 pub mod Given
 pub mod Said
+pub mod Draws
+pub mod Rounds
+pub mod Generated

@@ -1,6 +1,6 @@
 -- A script is lines, which newlines part. Empty ones and those that begin with `#` are skipped, but counted.
 use Rattle.std.specs.Prelude.{ℕ, ◌+◌, List, [], ◌∷◌, Bool, true, ◌==◌, if◌then◌else◌}
-use Rattle.attr_words.specs.Cutting.{text_lines}
+use Rattle.attr_tuples.specs.Cutting.{text_lines}
 
 -- a line of a script with its number
 pub record Numbered : Type 0 where

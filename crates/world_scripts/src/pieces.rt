@@ -1,7 +1,7 @@
 // Bytes as a script writes them: pieces joined by `+`.
 ghost use Rattle.std.specs.Prelude.{◌≡◌, ◌==◌, ◌∷◌, ◌≤◌, Some, true, length, position, is_some, option_map};
 ghost use Rattle.std.specs.List.{list_all, slice_split};
-ghost use Rattle.attr_words.specs.Cutting.{turns_left};
+ghost use Rattle.attr_tuples.specs.Cutting.{turns_left};
 ghost use Rattle.world_scripts.specs.Pieces.{is_digit};
 ghost use Rattle.world_scripts.specs.Reading.{message_of, pairs_of, part_of, piece_of, pieces_of};
 ghost use Rattle.world_scripts.specs.Given.{said_piece};

@@ -2,7 +2,7 @@
 ghost use Rattle.std.specs.Prelude.{◌≡◌};
 ghost use Rattle.world_scripts.specs.Scripts.{is_skipped, script_lines};
 
-use attr_words::cut_line;
+use attr_tuples::cut_line;
 use std::marker::Model;
 
 /// A line of a script and its number, from 1 on.
@@ -21,7 +21,7 @@ pub struct ScriptLines<'a> {
 
 impl<'a> Model for ScriptLines<'a> {
     ghost use Rattle.std.specs.Prelude.{List, ◌+◌, ◌<◌, ◌^◌};
-    ghost use Rattle.attr_words.specs.Cutting.{lines_left, turns_left};
+    ghost use Rattle.attr_tuples.specs.Cutting.{lines_left, turns_left};
     ghost use Rattle.world_scripts.specs.Scripts.{Numbered, numbered};
 
     ghost Value = { List Numbered };

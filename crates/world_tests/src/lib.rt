@@ -14,6 +14,6 @@ mod steps;
 #[cfg(test)]
 mod tables;
 #[cfg(test)]
-mod terms;
+mod term_cases;
 #[cfg(test)]
 mod words;

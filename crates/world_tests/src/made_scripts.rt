@@ -1,7 +1,7 @@
 // A script, as an independent script of Python makes it.
 use crate::expect::expect;
 use std::test::Fail;
-use world_gen::gen_script;
+use world_scripts::gen_script;
 
 // Of number 7, five rounds: one of each kind, and an honest one again.
 static SEVEN: &[u8] = b"askey user=ann !password=annpass\n\

@@ -4,9 +4,9 @@ use std::alloc::Global;
 use std::process::Abort;
 use std::test::Fail;
 use wire_base::Bytes;
-use wire_model::Step;
+use wire_histories::Step;
 use wire_streams::MemSink;
-use world_record::{Cut, Record};
+use world_history::{Cut, Record};
 
 fn given(alloc: Global, number: u32, bytes: &[u8]) -> Result<Step, Fail> {
     let conv = Bytes::from_slice(alloc, b"c")?;

@@ -4,7 +4,7 @@ use std::alloc::Global;
 use std::process::Abort;
 use std::test::Fail;
 use wire_base::Bytes;
-use wire_model::{Protocol, Role, Step, Wire, print_step};
+use wire_histories::{Protocol, Role, Step, Wire, print_step};
 
 const WORD: [u8; 8] = *b"\x01\x23\x45\x67\x89\xab\xcd\xef";
 

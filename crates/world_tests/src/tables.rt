@@ -5,7 +5,7 @@ use std::alloc::Global;
 use std::process::Abort;
 use std::test::Fail;
 use wire_base::Bytes;
-use world_tables::read_tables;
+use world_history::read_tables;
 
 // A script, the first bad line of each table, and the challenge that the server gives out, which names its domain.
 struct Row {

@@ -1,7 +1,7 @@
 // Words of numbers, as an independent script draws them (PCG32 for the seed, and the blocks of RFC 8439).
 use std::process::Abort;
 use wire_streams::{WordFault, Words};
-use world_words::ChaChaWords;
+use world_scripts::ChaChaWords;
 
 // A number, and its first three words and its 32nd and 33rd.
 struct Row {

@@ -1,14 +1,13 @@
 // Statuses, their numbers and their lines, by hand.
 ghost use Rattle.std.specs.Prelude.{◌≡◌, true};
-ghost use Rattle.authsrv_program.specs.Statuses.{is_printable};
+ghost use Rattle.auth_program.specs.Statuses.{is_printable};
 
+use auth_program::{ScriptCause, Status, print_status};
 use auth_server::AuthEnd;
-use authsrv_program::{Status, print_status};
 use std::alloc::Global;
 use std::process::Abort;
 use std::test::Fail;
 use wire_base::Bytes;
-use world_history::ScriptCause;
 
 // A status has this number, and this line on standard error.
 fn expect_line(

@@ -3,7 +3,7 @@ use super::{
     KEY_CONVERSATION, KEY_REPLIES, VERSION, VERSION_REPLY, bytes_of, expect_pipe, run_alone,
     words_of,
 };
-use factotum_program::Status;
+use auth_program::Status;
 use std::alloc::Global;
 use std::cell::Cell;
 use std::io::{self, Cursor, ErrorKind, Read, Write};

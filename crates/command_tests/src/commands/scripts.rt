@@ -1,11 +1,10 @@
 // The commands that run scripts: a script of docs/worlds with its record, the scripts of a number, and how they end.
 use super::{run_alone, words_of};
-use factotum_program::Status;
+use auth_program::{ScriptCause, Status};
 use std::alloc::Global;
 use std::process::Abort;
 use std::test::Fail;
 use wire_streams::{MemSink, MemSource};
-use world_history::ScriptCause;
 
 // docs/worlds/mail_client.
 const MAIL_CLIENT: &[u8] = b"node a\n\

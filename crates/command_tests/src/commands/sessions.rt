@@ -1,6 +1,7 @@
 // Sessions that draw a word for each frame, and that ask the authentication server.
 use super::{BAD_MESSAGE, MANY, VERSION, VERSION_REPLY, bytes_of, words_of};
-use factotum_program::{Status, run_command};
+use auth_program::Status;
+use factotum_program::run_command;
 use std::alloc::Global;
 use std::process::Abort;
 use std::test::Fail;

@@ -1,6 +1,6 @@
 use Rattle.std.proofs.Common.{ℕ, List, sym, subst}
 use Rattle.std.proofs.lemmas.Result.{on_ok_weaker}
-use Rattle.agent_history.specs.Calls as calls
+use Rattle.talks.specs.Calls as calls
 use Rattle.agent_history.specs.declared.event.Event.{Event}
 use Rattle.agent_history.specs.Replies.{swept}
 use Rattle.agent_history.specs.Conversations.{asker, due, resumed}

@@ -3,8 +3,8 @@ use Rattle.wire_base.specs.declared.shape.Shape.{Shape}
 use Rattle.agent_history.specs.declared.event.Event.TheVariants.{TakeAsk}
 use Rattle.agent_history.specs.declared.event.StepAnswer.TheVariants.{Ask, NoAsk}
 use Rattle.agent_history.specs.Conversations.{Question}
-use Rattle.agent_requests.specs.Kept as kept
-use Rattle.kept_calls.proofs.HandLemmas.{due_asks, next_stands}
+use Rattle.agent_talks.specs.Kept as kept
+use Rattle.agent_talks.proofs.HandLemmas.{due_asks, next_stands}
 use Rattle.agent_core.specs.Events.{AnswersAfter, IsPut}
 use Rattle.agent_core.proofs.AskSteps.{asked_after, unasked_after}
 use Rattle.agent_core.proofs.events.ask.Goals as goal

@@ -2,10 +2,10 @@ use Rattle.std.proofs.Common.{◌≡◌, sym, ap, subst, ◌∙◌, arith}
 use Rattle.std.proofs.lemmas.Result.{on_ok_weaker, IfOk-weaker}
 use Rattle.agent_history.specs.Conversations.{Due, NoneDue, DropDue, QuestionDue, due}
 use Rattle.agent_history.specs.Histories.{handing}
-use Rattle.agent_requests.specs.Kept.{question_of, unasked}
-use Rattle.kept_calls.specs.Calls.{drop_of}
-use Rattle.kept_calls.specs.Keeps.{IsLeft, due_of}
-use Rattle.kept_calls.specs.declared.due.Due.{Due as HeldDue}
+use Rattle.agent_talks.specs.Kept.{question_of, unasked}
+use Rattle.agent_talks.specs.Calls.{drop_of}
+use Rattle.agent_talks.specs.Keeps.{IsLeft, due_of}
+use Rattle.agent_talks.specs.declared.due.Due.{Due as HeldDue}
 use Rattle.agent_requests.specs.Sharing.{Shares}
 use Rattle.agent_requests.proofs.ShareLemmas.{with_talks}
 use Rattle.agent_core.proofs.AskSteps.{dropped_after, dropped_fewer, none_after}

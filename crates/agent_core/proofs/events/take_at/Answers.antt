@@ -2,7 +2,7 @@ use Rattle.std.proofs.Common.{◌∙◌, true, ◌≡◌, refl, sym}
 use Rattle.std.specs.Ordering.{nat_cmp}
 use Rattle.std.specs.BTreeMap.{get}
 use Rattle.std.proofs.lemmas.Result.{on_ok_weaker}
-use Rattle.number_ranges.specs.Spans.{has_number}
+use Rattle.wire_base.specs.Spans.{has_number}
 use Rattle.agent_history.specs.declared.event.Event.TheVariants as events
 use Rattle.agent_history.specs.Deeds.{was_hung}
 use Rattle.agent_core.proofs.EventSteps.{take_others}

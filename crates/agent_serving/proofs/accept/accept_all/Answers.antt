@@ -1,5 +1,5 @@
 use Rattle.std.proofs.Common.{arith, ap, Err, ◌∙◌}
-use Rattle.listeners.proofs.AddLemmas.{rose_since}
+use Rattle.wire_streams.proofs.AddLemmas.{rose_since}
 use Rattle.agent_serving.proofs.ServingLemmas.{no_number}
 use Rattle.agent_serving.proofs.accept.accept_all.Goals as goal
 

@@ -1,5 +1,5 @@
 use Rattle.std.proofs.Common.{List, [], map}
-use Rattle.prompt_agent.specs.Manners.{Manner}
+use Rattle.prompters.specs.Manners.{Manner}
 use Rattle.agent_hub.specs.Submits.{HubSeat, IsSeatOf}
 use Rattle.agent_serving.specs.Prompting.{Speaks}
 use Rattle.agent_serving.proofs.prompts.answer_all.Given as goal

@@ -1,5 +1,5 @@
 use Rattle.std.proofs.Common.{sym, ◌∙◌, [], ◌∷◌}
-use Rattle.prompt_frames.specs.Requests.{answer_text, read_of, write_of}
+use Rattle.prompters.specs.Requests.{answer_text, read_of, write_of}
 use Rattle.agent_serving.proofs.PromptLemmas.{asked}
 use Rattle.agent_serving.proofs.prompts.answer_line.Goals as goal
 

@@ -1,5 +1,5 @@
 use Rattle.std.proofs.Common.{◌∷◌, []}
-use Rattle.prompt_frames.specs.Requests.{request_of}
+use Rattle.prompters.specs.Requests.{request_of}
 use Rattle.agent_serving.proofs.PromptLemmas.{spelled_as}
 use Rattle.agent_serving.proofs.prompts.ask.Goals as goal
 

@@ -1,7 +1,7 @@
 use Rattle.std.proofs.Common.{List, [], ◌∷◌}
-use Rattle.prompt_agent.specs.Manners.{Manner}
-use Rattle.prompt_frames.specs.declared.first.First.{First}
-use Rattle.prompt_frames.specs.Requests.{request_of}
+use Rattle.prompters.specs.Manners.{Manner}
+use Rattle.prompters.specs.declared.first.First.{First}
+use Rattle.prompters.specs.Requests.{request_of}
 use Rattle.agent_hub.specs.Submits.{HubSeat, IsSeatOf}
 use Rattle.agent_serving.specs.Prompting.{Speaks}
 use Rattle.agent_serving.proofs.prompts.ask.Given as goal

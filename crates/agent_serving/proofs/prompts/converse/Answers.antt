@@ -1,6 +1,6 @@
 use Rattle.std.proofs.Common.{◌∷◌, []}
 use Rattle.side_files.specs.declared.line.PromptKind.TheVariants.{Needkey}
-use Rattle.prompt_frames.specs.Requests.{read_of}
+use Rattle.prompters.specs.Requests.{read_of}
 use Rattle.agent_serving.proofs.prompts.converse.Goals as goal
 
 pub returns-in-Err-clause-told : goal.returns-in-Err-clause-told

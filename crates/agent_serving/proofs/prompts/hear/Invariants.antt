@@ -1,6 +1,6 @@
 use Rattle.std.proofs.Common.{List, []}
-use Rattle.prompt_agent.specs.Manners.{Manner}
-use Rattle.prompt_frames.specs.declared.first.First.{First}
+use Rattle.prompters.specs.Manners.{Manner}
+use Rattle.prompters.specs.declared.first.First.{First}
 use Rattle.agent_hub.specs.Submits.{HubSeat, IsSeatOf}
 use Rattle.agent_serving.specs.Prompting.{Speaks}
 use Rattle.agent_serving.proofs.prompts.hear.Given as goal

@@ -1,7 +1,7 @@
 use Rattle.std.proofs.Common.{List, subst}
-use Rattle.prompt_frames.specs.declared.first.First.{First}
-use Rattle.prompt_frames.specs.Requests.{behind}
-use Rattle.prompt_frames.specs.Wanted.{begun_by}
+use Rattle.prompters.specs.declared.first.First.{First}
+use Rattle.prompters.specs.Requests.{behind}
+use Rattle.prompters.specs.Wanted.{begun_by}
 use Rattle.agent_serving.specs.Prompting.{Speaks}
 use Rattle.agent_serving.proofs.PromptLemmas.{begun}
 use Rattle.agent_serving.proofs.prompts.open_files.Goals as goal

@@ -1,6 +1,6 @@
 use Rattle.std.proofs.Common.{List, [], ◌∷◌}
-use Rattle.prompt_agent.specs.Manners.{Manner}
-use Rattle.prompt_frames.specs.Requests.{behind, request_of}
+use Rattle.prompters.specs.Manners.{Manner}
+use Rattle.prompters.specs.Requests.{behind, request_of}
 use Rattle.agent_hub.specs.Submits.{IsSeatOf}
 use Rattle.agent_serving.specs.Prompting.{Speaks}
 use Rattle.agent_serving.proofs.prompts.open_files.Given as goal

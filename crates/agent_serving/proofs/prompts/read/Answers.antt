@@ -1,4 +1,4 @@
-use Rattle.prompt_frames.specs.Requests.{read_of}
+use Rattle.prompters.specs.Requests.{read_of}
 use Rattle.agent_serving.proofs.PromptLemmas.{spelled_as}
 use Rattle.agent_serving.proofs.prompts.read.Goals as goal
 

@@ -1,7 +1,7 @@
 use Rattle.std.proofs.Common.{sym, ◌∙◌}
 use Rattle.std.proofs.lemmas.Result.{on_ok_weaker}
-use Rattle.mailboxes.specs.Deeds.{fid_of}
-use Rattle.logged_talks.proofs.DeedLemmas.{elsewhere_logs}
+use Rattle.agent_history.specs.Deeds.{fid_of}
+use Rattle.told_talks.proofs.DeedLemmas.{elsewhere_logs}
 use Rattle.agent_shared.proofs.FidLemmas.{names_rpc}
 use Rattle.agent_shared.proofs.shared.open_talk.Goals as goal
 

@@ -1,5 +1,5 @@
 use Rattle.std.proofs.Common.{◌≡◌, false, true, sym, ◌∙◌, arith}
-use Rattle.attr_words.proofs.LineLemmas.{line_from_len}
+use Rattle.attr_tuples.proofs.LineLemmas.{line_from_len}
 use Rattle.attr_tuples.proofs.parse.parse_tuple.Goals as goal
 
 pub parse_words-requires : goal.parse_words-requires

@@ -1,8 +1,8 @@
 use Rattle.std.proofs.Common.{◌≡◌, ℕ, ◌<◌, Ok, ◌++◌, ◌∷◌, [], List, length, drop, sym, ap, subst, ◌∙◌, arith}
 use Rattle.std.proofs.lemmas.Grind.{common_steps}
-use Rattle.attr_words.specs.Words.{Cut}
-use Rattle.attr_words.specs.Lines.{is_line}
-use Rattle.attr_words.proofs.LineLemmas.{word_line}
+use Rattle.attr_tuples.specs.Words.{Cut}
+use Rattle.attr_tuples.specs.Lines.{is_line}
+use Rattle.attr_tuples.proofs.LineLemmas.{word_line}
 use Rattle.attr_tuples.specs.declared.attr.Attr.{Attr}
 use Rattle.attr_tuples.specs.Attributes.{is_tuple, is_name, is_value}
 use Rattle.attr_tuples.specs.Grammar.{attr_of}

@@ -1,5 +1,5 @@
 use Rattle.std.proofs.Common.{◌≡◌, ◌≤◌, ◌-◌, true, length, drop}
-use Rattle.attr_words.specs.Lines.{is_line}
+use Rattle.attr_tuples.specs.Lines.{is_line}
 use Rattle.attr_tuples.specs.Attributes.{is_tuple}
 use Rattle.attr_tuples.proofs.ParseLemmas.{GoesOn}
 use Rattle.attr_tuples.proofs.parse.parse_words.Given as goal

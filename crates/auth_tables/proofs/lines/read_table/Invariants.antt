@@ -1,5 +1,5 @@
 use Rattle.std.proofs.Common.{ℕ, ◌+◌, ◌≤◌, List, length}
-use Rattle.attr_words.specs.Cutting.{text_lines, turns_left}
+use Rattle.attr_tuples.specs.Cutting.{text_lines, turns_left}
 use Rattle.auth_tables.specs.Lines.{counted}
 use Rattle.auth_tables.specs.Steps.{HasRead}
 use Rattle.auth_tables.proofs.lines.read_table.Given as goal

@@ -1,6 +1,6 @@
 -- So far the answers have been repeated once for each round.
 use Rattle.std.proofs.Common.{◌≡◌}
-use Rattle.md5_answers.specs.Answer.{cram_digits}
+use Rattle.sealing.specs.Answer.{cram_digits}
 use Rattle.cipher_bench.specs.Work.{repeated}
 use Rattle.cipher_bench.proofs.work.answered.Given as goal
 

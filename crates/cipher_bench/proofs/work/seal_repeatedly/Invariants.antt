@@ -1,6 +1,6 @@
 -- So far the text has been sealed once for each round.
 use Rattle.std.proofs.Common.{◌≡◌}
-use Rattle.seal_mode.specs.Sealing.{sealed}
+use Rattle.sealing.specs.Sealing.{sealed}
 use Rattle.cipher_bench.specs.Work.{repeated}
 use Rattle.cipher_bench.proofs.work.seal_repeatedly.Given as goal
 

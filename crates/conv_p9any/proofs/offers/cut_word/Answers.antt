@@ -1,5 +1,5 @@
 use Rattle.std.proofs.Common.{◌==◌}
-use Rattle.attr_words.proofs.CutLemmas.{split_found, split_missing}
+use Rattle.attr_tuples.proofs.WordCutLemmas.{split_found, split_missing}
 use Rattle.conv_p9any.proofs.offers.cut_word.Goals as goal
 
 pub returns-in-Some-clause-words : goal.returns-in-Some-clause-words

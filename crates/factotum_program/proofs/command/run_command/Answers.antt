@@ -1,6 +1,6 @@
 use Rattle.std.proofs.Common.{inl, inr}
 use Rattle.factotum_program.proofs.CommandLemmas.{two_left}
-use Rattle.authsrv_program.proofs.ServeLemmas.{served_to_end}
+use Rattle.auth_program.proofs.ServeLemmas.{served_to_end}
 use Rattle.world_program.proofs.EndLemmas.{played_to_end, summed_to_end}
 use Rattle.factotum_program.proofs.CommandWords.{any_printable}
 use Rattle.factotum_program.proofs.command.run_command.Goals as goal

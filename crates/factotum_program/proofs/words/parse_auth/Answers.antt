@@ -1,6 +1,6 @@
 use Rattle.std.proofs.Common.{◌≡◌, ◌∙◌, ap}
 use Rattle.clap.specs.Words.{App, app_of, takes}
-use Rattle.authsrv_program.specs.Reading.{bytes_of}
+use Rattle.auth_program.specs.Reading.{bytes_of}
 use Rattle.factotum_program.proofs.AuthWords.{auth_is_found, auth_taken, has_auth_text}
 use Rattle.factotum_program.proofs.words.parse_auth.Goals as goal
 

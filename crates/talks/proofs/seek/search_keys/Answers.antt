@@ -1,7 +1,7 @@
 use Rattle.std.proofs.Common.{ℕ, ◌+◌, true, false, ◌∙◌, sym, ap, ◌-◌, arith}
 use Rattle.std.specs.Prelude.{Option, option_copied}
-use Rattle.roles.specs.Finding.{in_turn}
-use Rattle.roles.specs.Lists.{KeyEntry, next_serving}
+use Rattle.key_lists.specs.Finding.{in_turn}
+use Rattle.key_lists.specs.Lists.{KeyEntry, next_serving}
 use Rattle.talks.specs.Seeking.{found_past}
 use Rattle.talks.proofs.SeekLemmas.{begins, goes_on, takes}
 use Rattle.talks.proofs.seek.search_keys.Goals as goal

@@ -1,6 +1,6 @@
 use Rattle.std.proofs.Common.{◌≡◌, ◌-◌}
 use Rattle.std.specs.Prelude.{option_copied}
-use Rattle.roles.specs.Finding.{in_turn}
+use Rattle.key_lists.specs.Finding.{in_turn}
 use Rattle.talks.specs.Searches.{found_by}
 use Rattle.talks.specs.Seeking.{found_past}
 use Rattle.talks.proofs.seek.search_keys.Given as goal

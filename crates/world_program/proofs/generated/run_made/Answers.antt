@@ -1,5 +1,5 @@
 use Rattle.std.proofs.Common.{◌≡◌, ◌≤◌, ◌∙◌, length, ℕ, List, sym, subst, rules}
-use Rattle.world_gen.proofs.LengthLemmas.{script_short}
+use Rattle.world_scripts.proofs.LengthLemmas.{script_short}
 use Rattle.world_program.proofs.generated.run_made.Goals as goal
 
 pub run_unseen-requires : goal.run_unseen-requires

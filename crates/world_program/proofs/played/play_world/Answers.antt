@@ -1,6 +1,6 @@
 use Rattle.std.proofs.Common.{◌≡◌, ℕ, List, sym, subst, rules}
 use Rattle.world_run.specs.Runs.{RunsSo}
-use Rattle.authsrv_program.specs.declared.status.Status.{Status}
+use Rattle.auth_program.specs.declared.status.Status.{Status}
 use Rattle.world_program.specs.Playing.{WorldSo}
 use Rattle.world_program.proofs.PlayLemmas.{run_ends, unread_ends, unread_wrote}
 use Rattle.world_program.proofs.played.play_world.Goals as goal

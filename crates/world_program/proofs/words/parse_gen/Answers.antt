@@ -1,6 +1,6 @@
 use Rattle.std.proofs.Common.{◌∙◌, ap}
 use Rattle.clap.specs.Words.{App, app_of, takes}
-use Rattle.authsrv_program.specs.Reading.{bytes_of}
+use Rattle.auth_program.specs.Reading.{bytes_of}
 use Rattle.world_program.proofs.GenClap.{gen_taken, has_number, has_rounds, values_found}
 use Rattle.world_program.proofs.words.parse_gen.Goals as goal
 

@@ -2,7 +2,7 @@ use Rattle.std.proofs.Common.{◌≡◌, [], refl, sym, ap, subst, ◌∙◌}
 use Rattle.world_scripts.specs.Scripts.{script_lines}
 use Rattle.world_run.specs.Standing.{Stands}
 use Rattle.world_run.proofs.PlayingLemmas.{ran_all, ran_not}
-use Rattle.world_tables.proofs.TellLemmas.{tells_first}
+use Rattle.world_history.proofs.TellLemmas.{tells_first}
 use Rattle.world_run.proofs.play.run_world.Goals as goal
 
 pub returns-in-Err-clause-so : goal.returns-in-Err-clause-so

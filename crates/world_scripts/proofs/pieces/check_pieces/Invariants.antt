@@ -1,5 +1,5 @@
 use Rattle.std.proofs.Common.{◌≡◌, is_some}
-use Rattle.attr_words.specs.Cutting.{turns_left}
+use Rattle.attr_tuples.specs.Cutting.{turns_left}
 use Rattle.world_scripts.specs.Reading.{pieces_of}
 use Rattle.world_scripts.specs.Parts.{pieces_left}
 use Rattle.world_scripts.proofs.pieces.check_pieces.Given as goal

@@ -1,5 +1,5 @@
 use Rattle.std.proofs.Common.{◌==◌}
-use Rattle.attr_words.proofs.CutLemmas.{split_found, split_missing}
+use Rattle.attr_tuples.proofs.WordCutLemmas.{split_found, split_missing}
 use Rattle.world_scripts.proofs.pieces.cut_piece.Goals as goal
 
 pub returns-in-Some-clause-parts : goal.returns-in-Some-clause-parts

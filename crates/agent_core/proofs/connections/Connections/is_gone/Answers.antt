@@ -1,7 +1,7 @@
 use Rattle.std.proofs.Common.{◌∙◌}
 use Rattle.std.specs.Ordering.{nat_cmp}
 use Rattle.std.specs.BTreeMap.{get}
-use Rattle.number_ranges.specs.Spans.{has_number}
+use Rattle.wire_base.specs.Spans.{has_number}
 use Rattle.agent_core.proofs.KnownSteps.{gone_told}
 use Rattle.agent_core.proofs.connections.Connections.is_gone.Goals as goal
 

@@ -1,5 +1,5 @@
 use Rattle.std.proofs.Common.{Err, refl, sym, subst, arith}
-use Rattle.nine_messages.specs.declared.message.TBody.{TBody}
+use Rattle.nine.specs.declared.message.TBody.{TBody}
 use Rattle.agent_requests.specs.Connections.{Tried, asked}
 use Rattle.agent_requests.proofs.RequestSteps.{auth_told}
 use Rattle.agent_shared.proofs.ShareLemmas.{same_shared}

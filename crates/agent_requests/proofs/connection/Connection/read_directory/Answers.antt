@@ -1,6 +1,6 @@
 use Rattle.std.proofs.Common.{arith}
 use Rattle.file_tree.specs.Calls.{node_of}
-use Rattle.fid_table.specs.Held.{state_at}
+use Rattle.file_tree.specs.Held.{state_at}
 use Rattle.agent_requests.proofs.TreeLemmas.{dir_bytes_short}
 use Rattle.agent_requests.proofs.connection.Connection.read_directory.Goals as goal
 

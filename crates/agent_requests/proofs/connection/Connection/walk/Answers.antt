@@ -3,7 +3,7 @@ use Rattle.std.proofs.lemmas.List.{length-map}
 use Rattle.file_tree.specs.declared.tree.Node.{Node}
 use Rattle.file_tree.specs.Tree.{qid_of, visited}
 use Rattle.file_tree.specs.Calls.{node_of}
-use Rattle.fid_table.specs.Held.{state_at}
+use Rattle.file_tree.specs.Held.{state_at}
 use Rattle.agent_requests.proofs.TreeLemmas.{visited_few}
 use Rattle.agent_requests.proofs.connection.Connection.walk.Goals as goal
 

@@ -1,4 +1,4 @@
-use Rattle.logged_talks.specs.Logging.{carried_logged}
+use Rattle.told_talks.specs.Logging.{carried_logged}
 use Rattle.agent_shared.proofs.MeetSteps.{carried_shares, is_ready, some_carried}
 use Rattle.agent_shared.proofs.shared.Shared.carry_out.Goals as goal
 

@@ -1,6 +1,6 @@
 use Rattle.std.proofs.Common.{List, ◌∷◌}
-use Rattle.mailboxes.specs.Deeds.{Deed, OfFids, Clunked}
-use Rattle.mailboxes.specs.Conversations.{all_withdrawn, ended_by}
+use Rattle.agent_history.specs.Deeds.{Deed, OfFids, Clunked}
+use Rattle.agent_history.specs.Conversations.{all_withdrawn, ended_by}
 use Rattle.agent_shared.specs.declared.shared.Shared.{Shared}
 use Rattle.agent_shared.proofs.EndSteps.{clunked_shares, withdrawn_hung, withdrawn_rest}
 use Rattle.agent_shared.proofs.shared.Shared.clunk.Goals as goal

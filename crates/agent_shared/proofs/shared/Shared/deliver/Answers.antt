@@ -1,7 +1,7 @@
 use Rattle.std.proofs.Common.{◌≡◌, ℕ, Some, sym, subst}
-use Rattle.mailboxes.specs.Conversations.{Speaker, speaker_of, standing_of}
-use Rattle.logged_talks.specs.Kept as kept
-use Rattle.logged_talks.proofs.GrowLemmas.{speaker_stands}
+use Rattle.agent_history.specs.Conversations.{Speaker, speaker_of, standing_of}
+use Rattle.told_talks.specs.Kept as kept
+use Rattle.told_talks.proofs.GrowLemmas.{speaker_stands}
 use Rattle.agent_shared.proofs.DeliverSteps.{TellsShared, given_read, given_unread, given_untold}
 use Rattle.agent_shared.proofs.ShareLemmas.{live_speaker}
 use Rattle.agent_shared.proofs.shared.Shared.deliver.Goals as goal

@@ -1,6 +1,6 @@
 use Rattle.std.proofs.Common.{List, ℕ, Ok, Option, sym, subst}
 use Rattle.side_files.specs.Lines.{Hands, found, if_handed}
-use Rattle.mailboxes.specs.SideFiles.{line_read, lines_in}
+use Rattle.agent_history.specs.SideFiles.{line_read, lines_in}
 use Rattle.agent_shared.specs.Sharing.{Shares}
 use Rattle.agent_shared.proofs.LineLemmas.{cut_hands, handed_shares}
 use Rattle.agent_shared.proofs.ShareLemmas.{with_talks}

@@ -1,5 +1,5 @@
 use Rattle.talks.specs.Calls.{Heard}
-use Rattle.mailboxes.specs.Conversations.{asker}
+use Rattle.agent_history.specs.Conversations.{asker}
 use Rattle.agent_shared.proofs.MeetSteps.{heard_shares}
 use Rattle.agent_shared.proofs.shared.Shared.hear.Goals as goal
 

@@ -1,6 +1,6 @@
 use Rattle.std.proofs.Common.{List, ◌∷◌}
-use Rattle.mailboxes.specs.Deeds.{Deed, OfConnection, Hung}
-use Rattle.mailboxes.specs.Conversations.{all_withdrawn, ended_by}
+use Rattle.agent_history.specs.Deeds.{Deed, OfConnection, Hung}
+use Rattle.agent_history.specs.Conversations.{all_withdrawn, ended_by}
 use Rattle.agent_shared.specs.declared.shared.Shared.{Shared}
 use Rattle.agent_shared.proofs.EndSteps.{hung_shares, withdrawn_rest}
 use Rattle.agent_shared.proofs.shared.Shared.leave.Goals as goal

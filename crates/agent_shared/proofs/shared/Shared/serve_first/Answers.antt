@@ -1,4 +1,4 @@
-use Rattle.mailboxes.specs.Replies.{reader}
+use Rattle.agent_history.specs.Replies.{reader}
 use Rattle.agent_shared.proofs.ServeSteps.{served_some}
 use Rattle.agent_shared.proofs.shared.Shared.serve_first.Goals as goal
 

@@ -1,4 +1,4 @@
-use Rattle.mailboxes.specs.Conversations.{standing_of}
+use Rattle.agent_history.specs.Conversations.{standing_of}
 use Rattle.agent_shared.proofs.ShareLemmas.{rest_of, tells_shares}
 use Rattle.agent_shared.proofs.shared.Shared.tell.Goals as goal
 

@@ -1,6 +1,6 @@
 use Rattle.std.proofs.Common.{sym, ◌∙◌}
 use Rattle.std.proofs.lemmas.Result.{on_ok_weaker}
-use Rattle.agent_history.specs.Calls as calls
+use Rattle.talks.specs.Calls as calls
 use Rattle.agent_talks.proofs.AskLemmas.{heard_speak, unasked_speak}
 use Rattle.agent_talks.proofs.UnaskedLemmas.{either_fewer, none_some, unknown_asker}
 use Rattle.agent_talks.proofs.held.Talks.heard.Goals as goal

@@ -1,5 +1,5 @@
 use Rattle.std.proofs.Common.{refl}
-use Rattle.agent_history.specs.Calls as calls
+use Rattle.talks.specs.Calls as calls
 use Rattle.agent_talks.proofs.CarryLemmas.{told_ready, resumed_speak}
 use Rattle.agent_talks.proofs.held.Talks.key_told.Goals as goal
 

@@ -1,5 +1,5 @@
 use Rattle.std.proofs.Common.{◌≡◌, None, rules, sym, ◌∙◌}
-use Rattle.agent_history.specs.Calls as calls
+use Rattle.talks.specs.Calls as calls
 use Rattle.agent_talks.proofs.AskLemmas.{unheard_speak, unasked_speak}
 use Rattle.agent_talks.proofs.UnaskedLemmas.{ended_fewer}
 use Rattle.agent_talks.proofs.held.Talks.unheard.Goals as goal

@@ -1,7 +1,7 @@
 use Rattle.std.proofs.Common.{◌≡◌, ◌∷◌, ◌++◌, [], ℕ, List, length, true, false, Some, None, Ok, Err, refl, sym, ap, subst, ◌∙◌, rules, arith}
 use Rattle.std.specs.Prelude.{is_some}
 use Rattle.std.proofs.lemmas.Result.{err_from_is_err_and}
-use Rattle.world_nodes.specs.Turning.{said_asks}
+use Rattle.agent_turns.specs.Turning.{said_asks}
 use Rattle.world_history.specs.Acts as a
 use Rattle.world_history.specs.Talking as talk
 use Rattle.world_history.specs.Turns as does

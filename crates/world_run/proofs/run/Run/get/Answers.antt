@@ -7,7 +7,7 @@ use Rattle.world_history.specs.Turns as does
 use Rattle.world_history.specs.Worlds.{history}
 use Rattle.world_scripts.specs.Lines as l
 use Rattle.world_scripts.specs.Reading.{line_of}
-use Rattle.world_standing.proofs.LineLemmas.{conv_unknown, read_judged}
+use Rattle.world_run.proofs.LineLemmas.{conv_unknown, read_judged}
 use Rattle.world_run.proofs.RunLemmas.{asked_line}
 use Rattle.world_run.proofs.run.Run.get.Goals as goal
 

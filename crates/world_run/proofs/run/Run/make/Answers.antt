@@ -1,7 +1,7 @@
 use Rattle.std.proofs.Common.{◌≡◌, ◌∷◌, ◌++◌, [], ℕ, List, true, false, Some, None, Ok, Err, refl, sym, ap, subst, ◌∙◌, rules}
 use Rattle.world_history.specs.Acts.{Made}
 use Rattle.world_scripts.specs.Lines as l
-use Rattle.world_standing.proofs.LineLemmas.{node_made, node_twice, too_many}
+use Rattle.world_run.proofs.LineLemmas.{node_made, node_twice, too_many}
 use Rattle.world_run.specs.Standing.{nodes_by}
 use Rattle.world_run.proofs.RunLemmas.{done_as, line_judged}
 use Rattle.world_run.proofs.NameLemmas.{few_known, made_done, many_known}

@@ -6,7 +6,7 @@ use Rattle.world_history.specs.Acts.{Opened}
 use Rattle.world_history.specs.Driving.{refuses_open}
 use Rattle.world_history.specs.Worlds.{history}
 use Rattle.world_scripts.specs.Lines as l
-use Rattle.world_standing.proofs.LineLemmas.{name_taken, open_done, open_refused, opener_unknown}
+use Rattle.world_run.proofs.LineLemmas.{name_taken, open_done, open_refused, opener_unknown}
 use Rattle.world_run.specs.Standing.{nodes_by}
 use Rattle.world_run.proofs.RunLemmas.{done_as, line_judged}
 use Rattle.world_run.proofs.NameLemmas.{fid_known, name_free, name_known, opened_done, opened_free}

@@ -6,8 +6,8 @@ use Rattle.world_history.specs.Scripts.{judged}
 use Rattle.world_history.specs.Worlds.{messages_in}
 use Rattle.world_scripts.specs.Lines as l
 use Rattle.world_scripts.specs.Reading.{line_of}
-use Rattle.world_standing.proofs.LineLemmas.{unfit}
-use Rattle.world_tables.proofs.TellLemmas.{asked_known}
+use Rattle.world_run.proofs.LineLemmas.{unfit}
+use Rattle.world_history.proofs.TellLemmas.{asked_known}
 use Rattle.world_run.specs.Standing.{sessions_by}
 use Rattle.world_run.proofs.RunLemmas.{done_as, spell_stops, spelled_now}
 use Rattle.world_run.proofs.NameLemmas.{ask_judged, ask_unspelled, served_done, served_refused}

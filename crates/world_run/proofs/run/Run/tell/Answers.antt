@@ -3,7 +3,7 @@ use Rattle.std.proofs.lemmas.Result.{err_from_is_err_and}
 use Rattle.world_history.specs.Acts.{Told}
 use Rattle.world_history.specs.Turns.{tells}
 use Rattle.world_scripts.specs.Lines as l
-use Rattle.world_standing.proofs.LineLemmas.{node_unknown, told_judged}
+use Rattle.world_run.proofs.LineLemmas.{node_unknown, told_judged}
 use Rattle.world_run.specs.Standing.{nodes_by}
 use Rattle.world_run.proofs.RunLemmas.{done_as, line_judged, take_stops, told_done, with_both}
 use Rattle.world_run.proofs.run.Run.tell.Goals as goal

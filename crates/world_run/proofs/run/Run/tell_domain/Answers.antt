@@ -2,8 +2,8 @@ use Rattle.std.proofs.Common.{◌≡◌, ◌∷◌, ◌++◌, [], ℕ, List, tru
 use Rattle.world_history.specs.Acts.{Domain, was_asked}
 use Rattle.world_history.specs.Scripts.{is_unfit}
 use Rattle.world_scripts.specs.Lines as l
-use Rattle.world_standing.proofs.LineLemmas.{fits, unfit}
-use Rattle.world_tables.proofs.TellLemmas.{dom_told}
+use Rattle.world_run.proofs.LineLemmas.{fits, unfit}
+use Rattle.world_history.proofs.TellLemmas.{dom_told}
 use Rattle.world_run.proofs.RunLemmas.{done_as, line_judged}
 use Rattle.world_run.proofs.NameLemmas.{domain_done}
 use Rattle.world_run.proofs.run.Run.tell_domain.Goals as goal

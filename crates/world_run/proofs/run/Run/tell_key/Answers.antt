@@ -2,9 +2,9 @@ use Rattle.std.proofs.Common.{◌≡◌, ◌∷◌, ◌++◌, [], ℕ, List, tru
 use Rattle.std.specs.Prelude.{◌||◌}
 use Rattle.world_history.specs.Acts.{KeyLine, key_lines, was_asked}
 use Rattle.world_scripts.specs.Lines as l
-use Rattle.world_standing.proofs.LineLemmas.{fits, unfit}
-use Rattle.world_tables.specs.Servers.{is_next}
-use Rattle.world_tables.proofs.TellLemmas.{key_told}
+use Rattle.world_run.proofs.LineLemmas.{fits, unfit}
+use Rattle.world_history.specs.Servers.{is_next}
+use Rattle.world_history.proofs.TellLemmas.{key_told}
 use Rattle.world_run.proofs.RunLemmas.{done_as, line_judged}
 use Rattle.world_run.proofs.NameLemmas.{key_done, or_known, or_neither}
 use Rattle.world_run.proofs.run.Run.tell_key.Goals as goal

@@ -1,5 +1,5 @@
 use Rattle.std.proofs.Common.{◌≡◌, ◌+◌, ◌<◌, ◌^◌}
-use Rattle.attr_words.specs.Cutting.{lines_left, turns_left}
+use Rattle.attr_tuples.specs.Cutting.{lines_left, turns_left}
 use Rattle.world_scripts.specs.Scripts.{numbered}
 use Rattle.world_scripts.proofs.script.ScriptLinesIterator.next.Given as goal
 

@@ -1,6 +1,0 @@
-use Rattle.std.proofs.Common.{◌∙◌}
-use Rattle.agent_driver.proofs.FrameLemmas.{error_told}
-use Rattle.agent_driver.proofs.replies.error_in.Goals as goal
-
-pub returns-clause-told : goal.returns-clause-told
-returns-clause-told c = λ m is. c.text_at.ensures ∙ error_told m c.args.frame.now is

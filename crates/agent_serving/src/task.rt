@@ -1,0 +1,84 @@
+// Each job as a task of a thread.
+use crate::job::{Job, run_job};
+use agent_hub::Hub;
+use attr_tuples::Tuple;
+use prompters::{Chain, Deny, Limited, Prompter};
+use std::alloc::Global;
+use std::marker::Model;
+use std::sync::{Arc, Wait};
+use wire_streams::{Dialer, Sink, Source, Words};
+
+/// What the tools of a job are made from, once for each job.
+pub trait Again: Sized {
+    /// The same again; None where there is no memory for it.
+    fn again(&self) -> Option<Self>;
+}
+
+/// What a job is done with: the dialer, and where words are drawn from, by the runtime of its thread; and the number that its
+/// prompters are made from.
+pub trait Tools<R> {
+    /// Asks the authentication server.
+    type Dial: Dialer + Drop;
+
+    /// Gives random words.
+    type Rand: Words + Drop;
+
+    /// Makes the dialer and the words.
+    fn tools(self, rt: &R) -> (Self::Dial, Self::Rand);
+
+    /// To how many questions the job that answers for the user says yes.
+    fn consents(&self) -> u32;
+}
+
+/// A job of a hub, with what its tools are made from.
+#[derive(Drop)]
+pub struct Task<I, O, T> {
+    pub(crate) hub: Arc<Hub, Global>,
+    pub(crate) job: Job<I, O>,
+    pub(crate) tools: T,
+}
+
+// To its contracts a task is nothing but that: what it holds has no code by which proofs could tell two tasks apart.
+impl<I, O, T> Model for Task<I, O, T> {
+    ghost use Rattle.std.specs.Prelude.{⊤};
+    ghost use Rattle.std.specs.Arc.{arc_value};
+    ghost use Rattle.agent_hub.specs.Submits.{IsSeatOf};
+    ghost use Rattle.agent_serving.specs.Jobs.{seat_of};
+
+    ghost Value = { ⊤ };
+
+    ghost view = { λ _. tt };
+
+    ghost invariant = { λ task. IsSeatOf (arc_value task.hub) (seat_of task.job) };
+}
+
+impl<R, I, O, T> sockets::Job<R> for Task<I, O, T>
+where
+    R: Wait + AllocGlobal,
+    I: Source + Drop,
+    O: Sink + Drop,
+    T: Tools<R> + Drop,
+{
+    // The prompters of the job that answers for the user are one that says yes so often, if ever, and one that says no; where
+    // memory is short they are fewer than two, so that it is idle. All other jobs have none.
+    fn run(self, rt: &R) {
+        let Task { hub, job, tools } = self;
+        let alloc = rt.alloc();
+        let mut list: Vec<Box<dyn Prompter + Send>> = Vec::new(alloc);
+        if matches!(job, Job::Prompts { .. }) {
+            let left = tools.consents();
+            if left != 0 {
+                let template = Tuple::new(alloc);
+                if let Ok(limited) = Box::new(alloc, Limited { template, left }) {
+                    let _ = list.push(limited);
+                }
+            }
+            if let Ok(deny) = Box::new(alloc, Deny) {
+                let _ = list.push(deny);
+            }
+        }
+        let mut chain = Chain::new(list);
+        let (mut dial, mut rand) = tools.tools(rt);
+        let _ended = run_job(rt, alloc, &hub, job, &mut dial, &mut rand, &mut chain);
+    }
+}

@@ -1,9 +1,0 @@
-pub mod AskLemmas
-pub mod EndLemmas
-pub mod MeetLemmas
-pub mod OtherLemmas
-pub mod ReplyLemmas
-pub mod ShutLemmas
-pub mod TimesLemmas
-pub mod WaitLemmas
-pub mod WithdrawLemmas

@@ -1,5 +1,0 @@
-use Rattle.attr_words.proofs.LineLemmas.{word_line}
-use Rattle.attr_words.proofs.laws.words_of_lines_are_lines.Goals as goal
-
-pub returns : goal.returns
-returns c = word_line

@@ -1,4 +1,0 @@
-pub mod Lines
-pub mod Cutting
-pub mod Words
-pub mod Taking

@@ -1,0 +1,5 @@
+pub mod ClapLemmas
+pub mod WordLemmas
+pub mod FileLemmas
+pub mod ServeLemmas
+pub mod TextLemmas

@@ -1,0 +1,9 @@
+pub mod Statuses
+pub mod Words
+pub mod Files
+pub mod Serving
+pub mod Cores
+pub mod Tabling
+pub mod Reading
+pub mod Endings
+pub mod AuthdWords

@@ -1,0 +1,25 @@
+//! The programs of the authentication server as a library: the words of their command lines, its two tables, what a
+//! client came to, each client as a job of a thread; and the statuses that a command ends with.
+#![tactic(auto)]
+
+mod authd_words;
+mod authsrv;
+mod cause;
+mod ending;
+mod files;
+mod options;
+mod status;
+mod tables;
+mod task;
+mod words;
+
+pub use authd_words::{AuthdWords, read_authd_words};
+pub use authsrv::{serve, status_of_end};
+pub use cause::ScriptCause;
+pub use ending::Ending;
+pub use files::read_file;
+pub use options::{as_str, copy_value, required_option};
+pub use status::{Status, print_status};
+pub use tables::read_core;
+pub use task::{ClientSpawner, ClientTask};
+pub use words::{AuthsrvWords, is_value, read_authsrv_words};

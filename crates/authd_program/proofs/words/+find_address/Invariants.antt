@@ -1,5 +1,0 @@
-use Rattle.std.proofs.Common.{length}
-use Rattle.authd_program.proofs.words.+find_address.Given as goal
-
-abbrev pub decreases-find_address : goal.decreases-find_address
-decreases-find_address l = length l.words.now

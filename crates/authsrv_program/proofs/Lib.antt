@@ -1,4 +1,0 @@
-pub mod ClapLemmas
-pub mod WordLemmas
-pub mod FileLemmas
-pub mod ServeLemmas

@@ -1,7 +1,0 @@
-use Rattle.clean_runs.proofs.SessionLaw.{sessions_go}
-use Rattle.clean_runs.proofs.Shown.{case_of}
-use Rattle.clean_agreement.proofs.Agreeing.{clients_match}
-use Rattle.clean_agreement.proofs.laws.matching_conversation.Goals as goal
-
-pub returns : goal.returns
-returns c = λ history z atoms l legal clean. let d = case_of history z atoms l legal clean in clients_match d (sessions_go d)

@@ -1,6 +1,0 @@
-mod Readings
-mod Places
-mod Taken
-mod Forms
-mod LoginLaw
-mod WordLaw

@@ -1,0 +1,12 @@
+// Laws of examples, each the contract of a function that does nothing.
+ghost use Rattle.clean_runs.specs.ExampleStatements.{LoginIsClean, WordsAreUsedOnce};
+
+/// The record of a login by p9any and p9sk1, with its labelling, is clean where its words, keys and passwords differ.
+pub fn a_login_is_clean()
+    ensures { LoginIsClean }
+{}
+
+/// In a clean record no two conversations that use their words start by the same one.
+pub fn a_clean_record_uses_a_word_once()
+    ensures { WordsAreUsedOnce }
+{}

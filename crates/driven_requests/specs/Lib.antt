@@ -1,2 +1,0 @@
-pub use Rattle.idle_agents.specs.Idle
-pub mod Requests

@@ -1,5 +1,0 @@
-use Rattle.idle_agents.proofs.KeepLaws.{new_nodes_are_idle}
-use Rattle.idle_agents.proofs.laws.a_new_node_is_idle.Goals as goal
-
-pub returns : goal.returns
-returns c = new_nodes_are_idle

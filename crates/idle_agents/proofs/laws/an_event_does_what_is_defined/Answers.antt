@@ -1,5 +1,0 @@
-use Rattle.idle_agents.proofs.RunLaws.{going}
-use Rattle.idle_agents.proofs.laws.an_event_does_what_is_defined.Goals as goal
-
-pub returns : goal.returns
-returns c = λ event h runs. let g = going event h runs in (g.before, g.now)

@@ -1,5 +1,0 @@
-use Rattle.idle_agents.proofs.KeepLaws.{openings_keep_idle}
-use Rattle.idle_agents.proofs.laws.an_opening_keeps_an_agent_idle.Goals as goal
-
-pub returns : goal.returns
-returns c = openings_keep_idle

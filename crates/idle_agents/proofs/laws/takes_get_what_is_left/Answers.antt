@@ -1,5 +1,0 @@
-use Rattle.idle_agents.proofs.TakenLaws.{replies_so}
-use Rattle.idle_agents.proofs.laws.takes_get_what_is_left.Goals as goal
-
-pub returns : goal.returns
-returns c = replies_so

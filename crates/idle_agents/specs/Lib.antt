@@ -1,2 +1,0 @@
-pub use Rattle.driven_agents.specs.Laws
-pub mod Idle

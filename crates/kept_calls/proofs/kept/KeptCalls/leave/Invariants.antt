@@ -1,6 +1,0 @@
-use Rattle.std.proofs.Common.{◌≡◌, drop}
-use Rattle.kept_calls.specs.Calls.{left}
-use Rattle.kept_calls.proofs.kept.KeptCalls.leave.Given as goal
-
-abbrev pub invariant-loop-speaker : goal.invariant-loop-speaker
-invariant-loop-speaker l = left l.leaving l.behind (drop l.speaker-index l.speakers) l.self ≡ left l.leaving l.behind l.speakers l.fn.self

@@ -1,4 +1,0 @@
-pub mod Files
-pub mod Rooms
-pub mod Ends
-pub mod Asked

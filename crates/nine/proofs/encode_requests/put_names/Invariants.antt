@@ -1,0 +1,7 @@
+use Rattle.std.proofs.Common.{◌≡◌, ◌++◌, take}
+use Rattle.std.specs.List.{flat_map}
+use Rattle.wire_base.specs.Readers.{spelled}
+use Rattle.nine.proofs.encode_requests.put_names.Given as goal
+
+abbrev pub invariant-loop-name : goal.invariant-loop-name
+invariant-loop-name l = l.out ≡ l.fn.out ++ flat_map spelled (take l.name-index l.names)

@@ -1,7 +1,0 @@
-use Rattle.std.proofs.Common.{◌≡◌, ◌++◌, take}
-use Rattle.std.specs.List.{flat_map}
-use Rattle.nine_messages.specs.Messages.{qid_text}
-use Rattle.nine_codec.proofs.encode_replies.put_qids.Given as goal
-
-abbrev pub invariant-loop-qid : goal.invariant-loop-qid
-invariant-loop-qid l = l.out ≡ l.fn.out ++ flat_map qid_text (take l.qid-index l.qids)

@@ -1,9 +1,0 @@
-use Rattle.std.proofs.Common.{arith}
-use Rattle.std.proofs.Common.{length-append}
-use Rattle.wire_base.specs.Readers.{spelled}
-use Rattle.std.proofs.lemmas.Result.{on_ok_weaker}
-use Rattle.nine_codec.proofs.FrameLemmas.{framed_four}
-use Rattle.nine_codec.proofs.encode_requests.spell_attach.Goals as goal
-
-pub returns-clause-ok : goal.returns-clause-ok
-returns-clause-ok c = on_ok_weaker c.put_str-2.result (λ e. framed_four _ _ _ _ _ _ _ _ _ _ _ _ _ c.in_ok-put_head.ensures.ok c.in_ok-put_u32.ensures.ok c.in_ok-put_u32-2.ensures.ok c.in_ok-put_str.ensures.ok e (omega (arith, length-append c.args.uname.now (spelled c.args.aname.now)))) c.put_str-2.ensures.ok

@@ -1,7 +1,0 @@
-use Rattle.std.proofs.Common.{arith}
-use Rattle.std.proofs.lemmas.Result.{on_ok_weaker}
-use Rattle.nine_codec.proofs.FrameLemmas.{framed_two}
-use Rattle.nine_codec.proofs.encode_requests.spell_version.Goals as goal
-
-pub returns-clause-ok : goal.returns-clause-ok
-returns-clause-ok c = on_ok_weaker c.put_str.result (λ e. framed_two _ _ _ _ _ _ _ _ _ c.in_ok-put_head.ensures.ok c.in_ok-put_u32.ensures.ok e (omega arith)) c.put_str.ensures.ok

@@ -1,4 +1,0 @@
-pub mod Streams
-pub mod AtFronts
-pub mod Framed
-pub mod Framing

@@ -1,4 +1,0 @@
-pub mod FieldLaws
-pub mod RequestLaws
-pub mod ReplyLaws
-pub mod FaultPlaces

@@ -1,3 +1,0 @@
-pub mod PlaceLemmas
-pub mod AddLemmas
-pub mod WriteLemmas

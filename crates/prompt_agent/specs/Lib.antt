@@ -1,3 +1,0 @@
-pub mod Manners
-pub mod Simple
-pub mod Chains

@@ -1,0 +1,6 @@
+pub mod Manners
+pub mod Simple
+pub mod Chains
+pub mod Requests
+pub mod Replies
+pub mod Wanted

@@ -1,0 +1,22 @@
+//! Who answers the questions that an agent asks people: prompters, each of which answers a question or passes it
+//! on, asked one after the other; and what a program that answers for a user asks of an agent, as a client of its
+//! files confirm and needkey.
+#![tactic(auto)]
+
+mod answers;
+mod chain;
+mod first;
+mod prompter;
+mod replies;
+mod simple;
+#[cfg(test)]
+mod tests;
+
+pub use answers::{read_request, write_request};
+pub use chain::Chain;
+pub use first::First;
+pub use prompter::{Prompter, Say};
+pub use replies::{
+    IN_USE, TOO_SMALL, file_read, has_tag, is_refusal, is_refused_by, question_read,
+};
+pub use simple::{Deny, Limited};

@@ -1,4 +1,0 @@
-pub mod KeyLemmas
-pub mod SealLaws
-pub mod SealLemmas
-pub mod PasswordLemmas

@@ -1,0 +1,11 @@
+pub mod KeyLemmas
+pub mod SealLaws
+pub mod SealLemmas
+pub mod PasswordLemmas
+pub mod FieldLaws
+pub mod RequestLaws
+pub mod TicketLaws
+pub mod SealedLaws
+pub mod AuthenticatorLaws
+pub mod InfoLaws
+pub mod FaultLaws

@@ -1,0 +1,12 @@
+pub mod Keys
+pub mod Sealing
+pub mod Passwords
+pub mod Answer
+pub mod Hmac
+pub mod Fields
+pub mod Fitting
+pub mod Request
+pub mod Ticket
+pub mod Authenticator
+pub mod Info
+pub mod InfoReading

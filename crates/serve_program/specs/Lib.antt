@@ -1,3 +1,0 @@
-pub use Rattle.agent_serving.specs.Submits
-pub mod Endings
-pub mod Words

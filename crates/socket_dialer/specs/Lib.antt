@@ -1,4 +1,0 @@
-pub mod Endings
-pub mod Hearing
-pub mod Kept
-pub mod Numbers

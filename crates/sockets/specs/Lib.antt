@@ -1,0 +1,5 @@
+pub mod Endings
+pub mod Hearing
+pub mod Kept
+pub mod Numbers
+pub mod Addresses

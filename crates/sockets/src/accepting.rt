@@ -1,0 +1,255 @@
+// The listener over sockets.
+ghost use Rattle.std.specs.Prelude.{◌≡◌, ◌≤◌, ◌⊎◌, IfErr, IfOk, Err, true, false};
+ghost use Rattle.sockets.specs.Addresses.{is_path, is_unix};
+
+use crate::listening_socket::Socket;
+use crate::unix::{OpenFault, listen_at};
+use std::alloc::Global;
+use std::fs::Files;
+use std::io::{self, ErrorKind};
+use std::net::{Net, OpenListener, OpenStream, TcpListener};
+use std::os::unix::net::UnixListener;
+use std::thread;
+use std::time::{Clock, Duration};
+use wire_base::Text;
+use wire_streams::{ListenFault, Listener, ReadSource, WriteSink};
+
+/// How many milliseconds accepting rests after a failure that isn't the peer's, before it is tried again.
+const REST: u64 = 50;
+
+/// Where connections are accepted.
+#[derive(Drop)]
+pub(crate) enum Opened<L> {
+    Tcp(L),
+    Unix(UnixListener),
+}
+
+/// A listener over TCP or a Unix socket. It tells no content. What a client spoils, or what passes, as a want of file
+/// descriptors, isn't the end of accepting. Each failure that lasts is counted, up to the last value of the counter.
+#[derive(Drop)]
+pub struct SocketListener<R: Net> {
+    rt: R,
+    opened: Opened<R::Listener>,
+    faults: u64,
+}
+
+/// What a failure to accept means for the next try.
+#[derive(Clone, Copy, Debug, PartialEq, Eq)]
+enum Failure {
+    /// It was this one connection's.
+    Passing,
+    /// The machine lacks something, for a while.
+    Crowded,
+    /// The listener itself is of no use.
+    Lasting,
+}
+
+// The same address as text of std.
+fn as_str(address: &Text) -> Result<&str, OpenFault>
+    ensures { IfErr result (λ fault. fault ≡ OpenFault.BadAddress) }
+{
+    std::str::from_utf8(address.as_slice()).map_err(|_| OpenFault::BadAddress)
+}
+
+// Whether an address is a path.
+fn is_path(address: &[u8]) -> bool
+    ensures { result ≡ is_path address.now }
+{
+    match address {
+        [first, ..] => *first == b'/',
+        [] => false,
+    }
+}
+
+// Listens at a host and a port.
+fn open_tcp<R: Net>(rt: &R, address: &str) -> Result<R::Listener, OpenFault>
+    ensures { result ≡ Err OpenFault.NoSocket → ⊥ }
+{
+    match TcpListener::bind(rt, address) {
+        Ok(listener) => Ok(listener),
+        Err(error) => match error.kind() {
+            ErrorKind::InvalidInput => Err(OpenFault::BadAddress),
+            ErrorKind::AddrInUse => Err(OpenFault::InUse),
+            _ => Err(OpenFault::Refused),
+        },
+    }
+}
+
+impl<R: Net + Files + Clock + Drop> SocketListener<R> {
+    /// Listens at an address: the path of a Unix socket where it begins with `/`, else a host, `:` and a port. Such a socket
+    /// can be opened by its user alone. One that is there already, and on which nobody answers, is replaced.
+    pub fn open(rt: R, alloc: Global, address: &Text) -> Result<SocketListener<R>, OpenFault>
+        ensures form { IfOk result (λ listener. is_unix listener.opened ≡ is_path address.now) }
+        ensures faults { IfOk result (λ listener. listener.faults ≡ 0) }
+        ensures no_socket { result ≡ Err OpenFault.NoSocket → is_path address.now ≡ true }
+    {
+        let place = as_str(address)?;
+        let opened = if is_path(address.as_slice()) {
+            Opened::Unix(listen_at(&rt, alloc, place)?)
+        } else {
+            Opened::Tcp(open_tcp(&rt, place)?)
+        };
+        Ok(SocketListener {
+            rt,
+            opened,
+            faults: 0,
+        })
+    }
+
+    // Waits for the next connection, both of whose ends are of one stream.
+    fn accept_once(&self) -> io::Result<(Socket<R::Stream>, Socket<R::Stream>)> {
+        match &self.opened {
+            Opened::Tcp(listener) => {
+                let (stream, _) = listener.accept()?;
+                let other = stream.try_clone()?;
+                Ok((Socket::Tcp(stream), Socket::Tcp(other)))
+            }
+            Opened::Unix(listener) => {
+                let (stream, _) = listener.accept()?;
+                let other = stream.try_clone()?;
+                Ok((Socket::Unix(stream), Socket::Unix(other)))
+            }
+        }
+    }
+
+    // Waits for the next connection, whatever spoils others meanwhile. None where accepting has no use any more.
+    fn accept_next(&self) -> Option<(Socket<R::Stream>, Socket<R::Stream>)> {
+        for _ in 0..u64::MAX {
+            match self.accept_once() {
+                Ok(pair) => return Some(pair),
+                Err(error) => match failure_of(error.kind()) {
+                    Failure::Passing => {}
+                    Failure::Crowded => thread::sleep(&self.rt, Duration::from_millis(REST)),
+                    Failure::Lasting => return None,
+                },
+            }
+        }
+        None
+    }
+}
+
+// What a failure to accept means.
+fn failure_of(kind: ErrorKind) -> Failure
+    ensures { result ≡ Failure.Lasting
+        → (kind ≡ ErrorKind.InvalidInput) ⊎ (kind ≡ ErrorKind.Unsupported) }
+{
+    match kind {
+        ErrorKind::ConnectionAborted | ErrorKind::ConnectionReset | ErrorKind::Interrupted => {
+            Failure::Passing
+        }
+        ErrorKind::InvalidInput | ErrorKind::Unsupported => Failure::Lasting,
+        _ => Failure::Crowded,
+    }
+}
+
+impl<R: Net + Files + Clock + Drop> Listener for SocketListener<R> {
+    ghost use Rattle.std.specs.Prelude.{None};
+    ghost use Rattle.std.specs.Result.{is_err};
+    ghost use Rattle.wire_streams.specs.Listening.{Accepts};
+    ghost use Rattle.wire_streams.specs.Causes.{CountsOutcome};
+
+    type In = ReadSource<Socket<R::Stream>>;
+
+    type Out = WriteSink<Socket<R::Stream>>;
+
+    ghost to_come = { λ _. None };
+
+    ghost faults = { λ listener. listener.faults };
+
+    fn accept(
+        &mut self,
+    ) -> Result<(ReadSource<Socket<R::Stream>>, WriteSink<Socket<R::Stream>>), ListenFault>
+        ensures accepted { Accepts None None result }
+        ensures counted { self.old.faults ≤ self.new.faults }
+        ensures exact { CountsOutcome self.old.faults self.new.faults (is_err result) }
+        ensures form { is_unix self.new.opened ≡ is_unix self.old.opened }
+    {
+        match self.accept_next() {
+            Some((source, sink)) => Ok((ReadSource::new(source), WriteSink::new(sink))),
+            None => {
+                self.faults = self.faults.saturating_add(1);
+                Err(ListenFault)
+            }
+        }
+    }
+}
+
+#[cfg(test)]
+mod tests {
+    use super::*;
+    use std::io::{Read, Write};
+    use std::net::TcpStream;
+    use std::os::unix::fs::MetadataExt;
+    use std::os::unix::net::UnixStream;
+    use std::test::Fail;
+    use std::{env, fs, process};
+    use wire_streams::{Got, Put, Sink, Source};
+
+    fn text(alloc: Global, bytes: &[u8]) -> Result<Text, Fail> {
+        Text::from_slice(alloc, bytes)?.ok_or_else(|| "text".into())
+    }
+
+    // What the peer sends is read, and what is written comes to it.
+    fn speaks<R: Net + Files + Clock + Drop, S: Read + Write>(
+        listener: &mut SocketListener<R>,
+        peer: &mut S,
+    ) -> Result<bool, Fail> {
+        let Ok((mut source, mut sink)) = listener.accept() else {
+            return Ok(false);
+        };
+        peer.write_all(b"who")?;
+        let mut heard = [b'-'; 3];
+        let got = source.read(&mut heard);
+        let put = sink.write(b"me!");
+        let mut said = [b'-'; 3];
+        peer.read_exact(&mut said)?;
+        Ok(got == Got::Bytes(3) && put == Put::Took(3) && heard == *b"who" && said == *b"me!")
+    }
+
+    #[test]
+    fn accepts_over_tcp(rt: HostRuntime) -> Result<(), Fail> {
+        let address = text(rt.alloc(), b"127.0.0.1:0")?;
+        let mut listener = SocketListener::open(rt, rt.alloc(), &address).map_err(
+            |_| "it doesn't listen",
+        )?;
+        let Opened::Tcp(inner) = &listener.opened else {
+            return Err("not TCP".into());
+        };
+        let place = inner.local_addr()?;
+        let mut peer = TcpStream::connect(&rt, place)?;
+        assert!(rt; speaks(&mut listener, &mut peer)?);
+        assert_eq!(rt; listener.faults, 0);
+        for bad in [b"127.0.0.1".as_slice(), b"127.0.0.1:x", b""] {
+            let opened = SocketListener::open(rt, rt.alloc(), &text(rt.alloc(), bad)?);
+            assert!(rt; matches!(opened, Err(OpenFault::BadAddress)), "{bad:?}");
+        }
+        Ok(())
+    }
+
+    #[test]
+    fn accepts_over_a_unix_socket(rt: HostRuntime) -> Result<(), Fail> {
+        let alloc = rt.alloc();
+        let name = format!(in alloc; "socket-listener-{}", process::id(rt.process()))?;
+        let path = env::temp_dir(&rt)?.join(alloc, name.as_str())?;
+        let place = path.to_str().ok_or("path")?;
+        let address = text(alloc, place.as_bytes())?;
+        for _ in 0..2 {
+            // The second round finds the file of a listener that is gone.
+            let mut listener = SocketListener::open(rt, alloc, &address).map_err(
+                |_| "it doesn't listen",
+            )?;
+            let mut peer = UnixStream::connect(&rt, place)?;
+            assert!(rt; speaks(&mut listener, &mut peer)?);
+            let mode = fs::metadata(&rt, place)?.mode();
+            assert_eq!(rt; mode % 0o1000, 0o600);
+            let second = SocketListener::open(rt, alloc, &address);
+            assert!(rt; matches!(second, Err(OpenFault::InUse)));
+        }
+        fs::remove_file(&rt, place)?;
+        fs::write(&rt, place, "not a socket")?;
+        let opened = SocketListener::open(rt, alloc, &address);
+        assert!(rt; matches!(opened, Err(OpenFault::NoSocket)));
+        fs::remove_file(&rt, place)?;
+        Ok(())
+    }
+}

@@ -1,0 +1,24 @@
+//! The edge to the system: a dialer that asks the authentication server over TCP or a Unix socket, where the end of
+//! an answer is a function of what was asked and of the bytes that came; a listener that accepts connections over
+//! TCP or a Unix socket, which only the agent's own user can open; and a spawner that runs each job in a thread of
+//! its own.
+#![tactic(auto)]
+
+mod accepting;
+mod ending;
+mod hearing;
+mod job;
+mod line;
+mod listening_socket;
+mod socket;
+mod spawner;
+mod unix;
+
+pub use accepting::SocketListener;
+pub use ending::answer_length;
+pub use hearing::read_answer;
+pub use job::Job;
+pub use listening_socket::Socket;
+pub use socket::TcpDialer;
+pub use spawner::ThreadSpawner;
+pub use unix::OpenFault;

@@ -1,5 +1,0 @@
-use Rattle.symbolic_agreement.proofs.Servers.{server_agrees}
-use Rattle.symbolic_agreement.proofs.laws.server_agreement.Goals as goal
-
-pub returns : goal.returns
-returns c s run r a = server_agrees s run r.by_the_tables a

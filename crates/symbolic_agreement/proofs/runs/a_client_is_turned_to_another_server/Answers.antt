@@ -1,6 +1,0 @@
-use Rattle.std.proofs.Common.{arith}
-use Rattle.symbolic_agreement.proofs.AttackLaws.{turned_is_run}
-use Rattle.symbolic_agreement.proofs.runs.a_client_is_turned_to_another_server.Goals as goal
-
-pub returns : goal.returns
-returns c = record { short = omega arith; by_the_tables = turned_is_run }

@@ -1,4 +1,0 @@
-pub mod ConcludeLemmas
-pub mod ReadingLemmas
-pub mod Weights
-pub mod WriteLemmas

@@ -1,8 +1,0 @@
-use Rattle.ticket_codec.proofs.SealedLaws.{authenticator_opened, ticket_opened}
-use Rattle.ticket_codec.proofs.laws.what_is_sealed_is_opened.Goals as goal
-
-pub returns-clause-tickets : goal.returns-clause-tickets
-returns-clause-tickets c = ticket_opened
-
-pub returns-clause-authenticators : goal.returns-clause-authenticators
-returns-clause-authenticators c = authenticator_opened

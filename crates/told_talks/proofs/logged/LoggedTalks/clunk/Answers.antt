@@ -1,0 +1,15 @@
+use Rattle.std.proofs.Common.{List, ◌∷◌, ◌==◌, ◌&&◌, not, refl}
+use Rattle.agent_history.specs.Deeds.{Deed, OfFids, Clunked}
+use Rattle.agent_history.specs.Conversations.{all_withdrawn, ended_by}
+use Rattle.told_talks.proofs.OtherLemmas.{left_have}
+use Rattle.told_talks.proofs.logged.LoggedTalks.clunk.Goals as goal
+
+pub returns : goal.returns
+returns c = λ done h.
+    let now = c.clunk.ensures done h.tells in
+    let deed : Deed = OfFids c.args.conn (Clunked c.args.fid) in
+    let after : List Deed = deed ∷ all_withdrawn (ended_by deed done) done in
+    record {
+      tells = now;
+      ends = left_have done after (ended_by deed done) (λ s. not (s.conn == c.args.conn && s.fid == c.args.fid)) c.args.self.now (record { asking = c.clunk.new.self; ends = c.drop_ended.new.ends }) refl (λ q. refl) (c.drop_ended.ensures after now.talks.speak) h.ends;
+    }

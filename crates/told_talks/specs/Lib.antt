@@ -1,0 +1,11 @@
+pub use Rattle.agent_talks.specs.declared.tell.Told
+pub use Rattle.agent_talks.specs.Tells
+pub use Rattle.agent_talks.specs.Speaks
+pub use Rattle.agent_talks.specs.Kept
+pub mod Files
+pub mod Rooms
+pub mod Ends
+pub mod Asked
+pub mod Asking
+pub mod Ahead
+pub mod Logging

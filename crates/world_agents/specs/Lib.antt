@@ -1,2 +1,0 @@
-pub use Rattle.world_legality.specs.Settings
-pub mod Worlds

@@ -1,0 +1,4 @@
+pub mod RecordLemmas
+pub mod SpellLemmas
+pub mod TextLemmas
+pub mod TellLemmas

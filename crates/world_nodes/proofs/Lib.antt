@@ -1,2 +1,0 @@
-pub mod FidLemmas
-pub mod NodeLemmas

@@ -1,4 +1,0 @@
-pub mod ListLemmas
-pub mod TalkLemmas
-pub mod LineLemmas
-pub mod PlayLemmas
