@@ -1,5 +1,5 @@
 #!/usr/bin/env python3
-"""Prints the ticket requests of the tests of auth_server and authsrv_program, each with the whole answer that it has.
+"""Prints the ticket requests of the tests of auth_server and auth_program, each with the whole answer that it has.
 
 Written from the manual's words (Plan 9: the ticket request and the tickets of authsrv(6)), the keys of a name, a host and
 a user being those of the tests' tables. It shares nothing with the proved code.
@@ -57,6 +57,6 @@ if __name__ == "__main__":
     print("// the answer to the first of them where both tables are empty")
     print(f"static STRANGERS: &[u8; 145] = {both(*CASES[0][1:4], False)[1]};")
     asks, gets = both(*CASES[0][1:])
-    print("// the first of them, for the tests of authsrv_program")
+    print("// the first of them, for the tests of auth_program")
     print(f"const REQUEST: &[u8; 141] = {asks};")
     print(f"const ANSWER: &[u8; 145] = {gets};")

@@ -1,10 +1,10 @@
 #!/usr/bin/env python3
-"""Makes the frames of the tests of nine_codec, nine_print and nine_show, with what is known of each.
+"""Makes the frames of the tests of nine, nine_print and nine_show, with what is known of each.
 
 Written from the layout of section 5 of the Plan 9 manual (intro(5): size[4] type[1] tag[2], numbers little-endian,
 s is a length of two bytes and so many bytes of UTF-8 without NUL). It shares nothing with the proved code.
 
-usage: frames.py table   prints the table of the tests of nine_codec
+usage: frames.py table   prints the table of the tests of nine
        frames.py names   says what each row of it is
        frames.py shown   prints the table of the tests of nine_print
        frames.py stream  writes the stored input of nine_show

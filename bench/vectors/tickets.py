@@ -1,5 +1,5 @@
 #!/usr/bin/env python3
-"""Prints the records of the tests of ticket_codec.
+"""Prints the records of the tests of sealing.
 
 Written from the manual's words (Plan 9: the records of authsrv(6), the authinfo of factotum(4)). It shares
 nothing with the proved code.
