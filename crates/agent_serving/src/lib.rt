@@ -10,8 +10,6 @@ mod job;
 mod prompts;
 mod spawner;
 mod task;
-#[cfg(test)]
-mod tests;
 mod words;
 
 pub use accept::{ServeEnd, serve};

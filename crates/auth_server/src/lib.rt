@@ -10,8 +10,6 @@ mod records;
 mod serve;
 mod server;
 mod session;
-#[cfg(test)]
-mod tests;
 
 pub use client::AuthJob;
 pub use laws::{a_stream_has_one_session, every_ticket_request_gets_two_tickets};

@@ -9,8 +9,6 @@ mod first;
 mod prompter;
 mod replies;
 mod simple;
-#[cfg(test)]
-mod tests;
 
 pub use answers::{read_request, write_request};
 pub use chain::Chain;

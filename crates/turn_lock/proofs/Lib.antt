@@ -1,6 +1,6 @@
-mod FrontLaws
+pub mod FrontLaws
 mod Changes
 mod RuleKept
-mod SeatFacts
-mod CountFacts
+pub mod SeatFacts
+pub mod CountFacts
 mod RuleTells

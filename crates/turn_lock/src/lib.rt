@@ -5,16 +5,12 @@
 #![tactic(auto)]
 
 mod bell;
-#[cfg(test)]
-mod bell_tests;
 mod bells;
 mod laws;
 mod lock;
 mod logged;
 mod plays;
 mod seats;
-#[cfg(test)]
-mod tests;
 mod turn;
 mod views;
 

@@ -71,31 +71,3 @@ impl<I: Source, O: Sink> Listener for MemListener<I, O> {
         }
     }
 }
-
-#[cfg(test)]
-mod tests {
-    use super::*;
-    use crate::memory::{MemSink, MemSource};
-    use crate::source::Got;
-    use std::test::Fail;
-
-    #[test]
-    fn connections_come_in_order_but_at_planned_faults(rt: HostRuntime) -> Result<(), Fail> {
-        let mut pairs = Vec::new(rt.alloc());
-        for name in [b"a", b"b"] {
-            let source = MemSource::new(name.to_vec(rt.alloc())?, Vec::new(rt.alloc()));
-            let sink = MemSink::new(name.to_vec(rt.alloc())?, Vec::new(rt.alloc()));
-            pairs.push((source, sink))?;
-        }
-        let mut listener = MemListener::new(pairs, [2].to_vec(rt.alloc())?);
-        for (call, want) in [(1, "a"), (2, "-"), (3, "b"), (4, "-")] {
-            let mut heard = [b'-'];
-            if let Ok((mut source, sink)) = listener.accept() {
-                assert_eq!(rt; source.read(&mut heard), Got::Bytes(1), "at call {call}");
-                assert_eq!(rt; sink.content(), want.as_bytes(), "at call {call}");
-            }
-            assert_eq!(rt; heard.as_slice(), want.as_bytes(), "at call {call}");
-        }
-        Ok(())
-    }
-}

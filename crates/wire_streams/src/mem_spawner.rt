@@ -73,26 +73,3 @@ impl<J: Drop> Spawner<J> for MemSpawner<J> {
         }
     }
 }
-
-#[cfg(test)]
-mod tests {
-    use super::*;
-    use std::test::Fail;
-
-    #[test]
-    fn jobs_are_kept_but_at_planned_faults(rt: HostRuntime) -> Result<(), Fail> {
-        let jobs = b"a".to_vec(rt.alloc())?;
-        let mut spawner = MemSpawner::new(jobs, [2, 4].to_vec(rt.alloc())?);
-        for (job, want, content) in [
-            (b'b', Ok(()), "ab"),
-            (b'c', Err(NoStart), "ab"),
-            (b'd', Ok(()), "abd"),
-            (b'e', Err(NoStart), "abd"),
-            (b'f', Ok(()), "abdf"),
-        ] {
-            assert_eq!(rt; spawner.spawn(job), want, "at {job}");
-            assert_eq!(rt; spawner.content(), content.as_bytes(), "after {job}");
-        }
-        Ok(())
-    }
-}

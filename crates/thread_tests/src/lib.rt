@@ -1,0 +1,36 @@
+//! Tests of what needs threads, real sockets or jobs: the turn lock and its bells, the hub and its loops, the jobs of an
+//! agent that serves, an authentication server that holds its answer, the dialer and the listener over sockets.
+#![tactic(auto)]
+
+#[cfg(test)]
+mod accepted;
+#[cfg(test)]
+mod bell_counts;
+#[cfg(test)]
+mod chains;
+#[cfg(test)]
+mod clients;
+#[cfg(test)]
+mod dialed;
+#[cfg(test)]
+mod expect;
+#[cfg(test)]
+mod heard;
+#[cfg(test)]
+mod held_answers;
+#[cfg(test)]
+mod hub;
+#[cfg(test)]
+mod jobs;
+#[cfg(test)]
+mod lengths;
+#[cfg(test)]
+mod listened;
+#[cfg(test)]
+mod serve_tasks;
+#[cfg(test)]
+mod spawned;
+#[cfg(test)]
+mod threads;
+#[cfg(test)]
+mod turns;
