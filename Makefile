@@ -1,6 +1,6 @@
 # make alone lists what can be made.
 .POSIX:
-.PHONY: help build demo attacks test bench soak install uninstall clean
+.PHONY: help build demo attacks test prove bench soak install uninstall clean
 
 PREFIX = /usr/local
 DESTDIR =
@@ -9,7 +9,8 @@ help:
 	@echo 'make build   proves the programs and leaves them as bin/factotum, bin/authd and bin/nine_show'
 	@echo 'make demo    runs logins between two agents and a conversation, without proofs, and shows each request and reply'
 	@echo 'make attacks plays the attacks of docs/WEAKNESSES.md, without proofs, and says what happened'
-	@echo 'make test    runs the gate: every proof, wrong body, test and program'
+	@echo 'make test    builds without proofs and runs every row, stored run and test: minutes'
+	@echo 'make prove   runs the gate: every proof, wrong body, test and program: over an hour from nothing'
 	@echo 'make bench   measures it and its codec beside plain C programs, the server and the ciphers beside OpenSSL'
 	@echo 'make soak    ten minutes of mixed load on two agents: no wrong reply, no growth, no thread left'
 	@echo 'make install puts programs, manual pages and systemd units under DESTDIR and PREFIX (make uninstall removes them)'
@@ -33,9 +34,14 @@ attacks:
 	@scripts/attacks --unproved
 
 test:
-	@scripts/need rt git bash awk
+	@scripts/need rt python3
+	@scripts/try_all
+
+prove:
+	@scripts/need rt git bash awk python3
 	@mkdir -p bin
-	@scripts/progress bin/gate.log bash .ci/run
+	@scripts/progress bin/gate.log rt ci
+	@scripts/check_repository
 
 bench: build
 	@bench/pipe

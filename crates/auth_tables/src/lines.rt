@@ -21,7 +21,7 @@ pub enum TableFault {
 }
 
 impl From<base::NoMemory> for TableFault {
-    ghost use Rattle.std.specs.Prelude.{◌≡◌, ℕ, List, [], ◌∷◌, ◌++◌, Bool, true, IfOk};
+    ghost use Rattle.std.specs.Prelude.{◌≡◌};
     ghost use Rattle.auth_tables.specs.declared.lines.TableFault.TheVariants.{NoMemory};
 
     ghost from_gives = { λ _ e. e ≡ NoMemory };
@@ -33,6 +33,8 @@ impl From<base::NoMemory> for TableFault {
 
 /// A table that is filled line by line.
 pub(crate) trait Table {
+    ghost use Rattle.std.specs.Prelude.{◌≡◌, ℕ, List, [], ◌∷◌, ◌++◌, Bool, true, IfOk};
+
     // Whether a line fits behind others, all of which count.
     ghost fits: { List (List ℕ) → List ℕ → Bool };
 
