@@ -1,0 +1,46 @@
+// The public calls of `auth_tables`.
+ghost use Rattle.std.specs.Prelude.{◌≡◌, ◌+◌, ◌<◌, ◌^◌, ℕ, List, None, Some, length, IfErr, IfOk, OnOk, option_copied};
+ghost use Rattle.auth_tables.specs.Keys.{bad_key_line, key_of, table_keys};
+ghost use Rattle.auth_tables.specs.Speaks.{bad_speak_line, names_in, names_of, table_speaks, may_speak};
+ghost use Rattle.auth_tables.specs.declared.lines.TableFault.TheVariants.{Line};
+
+use auth_tables::{AsKey, KeyTable, SpeaksTable, TableFault};
+use std::alloc::Global;
+
+/// As `KeyTable::find`.
+pub fn key_table_find<'x>(key_table: &'x KeyTable, user: &[u8]) -> Option<&'x AsKey>
+    ensures { option_copied result ≡ key_of user.now key_table.now }
+{
+    key_table.find(user)
+}
+
+/// As `parse_keys`.
+pub fn parse_keys(alloc: Global, file: &[u8]) -> Result<KeyTable, TableFault>
+    requires { length file.now + 1 < 2 ^ 32 }
+    ensures keys { IfOk result (λ table. (user : List ℕ)
+        → key_of user table ≡ key_of user (table_keys file.now)) }
+    ensures good { OnOk result (bad_key_line file.now ≡ None) }
+    ensures bad { IfErr result (λ fault. (line : ℕ) → fault ≡ Line line
+        → bad_key_line file.now ≡ Some line) }
+{
+    auth_tables::parse_keys(alloc, file)
+}
+
+/// As `SpeaksTable::speaks_for`.
+pub fn speaks_table_speaks_for(speaks_table: &SpeaksTable, host: &[u8], user: &[u8]) -> bool
+    ensures { result ≡ may_speak (names_of host.now speaks_table.now) host.now user.now }
+{
+    speaks_table.speaks_for(host, user)
+}
+
+/// As `parse_speaks`.
+pub fn parse_speaks(alloc: Global, file: &[u8]) -> Result<SpeaksTable, TableFault>
+    requires { length file.now + 1 < 2 ^ 32 }
+    ensures names { IfOk result (λ table. (host : List ℕ)
+        → names_of host table ≡ names_in (table_speaks file.now) host) }
+    ensures good { OnOk result (bad_speak_line file.now ≡ None) }
+    ensures bad { IfErr result (λ fault. (line : ℕ) → fault ≡ Line line
+        → bad_speak_line file.now ≡ Some line) }
+{
+    auth_tables::parse_speaks(alloc, file)
+}
