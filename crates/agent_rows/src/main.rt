@@ -23,12 +23,21 @@ use std::process::ExitCode;
 use std::str::from_utf8;
 
 /// The files, each of which is played by itself.
-static FILES: [&str; 5] = [
+static FILES: [&str; 14] = [
     "events.rows",
     "fids.rows",
     "files.rows",
     "ctl.rows",
     "refusals.rows",
+    "looked_for.rows",
+    "logins.rows",
+    "requests.rows",
+    "moves.rows",
+    "waits.rows",
+    "houses.rows",
+    "prompts.rows",
+    "log.rows",
+    "pauses.rows",
 ];
 
 // Plays a file.
