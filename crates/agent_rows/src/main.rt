@@ -23,7 +23,7 @@ use std::process::ExitCode;
 use std::str::from_utf8;
 
 /// The files, each of which is played by itself.
-static FILES: [&str; 14] = [
+static FILES: [&str; 19] = [
     "events.rows",
     "fids.rows",
     "files.rows",
@@ -38,6 +38,11 @@ static FILES: [&str; 14] = [
     "prompts.rows",
     "log.rows",
     "pauses.rows",
+    "whole.rows",
+    "p9any_clients.rows",
+    "p9any_servers.rows",
+    "apop.rows",
+    "cram.rows",
 ];
 
 // Plays a file.
