@@ -1,5 +1,5 @@
 #!/usr/bin/env python3
-"""Prints sessions with the agent, frame by frame, as the table of its test.
+"""Prints sessions with the agent, frame by frame, as files of rows; rows.py says how they are written.
 
 Frames are put together from section 5 of the Plan 9 manual, and the replies are written down here by hand, after the
 order of the tests of each request in crates/agent_history/specs/Requests.antt. Nothing of the project's own code is used.
@@ -7,6 +7,8 @@ order of the tests of each request in crates/agent_history/specs/Requests.antt. 
 
 import struct
 import sys
+
+from rows import key_lines, print_rows
 
 NOTAG, NOFID = 0xFFFF, 0xFFFFFFFF
 
@@ -350,12 +352,6 @@ session("refused: too many fids", V, A, at(1, *CTL), *[(attach(fid), rattach()) 
         (walk(0, 256), error("too many fids")), (walk(0, 256, "nothing"), error("too many fids")),
         (walk(1, 256, ".."), error("too many fids")), (walk(0, 1), error("fid in use")), (open_(2, 0), ropen("/")),
         (walk(2, 256), error("already open")), (clunk(255), rclunk()), (attach(256), rattach()))
-
-
-def key_lines(numbers):
-    return "".join("key proto=apop user=u%d !password=x\n" % i for i in numbers)
-
-
 FULL = "key proto=apop user=one !password=x"
 MANY = [key_lines(range(i, min(i + 205, 1024))) for i in range(0, 1024, 205)]
 session("refused: a full ring", V, A, *opened(1, 2, *CTL), *[(write(1, lines), rwrite(len(lines))) for lines in MANY],
@@ -364,44 +360,47 @@ session("refused: a full ring", V, A, *opened(1, 2, *CTL), *[(write(1, lines), r
         (write(1, "delkey user=u7\n" + FULL), rwrite(15 + len(FULL))), (write(1, key_lines([7])), error("ring full")))
 
 
+# ---- events beside requests: steps as logins.py writes them
+NAMELESS = frame(104, 1, struct.pack("<II", 0, NOFID) + text("") + text(""))
+SENT = [("p", 0, 0, request, b"") for request in [version(), NAMELESS, clunk(9)]]
+EVENTS = [
+    ("replies come in order until a hang", [
+        *SENT, ("t", 0, 0, b"", rversion()), ("t", 0, 0, b"", rattach()), ("h", 0, 0, b"", b""), ("g", 0, 0, b"", b""),
+        *SENT, ("g", 0, 0, b"", b"")]),
+    ("events beside requests, up to a stop and behind it", [
+        (kind, 0, number, b"", b"") for kind, number in [
+            ("h", 4), ("t", 4), ("h", 4), ("g", 4), ("q", 0), ("f", 0), ("m", 0), ("s", 0), ("g", 5), ("x", 0), ("a", 0)]]),
+]
+
 TABLES = [
     ("fids", "version, fids and opens", "a version is answered", "open: files that a user answers"),
     ("files", "opens of one fid alone, directories and the rest of the tree", "open: one fid alone", "a count is cut"),
     ("ctl", "the keys of ctl", "a key is written", "lines before a refused one stand"),
     ("refusals", "every refusal", "refused: a frame over the size", "refused: a full ring"),
+    ("events", "events beside requests, and replies that are taken later", None, None),
 ]
 
-
-def literal(line):
-    """A line of bytes as a byte string of the code has it, in which a blank at the front of a line would be passed over."""
-    names = {0: "\\0", 10: "\\n"}
-    shown = "".join(chr(c) if 32 <= c < 127 and c not in (34, 92) else names.get(c, "\\x%02x" % c) for c in line)
-    return "\\x20" + shown[1:] if shown.startswith(" ") else shown
+RECORDS = {"ALL_RECORDS": ALL, "TWO_RECORDS": ALL[:TWO], "FOUR_RECORDS": ALL[TWO:], "THREE_RECORDS": ALL[:THREE],
+           "FACTOTUM_RECORD": record("factotum")}
 
 
-def table(about, sessions):
-    print("// Sessions with an agent about %s, made by bench/vectors/agent.py," % about)
-    print("// which also makes each frame of words. A line a step: the length of the session's name and that name, where a session")
-    print("// begins with a new agent, and else 0; the connection, a request, and its reply.")
-    print("pub const COUNT: usize = %d;" % sum(len(s) for _, s in sessions))
-    print()
-    print('pub static STEPS: &[u8] = b"\\')
-    lines = []
-    for name, steps in sessions:
-        for i, (conn, request, reply) in enumerate(steps):
-            begin = name.encode() if i == 0 else b""
-            lines.append(literal(bytes([len(begin)]) + begin + bytes([conn]) + request + reply))
-    print("\\\n".join("    " + line for line in lines) + '";')
+def print_sessions(about, script, sessions, names):
+    """Prints the file of these sessions."""
+    print_rows(about, script, sessions, names, QIDS, {name: record(name) for name in QIDS})
 
 
 def main():
-    """Prints the table that is named: fids, files, ctl or refusals."""
+    """Prints the file that is named: fids, files, ctl, refusals or events."""
     for name, about, first, last in TABLES:
         if sys.argv[1:] == [name]:
-            names = [n for n, _ in SESSIONS]
-            begin = next(i for i, n in enumerate(names) if n.startswith(first))
-            end = next(i for i, n in enumerate(names) if n.startswith(last))
-            table(about, SESSIONS[begin:end + 1])
+            sessions = [(n, [("r", 0, *step) for step in steps]) for n, steps in SESSIONS]
+            if first is None:
+                sessions = EVENTS
+            else:
+                begin = next(i for i, (n, _) in enumerate(sessions) if n.startswith(first))
+                end = next(i for i, (n, _) in enumerate(sessions) if n.startswith(last))
+                sessions = sessions[begin:end + 1]
+            print_sessions(about, "agent.py", sessions, RECORDS)
 
 
 if __name__ == "__main__":

@@ -1,12 +1,12 @@
 #!/usr/bin/env python3
-"""Prints sessions in which users are asked, and what the log tells of them, as the tables of the tests of agent_logins. Steps
-are written as logins.py says.
+"""Prints sessions in which users are asked, and what the log tells of them, as files of rows. Steps
+are as logins.py says.
 
 Written by hand from the manual's words (Plan 9: factotum(4)) and the texts of rpc, prompts and the log. Nothing of the
 project's own code is used.
 """
 from agent import A, V, clunk, error, flush, opened, rclunk, read, remove, rflush, rread, rversion, rwrite, version, write
-from logins import (ANN, ANN_KEY, ANSWER, CHC, CHS, CLIENT, EVE, KN, MINE, NEEDS, OTHER, QUESTION, SERVER, SHOWN, SRV, SRV_KEY, THEIRS,
+from logins import (ANN, ANN_KEY, ANSWER, CHC, CHS, CLIENT, EVE, KN, MINE, NAMES, NEEDS, OTHER, QUESTION, SERVER, SHOWN, SRV, SRV_KEY, THEIRS,
                     WIDE, ASKED, Session, client, main, one, proof, ticket, treq)
 from whole_logins import CHALLENGE, DIGITS, OFFER, mail_question, mail_start, vouch
 
@@ -482,5 +482,8 @@ TABLES = [
     (pauses, "pauses", "every pause of a conversation, and what comes to it"),
 ]
 
+NAMED = {"CHALLENGE": CHALLENGE, "OFFER": OFFER, "DIGITS": DIGITS["apop"], "RFC_CHALLENGE": RFC_CHALLENGE, "RFC_DIGITS": RFC_DIGITS,
+         "CHALLENGE_QUESTION": mail_question("apop"), "VOUCH_QUESTION": mail_question("apop", b"ann"), "VOUCH": vouch()}
+
 if __name__ == "__main__":
-    main(TABLES, "asking.py")
+    main(TABLES, "asking.py", {**NAMES, **NAMED})

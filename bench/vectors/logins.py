@@ -1,12 +1,12 @@
 #!/usr/bin/env python3
-"""Prints conversations of rpc with agents, event by event, as the tables of the tests of agent_logins. The crate agent_player
-makes the steps; whole_logins.py prints more of them.
+"""Prints conversations of rpc with agents, event by event, as files of rows; rows.py says how they are written. whole_logins.py
+and asking.py print more of them.
 
 Written by hand from the manual's words (Plan 9: factotum(4), p9sk1 of authsrv(6), section 5), the order of the tests of each
 request and the texts of rpc; OpenSSL's DES seals. Frames come from agent.py. Nothing of the project's own code is used.
 
 A session has two agents, 0 and 1, which know nothing when it begins. Each step is a letter, an agent, a number (a
-connection's, a call's or none), what is given and what has to come, each of the two behind its length of two bytes:
+connection's, a call's or none), what is given and what has to come:
 
   b  a session of this name begins  r  a request, its reply, and no other reply; or no reply at all
   w  the same, the word first       p  a request alone
@@ -21,8 +21,8 @@ connection's, a call's or none), what is given and what has to come, each of the
 import sys
 from contextlib import contextmanager
 
-from agent import (A, V, attach, clunk, error, flush, frame, literal, opened, open_, rattach, rclunk, read, remove, rflush, ropen, rread,
-                   rversion, rwrite, stat, version, walk, write, at)
+from agent import (A, V, attach, clunk, error, flush, frame, opened, open_, print_sessions, rattach, rclunk, read, remove, rflush, ropen,
+                   rread, rversion, rwrite, stat, version, walk, write, at)
 from passwords import pass_to_key
 from sealing import expand, seal
 from tickets_text import field
@@ -41,7 +41,7 @@ class Session:
 
     @contextmanager
     def group(self):
-        """These steps stand on one line of the table."""
+        """These steps stand on one line."""
         outer, self.grouped = self.grouped, True
         if not outer and len(self.lines[-1]) != 1:
             self.lines.append([])
@@ -901,7 +901,7 @@ def houses():
 
 
 TABLES = [
-    (rows, "rows", "what is looked for, what is asked and the lengths of a request"),
+    (rows, "looked_for", "what is looked for, what is asked and the lengths of a request"),
     (logins, "logins", "whole logins between two agents"),
     (requests, "requests", "reads, writes, requests and starts of rpc"),
     (moves, "moves", "moves of p9sk1, searches for keys and what breaks a conversation"),
@@ -910,25 +910,13 @@ TABLES = [
 ]
 
 
-def spelled(step):
-    kind, agent, number, given, expected = step
-    b = kind.encode() + bytes([agent, number])
-    for part in [given, expected]:
-        b += len(part).to_bytes(2, "little") + part
-    return b
+NAMES = {"CHC": CHC, "CHS": CHS, "OTHER": OTHER, "ASKED": ASKED, "QUESTION": QUESTION, "MINE": MINE, "THEIRS": THEIRS,
+         "ANSWER": ANSWER, "SHOWN": SHOWN, "PROVED": PROVED, "INFO": INFO,
+         "CLIENTS_PROOF": proof(KN, 67, CHS)}
 
 
-def table(about, script="logins.py"):
-    print("// Sessions with agents about %s, made by bench/vectors/%s," % (about, script))
-    print("// which also says what each shows and how a step is written.")
-    print("pub const COUNT: usize = %d;" % sum(len(line) for _, lines in SESSIONS for line in lines))
-    print()
-    print('pub static STEPS: &[u8] = b"\\')
-    print("\\\n".join("    " + literal(b"".join(map(spelled, line))) for _, lines in SESSIONS for line in lines) + '";')
-
-
-def main(tables, script):
-    """Prints the table that is named, or what its sessions are."""
+def main(tables, script, names):
+    """Prints the file that is named, or what its sessions are."""
     for make, name, about in tables:
         if sys.argv[1:2] == [name]:
             make()
@@ -936,8 +924,9 @@ def main(tables, script):
                 for session, lines in SESSIONS:
                     print(sum(len(line) for line in lines), session)
             else:
-                table(about, script)
+                sessions = [(session, [step for line in lines for step in line][1:]) for session, lines in SESSIONS]
+                print_sessions(about, script, sessions, names)
 
 
 if __name__ == "__main__":
-    main(TABLES, "logins.py")
+    main(TABLES, "logins.py", NAMES)

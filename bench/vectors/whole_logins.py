@@ -1,6 +1,6 @@
 #!/usr/bin/env python3
 """Prints whole logins by p9any, APOP and CRAM between two agents and an authentication server, and what each of these protocols
-refuses, as the tables of the tests of whole_logins. Steps are written as logins.py says, and beside them there is
+refuses, as files of rows. Steps are as logins.py says, and beside them there is
 
   A  a question is taken and asked of the authentication server: the three words that it draws; the question's conversation, the
      question and its answer, the number being the question's call. A question that vouches for nobody begins a session with it
@@ -588,12 +588,23 @@ def crams():
 
 
 TABLES = [
-    (logins, "logins", "whole logins by p9any, APOP and CRAM, offers, and connections that are given up"),
+    (logins, "whole", "whole logins by p9any, APOP and CRAM, offers, and connections that are given up"),
     (any_clients, "p9any_clients", "what clients of p9any refuse"),
     (any_servers, "p9any_servers", "what servers of p9any refuse"),
     (apops, "apop", "what APOP refuses"),
     (crams, "cram", "what CRAM refuses"),
 ]
 
+NAMED = {
+    "CHC": CHC, "CHS": CHS, "OTHER": OTHER, "WORDS": WORDS, "LIST": LIST, "CHOICE": CHOICE, "CONSENT": CONSENT, "ASKED": ASKED,
+    "REFUSAL": REFUSAL, "OFFER": OFFER, "CHALLENGE": CHALLENGE, "VOUCH": vouch(), "INFO": INFO, "PROVED": PROVED,
+    "MINE": granted()[0], "THEIRS": granted()[1], "CLIENTS_PROOF": proof(KN, 67, CHS), "OTHER_WORDS": OTHER + bytes(16), "QUESTION": treq(CHS, b"ann", b"ann"), "GRANT": grant(), "SHOWN": shown(),
+    "QUESTION_FOR_BOB": treq(CHS, b"ann", b"bob"), "GRANT_FOR_BOB": grant(b"bob"), "SHOWN_FOR_BOB": shown(b"bob"),
+    "INFO_FOR_BOB": authinfo(b"ann", b"bob", KN),
+    **{proto.upper() + "_DIGITS": DIGITS[proto] for proto in KINDS},
+    **{proto.upper() + "_QUESTION": mail_question(proto) for proto in KINDS},
+    **{proto.upper() + "_VOUCH_QUESTION": mail_question(proto, b"ann") for proto in KINDS},
+}
+
 if __name__ == "__main__":
-    main(TABLES, "whole_logins.py")
+    main(TABLES, "whole_logins.py", NAMED)
