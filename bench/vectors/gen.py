@@ -1,5 +1,5 @@
 #!/usr/bin/env python3
-"""Prints the script of a number and of so many rounds: gen.py NUMBER ROUNDS, as crates/world_tests/src/made_scripts.rt has it of 7 and 5.
+"""Prints the script of a number and of so many rounds: gen.py NUMBER ROUNDS, as crates/command_rows/data/seven.script is of 7 and 5.
 
 Written by hand from the rule of the rounds, RFC 8439 (the block of ChaCha, with 20 rounds) and the way in which rand_core makes
 a seed of a number: eight outputs of PCG-XSH-RR with 32 bits (O'Neill 2014). A word is eight bytes of the stream, in their order.

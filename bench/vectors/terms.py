@@ -1,5 +1,5 @@
 #!/usr/bin/env python3
-"""Prints the bytes of the terms in the tests of terms.
+"""Prints the bytes of the terms in crates/command_rows/data/terms.rows.
 
 Written from the manual's words (Plan 9: authsrv(6), encrypt(2)), RFC 1939 and RFC 2104. DES is OpenSSL's, the digests
 are Python's. It shares nothing with the proved code.

@@ -1,5 +1,5 @@
 #!/usr/bin/env python3
-"""Writes the records of the scripts in crates/world_rows/data: worlds.py FOLDER puts NAME.record beside each NAME.script that is named here.
+"""Writes the records of the scripts in crates/command_rows/data: worlds.py FOLDER puts NAME.record beside each NAME.script that is named here.
 
 Written by hand from the manual's words (Plan 9: factotum(4), authsrv(6)), RFC 1939 and the form of a record; OpenSSL's DES seals,
 and its MD5 makes the digits. A script is read here for its bytes alone: what each line comes to is told below, in order.
