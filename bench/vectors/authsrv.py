@@ -1,9 +1,13 @@
 #!/usr/bin/env python3
-"""Prints the ticket requests of the tests of auth_server and auth_program, each with the whole answer that it has.
+"""Prints the messages of crates/role_rows/data/tickets.messages: ticket requests, each with the whole answer that it has. With
+the word `literals` it prints the first of them for the tests of authsrv_program.
 
 Written from the manual's words (Plan 9: the ticket request and the tickets of authsrv(6)), the keys of a name, a host and
 a user being those of the tests' tables. It shares nothing with the proved code.
 """
+import sys
+
+from message_rows import show_heading, show_message
 from passwords import pass_to_key
 from sealing import seal
 from tickets_text import field, lines
@@ -33,30 +37,36 @@ def answer(authid: bytes, hostid: bytes, uid: bytes, may: bool) -> list[bytes]:
 
 
 CASES = [
-    ("a host that may speak for the user", b"bootes", b"h", b"eve", True),
-    ("a host that is the user", b"bootes", b"ann", b"ann", True),
-    ("a host that isn't in the table", b"bootes", b"nobody", b"nobody", True),
-    ("a server that isn't in the table", b"srv", b"h", b"eve", True),
-    ("a host that may not speak for the user", b"bootes", b"h", b"bob", False),
-    ("neither in the table, nor may it speak", b"srv", b"nobody", b"bob", False),
-    ("names of no bytes", b"", b"", b"", True),
+    ("a host that may speak for the user", "speaker", b"bootes", b"h", b"eve", True),
+    ("a host that is the user", "own_user", b"bootes", b"ann", b"ann", True),
+    ("a host that isn't in the table", "unknown_host", b"bootes", b"nobody", b"nobody", True),
+    ("a server that isn't in the table", "unknown_server", b"srv", b"h", b"eve", True),
+    ("a host that may not speak for the user", "denied", b"bootes", b"h", b"bob", False),
+    ("neither in the table, nor may it speak", "unknown_and_denied", b"srv", b"nobody", b"bob", False),
+    ("names of no bytes", "no_names", b"", b"", b"", True),
 ]
 
 
-def both(authid: bytes, hostid: bytes, uid: bytes, may: bool) -> tuple[str, str]:
-    return lines(request(authid, hostid, uid)), lines(answer(authid, hostid, uid, may))
+def show_both(name: str, authid: bytes, hostid: bytes, uid: bytes, may: bool) -> None:
+    show_message(f"asks_{name}", b"".join(request(authid, hostid, uid)))
+    show_message(f"answers_{name}", b"".join(answer(authid, hostid, uid, may)))
+
+
+def print_messages() -> None:
+    print("# What bench/vectors/authsrv.py prints: requests for tickets, and the whole answer to each, made by a script from the\n"
+          "# manual's words, and sealed by OpenSSL's DES. A message is its parts, one behind the other.")
+    for why, *case in CASES:
+        show_heading(why)
+        show_both(*case)
+    show_heading("the answer to the first of them where both tables are empty")
+    show_message("answers_a_stranger", b"".join(answer(*CASES[0][2:5], False)))
+
+
+def print_literals() -> None:
+    print("// the first of them, for the tests of authsrv_program")
+    print(f"const REQUEST: &[u8; 141] = {lines(request(*CASES[0][2:5]))};")
+    print(f"const ANSWER: &[u8; 145] = {lines(answer(*CASES[0][2:]))};")
 
 
 if __name__ == "__main__":
-    print("// what is asked, the request, and its answer")
-    print(f"static ANSWERS: [(&str, &[u8; 141], &[u8; 145]); {len(CASES)}] = [")
-    for name, *asked in CASES:
-        asks, gets = both(*asked)
-        print(f'    (\n        "{name}",\n        {asks},\n        {gets},\n    ),')
-    print("];")
-    print("// the answer to the first of them where both tables are empty")
-    print(f"static STRANGERS: &[u8; 145] = {both(*CASES[0][1:4], False)[1]};")
-    asks, gets = both(*CASES[0][1:])
-    print("// the first of them, for the tests of auth_program")
-    print(f"const REQUEST: &[u8; 141] = {asks};")
-    print(f"const ANSWER: &[u8; 145] = {gets};")
+    print_literals() if sys.argv[1:] == ["literals"] else print_messages()

@@ -1,5 +1,6 @@
 #!/usr/bin/env python3
-"""Prints the digits that answer the challenge of the tests of auth_server, and the whole answers of that server.
+"""Prints the messages of crates/role_rows/data/mail_requests.messages: the digits that answer a challenge, and the whole
+answers of the authentication server to mail servers.
 
 Written from the manual's words (Plan 9: the ticket and the authenticator of authsrv(6)), RFC 1939 and RFC 2195; MD5, HMAC
 and DES are OpenSSL's. The words drawn and the keys of a user are those of the tests' tables. It shares nothing with the
@@ -8,8 +9,9 @@ proved code.
 import subprocess
 
 from authsrv import CHAL, KEYS, WORDS
+from message_rows import show_heading, show_message
 from sealing import seal
-from tickets_text import field, lines
+from tickets_text import field
 
 CHALLENGE = b"<" + WORDS[0].hex().encode() + b"@x>"
 
@@ -60,8 +62,12 @@ ANSWERS = [
 ]
 
 if __name__ == "__main__":
+    print("# What bench/vectors/mail_requests.py prints: the digits of ann's password for the challenge of these words, and APOP's for\n"
+          "# no password; and the whole answers to mail servers, made by a script from the manual's and the RFCs' words, sealed and\n"
+          "# digested by OpenSSL. A message is its parts, one behind the other.")
+    show_heading("digits")
     for name, digits in DIGITS:
-        print(f'const {name}: &str = "{digits.decode()}";')
+        show_message(name, digits)
+    show_heading("answers")
     for name, fields in ANSWERS:
-        text = lines(fields).replace("\\\n        ", "\\\n    ")
-        print(f"\nconst {name}: &[u8; {len(b''.join(fields))}] = {text};")
+        show_message(name, b"".join(fields))

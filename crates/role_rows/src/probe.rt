@@ -1,5 +1,5 @@
-// A machine that stands for the inner role in tests: it needs nothing, each call is answered Ok, and what is got is the
-// word of the start.
+// A machine that stands for the inner role: it needs nothing, each call is answered Ok, and what is got is the word of
+// the start.
 
 use attr_tuples::Tuple;
 use roles::{Gave, Machine, Need, Offered, Outcome, SkKey, StartFault};
@@ -7,7 +7,7 @@ use std::alloc::Global;
 use wire_base::{Bytes, Text};
 
 #[derive(Drop)]
-pub struct Probe {
+pub(crate) struct Probe {
     word: [u8; 8],
     need: Need,
 }

@@ -1,5 +1,0 @@
-//! Tests of APOP and CRAM, of both sides.
-#![tactic(auto)]
-
-#[cfg(test)]
-mod challenges;
