@@ -1,9 +1,9 @@
 // The public calls of `key_ring`.
-ghost use Rattle.std.specs.Prelude.{◌≡◌, ◌≤◌, ◌<◌, ◌+◌, ◌^◌, length, option_map, IfOk, OnOk, OnErr, ◌++◌, Ok, IfSome, IsOk, MatchOption, true, find, Err, option_copied};
+ghost use Rattle.std.specs.Prelude.{◌≡◌, ◌≤◌, ◌<◌, ◌+◌, ◌^◌, length, option_map, IfOk, OnOk, OnErr, Ok, MatchOption, Err, IfSome, true, find, option_copied, ◌++◌, IsOk};
 ghost use Rattle.key_lists.specs.CtlLines.{after_lines, lines_fault, lines_of};
 ghost use Rattle.key_lists.specs.Edits.{IsOrdered};
 ghost use Rattle.key_lists.specs.Listing.{list_text, offers, offers_text};
-ghost use Rattle.key_lists.specs.Lists.{serves, delete_fault, deleted, matching, first_serving, most_keys, next_serving};
+ghost use Rattle.key_lists.specs.Lists.{most_keys, delete_fault, deleted, matching, serves, first_serving, next_serving};
 ghost use Rattle.key_ring.specs.Faults.{line_text, has_no_tuple};
 ghost use Rattle.key_ring.specs.Switches.{switches};
 

@@ -1,9 +1,9 @@
 // The public calls of `auth_server`.
 ghost use Rattle.std.specs.Arc.{arc_value};
-ghost use Rattle.std.specs.Prelude.{◌≡◌, ◌≤◌, List, OnOk, Option, ◌⊎◌, ◌++◌, ◌+◌, ◌<◌, Some, ◌∷◌, true, length, IfOk, ◌↔◌, OnErr};
-ghost use Rattle.auth_server.specs.Answers.{most_wrong, answer, is_over};
+ghost use Rattle.std.specs.Prelude.{◌≡◌, ◌≤◌, ◌⊎◌, ◌<◌, ◌↔◌, ◌∷◌, ◌++◌, List, Some, true, length, IfOk, OnErr, OnOk};
+ghost use Rattle.auth_server.specs.Answers.{answer, is_over, most_wrong};
 ghost use Rattle.auth_server.specs.Clients.{Client, Listens};
-ghost use Rattle.auth_server.specs.Requests.{Asked, asked_so, kind_of, needed};
+ghost use Rattle.auth_server.specs.Requests.{needed, Asked, asked_so, kind_of};
 ghost use Rattle.auth_server.specs.Serving.{EndsSo, moment, IsServable, IsSpent};
 ghost use Rattle.auth_server.specs.Standing.{knowledge, StandsFor};
 ghost use Rattle.wire_streams.specs.Causes.{Rose};

@@ -1,7 +1,7 @@
 // The public calls of `auth_tables`.
-ghost use Rattle.std.specs.Prelude.{◌≡◌, ◌+◌, ◌<◌, ◌^◌, ℕ, List, None, Some, length, IfErr, IfOk, OnOk, option_copied};
-ghost use Rattle.auth_tables.specs.Keys.{bad_key_line, key_of, table_keys};
-ghost use Rattle.auth_tables.specs.Speaks.{bad_speak_line, names_in, names_of, table_speaks, may_speak};
+ghost use Rattle.std.specs.Prelude.{◌≡◌, ◌<◌, option_copied, ◌+◌, ◌^◌, ℕ, List, None, Some, length, IfErr, IfOk, OnOk};
+ghost use Rattle.auth_tables.specs.Keys.{key_of, bad_key_line, table_keys};
+ghost use Rattle.auth_tables.specs.Speaks.{names_of, may_speak, bad_speak_line, names_in, table_speaks};
 ghost use Rattle.auth_tables.specs.declared.lines.TableFault.TheVariants.{Line};
 
 use auth_tables::{AsKey, KeyTable, SpeaksTable, TableFault};

@@ -1,11 +1,10 @@
 // The public calls of `wire_base`.
 ghost use Rattle.std.specs.Int.{w16, w32, to_le_bytes};
-ghost use Rattle.std.specs.Prelude.{◌≡◌, ◌++◌, length, take, IfOk, OnOk, OnErr, ◌≤◌, ◌↔◌, ◌<◌, IsSome, IfSome, ◌+◌, ◌-◌, ◌||◌, ℕ, eqb, true};
+ghost use Rattle.std.specs.Prelude.{◌≡◌, ◌++◌, OnOk, OnErr, take, ◌≤◌, length, ◌↔◌, ◌<◌, IsSome, IfSome, ◌-◌, ◌+◌, ◌||◌, ℕ, eqb, true, IfOk};
 ghost use Rattle.wire_base.specs.Names.{IsName};
-ghost use Rattle.wire_base.specs.Readers.{number, string, value_of, spelled, Finds, block, no_more};
+ghost use Rattle.wire_base.specs.Readers.{number, value_of, spelled, Finds, block, string, no_more};
 ghost use Rattle.wire_base.specs.Spans.{has_number};
 ghost use Rattle.wire_base.specs.Texts.{is_text};
-ghost use Rattle.wire_base.specs.declared.reader.CodecFault.TheVariants.{NoMemory};
 
 use std::alloc::Global;
 use wire_base::{BadField, Bytes, Name, NoMemory, Ranges, Text};

@@ -3,9 +3,11 @@
 //! public calls, is refused by the real contract. Nothing stands on it.
 #![tactic(auto)]
 
+pub mod answers_heard;
 pub mod blocks;
 pub mod bytes_and_fields;
 pub mod messages;
+pub mod outside;
 pub mod printed;
 pub mod questions_and_lines;
 pub mod rpc_texts;

@@ -3,7 +3,7 @@ ghost use Rattle.std.specs.Prelude.{◌≡◌, ◌<◌, Err, IfOk, Ok, ◌+◌, 
 ghost use Rattle.nine.specs.Decoded.{Decodes, HasType, r_takes_memory, t_takes_memory};
 ghost use Rattle.nine.specs.Decoding.{IsFrame, r_reading, t_reading};
 ghost use Rattle.nine.specs.Framing.{HasHandedOut};
-ghost use Rattle.nine.specs.Messages.{r_given, IsReply, t_given, IsRequest, frame, r_frame, t_frame};
+ghost use Rattle.nine.specs.Messages.{r_given, IsReply, t_given, IsRequest, r_frame, t_frame};
 ghost use Rattle.nine.specs.declared.message.RBody.TheVariants as r;
 ghost use Rattle.nine.specs.declared.message.RMsg.{RMsg};
 ghost use Rattle.nine.specs.declared.message.TBody.TheVariants as t;

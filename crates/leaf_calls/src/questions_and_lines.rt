@@ -1,8 +1,8 @@
 // The public calls of `side_files`.
-ghost use Rattle.std.specs.Prelude.{◌≡◌, None, ◌+◌, ◌-◌, ◌^◌, ◌<◌, Some, IfErr, IfOk, OnOk, OnErr};
+ghost use Rattle.std.specs.Prelude.{◌≡◌, ◌-◌, ◌<◌, ◌+◌, ◌^◌, IfOk, OnOk, OnErr, None, Some, IfErr};
 ghost use Rattle.side_files.specs.Decimals.{number_of};
 ghost use Rattle.side_files.specs.Logs.{pushed};
-ghost use Rattle.side_files.specs.Questions.{next_line, asked_by, asker_of, first_conv, replied, standing, withdrawn};
+ghost use Rattle.side_files.specs.Questions.{asker_of, next_line, asked_by, replied, withdrawn, first_conv, standing};
 ghost use Rattle.side_files.specs.Reading.{question_of};
 ghost use Rattle.side_files.specs.Replies.{reply_of};
 

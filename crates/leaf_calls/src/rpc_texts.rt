@@ -1,5 +1,5 @@
 // The public calls of `rpc_file`.
-ghost use Rattle.std.specs.Prelude.{◌≡◌, ◌++◌, length, OnOk, OnErr, nat_le};
+ghost use Rattle.std.specs.Prelude.{◌≡◌, ◌++◌, OnOk, OnErr, nat_le, length};
 ghost use Rattle.rpc_file.specs.Answers.{answer_text};
 ghost use Rattle.rpc_file.specs.Requests.{Reads};
 

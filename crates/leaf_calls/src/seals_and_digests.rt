@@ -1,7 +1,7 @@
 // The public calls of `sealing`.
-ghost use Rattle.std.specs.Prelude.{◌≡◌, ◌↔◌, ◌-◌, ◌≤◌, ◌++◌, length, Some, OnOk, OnErr, ◌%◌, ◌<◌, All, count_ones, ◌+◌, Ok, Err, ℕ, ◌≢◌};
+ghost use Rattle.std.specs.Prelude.{◌≡◌, ◌↔◌, ◌-◌, ◌++◌, OnOk, OnErr, Some, ◌%◌, All, count_ones, Ok, ◌≤◌, length, ℕ, ◌≢◌, Err};
 ghost use Rattle.sealing.specs.Answer.{apop_digits, cram_digits};
-ghost use Rattle.sealing.specs.Authenticator.{IsAuthenticator, authenticator_of, authenticator_text};
+ghost use Rattle.sealing.specs.Authenticator.{authenticator_of, authenticator_text, IsAuthenticator};
 ghost use Rattle.sealing.specs.Fields.{FirstBad};
 ghost use Rattle.sealing.specs.Hmac.{hmac};
 ghost use Rattle.sealing.specs.Info.{IsInfo, info_text};
@@ -9,7 +9,7 @@ ghost use Rattle.sealing.specs.Keys.{expanded, key_number, number_without_parity
 ghost use Rattle.sealing.specs.Passwords.{password_key};
 ghost use Rattle.sealing.specs.Request.{request_of, request_text};
 ghost use Rattle.sealing.specs.Sealing.{opened, sealed};
-ghost use Rattle.sealing.specs.Ticket.{IsTicket, ticket_names, ticket_of, ticket_text};
+ghost use Rattle.sealing.specs.Ticket.{ticket_of, ticket_text, IsTicket, ticket_names};
 ghost use Rattle.sealing.specs.declared.authenticator.Authenticator.{Authenticator};
 ghost use Rattle.sealing.specs.declared.fault.FieldFault.{FieldFault};
 ghost use Rattle.sealing.specs.declared.fault.FieldFault.TheVariants.{Short};

@@ -1,9 +1,9 @@
 // The public calls of `wire_streams`.
 ghost use Rattle.std.specs.Io.KnownBytes.{Consumes, IsAtEnd};
-ghost use Rattle.std.specs.Prelude.{◌≡◌, ◌<◌, ◌≤◌, IfErr, IfOk, OnErr, OnOk, is_err, length, vec_len};
+ghost use Rattle.std.specs.Prelude.{◌<◌, ◌≤◌, IfErr, IfOk, OnOk, vec_len, ◌≡◌, OnErr, is_err, length};
 ghost use Rattle.wire_streams.specs.Causes.{CountsOutcome};
 ghost use Rattle.wire_streams.specs.Streams.{Gains};
-ghost use Rattle.wire_streams.specs.Whole.{GainsFront, TakesBefore, reading_failed};
+ghost use Rattle.wire_streams.specs.Whole.{TakesBefore, reading_failed, GainsFront};
 
 use std::alloc::Global;
 use wire_streams::{Sink, Source, WholeFault, WriteFault};

@@ -1,8 +1,8 @@
 // The public calls of `file_tree`.
-ghost use Rattle.std.specs.Prelude.{◌≡◌, ◌≤◌, ◌++◌, Err, IfSome, Some, None, OnOk, OnErr, ok_or};
-ghost use Rattle.file_tree.specs.Calls.{at_rest, dir_fault, node_of, open_fault, attach_fault, reads, walk_fault, writes};
+ghost use Rattle.std.specs.Prelude.{◌≡◌, Err, IfSome, Some, OnOk, OnErr, None, ok_or, ◌≤◌, ◌++◌};
+ghost use Rattle.file_tree.specs.Calls.{at_rest, node_of, open_fault, attach_fault, walk_fault, writes, reads, dir_fault};
 ghost use Rattle.file_tree.specs.Faults.{Answers, answered};
-ghost use Rattle.file_tree.specs.Held.{attach_refusal, fid_at, fresh, held_in, moved, node_at, state_at, walk_refusal, Becomes};
+ghost use Rattle.file_tree.specs.Held.{attach_refusal, fresh, Becomes, fid_at, moved, node_at, walk_refusal, state_at, held_in};
 ghost use Rattle.file_tree.specs.Stats.{record_of};
 ghost use Rattle.file_tree.specs.Tree.{lead_to, visited, step};
 ghost use Rattle.file_tree.specs.declared.fault.FidFault.TheVariants.{UnknownFid};

@@ -1,5 +1,5 @@
 // The public calls of `attr_tuples`.
-ghost use Rattle.std.specs.Prelude.{◌≡◌, option_map, ◌+◌, ◌<◌, ◌≤◌, ◌∷◌, IfSome, length, codes, Err, false, IfOk, ◌++◌, OnOk, OnErr, drop};
+ghost use Rattle.std.specs.Prelude.{◌≡◌, option_map, ◌+◌, ◌<◌, ◌≤◌, ◌∷◌, IfSome, length, codes, Err, false, ◌++◌, OnOk, OnErr, drop, IfOk};
 ghost use Rattle.std.specs.Str.{bytes_eq};
 ghost use Rattle.attr_tuples.specs.Attributes.{is_secret};
 ghost use Rattle.attr_tuples.specs.Cutting.{bytes_left, lines_left, text_lines};
@@ -8,11 +8,11 @@ ghost use Rattle.attr_tuples.specs.Forms.{is_user, is_dom};
 ghost use Rattle.attr_tuples.specs.Giving.{gives, gives_once};
 ghost use Rattle.attr_tuples.specs.Grammar.{tuple_of, Answers};
 ghost use Rattle.attr_tuples.specs.Lines.{line_len, is_line};
-ghost use Rattle.attr_tuples.specs.Matching.{has_name, matches, value_of};
+ghost use Rattle.attr_tuples.specs.Matching.{matches, has_name, value_of};
 ghost use Rattle.attr_tuples.specs.Merging.{merged, Merges};
 ghost use Rattle.attr_tuples.specs.Printing.{printed_text, public_text};
 ghost use Rattle.attr_tuples.specs.Taking.{Takes};
-ghost use Rattle.attr_tuples.specs.Words.{value_text, first_word, gap_len};
+ghost use Rattle.attr_tuples.specs.Words.{value_text, gap_len, first_word};
 ghost use Rattle.attr_tuples.specs.declared.fault.MergeFault.TheVariants.{TooMany};
 ghost use Rattle.attr_tuples.specs.declared.fault.TupleFault.TheVariants.{NotText};
 
