@@ -1,0 +1,45 @@
+// The public calls of `world_history`.
+ghost use Rattle.std.specs.Prelude.{◌≡◌, option_map, slice_get, length, IfOk, ◌<◌};
+ghost use Rattle.world_history.specs.Servers.{is_next, IsToldBy};
+ghost use Rattle.world_history.specs.Worlds.{messages_in};
+ghost use Rattle.world_scripts.specs.Scripts.{script_lines};
+
+use std::alloc::Global;
+use wire_base::NoMemory;
+use world_history::{Record, Tables};
+
+/// As `Record::message`.
+pub fn record_message<'x>(record: &'x Record, number: u32) -> Option<&'x [u8]>
+    ensures { option_map (λ bytes. bytes.now) result
+        ≡ slice_get (messages_in record.now) number }
+{
+    record.message(number)
+}
+
+/// As `Record::next_message`.
+pub fn record_next_message(record: &Record) -> Result<u32, NoMemory>
+    ensures { IfOk result (λ number. number ≡ length (messages_in record.now)) }
+{
+    record.next_message()
+}
+
+/// As `Tables::refuses_key`.
+pub fn tables_refuses_key(tables: &Tables, before: u32) -> bool
+    ensures { result ≡ is_next tables.now.bad_key before }
+{
+    tables.refuses_key(before)
+}
+
+/// As `Tables::refuses_speak`.
+pub fn tables_refuses_speak(tables: &Tables, before: u32) -> bool
+    ensures { result ≡ is_next tables.now.bad_speak before }
+{
+    tables.refuses_speak(before)
+}
+
+/// As `read_tables`.
+pub fn read_tables(alloc: Global, script: &[u8]) -> Result<Tables, NoMemory>
+    ensures { IfOk result (λ tables. IsToldBy (script_lines script.now) tables) }
+{
+    world_history::read_tables(alloc, script)
+}
