@@ -6,8 +6,8 @@ Written by hand from the manual's words (Plan 9: factotum(4)) and the texts of r
 project's own code is used.
 """
 from agent import A, V, clunk, error, flush, opened, rclunk, read, remove, rflush, rread, rversion, rwrite, version, write
-from logins import (ANN, ANN_KEY, ANSWER, CHC, CHS, CLIENT, EVE, KN, MINE, NAMES, NEEDS, OTHER, QUESTION, SERVER, SHOWN, SRV, SRV_KEY, THEIRS,
-                    WIDE, ASKED, Session, client, main, one, proof, ticket, treq)
+from logins import (ANN, ANN_KEY, ANSWER, CHC, CHS, CLIENT, EVE, KN, MINE, NAMES, NEEDS, OTHER, QUESTION, SERVER, SHOWN, SRV,
+                    SRV_KEY, THEIRS, WIDE, ASKED, Session, client, main, one, proof, ticket, treq)
 from whole_logins import CHALLENGE, DIGITS, OFFER, mail_question, mail_start, vouch
 
 DENIED = "error confirmation denied"

@@ -21,8 +21,8 @@ connection's, a call's or none), what is given and what has to come:
 import sys
 from contextlib import contextmanager
 
-from agent import (A, V, attach, clunk, error, flush, frame, opened, open_, print_sessions, rattach, rclunk, read, remove, rflush, ropen,
-                   rread, rversion, rwrite, stat, version, walk, write, at)
+from agent import (A, V, attach, clunk, error, flush, frame, opened, open_, print_sessions, rattach, rclunk, read, remove, rflush,
+                   ropen, rread, rversion, rwrite, stat, version, walk, write, at)
 from passwords import pass_to_key
 from sealing import expand, seal
 from tickets_text import field
@@ -41,7 +41,7 @@ class Session:
 
     @contextmanager
     def group(self):
-        """These steps stand on one line."""
+        """These steps belong together."""
         outer, self.grouped = self.grouped, True
         if not outer and len(self.lines[-1]) != 1:
             self.lines.append([])

@@ -296,7 +296,8 @@ class Writer:
         if word:
             self.rows.append("word " + " ".join(self.names.words(word)))
 
-    def read_bytes(self, tag, reply):
+    @staticmethod
+    def read_bytes(tag, reply):
         """What a reply to this tag has read, or None."""
         if len(reply) < 11 or reply[4:7] != struct.pack("<BH", 117, tag):
             return None

@@ -598,7 +598,8 @@ TABLES = [
 NAMED = {
     "CHC": CHC, "CHS": CHS, "OTHER": OTHER, "WORDS": WORDS, "LIST": LIST, "CHOICE": CHOICE, "CONSENT": CONSENT, "ASKED": ASKED,
     "REFUSAL": REFUSAL, "OFFER": OFFER, "CHALLENGE": CHALLENGE, "VOUCH": vouch(), "INFO": INFO, "PROVED": PROVED,
-    "MINE": granted()[0], "THEIRS": granted()[1], "CLIENTS_PROOF": proof(KN, 67, CHS), "OTHER_WORDS": OTHER + bytes(16), "QUESTION": treq(CHS, b"ann", b"ann"), "GRANT": grant(), "SHOWN": shown(),
+    "MINE": granted()[0], "THEIRS": granted()[1], "CLIENTS_PROOF": proof(KN, 67, CHS), "OTHER_WORDS": OTHER + bytes(16),
+    "QUESTION": treq(CHS, b"ann", b"ann"), "GRANT": grant(), "SHOWN": shown(),
     "QUESTION_FOR_BOB": treq(CHS, b"ann", b"bob"), "GRANT_FOR_BOB": grant(b"bob"), "SHOWN_FOR_BOB": shown(b"bob"),
     "INFO_FOR_BOB": authinfo(b"ann", b"bob", KN),
     **{proto.upper() + "_DIGITS": DIGITS[proto] for proto in KINDS},
