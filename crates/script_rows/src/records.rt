@@ -1,6 +1,5 @@
 // Rows of records: the lines of their steps, and messages by their numbers.
 use crate::came::Came;
-use crate::memory::sink_of;
 use crate::steps::step_of;
 use crate::texts::number_at;
 use anyhow::bail;
@@ -58,7 +57,9 @@ impl Recorder {
     }
 
     fn play_put(&mut self, alloc: Global, row: &Row, came: &mut Came) -> anyhow::Result<()> {
-        let mut sink = sink_of(alloc, b"", number_at(row, 1)?)?;
+        let mut fails = Vec::new(alloc);
+        fails.push(number_at(row, 1)?)?;
+        let mut sink = MemSink::new(Vec::new(alloc), fails);
         self.put(alloc, &mut sink, came)
     }
 
