@@ -1,12 +1,11 @@
 // The calls of a conversation, as rows have them.
 use crate::messages::Messages;
 use crate::play_fault::PlayFault;
-use crate::probe::Probe;
 use attr_tuples::{Tuple, parse_tuple};
 use conv_challenge::ChConv;
 use conv_p9any::AnyConv;
 use conv_p9sk1::SkConv;
-use roles::{Gave, Machine, SkKey, StartFault, fits_start};
+use roles::{Gave, Machine, Offered, SkKey, StartFault, fits_start};
 use row_files::Row;
 use sealing::Key7;
 use std::alloc::Global;
@@ -42,7 +41,7 @@ impl Conversation for ChConv {
     }
 }
 
-impl Conversation for AnyConv<Probe> {
+impl<M: Offered + Drop> Conversation for AnyConv<M> {
     fn offer(&mut self, list: Bytes) -> Option<Gave> {
         Some(self.with_offers(list))
     }
