@@ -7,6 +7,9 @@ mod ciphers;
 mod counted_ring;
 mod fids;
 mod fields;
+mod framing;
+mod lines;
+mod messages;
 mod nodes;
 mod prompts;
 mod requests;
@@ -21,7 +24,7 @@ use std::alloc::Global;
 use std::fs;
 use std::process::ExitCode;
 
-static FILES: [&str; 16] = [
+static FILES: [&str; 21] = [
     "tuples.rows",
     "requests.rows",
     "prompts.rows",
@@ -38,6 +41,11 @@ static FILES: [&str; 16] = [
     "ciphers.rows",
     "tickets.rows",
     "names.rows",
+    "messages.rows",
+    "frames.rows",
+    "framing.rows",
+    "lines.rows",
+    "shown.rows",
 ];
 
 // Plays the rows of a file.
@@ -54,6 +62,9 @@ fn play(alloc: Global, file: &str, rows: &[Row], report: &mut Report) -> anyhow:
             ciphers::play(alloc, file, rows, report)
         }
         "tickets.rows" | "names.rows" => tickets::play(alloc, file, rows, report),
+        "messages.rows" | "frames.rows" => messages::play(alloc, file, rows, report),
+        "framing.rows" => framing::play(alloc, file, rows, report),
+        "lines.rows" | "shown.rows" => lines::play(alloc, file, rows, report),
         _ => bail!("{file} has no player"),
     }
 }
