@@ -88,11 +88,22 @@ fn seal_counted(alloc: Global, key: &Key7, count: u64, came: &mut Came) -> anyho
             text.push(number)?;
         }
     }
+    seal_whole(key, text.as_mut_slice(), came)?;
+    open_whole(key, text.as_mut_slice(), came)
+}
+
+fn seal_whole(key: &Key7, text: &mut [u8], came: &mut Came) -> anyhow::Result<()> {
     if text.len() < 8 {
         bail!("a seal has eight bytes or more");
     }
-    seal(key, text.as_mut_slice());
-    came.digits(text.as_slice())?;
-    open_seal(key, text.as_mut_slice());
-    came.digits(text.as_slice())
+    seal(key, text);
+    came.digits(text)
+}
+
+fn open_whole(key: &Key7, text: &mut [u8], came: &mut Came) -> anyhow::Result<()> {
+    if text.len() < 8 {
+        bail!("a seal has eight bytes or more");
+    }
+    open_seal(key, text);
+    came.digits(text)
 }

@@ -302,14 +302,16 @@ fn walk_in_halves(
 ) -> anyhow::Result<()> {
     let names = words_of(alloc, words)?;
     match fids.may_walk(alloc, fid, newfid, names.as_slice()) {
-        Ok((nodes, Some(end))) => {
+        Ok(walked) => {
+            let (nodes, end) = walked;
             files(nodes.as_slice(), came)?;
             came.shown(&end)?;
             tell_state(fids.file_of(newfid), came)?;
-            fids.mark_walked(newfid, end)?;
+            if let Some(node) = end {
+                fids.mark_walked(newfid, node)?;
+            }
             tell_state(fids.file_of(newfid), came)
         }
-        Ok((nodes, None)) => files(nodes.as_slice(), came),
         Err(fault) => Ok(came.bytes(fault.text())?),
     }
 }

@@ -246,25 +246,39 @@ fn put_text(tag: u16, row: &Row, out: &mut Bytes) -> anyhow::Result<()> {
 // Appends the reply of a row, as a message.
 fn encode(alloc: Global, row: &Row, out: &mut Bytes) -> anyhow::Result<()> {
     let tag = tag_at(row, 2)?;
-    let body = match text_at(row, 1) {
-        "version" => return encode_version(alloc, tag, row, out),
-        "walk" => return encode_walk(alloc, tag, row, out),
-        "read" => return encode_read(alloc, tag, bytes_at(row, 3), out),
-        "error" => return encode_error(alloc, tag, bytes_at(row, 3), out),
-        "attach" => RBody::Attach {
-            qid: qid_at(row, 3)?,
-        },
-        "open" => RBody::Open {
-            qid: qid_at(row, 3)?,
-            iounit: word_at(row, 4)?,
-        },
-        "write" => RBody::Write {
-            count: word_at(row, 3)?,
-        },
-        "clunk" => RBody::Clunk,
+    match text_at(row, 1) {
+        "version" => encode_version(alloc, tag, row, out),
+        "walk" => encode_walk(alloc, tag, row, out),
+        "read" => encode_read(alloc, tag, bytes_at(row, 3), out),
+        "error" => encode_error(alloc, tag, bytes_at(row, 3), out),
+        _ => encode_plain(tag, row, out),
+    }
+}
+
+// The same of a reply without a text.
+fn encode_plain(tag: u16, row: &Row, out: &mut Bytes) -> anyhow::Result<()> {
+    match text_at(row, 1) {
+        "attach" => {
+            let qid = qid_at(row, 3)?;
+            let body = RBody::Attach { qid };
+            Ok(encode_r(&RMsg { tag, body }, out)?)
+        }
+        "open" => {
+            let (qid, iounit) = (qid_at(row, 3)?, word_at(row, 4)?);
+            let body = RBody::Open { qid, iounit };
+            Ok(encode_r(&RMsg { tag, body }, out)?)
+        }
+        "write" => {
+            let count = word_at(row, 3)?;
+            let body = RBody::Write { count };
+            Ok(encode_r(&RMsg { tag, body }, out)?)
+        }
+        "clunk" => {
+            let body = RBody::Clunk;
+            Ok(encode_r(&RMsg { tag, body }, out)?)
+        }
         _ => bail!("no such reply"),
-    };
-    Ok(encode_r(&RMsg { tag, body }, out)?)
+    }
 }
 
 fn encode_version(alloc: Global, tag: u16, row: &Row, out: &mut Bytes) -> anyhow::Result<()> {

@@ -46,8 +46,14 @@ fn answer(alloc: Global, row: &Row, came: &mut Came) -> anyhow::Result<()> {
         }
         "write-info" => info(alloc, row, came),
         "read-info" => read_one_info(bytes_at(row, 1), came),
-        "name-of-4" => tell_name::<4>(bytes_at(row, 1), came),
-        "name-of-8" => tell_name::<8>(bytes_at(row, 1), came),
+        "name-of-4" => match Name::<4>::from_text(bytes_at(row, 1)) {
+            Some(name) => tell_name(name.text(), came),
+            None => Ok(came.word("none")?),
+        },
+        "name-of-8" => match Name::<8>::from_text(bytes_at(row, 1)) {
+            Some(name) => tell_name(name.text(), came),
+            None => Ok(came.word("none")?),
+        },
         _ => Ok(came.word("no such verb")?),
     }
 }
@@ -59,16 +65,10 @@ fn name_at<const N: usize>(row: &Row, at: usize) -> anyhow::Result<Name<N>> {
     }
 }
 
-// The name of a field of so many bytes.
-fn tell_name<const N: usize>(text: &[u8], came: &mut Came) -> anyhow::Result<()> {
-    match Name::<N>::from_text(text) {
-        Some(name) => {
-            came.word("name")?;
-            came.bytes(name.text())?;
-        }
-        None => came.word("none")?,
-    }
-    Ok(())
+// A name of a field.
+fn tell_name(name: &[u8], came: &mut Came) -> anyhow::Result<()> {
+    came.word("name")?;
+    Ok(came.bytes(name)?)
 }
 
 fn write_request(row: &Row, came: &mut Came) -> anyhow::Result<()> {
