@@ -3,6 +3,7 @@
 //! isn't as wanted.
 #![tactic(auto)]
 
+mod basics;
 mod ciphers;
 mod counted_ring;
 mod fids;
@@ -14,8 +15,11 @@ mod nodes;
 mod prompts;
 mod requests;
 mod rings;
+mod std_streams;
+mod streams;
 mod tickets;
 mod told_lines;
+mod trees;
 mod tuples;
 
 use anyhow::bail;
@@ -24,7 +28,11 @@ use std::alloc::Global;
 use std::fs;
 use std::process::ExitCode;
 
-static FILES: [&str; 21] = [
+static FILES: [&str; 25] = [
+    "basics.rows",
+    "words.rows",
+    "streams.rows",
+    "trees.rows",
     "tuples.rows",
     "requests.rows",
     "prompts.rows",
@@ -65,6 +73,9 @@ fn play(alloc: Global, file: &str, rows: &[Row], report: &mut Report) -> anyhow:
         "messages.rows" | "frames.rows" => messages::play(alloc, file, rows, report),
         "framing.rows" => framing::play(alloc, file, rows, report),
         "lines.rows" | "shown.rows" => lines::play(alloc, file, rows, report),
+        "basics.rows" | "words.rows" => basics::play(alloc, file, rows, report),
+        "streams.rows" => streams::play(alloc, file, rows, report),
+        "trees.rows" => trees::play(alloc, file, rows, report),
         _ => bail!("{file} has no player"),
     }
 }
