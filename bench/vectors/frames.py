@@ -1,16 +1,16 @@
 #!/usr/bin/env python3
-"""Makes the frames of the tests of nine, nine_print and nine_show, with what is known of each.
+"""Makes the frames of the cases of nine, nine_print and nine_show, with what is known of each.
 
 Written from the layout of section 5 of the Plan 9 manual (intro(5): size[4] type[1] tag[2], numbers little-endian,
 s is a length of two bytes and so many bytes of UTF-8 without NUL). It shares nothing with the proved code.
 
-usage: frames.py table   prints the table of the tests of nine
-       frames.py names   says what each row of it is
-       frames.py shown   prints the table of the tests of nine_print
-       frames.py stream  writes the stored input of nine_show
-       frames.py lines   prints what nine_show has to print of it
+usage: frames.py rows CRATE   writes frames.rows and shown.rows into the data of the program of rows
+       frames.py stream       writes the stored input of nine_show
+       frames.py lines        prints what nine_show has to print of it
 """
 import sys
+
+import row_fields as rows
 
 
 def le(number: int, size: int) -> bytes:
@@ -101,15 +101,15 @@ def starts(name: str, fields: list[bytes]) -> list[tuple[int, int]]:
 
 def table() -> list[tuple[str, bytes, int | None]]:
     """A name, a frame, and the place of its first fault: None where it is a message."""
-    rows: list[tuple[str, bytes, int | None]] = []
+    found: list[tuple[str, bytes, int | None]] = []
     for name, kind, tag, fields in VALID:
-        rows.append((name, frame(kind, tag, *fields), None))
+        found.append((name, frame(kind, tag, *fields), None))
     for name, kind, tag, fields in VALID:
         whole = b"".join(fields)
         for begin, end in starts(name, fields):
             # cut in front of its last byte
-            rows.append((f"{name} cut at {end - 1}", frame(kind, tag, whole[:end - 1]), 7 + begin))
-        rows.append((f"{name} and a byte", frame(kind, tag, whole + b"\0"), 7 + len(whole)))
+            found.append((f"{name} cut at {end - 1}", frame(kind, tag, whole[:end - 1]), 7 + begin))
+        found.append((f"{name} and a byte", frame(kind, tag, whole + b"\0"), 7 + len(whole)))
     for name, kind, tag, fields in VALID:
         whole = b"".join(fields)
         for at in STRINGS.get(name, []):
@@ -118,44 +118,51 @@ def table() -> list[tuple[str, bytes, int | None]]:
                 continue
             for what, byte in (("NUL", 0), ("0xff", 0xff)):
                 bad = whole[:at + 1 + size] + le(byte, 1) + whole[at + 2 + size:]
-                rows.append((f"{name} with {what} in the string at {at}", frame(kind, tag, bad), 7 + at))
+                found.append((f"{name} with {what} in the string at {at}", frame(kind, tag, bad), 7 + at))
     for count in (0, 16, 17):
         names = [s(b"a") for _ in range(count)]
-        rows.append((f"Twalk of {count} names", frame(110, 2, le(0, 4), le(1, 4), le(count, 2), *names), 15 if count > 16 else None))
-        rows.append((f"Rwalk of {count} qids", frame(111, 2, le(count, 2), *[qid(0, 0, n) for n in range(count)]), 7 if count > 16 else None))
+        found.append((f"Twalk of {count} names", frame(110, 2, le(0, 4), le(1, 4), le(count, 2), *names), 15 if count > 16 else None))
+        found.append((f"Rwalk of {count} qids", frame(111, 2, le(count, 2), *[qid(0, 0, n) for n in range(count)]), 7 if count > 16 else None))
     for count in (0, 0xffffffff):
-        rows.append((f"Tread of {count}", frame(116, 5, le(1, 4), le(0, 8), le(count, 4)), None))
-    rows.append(("Twrite whose count is one too many", frame(118, 4, le(1, 4), le(0, 8), le(3, 4), b"ab"), 19))
-    rows.append(("Twrite whose count is one too few", frame(118, 4, le(1, 4), le(0, 8), le(1, 4), b"ab"), 24))
-    rows.append(("Twrite whose count is 65538 and its content 2 bytes", frame(118, 4, le(1, 4), le(0, 8), le(65538, 4), b"ab"), 19))
-    rows.append(("Rread whose count is one too many", frame(117, 4, le(3, 4), b"ab"), 7))
-    rows.append(("Tversion of 9P2000.u", frame(100, NOTAG, le(8216, 4), s(b"9P2000.u")), None))
-    rows.append(("Rread of nothing", frame(117, 4, le(0, 4)), None))
-    rows.append(("Twrite of nothing", frame(118, 4, le(1, 4), le(0, 8), le(0, 4)), None))
+        found.append((f"Tread of {count}", frame(116, 5, le(1, 4), le(0, 8), le(count, 4)), None))
+    found.append(("Twrite whose count is one too many", frame(118, 4, le(1, 4), le(0, 8), le(3, 4), b"ab"), 19))
+    found.append(("Twrite whose count is one too few", frame(118, 4, le(1, 4), le(0, 8), le(1, 4), b"ab"), 24))
+    found.append(("Twrite whose count is 65538 and its content 2 bytes", frame(118, 4, le(1, 4), le(0, 8), le(65538, 4), b"ab"), 19))
+    found.append(("Rread whose count is one too many", frame(117, 4, le(3, 4), b"ab"), 7))
+    found.append(("Tversion of 9P2000.u", frame(100, NOTAG, le(8216, 4), s(b"9P2000.u")), None))
+    found.append(("Rread of nothing", frame(117, 4, le(0, 4)), None))
+    found.append(("Twrite of nothing", frame(118, 4, le(1, 4), le(0, 8), le(0, 4)), None))
     for kind in (0, 98, 99, 106, 128, 129, 254, 255):
-        rows.append((f"type {kind}", frame(kind, 1), 4))
-    return rows
+        found.append((f"type {kind}", frame(kind, 1), 4))
+    return found
 
 
-def literal(text: bytes) -> str:
-    shown = {0x22: '\\"', 0x5c: "\\\\"}
-    return 'b"' + "".join(shown.get(byte) or (chr(byte) if 0x20 <= byte < 0x7f else f"\\x{byte:02x}") for byte in text) + '"'
+def frames_rows() -> list[str]:
+    lines = [
+        "# Frames of 9P, made by bench/vectors/frames.py from section 5 of the Plan 9 manual: each message, cut in each of its fields,",
+        "# with a byte behind it, and with strings that are none.",
+        "#",
+        "# frame BYTES => message 4: a message, which is written as it was read, and in the other direction is refused at its type, at",
+        "# byte 4. frame BYTES => PLACE 4: none, with its first fault at this place.",
+        "",
+    ]
+    for name, bytes_, at in table():
+        lines.append(rows.row("frame", bytes_, wanted=("message" if at is None else at, 4), note=name))
+    return lines
 
 
-def print_table() -> None:
-    rows = table()
-    print(f"pub const COUNT: usize = {len(rows)};")
-    print()
-    print('pub const FRAMES: &[u8] = b"\\')
-    for number, (_, bytes_, at) in enumerate(rows):
-        row = literal(le(0xffffffff if at is None else at, 4) + bytes_)[2:-1]
-        row = "\\x20" + row[1:] if row[0] == " " else row
-        print(f"    {row}{chr(34) + ';' if number + 1 == len(rows) else chr(92)}")
-
-
-def print_names() -> None:
-    for number, (name, _, at) in enumerate(table()):
-        print(number, name, "is a message" if at is None else f"has its first fault at {at}")
+def shown_rows() -> list[str]:
+    lines = [
+        "# A stream of frames and its lines, made by bench/vectors/frames.py, the lines written by hand from the manual's fcall(2).",
+        "#",
+        "# show BYTES => Fine LINE: these come in a stream behind those before, and this line is shown for them.",
+        "",
+    ]
+    at = 0
+    for bytes_, line in SHOWN:
+        lines.append(rows.row("show", bytes_, wanted=("Fine", line.replace("{at}", str(at)) + "\n")))
+        at += len(bytes_)
+    return lines
 
 
 # The stored conversation of nine_show, and its lines, written out by hand from the manual's fcall(2).
@@ -199,28 +206,13 @@ SHOWN = [
 ]
 
 
-def main(word: str) -> None:
-    if word == "table":
-        print_table()
-    elif word == "names":
-        print_names()
-    elif word == "shown":
-        print('pub const STREAM: &[u8] = b"\\')
-        at = 0
-        text = []
-        for number, (bytes_, line) in enumerate(SHOWN):
-            row = literal(bytes_)[2:-1]
-            row = "\\x20" + row[1:] if row[0] == " " else row
-            print(f"    {row}{chr(34) + ';' if number + 1 == len(SHOWN) else chr(92)}")
-            text.append(literal(line.replace("{at}", str(at)).encode())[2:-1])
-            at += len(bytes_)
-        print()
-        print('pub const LINES: &[u8] = b"\\')
-        for number, line in enumerate(text):
-            print(f"    {line}\\n{chr(34) + ';' if number + 1 == len(text) else chr(92)}")
-    elif word == "stream":
+def main(words: list[str]) -> None:
+    if len(words) == 2 and words[0] == "rows":
+        rows.write(words[1], "frames.rows", frames_rows())
+        rows.write(words[1], "shown.rows", shown_rows())
+    elif words == ["stream"]:
         sys.stdout.buffer.write(b"".join(bytes_ for bytes_, _ in SHOWN))
-    elif word == "lines":
+    elif words == ["lines"]:
         at = 0
         for bytes_, line in SHOWN:
             print(line.replace("{at}", str(at)))
@@ -230,4 +222,4 @@ def main(word: str) -> None:
 
 
 if __name__ == "__main__":
-    main(sys.argv[1] if len(sys.argv) == 2 else "")
+    main(sys.argv[1:])

@@ -1,8 +1,11 @@
 #!/usr/bin/env python3
-"""Prints the known answers of the tests of keys, passwords and sealing.
+"""Writes the known answers of keys, passwords and sealing: passwords.py CRATE, the folder of the program of rows.
 
 Written from the manual's words (Plan 9: passtokey of authsrv(2)). It shares nothing with the proved code.
 """
+import sys
+
+import row_fields as rows
 from sealing import expand, seal
 
 
@@ -28,29 +31,31 @@ def pass_to_key(password: bytes) -> bytes:
     return key
 
 
-def literal(text: bytes) -> str:
-    return "[" + ", ".join(f"0x{byte:02x}" for byte in text) + "]"
-
-
 ALPHABET = b"abcdefghijklmnopqrstuvwxyz01"
 
 
-def main() -> None:
-    print("const PREFIX_KEYS: [(usize, [u8; 7]); 11] = [")
-    for n in [0, 1, 7, 8, 9, 15, 16, 17, 26, 27, 28]:
-        print(f"    ({n}, {literal(pass_to_key(ALPHABET[:n]))}),")
-    print("];")
-    print("const PASSWORD_KEYS: [(&[u8], [u8; 7]); 4] = [")
-    for name, password in [('b"password"', b"password"), ("&[0x61; 27]", b"a" * 27), ("&[0x61; 28]", b"a" * 28), ("&[0xff; 20]", b"\xff" * 20)]:
-        print(f"    ({name}, {literal(pass_to_key(password))}),")
-    print("];")
-    print("const EXPANDED: [([u8; 7], [u8; 8]); 4] = [")
+def main(folder: str) -> None:
+    lines = [
+        "# Keys of passwords and the seal, made by bench/vectors/passwords.py from the manual's words, over OpenSSL's DES.",
+        "#",
+        "# password PASSWORD => the key of seven bytes that a password stands for, in hexadecimal digits.",
+        "# expand KEY => the key of eight bytes with a bit of parity in each.",
+        "# seal KEY COUNT => SEALED OPENED: the bytes 0, 1, 2 .. sealed, and opened again.",
+        "",
+    ]
+    passwords = [ALPHABET[:n] for n in (0, 1, 7, 8, 9, 15, 16, 17, 26, 27, 28)]
+    for password in passwords + [b"password", b"a" * 27, b"a" * 28, b"\xff" * 20]:
+        lines.append(rows.row("password", password, wanted=(pass_to_key(password).hex(),)))
+    lines.append("")
     for key in [bytes(7), b"\xff" * 7, bytes.fromhex("f0f07c7e7fcbc9"), bytes.fromhex("0123456789abcd")]:
-        print(f"    ({literal(key)}, {literal(expand(key))}),")
-    print("];")
-    for n in [8, 13, 72]:
-        print(f"const SEALED_{n}: [u8; {n}] = {literal(seal(bytes.fromhex('f0f07c7e7fcbc9'), bytes(range(n))))};")
+        lines.append(rows.row("expand", key.hex(), wanted=(expand(key).hex(),)))
+    lines.append("")
+    for n in (8, 13, 72):
+        text = bytes(range(n))
+        key = bytes.fromhex("f0f07c7e7fcbc9")
+        lines.append(rows.row("seal", key.hex(), n, wanted=(seal(key, text).hex(), text.hex())))
+    rows.write(folder, "passwords.rows", lines)
 
 
 if __name__ == "__main__":
-    main()
+    main(sys.argv[1])

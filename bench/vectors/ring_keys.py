@@ -1,9 +1,12 @@
 #!/usr/bin/env python3
-"""Prints the DES keys of the tests of key_ring.
+"""Writes the DES keys of keys: ring_keys.py CRATE, the folder of the program of rows.
 
 Written from the manual's words (Plan 9: factotum(4), passtokey of authsrv(2)). It shares nothing with the proved code.
 """
-from passwords import literal, pass_to_key
+import sys
+
+import row_fields as rows
+from passwords import pass_to_key
 
 LINES = [
     "proto=p9sk1 dom=x user=ann !password=password",
@@ -26,7 +29,14 @@ def des_key(line: str) -> bytes:
     return pass_to_key(first["!password"].encode())
 
 
-print(f"const DES_KEYS: [(&str, [u8; 7]); {len(LINES)}] = [")
+lines = [
+    "# The DES keys of keys, made by bench/vectors/ring_keys.py: of digits or of a password.",
+    "#",
+    "# ring: a new one, without keys.",
+    "# key KEY => Ok(1) 1: it is added under number 1, and is the only one.",
+    "# des => its DES key, in hexadecimal digits.",
+    "",
+]
 for line in LINES:
-    print(f'    (\n        "{line}",\n        {literal(des_key(line))},\n    ),')
-print("];")
+    lines += ["ring", rows.row("key", line, wanted=("Ok(1)", 1)), rows.row("des", wanted=(des_key(line).hex(),))]
+rows.write(sys.argv[1], "ring_keys.rows", lines)

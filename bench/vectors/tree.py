@@ -1,10 +1,13 @@
 #!/usr/bin/env python3
-"""Prints the known answers of the tests of the file tree and of the fids.
+"""Writes the known answers of the file tree and of the fids: tree.py CRATE, the folder of the program of rows.
 
 Written from section 5 of the Plan 9 manual (stat(5), read(5), walk(5)) and the table of files. It shares nothing with
 the proved code: the tree is a set of paths here.
 """
 import struct
+import sys
+
+import row_fields as rows
 
 FILES = {
     "/": (0, 0x80, 0x8000016D),
@@ -90,20 +93,52 @@ def trips() -> list[tuple[str, str]]:
     return rows
 
 
-if __name__ == "__main__":
-    print(f"const RECORDS: [(Node, &str); {len(FILES)}] = [")
+def first_name(path: str) -> str:
+    """The words that lead to a file from the root."""
+    return " ".join(path.split("/")[1:]).strip()
+
+
+def records_rows() -> list[str]:
+    lines = [
+        "# What is told of the files of the tree, made by bench/vectors/tree.py.",
+        "#",
+        "# record FILE => RECORD SIZE: the record by which a file is told, in hexadecimal digits, and its size.",
+        "# reads FILE COUNT => SIZE .. whole: reads of so many bytes of a directory, from its beginning to the first that gives",
+        "# nothing, give so many bytes, which are the whole of its records; or front, where they end before.",
+        "",
+    ]
     for path in FILES:
-        print(f'    (Node::{"Root" if path == "/" else name(path).capitalize()}, "{record(path).hex()}"),')
-    print("];")
-    rows = [(path, count) for path in DIRECTORIES for count in (0, 75, 76, 80, 81, 155, 156, 240, 465, 466, 8192)]
-    print(f"const READS: [(Node, u32, &[usize]); {len(rows)}] = [")
-    for path, count in rows:
-        print(f'    (Node::{"Root" if path == "/" else name(path).capitalize()}, {count}, &{reads(path, count)}),')
-    print("];")
-    rows = trips()
-    print(f"const WALKS: [(&str, &str, &str, &str); {len(rows)}] = [")
-    for start, way in rows:
+        lines.append(rows.row("record", name(path), wanted=(record(path).hex(), len(record(path)))))
+    lines.append("")
+    for path in DIRECTORIES:
+        whole = sum(len(record(each)) for each in inside(path))
+        for count in (0, 75, 76, 80, 81, 155, 156, 240, 465, 466, 8192):
+            sizes = reads(path, count)
+            end = "whole" if sum(sizes) == whole else "front"
+            lines.append(rows.row("reads", name(path), count, wanted=(*sizes, end)))
+    return lines
+
+
+def walks_rows() -> list[str]:
+    lines = [
+        "# Walks from every file, made by bench/vectors/tree.py: from every directory to every file, up and down and with no names,",
+        "# and with a name that isn't there at each place; from every file with no names, and with some.",
+        "#",
+        "# trip WAY NAMES => ANSWER NAMED ANSWER NAMED ANSWER NAMED: the names are walked from the file to which the way leads, which",
+        "# fid 1 names: onto a new fid, onto fid 0, which names the root, and onto fid 1 itself. Each answer is the names of the files",
+        "# that it comes to, or what refuses it; behind it stands what the fid names then.",
+        "",
+    ]
+    for start, way in trips():
         visited, refusal = walk(start, way.split())
-        begin = " ".join(start.split("/")[1:]).strip()
-        print(f'    ("{begin}", "{way}", "{" ".join(name(path) for path in visited)}", "{refusal}"),')
-    print("];")
+        answer = refusal or " ".join(name(path) for path in visited)
+        end = (visited or [start])[-1] if len(visited) == len(way.split()) else None
+        new = name(end) if end else "unknown fid"
+        wanted = (answer, new, "fid in use", "/", answer, name(end or start))
+        lines.append(rows.row("trip", first_name(start), way, wanted=wanted))
+    return lines
+
+
+if __name__ == "__main__":
+    rows.write(sys.argv[1], "records.rows", records_rows())
+    rows.write(sys.argv[1], "walks.rows", walks_rows())
