@@ -1,12 +1,11 @@
 // The public calls of `prompters`.
-ghost use Rattle.std.specs.Prelude.{◌≡◌, ◌<◌, IfOk, map};
+ghost use Rattle.std.specs.Prelude.{◌≡◌, ◌<◌, IfOk};
 ghost use Rattle.nine.specs.Decoding.{IsFrame};
 ghost use Rattle.nine.specs.Messages.{t_frame};
-ghost use Rattle.prompters.specs.Chains.{after_answer, word_of};
 ghost use Rattle.prompters.specs.Replies.{has_tag, is_refusal, question_read};
 ghost use Rattle.prompters.specs.Requests.{read_of, answer_text, write_of};
 
-use prompters::{Chain, Prompter, Say};
+use prompters::Say;
 use side_files::{PromptKind, Question};
 use std::alloc::Global;
 use wire_base::{Bytes, NoMemory};
@@ -31,15 +30,6 @@ pub fn write_request(
     ensures whole { IfOk result (λ frame. IsFrame frame) }
 {
     prompters::write_request(alloc, file, question, say)
-}
-
-/// As `Chain::answer`.
-pub fn chain_answer(chain: &mut Chain, q: &Question) -> Say
-    ensures word { result ≡ word_of q.now (map (λ b. (⟦<(dyn Prompter + Send) as Prompter>⟧ b.vtable).manner b.value) chain.old.list.items) }
-    ensures prompters { map (λ b. (⟦<(dyn Prompter + Send) as Prompter>⟧ b.vtable).manner b.value) chain.new.list.items
-        ≡ after_answer q.now (map (λ b. (⟦<(dyn Prompter + Send) as Prompter>⟧ b.vtable).manner b.value) chain.old.list.items) }
-{
-    chain.answer(q)
 }
 
 /// As `has_tag`.
