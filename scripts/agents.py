@@ -8,46 +8,39 @@ import struct
 import subprocess
 import tempfile
 import time
+from importlib.machinery import SourceFileLoader
+from importlib.util import module_from_spec, spec_from_loader
 
 TOP = os.path.realpath(os.path.join(os.path.dirname(__file__), ".."))
 
-NOFID, NOTAG = 0xFFFFFFFF, 0xFFFF
+
+def module_of_keys():
+    """The program factotum-keys as a module: its client of 9P2000 is that of these scripts."""
+    loader = SourceFileLoader("factotum_keys", os.path.join(TOP, "scripts", "factotum-keys"))
+    module = module_from_spec(spec_from_loader(loader.name, loader))
+    loader.exec_module(module)
+    return module
 
 
-def text(words):
-    return struct.pack("<H", len(words)) + words
+keys = module_of_keys()
 
 
-class Agent:
-    """A 9P2000 client of an agent: over a stream of bytes that is read and written by file objects."""
+class Agent(keys.Agent):
+    """A client of an agent that shows what it writes to rpc and reads there. A refusal ends the program."""
 
     def __init__(self, name, reads, writes):
-        self.name, self.reads, self.writes, self.fids = name, reads, writes, 0
-        self.ask(100, NOTAG, struct.pack("<I", 8216) + text(b"9P2000"))
-        self.ask(104, 1, struct.pack("<II", 0, NOFID) + text(name.encode()) + text(b""))
+        self.name = name
+        super().__init__(reads, writes)
 
-    def ask(self, kind, tag, body):
-        self.writes.write(struct.pack("<IBH", 7 + len(body), kind, tag) + body)
-        self.writes.flush()
-        size = struct.unpack("<I", self.reads.read(4))[0]
-        reply = self.reads.read(size - 4)
-        if reply[0] == 107:
-            raise SystemExit(f"{self.name}: refused: {reply[5:].decode()}")
-        return reply[3:]
-
-    def open(self, name):
-        self.fids += 1
-        self.ask(110, 1, struct.pack("<IIH", 0, self.fids, 2) + text(b"factotum") + text(name))
-        self.ask(112, 1, struct.pack("<IB", self.fids, 2))
-        return self.fids
-
-    def write(self, fid, content):
-        self.ask(118, 1, struct.pack("<IQI", fid, 0, len(content)) + content)
-
-    def read(self, fid):
-        return self.ask(116, 1, struct.pack("<IQI", fid, 0, 8192))[4:]
+    def content(self, wanted, kind, body):
+        """The body of a reply."""
+        try:
+            return super().content(wanted, kind, body)
+        except (keys.Refused, keys.Trouble) as fault:
+            raise SystemExit(f"{self.name}: refused: {fault}") from fault
 
     def rpc(self, fid, verb, content=None):
+        """The answer to a request of a conversation."""
         self.write(fid, verb if content is None else verb + b" " + content)
         answer = self.read(fid)
         shown = verb.decode() if content is None else f"{verb.decode()} {shortly(content)}"
@@ -56,6 +49,7 @@ class Agent:
         return answer
 
     def got(self, fid):
+        """What is to be sent to the other side."""
         answer = self.rpc(fid, b"read")
         if not answer.startswith(b"ok "):
             raise SystemExit(f"{self.name}: {answer!r}")
