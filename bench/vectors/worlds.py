@@ -1,18 +1,21 @@
 #!/usr/bin/env python3
-"""Writes the records of the scripts in crates/command_rows/data: worlds.py FOLDER puts NAME.record beside each NAME.script that is named here.
+"""Writes the records of the scripts in crates/command_rows/data and docs/worlds: worlds.py FOLDER puts NAME.record beside each
+NAME.script that is named here and stands in that folder.
 
-Written by hand from the manual's words (Plan 9: factotum(4), authsrv(6)), RFC 1939 and the form of a record; OpenSSL's DES seals,
+Written by hand from the manual's words (Plan 9: factotum(4), authsrv(6)), RFC 1939, RFC 2195 and the form of a record; OpenSSL's DES seals,
 and its MD5 makes the digits. A script is read here for its bytes alone: what each line comes to is told below, in order.
 """
 import hashlib
+import hmac
 import sys
+from collections.abc import Callable
 from pathlib import Path
 
 from passwords import pass_to_key
 from sealing import seal
 
 ANN, BOB, SRV, OTH = (pass_to_key(password) for password in (b"annpass", b"bobpass", b"srvpass", b"othpass"))
-TREQ, OK, COUNTED, APOP = 1, 4, 9, 7
+TREQ, OK, COUNTED, APOP, CRAM = 1, 4, 9, 7, 12
 TO_SERVER, TO_CLIENT, BY_SERVER, BY_CLIENT = 64, 65, 66, 67
 NO_WORD = bytes(8)
 
@@ -187,6 +190,46 @@ def guessed_password() -> Record:
     return record
 
 
+def p9sk1_login() -> Record:
+    record = Record()
+    mine, theirs = words(1, 2)
+    record.put("start", "c", "p9sk1", "client", mine)
+    record.put("start", "s", "p9sk1", "server", theirs)
+    record.login("c", "s", (mine, theirs), words(4, 3))
+    return record
+
+
+def mail_login(proto: str, kind: int, digits_of: Callable[[bytes], str]) -> Record:
+    """A mail login of ann at srv, whose digits are made of the challenge by a function."""
+    record = Record()
+    theirs, = words(2, 1)
+    first, second = words(3, 3), words(6, 3)
+    record.put("start", "s", proto, "server", theirs)
+    record.put("asgot", "r", record.give("ask", "s", request(kind, theirs, b"srv")), *first)
+    challenge = b"<" + first[0].hex().encode() + b"@x>"
+    record.put("heard", "s", record.give("asgave", "r", bytes([COUNTED]) + str(len(challenge)).encode().ljust(5) + challenge))
+    record.give("out", "s", challenge)
+    record.put("start", "c", proto, "client", NO_WORD)
+    record.put("in", "c", challenge)
+    digits = record.give("out", "c", digits_of(challenge).encode())
+    record.put("in", "s", b"ann")
+    record.put("in", "s", digits)
+    record.put("asgot", "r", record.give("ask", "s", request(kind, theirs, b"srv", b"ann") + digits), *second)
+    shared = second[0][:7]
+    vouch = bytes([OK]) + ticket(SRV, TO_SERVER, theirs, b"ann", shared) + proof(BY_CLIENT, theirs, shared)
+    record.put("heard", "s", record.give("asgave", "r", vouch))
+    record.put("accept", "s", "ann", "ann")
+    return record
+
+
+def apop_login() -> Record:
+    return mail_login("apop", APOP, lambda challenge: hashlib.md5(challenge + b"annpass").hexdigest())
+
+
+def cram_login() -> Record:
+    return mail_login("cram", CRAM, lambda challenge: hmac.new(b"annpass", challenge, "md5").hexdigest())
+
+
 RECORDS = {
     "mail_client": mail_client,
     "negotiated_login": negotiated_login,
@@ -195,6 +238,9 @@ RECORDS = {
     "turned_client": turned_client,
     "offer_taken_away": offer_taken_away,
     "guessed_password": guessed_password,
+    "p9sk1_login": p9sk1_login,
+    "apop_login": apop_login,
+    "cram_login": cram_login,
 }
 
 
