@@ -1,8 +1,9 @@
 # make alone lists what can be made.
 .POSIX:
-.PHONY: help build demo attacks test prove bench soak install uninstall clean
+.PHONY: help build demo attacks test prove bench soak install uninstall deb clean
 
 PREFIX = /usr/local
+VERSION = 0.1
 DESTDIR =
 
 help:
@@ -14,6 +15,7 @@ help:
 	@echo 'make bench   measures it and its codec beside plain C programs, the server and the ciphers beside OpenSSL'
 	@echo 'make soak    ten minutes of mixed load on two agents: no wrong reply, no growth, no thread left'
 	@echo 'make install puts programs, manual pages and systemd units under DESTDIR and PREFIX (make uninstall removes them)'
+	@echo 'make deb     makes a package for Debian out of them, and checks it where mmdebstrap and lintian are'
 	@echo 'make clean   removes what the others made'
 
 build:
@@ -59,6 +61,12 @@ install:
 
 uninstall:
 	@scripts/install --remove '$(DESTDIR)' '$(PREFIX)'
+
+deb: build
+	@scripts/deb '$(VERSION)'
+	@if command -v mmdebstrap >/dev/null 2>&1 && command -v lintian >/dev/null 2>&1; then \
+		scripts/check_deb "bin/boragegate_$(VERSION)_$$(dpkg --print-architecture).deb"; \
+	else echo 'it was not checked: install mmdebstrap and lintian, and run scripts/check_deb'; fi
 
 clean:
 	rm -rf bin crates/*/out
