@@ -2,7 +2,7 @@
 """Writes the clients of authsrv that the program command_rows serves from real files, with their tables, and the rows that say
 what each is answered, served_clients.rows: usage authsrv_rows.py [FOLDER].
 
-Written from the manual's words (Plan 9: the ticket request, the tickets and the errors of authsrv(6)) and docs/AUTHSRV.md.
+Written from the manual's words (Plan 9: the ticket request, the tickets and the errors of authsrv(6)) and authsrv(8) of man/.
 It shares nothing with the proved code.
 """
 import pathlib
