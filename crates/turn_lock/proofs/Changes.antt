@@ -1,38 +1,14 @@
--- What stays where one view changes, where a view comes, and where numbers or tickets go to another view.
+-- What stays where one view changes, where a view comes, and where numbers go to another view.
 use Rattle.std.proofs.Common.{◌≡◌, ◌≢◌, ℕ, suc, zero, ◌<◌, List, [], ◌∷◌, ◌++◌, length, set, true, false, cond, sym, refl, ap, ◌∙◌, subst, ⊎_elim, ◌⊎◌, inl, inr, arith}
 use mathlib.Core.Logic.{dite}
 use mathlib.Core.Option.{some, some-injective, some-ne-none}
 use native.Mathlib.Decide.{ℕ_discrete}
 use lib.ListN.{get_elem?}
 use Rattle.atomic_table.proofs.Lists.{at_set, set_here, set_else, at_longer}
-use Rattle.turn_lock.specs.declared.views.Stage.{Stage}
+use Rattle.turn_lock.specs.declared.views.Stage.TheVariants.{HasTurn}
 use Rattle.turn_lock.specs.declared.views.View.{View}
 use Rattle.turn_lock.specs.Fronts.{Front, among}
-use Rattle.turn_lock.specs.Rule.{IsAt, IsSeen}
-
-abbrev pick : {P : Type 0} → Dec P → ℕ → ℕ → ℕ
-pick (yes _) a b = a
-pick (no _) a b = b
-
--- the ticket t goes to the view j
-pub put : (ℕ → ℕ) → ℕ → ℕ → ℕ → ℕ
-put f t j n = pick (ℕ_discrete n t) j (f n)
-
-pub put_here : (f : ℕ → ℕ) (t j : ℕ) → put f t j t ≡ j
-unfolding put
-put_here f t j = go (ℕ_discrete t t)
-  where
-    go : (d : Dec (t ≡ t)) → pick d j (f t) ≡ j
-    go (yes _) = refl
-    go (no n) = absurd (n refl)
-
-pub put_else : (f : ℕ → ℕ) (t j n : ℕ) → n ≢ t → put f t j n ≡ f n
-unfolding put
-put_else f t j n other = go (ℕ_discrete n t)
-  where
-    go : (d : Dec (n ≡ t)) → pick d j (f n) ≡ f n
-    go (yes e) = absurd (other e)
-    go (no _) = refl
+use Rattle.turn_lock.specs.Rule.{HoldsTurn, IsSeen}
 
 -- the numbers ns go to the view j
 abbrev pub hand_over : (ℕ → ℕ) → List ℕ → ℕ → ℕ → ℕ
@@ -73,14 +49,14 @@ module _ {E : Type 0} where
       (λ (t : (j ≡ length vs) × (w ≡ d)). subst (λ (x : ℕ × View E). K x.0 x.1) (λ i. (sym t.0 i, t.1 i)) mine) (at_end vs w d j e)
 
   module _ (vs : List (View E)) (id : ℕ) (v w : View E) (at : get_elem? vs id ≡ some v) where
-    pub at_here : (is : Stage → Type 0) → is w.stage → IsAt (set vs id w) id is
-    at_here is here = (w, set_here vs id w (there vs id v at), here)
+    pub turn_here : w.stage ≡ HasTurn → HoldsTurn (set vs id w) id
+    turn_here here = (w, set_here vs id w (there vs id v at), here)
 
-    -- what is said of the stage of some view stays, if it stays of the changed one
-    pub at_set_view : (is : Stage → Type 0) (j : ℕ) → (is v.stage → is w.stage) → IsAt vs j is → IsAt (set vs id w) j is
-    at_set_view is j stays (d, e, here) = dite (ℕ_discrete j id)
+    -- who has the turn has it still, if the view that changes doesn't lose it
+    pub turn_set : (j : ℕ) → (v.stage ≡ HasTurn → w.stage ≡ HasTurn) → HoldsTurn vs j → HoldsTurn (set vs id w) j
+    turn_set j stays (d, e, here) = dite (ℕ_discrete j id)
         (λ (same : j ≡ id). let was : get_elem? vs id ≡ some d = subst (λ (k : ℕ). get_elem? vs k ≡ some d) same e in let is_v : d ≡ v = same_at vs id d v was at in
-        subst (λ (k : ℕ). IsAt (set vs id w) k is) (sym same) (at_here is (stays (subst (λ (x : View E). is x.stage) is_v here))))
+        subst (λ (k : ℕ). HoldsTurn (set vs id w) k) (sym same) (turn_here (stays (subst (λ (x : View E). x.stage ≡ HasTurn) is_v here))))
         (λ (ne : j ≢ id). (d, set_else vs id j w ne ∙ e, here))
 
     pub seen_set : (log : Front E) → ((v.seen.front ≡ log) ⊎ (v.told.front ≡ log) → (w.seen.front ≡ log) ⊎ (w.told.front ≡ log)) → IsSeen log vs → IsSeen log (set vs id w)
@@ -92,8 +68,8 @@ module _ {E : Type 0} where
     pub seen_here : (log : Front E) → w.seen.front ≡ log → IsSeen log (set vs id w)
     seen_here log is = (id, w, set_here vs id w (there vs id v at), inl is)
 
-  pub at_more : (vs : List (View E)) (w : View E) (is : Stage → Type 0) (j : ℕ) → IsAt vs j is → IsAt (vs ++ w ∷ []) j is
-  at_more vs w is j (d, e, here) = (d, at_longer vs (w ∷ []) j d e, here)
+  pub turn_more : (vs : List (View E)) (w : View E) (j : ℕ) → HoldsTurn vs j → HoldsTurn (vs ++ w ∷ []) j
+  turn_more vs w j (d, e, here) = (d, at_longer vs (w ∷ []) j d e, here)
 
   pub seen_more : (vs : List (View E)) (w : View E) (log : Front E) → IsSeen log vs → IsSeen log (vs ++ w ∷ [])
   seen_more vs w log (j, d, e, here) = (j, d, at_longer vs (w ∷ []) j d e, here)

@@ -1,10 +1,10 @@
 -- Fronts of one history, and whose entries stand in them.
-use Rattle.std.proofs.Common.{◌≡◌, ℕ, ◌<◌, ◌≤◌, List, [], ◌∷◌, ◌++◌, length, All, true, false, cond, ◌==◌, min, Option, Some, None, option_to_list, sym, refl, ap, ◌∙◌, subst, ⊎_elim, ◌⊎◌, inl, inr, arith, append_assoc, append-nil, length-append, true≢false, eq-eqb, eqb-true, le_of_eq, le_trans}
+use Rattle.std.proofs.Common.{◌≡◌, ℕ, ◌<◌, ◌≤◌, List, [], ◌∷◌, ◌++◌, length, All, true, false, cond, ◌==◌, min, sym, refl, ap, ◌∙◌, subst, ⊎_elim, ◌⊎◌, inl, inr, arith, append_assoc, append-nil, length-append, true≢false, eq-eqb, eqb-true, le_of_eq, le_trans}
 use mathlib.Core.Logic.{dite}
 use native.Mathlib.Decide.{dec_le}
 use Rattle.std.proofs.Math.Nat.{min-eq_left, min-eq_right, min-le_left, min-le_right}
 use Rattle.std.proofs.lemmas.Bool.{cases_Bool, or_left, or_right, or_cases, false_from_ne_true}
-use Rattle.std.proofs.lemmas.List.Elements.{All-head, All-tail, filter-append}
+use Rattle.std.proofs.lemmas.List.Elements.{All-cons, All-head, All-tail, filter-append}
 use Rattle.turn_lock.specs.declared.views.Entry.{Entry}
 use Rattle.turn_lock.specs.Fronts.{among, least_of, least, Front, events, own, made, Grows}
 
@@ -119,18 +119,28 @@ module _ {E : Type 0} where
   own_of_new count (x ∷ xs) h = let below = All-head (λ (entry : Entry E). entry.seat < count) x xs h in
       own_skip (count ∷ []) x xs (false_from_ne_true _ (λ e. let same = among_one count x.seat e in absurd (omega (arith, same, below)))) (own_of_new count xs (All-tail (λ (entry : Entry E). entry.seat < count) x xs h))
 
-  -- the entry that a turn makes is others' to all who don't have its number
-  pub made_of_others : (ns ms : List ℕ) (event : Option E) → among ms (least ns) ≡ false → own ms (made ns event) ≡ []
-  made_of_others ns ms None e = refl
-  made_of_others ns ms (Some event) e = own_skip ms (record { seat = least ns; event = event }) [] e refl
+  -- the entries that a turn makes are others' to all who don't have its number
+  pub made_of_others : (ns ms : List ℕ) (done : List E) → among ms (least ns) ≡ false → own ms (made ns done) ≡ []
+  made_of_others ns ms [] e = refl
+  made_of_others ns ms (event ∷ done) e = own_skip ms (record { seat = least ns; event = event }) (made ns done) e (made_of_others ns ms done e)
 
-  pub made_of_own : (ns : List ℕ) (event : Option E) → among ns (least ns) ≡ true → own ns (made ns event) ≡ made ns event
-  made_of_own ns None e = refl
-  made_of_own ns (Some event) e = ap (λ b. cond b (record { seat = least ns; event = event } ∷ []) []) e
+  pub made_of_own : (ns : List ℕ) (done : List E) → among ns (least ns) ≡ true → own ns (made ns done) ≡ made ns done
+  made_of_own ns [] e = refl
+  made_of_own ns (event ∷ done) e = let x : Entry E = record { seat = least ns; event = event } in
+      ap (λ b. cond b (x ∷ own ns (made ns done)) (own ns (made ns done))) e ∙ ap (λ (z : Front E). x ∷ z) (made_of_own ns done e)
 
-  pub made_events : (ns : List ℕ) (event : Option E) (xs : Front E) → events (made ns event ++ xs) ≡ option_to_list event ++ events xs
-  made_events ns None xs = refl
-  made_events ns (Some event) xs = refl
+  pub made_events : (ns : List ℕ) (done : List E) (xs : Front E) → events (made ns done ++ xs) ≡ done ++ events xs
+  made_events ns [] xs = refl
+  made_events ns (event ∷ done) xs = ap (λ (z : List E). event ∷ z) (made_events ns done xs)
+
+  pub events_made : (ns : List ℕ) (done : List E) → events (made ns done) ≡ done
+  events_made ns [] = refl
+  events_made ns (event ∷ done) = ap (λ (z : List E). event ∷ z) (events_made ns done)
+
+  -- what holds of the least number holds of each entry made
+  pub made_each : (P : ℕ → Type 0) (ns : List ℕ) (done : List E) (xs : Front E) → P (least ns) → All (λ (entry : Entry E). P entry.seat) xs → All (λ (entry : Entry E). P entry.seat) (made ns done ++ xs)
+  made_each P ns [] xs here all = all
+  made_each P ns (event ∷ done) xs here all = All-cons (λ (entry : Entry E). P entry.seat) (record { seat = least ns; event = event }) (made ns done ++ xs) here (made_each P ns done xs here all)
 
   pub grows_from_itself : (ns : List ℕ) (log : Front E) → Grows ns log log
   grows_from_itself ns log = record { more = []; goes_on = refl; of_others = refl }
@@ -183,9 +193,9 @@ module _ {E : Type 0} where
   longer_of ns ms a b log g h = dite (dec_le (length a) (length b)) (λ le. longer_second ns ms a b log g h le) (λ no. longer_first ns ms a b log g h (let x : ℕ = length a in let y : ℕ = length b in omega arith))
 
   -- what a turn adds is of its seat, and nothing else of what came is
-  pub own_after_turn : (ns : List ℕ) (event : Option E) (others front : Front E) (n : ℕ) → among ns n ≡ true → own ns others ≡ [] → own ns (made ns event ++ (others ++ front)) ≡ made ns event ++ own ns front
-  own_after_turn ns event others front n is_mine apart = own_append ns (made ns event) (others ++ front) ∙ (ap (λ z. z ++ own ns (others ++ front)) (made_of_own ns event (least_among ns n is_mine))
-      ∙ ap (λ z. made ns event ++ z) (own_append ns others front ∙ ap (λ z. z ++ own ns front) apart))
+  pub own_after_turn : (ns : List ℕ) (done : List E) (others front : Front E) (n : ℕ) → among ns n ≡ true → own ns others ≡ [] → own ns (made ns done ++ (others ++ front)) ≡ made ns done ++ own ns front
+  own_after_turn ns done others front n is_mine apart = own_append ns (made ns done) (others ++ front) ∙ (ap (λ z. z ++ own ns (others ++ front)) (made_of_own ns done (least_among ns n is_mine))
+      ∙ ap (λ z. made ns done ++ z) (own_append ns others front ∙ ap (λ z. z ++ own ns front) apart))
 
   -- those of a front with these numbers are the same in all that goes on from it
   pub own_of_grown : (ns : List ℕ) (front later : Front E) → Grows ns front later → own ns later ≡ own ns front

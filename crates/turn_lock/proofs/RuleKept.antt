@@ -1,7 +1,7 @@
 -- Each atomic step keeps the rule of the turn lock.
-use Rattle.std.proofs.Common.{◌≡◌, ◌≢◌, ℕ, ◌+◌, ◌%◌, ◌^◌, ◌<◌, ◌≤◌, eqb, List, [], ◌∷◌, ◌++◌, length, set, get_or, All, Bool, true, false, Option, Some, None, sym, refl, ap, ◌∙◌, subst, ⊎_elim, ◌⊎◌, inl, inr, arith, append-nil, length-append, length-set, mod-eq_of_lt, true≢false, le_refl}
+use Rattle.std.proofs.Common.{◌≡◌, ◌≢◌, ℕ, ◌+◌, ◌%◌, ◌^◌, ◌<◌, ◌≤◌, eqb, List, [], ◌∷◌, ◌++◌, length, set, get_or, All, Bool, true, false, Option, Some, sym, refl, ap, ◌∙◌, subst, ⊎_elim, ◌⊎◌, inl, inr, arith, append-nil, length-append, length-set, true≢false, le_refl}
 use mathlib.Core.Logic.{dite}
-use mathlib.Core.Option.{some, none, some-injective, some-ne-none}
+use mathlib.Core.Option.{some, none, some-ne-none}
 use mathlib.Core.Option as maybe
 use native.Mathlib.Decide.{ℕ_discrete}
 use lib.ListN.{get_elem?}
@@ -9,44 +9,37 @@ use prog.Atomic.{either}
 use Rattle.atomic_table.specs.Table.{State, step, Act, keeps, takes, gives, Valid, carried_after, homes_after, put_back, Allows, Enters, Splits, Joins, opening}
 use Rattle.atomic_table.proofs.Lists.{set_here, set_else, set_again, exchanged}
 use Rattle.std.proofs.lemmas.Bool.{false_from_ne_true}
-use Rattle.std.proofs.lemmas.List.Elements.{All-cons, All-weaker, All-nil}
+use Rattle.std.proofs.lemmas.List.Elements.{All-weaker, All-nil}
 use Rattle.turn_lock.specs.declared.views.Entry.{Entry}
 use Rattle.turn_lock.specs.declared.views.Sight.{Sight}
 use Rattle.turn_lock.specs.declared.views.Stage.{Stage}
-use Rattle.turn_lock.specs.declared.views.Stage.TheVariants.{Outside, Waits, HasTurn}
+use Rattle.turn_lock.specs.declared.views.Stage.TheVariants.{Outside, HasTurn}
 use Rattle.turn_lock.specs.declared.views.View.{View}
 use Rattle.turn_lock.specs.Fronts.{among, least, Front, events, own, made}
-use Rattle.turn_lock.specs.Rule.{sight, nothing, view, newcomer, spent, Line, Book, Sees, InStage, Fits, ticket_of, IsAt, IsSeen, IsSlot, Kept, Ruled}
-use Rattle.turn_lock.specs.Steps.{Mine, with_ticket, with_turn, after_turn, told_of, kept, cut, entered, drew, gave, weighed, settled, looked}
-use Rattle.turn_lock.proofs.FrontLaws.{among_one, among_append, least_among, no_back, own_of_none, own_append_none, own_of_new, made_of_others, grows_from_itself, grows_from_nothing, grows_more, longer_of}
-use Rattle.turn_lock.proofs.Changes.{put, put_here, put_else, hand_over, handed, not_handed, there, at_end, same_at, set_each, add_each, at_here, at_set_view, seen_set, seen_here, at_more, seen_more}
+use Rattle.turn_lock.specs.Rule.{sight, nothing, view, newcomer, spent, IsFree, IsTaken, Book, Sees, InStage, Fits, HoldsTurn, IsSeen, IsSlot, Kept, Ruled}
+use Rattle.turn_lock.specs.Steps.{Mine, with_turn, after_turn, told_of, kept, cut, entered, peeked, tried, gave, weighed, settled}
+use Rattle.turn_lock.proofs.FrontLaws.{among_one, among_append, least_among, no_back, own_of_none, own_append_none, own_of_new, made_of_others, made_each, grows_from_itself, grows_from_nothing, grows_more, longer_of}
+use Rattle.turn_lock.proofs.Changes.{hand_over, handed, not_handed, there, at_end, same_at, set_each, add_each, turn_here, turn_set, seen_set, seen_here, turn_more, seen_more}
 
 none_apart : (ns : List ℕ) (n : ℕ) → among ns n ≡ true → among [] n ≡ false
 none_apart ns n e = refl
 
-abbrev ticket_or : ℕ → Stage → ℕ
-ticket_or n Outside = n
-ticket_or n (Waits t) = t
-ticket_or n (HasTurn t) = t
-
-abbrev pub some_or : ℕ → Option ℕ → ℕ
-some_or n None = n
-some_or n (Some m) = m
-
-not_both : (t u : ℕ) → HasTurn t ≡ Waits u → ⊥
-not_both t u e = true≢false (ap is_turn e)
+pub not_outside : Outside ≡ HasTurn → ⊥
+not_outside e = true≢false (sym (ap is_turn e))
   where
     is_turn : Stage → Bool
     is_turn Outside = false
-    is_turn (Waits n) = false
-    is_turn (HasTurn n) = true
+    is_turn HasTurn = true
 
-pub no_ticket : (t : ℕ) → ◌≡◌ {A = Option ℕ} None (Some t) → ⊥
-no_ticket t e = true≢false (sym (ap is_there e))
-  where
-    is_there : Option ℕ → Bool
-    is_there None = false
-    is_there (Some n) = true
+-- a turn that is given back is free
+free_again : (n : ℕ) → IsTaken n → IsFree ((n + 1) % 2 ^ 64)
+free_again n odd = omega (arith, odd)
+
+taken_next : (n : ℕ) → IsFree n → IsTaken (n + 1)
+taken_next n even = omega (arith, even)
+
+not_both : (n : ℕ) → IsFree n → IsTaken n → ⊥
+not_both n even odd = omega (arith, even, odd)
 
 module _ {E : Type 0} where
   -- what a view sees stays, where others' entries come
@@ -79,15 +72,23 @@ module _ {S E : Type 0} (stands : List E → S → Type 0) where
   Does i id me f then words homes views = (w : View E) × (a : Act (Option S)) × Valid homes me.1 a × Rule record { words = set words i (f (get_or words i 0)); homes = homes_after homes me.1 a; views = set views id w }
       × then (get_or words i 0) (w, carried_after me.1 a)
 
-  -- it is enough to show a step on the two counters of the book
+  -- it is enough to show a step on the number of the book's turn
   allows : (slots i id : ℕ) (me : Mine S E) (f : ℕ → ℕ) (then : ℕ → Mine S E → Type 0)
-      → ((book : Book E) (homes : Homes) (views : List (View E)) → Kept stands book homes views → get_elem? views id ≡ some me.0 → Does i id me f then (book.line.drawn ∷ book.line.given ∷ []) homes views)
+      → ((book : Book E) (homes : Homes) (views : List (View E)) → Kept stands book homes views → get_elem? views id ≡ some me.0 → Does i id me f then (book.turns ∷ []) homes views)
       → Allows Rule slots id me i f then
   allows slots i id me f then does s r len at small = subst (λ (ws : List ℕ). Does i id me f then ws s.homes s.views) (sym r.1) (does r.0 s.homes s.views r.2 at)
 
   -- a step that changes nothing
   stays : (book : Book E) (homes : Homes) (views : List (View E)) (id : ℕ) (v : View E) → Kept stands book homes views → get_elem? views id ≡ some v → Kept stands book homes (set views id v)
   stays book homes views id v k at = subst (λ (vs : List (View E)). Kept stands book homes vs) (sym (set_again views id v at)) k
+
+  -- who has the turn, has it in other views
+  slot_on : (log : Front E) (turns holder : ℕ) (homes : Homes) (views views' : List (View E)) → (HoldsTurn views holder → HoldsTurn views' holder) → IsSlot stands log turns holder homes views → IsSlot stands log turns holder homes views'
+  slot_on log turns holder homes views views' stays s = record { free = s.free; taken = λ odd. let h = s.taken odd in (h.0, stays h.1) }
+
+  -- word 0 is loaded, and nothing changes
+  pub peeks : (slots id : ℕ) (me : Mine S E) → Allows Rule slots id me 0 (λ n. n) (peeked (step slots 0 0 0 none) me)
+  peeks slots id me = allows slots 0 id me (λ n. n) (peeked (step slots 0 0 0 none) me) (λ book homes views k at. (me.0, keeps, tt, (book, refl, stays book homes views id me.0 k at), refl))
 
   -- word 0 is loaded, and the view stays
   pub weighs : (slots id : ℕ) (me : Mine S E) → Allows Rule slots id me 0 (λ n. n) (weighed (step slots 0 0 0 none) me)
@@ -98,19 +99,12 @@ module _ {S E : Type 0} (stands : List E → S → Type 0) where
   reviewed : (book : Book E) (homes : Homes) (views : List (View E)) (id : ℕ) (v w : View E) → Kept stands book homes views → get_elem? views id ≡ some v → Fits book id w → w.stage ≡ v.stage
       → ((v.seen.front ≡ book.log) ⊎ (v.told.front ≡ book.log) → (w.seen.front ≡ book.log) ⊎ (w.told.front ≡ book.log)) → Kept stands book homes (set views id w)
   reviewed book homes views id v w k at fits same front = record {
-    behind = k.behind;
-    small = k.small;
     counted = length-set views id w ∙ k.counted;
     each_view = set_each (Fits book) views id w fits (λ j d ne e. k.each_view j d e);
-    each_ticket = λ t low high. at_set_view views id v w at (λ stage. ticket_of stage ≡ Some t) (book.line.holder t) (λ is. ap ticket_of same ∙ is) (k.each_ticket t low high);
     each_entry = k.each_entry;
     longest = seen_set views id v w at book.log front k.longest;
-    slot = go book.line.out k.slot;
+    slot = slot_on book.log book.turns book.holder homes views (set views id w) (turn_set views id v w at book.holder (λ is. same ∙ is)) k.slot;
   }
-    where
-      go : (out : Bool) → IsSlot stands book.log book.line homes views out → IsSlot stands book.log book.line homes (set views id w) out
-      go false s = s
-      go true s = (s.0, at_set_view views id v w at (λ stage. stage ≡ HasTurn book.line.given) (book.line.holder book.line.given) (λ is. same ∙ is) s.1)
 
   pub settles : (slots id : ℕ) (me : Mine S E) → me.0.stage ≡ Outside → Allows Rule slots id me 0 (λ n. n) (settled (step slots 0 0 0 none) me)
   settles slots id me out = allows slots 0 id me (λ n. n) (settled (step slots 0 0 0 none) me) (λ book homes views k at. let v : View E = me.0 in let f = k.each_view id v at in
@@ -129,185 +123,85 @@ module _ {S E : Type 0} (stands : List E → S → Type 0) where
         (refl, record { front = l.front; now = refl; one = l.one; seen = l.first; told = l.second; apart = f.apart }),
       ))
 
-  -- the line after a ticket was drawn by the view id
-  abbrev drawn_line : Line → ℕ → Line
-  drawn_line line id = record line { drawn = line.drawn + 1; holder = put line.holder line.drawn id }
+  -- while the turn is free nobody has it
+  nobody_has : (log : Front E) (turns holder turns' holder' j : ℕ) (front : Front E) (stage : Stage) → IsFree turns → InStage log turns holder j front stage → InStage log turns' holder' j front stage
+  nobody_has log turns holder turns' holder' j front Outside even h = tt
+  nobody_has log turns holder turns' holder' j front HasTurn even h = absurd (not_both turns even h.0)
 
-  drawn_stage : (log front : Front E) (line : Line) (id j : ℕ) (stage : Stage) → line.given ≤ line.drawn → InStage log line j front stage → InStage log (drawn_line line id) j front stage
-  drawn_stage log front line id j Outside le h = tt
-  drawn_stage log front line id j (Waits t) le h = let low = h.0 in let high = h.1 in
-      (low, (omega (arith, high)), put_else line.holder line.drawn id t (λ e. omega (arith, high, e)) ∙ h.2)
-  drawn_stage log front line id j (HasTurn t) le h = let high = h.1 in
-      (h.0, (omega (arith, high)), put_else line.holder line.drawn id t (λ e. omega (arith, high, e)) ∙ h.2, h.3, h.4)
-
-  drawn_slot : (book : Book E) (homes : Homes) (views : List (View E)) (id : ℕ) (v w : View E) (k : Kept stands book homes views) → get_elem? views id ≡ some v → v.stage ≡ Outside
-      → (out : Bool) → IsSlot stands book.log book.line homes views out → IsSlot stands book.log (drawn_line book.line id) homes (set views id w) out
-  drawn_slot book homes views id v w k at outside false s = s
-  drawn_slot book homes views id v w k at outside true (empty, (d, e, turn)) = let line : Line = book.line in
-      let f = k.each_view (line.holder line.given) d e in let there' : InStage book.log line (line.holder line.given) d.seen.front (HasTurn line.given) = subst (InStage book.log line (line.holder line.given) d.seen.front) turn f.stage in
-      let high = there'.1 in let same : put line.holder line.drawn id line.given ≡ line.holder line.given = put_else line.holder line.drawn id line.given (λ e. omega (arith, high, e)) in (
-        empty,
-        subst (λ (j : ℕ). IsAt (set views id w) j (λ stage. stage ≡ HasTurn line.given)) (sym same)
-            (at_set_view views id v w at (λ stage. stage ≡ HasTurn line.given) (line.holder line.given) (λ is. absurd (let c = ap ticket_of (sym outside ∙ is) in no_ticket line.given c)) (d, e, turn)),
-      )
-
-  draws_it : (book : Book E) (homes : Homes) (views : List (View E)) (id : ℕ) (v : View E) → Kept stands book homes views → get_elem? views id ≡ some v → v.stage ≡ Outside → book.line.drawn + 1 < 2 ^ 64
-      → Kept stands (record book { line = drawn_line book.line id }) homes (set views id (with_ticket v book.line.drawn))
-  draws_it book homes views id v k at outside room = let line : Line = book.line in let n : ℕ = line.drawn in let w : View E = with_ticket v n in let low = k.behind in
-      let book' : Book E = record book { line = drawn_line line id } in let f = k.each_view id v at in record {
-        behind = omega (arith, low);
-        small = room;
+  takes_it : (book : Book E) (homes : Homes) (views : List (View E)) (id : ℕ) (v : View E) → Kept stands book homes views → get_elem? views id ≡ some v → IsFree book.turns
+      → (turns' : ℕ) → IsTaken turns' → (homes' : Homes) → homes' ≡ none ∷ [] → Kept stands (record book { turns = turns'; holder = id }) homes' (set views id (with_turn v book.log))
+  takes_it book homes views id v k at even turns' odd homes' empty = let w : View E = with_turn v book.log in let book' : Book E = record book { turns = turns'; holder = id } in
+      let f = k.each_view id v at in record {
         counted = length-set views id w ∙ k.counted;
-        each_view = set_each (Fits book') views id w record { seen = f.seen; told = f.told; apart = f.apart; stage = (low, (omega arith), put_here line.holder n id) }
-            (λ j d ne e. let g = k.each_view j d e in record { seen = g.seen; told = g.told; apart = g.apart; stage = drawn_stage book.log d.seen.front line id j d.stage low g.stage });
-        each_ticket = λ t from to. dite (ℕ_discrete t n)
-            (λ (same : t ≡ n). subst (λ (j : ℕ). IsAt (set views id w) j (λ stage. ticket_of stage ≡ Some t)) (sym (ap (put line.holder n id) same ∙ put_here line.holder n id))
-            (at_here views id v w at (λ stage. ticket_of stage ≡ Some t) (ap (λ (x : ℕ). Some x) (sym same))))
-            (λ (ne : t ≢ n). subst (λ (j : ℕ). IsAt (set views id w) j (λ stage. ticket_of stage ≡ Some t)) (sym (put_else line.holder n id t ne))
-            (at_set_view views id v w at (λ stage. ticket_of stage ≡ Some t) (line.holder t) (λ is. absurd (no_ticket t (ap ticket_of (sym outside) ∙ is))) (k.each_ticket t from (omega arith))));
+        each_view = set_each (Fits book') views id w
+            record { seen = record { grows = grows_from_itself v.seen.numbers book.log; owned = f.seen.owned }; told = f.told; apart = f.apart; stage = (odd, refl, refl) }
+            (λ j d ne e. let g = k.each_view j d e in record { seen = g.seen; told = g.told; apart = g.apart; stage = nobody_has book.log book.turns book.holder turns' id j d.seen.front d.stage even g.stage });
         each_entry = k.each_entry;
-        longest = seen_set views id v w at book.log (λ e. e) k.longest;
-        slot = drawn_slot book homes views id v w k at outside line.out k.slot;
+        longest = seen_here views id v w at book.log refl;
+        slot = record { free = λ even'. absurd (not_both turns' even' odd); taken = λ _. (empty, turn_here views id v w at refl) };
       }
 
-  -- word 0 is compared with n, and becomes n + 1
-  pub draws : (slots id : ℕ) (me : Mine S E) (n : ℕ) → me.0.stage ≡ Outside → n + 1 < 2 ^ 64 → Allows Rule slots id me 0 (λ x. either (eqb x n) (n + 1) x) (drew (step slots 0 n (n + 1) none) me)
-  draws slots id me n outside room = allows slots 0 id me (λ x. either (eqb x n) (n + 1) x) (drew (step slots 0 n (n + 1) none) me) (λ book homes views k at. let m : ℕ = book.line.drawn in
-      exchanged m n (n + 1) (λ (x : ℕ). (w : View E) × (a : Act (Option S)) × Valid homes me.1 a × Rule record { words = x ∷ book.line.given ∷ []; homes = homes_after homes me.1 a; views = set views id w } × drew (step slots 0 n (n + 1) none) me m (w, carried_after me.1 a))
-      (λ (is : m ≡ n). (
-        with_ticket me.0 m,
-        keeps,
-        tt,
-        (record book { line = drawn_line book.line id }, (λ i. (sym is i + 1) ∷ book.line.given ∷ []), draws_it book homes views id me.0 k at outside (let e = is in omega (arith, e))),
-        (λ e. refl, λ ne. absurd (ne is)),
+  -- word 0 is compared with n, by which the turn is free, and becomes n + 1
+  pub tries : (slots id : ℕ) (me : Mine S E) (n : ℕ) → IsFree n → Allows Rule slots id me 0 (λ x. either (eqb x n) (n + 1) x) (tried stands (step slots 0 n (n + 1) none) me)
+  tries slots id me n even = allows slots 0 id me (λ x. either (eqb x n) (n + 1) x) (tried stands (step slots 0 n (n + 1) none) me) (λ book homes views k at. let m : ℕ = book.turns in
+      exchanged m n (n + 1) (λ (x : ℕ). (w : View E) × (a : Act (Option S)) × Valid homes me.1 a × Rule record { words = x ∷ []; homes = homes_after homes me.1 a; views = set views id w } × tried stands (step slots 0 n (n + 1) none) me m (w, carried_after me.1 a))
+      (λ (is : m ≡ n). let found : IsFree m = subst IsFree (sym is) even in let home = k.slot.free found in (
+        with_turn me.0 book.log,
+        takes 0 (Some home.0),
+        ap (λ (hs : Homes). get_elem? hs 0) home.1,
+        (record book { turns = n + 1; holder = id }, refl, takes_it book homes views id me.0 k at found (n + 1) (taken_next n even) (set homes 0 none) (ap (λ (hs : Homes). set hs 0 none) home.1)),
+        (λ e. record { log = book.log; state = home.0; now = refl; grows = (k.each_view id me.0 at).seen.grows; for_log = home.2 }, λ ne. absurd (ne is)),
       ))
       (λ (ne : m ≢ n). (me.0, keeps, tt, (book, refl, stays book homes views id me.0 k at), (λ e. absurd (ne e), λ e. refl))))
 
-  -- the line while a view has the turn
-  abbrev out_line : Line → Line
-  out_line line = record line { out = true }
+  -- a view that hasn't the turn doesn't get it by its being given back
+  given_stage : (log log' front : Front E) (turns turns' holder id j : ℕ) (stage : Stage) → holder ≡ id → j ≢ id → InStage log turns holder j front stage → InStage log' turns' holder j front stage
+  given_stage log log' front turns turns' holder id j Outside holds ne h = tt
+  given_stage log log' front turns turns' holder id j HasTurn holds ne h = absurd (ne (sym h.1 ∙ holds))
 
-  taken_stage : (log front : Front E) (line : Line) (j : ℕ) (stage : Stage) → InStage log line j front stage → InStage log (out_line line) j front stage
-  taken_stage log front line j Outside h = tt
-  taken_stage log front line j (Waits t) h = h
-  taken_stage log front line j (HasTurn t) h = (h.0, h.1, h.2, refl, h.4)
-
-  takes_it : (book : Book E) (homes : Homes) (views : List (View E)) (id : ℕ) (v : View E) (t : ℕ) → Kept stands book homes views → get_elem? views id ≡ some v → v.stage ≡ Waits t → t ≡ book.line.given
-      → (homes' : Homes) → homes' ≡ none ∷ [] → Kept stands (record book { line = out_line book.line }) homes' (set views id (with_turn v book.log t))
-  takes_it book homes views id v t k at waits served homes' empty = let line : Line = book.line in let w : View E = with_turn v book.log t in let book' : Book E = record book { line = out_line line } in
-      let f = k.each_view id v at in let stage : InStage book.log line id v.seen.front (Waits t) = subst (InStage book.log line id v.seen.front) waits f.stage in record {
-        behind = k.behind;
-        small = k.small;
-        counted = length-set views id w ∙ k.counted;
-        each_view = set_each (Fits book') views id w
-            record { seen = record { grows = grows_from_itself v.seen.numbers book.log; owned = f.seen.owned }; told = f.told; apart = f.apart; stage = (served, stage.1, stage.2, refl, refl) }
-            (λ j d ne e. let g = k.each_view j d e in record { seen = g.seen; told = g.told; apart = g.apart; stage = taken_stage book.log d.seen.front line j d.stage g.stage });
-        each_ticket = λ n from to. at_set_view views id v w at (λ stage. ticket_of stage ≡ Some n) (line.holder n) (λ is. ap ticket_of (sym waits) ∙ is) (k.each_ticket n from to);
-        each_entry = k.each_entry;
-        longest = seen_here views id v w at book.log refl;
-        slot = (
-          empty,
-          subst (λ (j : ℕ). IsAt (set views id w) j (λ stage. stage ≡ HasTurn line.given)) (sym stage.2 ∙ ap line.holder served)
-              (at_here views id v w at (λ stage. stage ≡ HasTurn line.given) (ap (λ (x : ℕ). HasTurn x) served)),
-        );
-      }
-
-  -- a ticket that is served finds the slot at home
-  looks_home : (slots : ℕ) (book : Book E) (homes : Homes) (views : List (View E)) (id : ℕ) (me : Mine S E) (t : ℕ) → Kept stands book homes views → get_elem? views id ≡ some me.0 → me.0.stage ≡ Waits t
-      → book.line.given ≡ t → (out : Bool) → IsSlot stands book.log book.line homes views out → Does 1 id me (λ n. n) (looked stands (step slots 1 0 0 none) me) (book.line.drawn ∷ book.line.given ∷ []) homes views
-  looks_home slots book homes views id me t k at waits served true (empty, (d, e, turn)) = let line : Line = book.line in let f = k.each_view id me.0 at in
-      let stage : InStage book.log line id me.0.seen.front (Waits t) = subst (InStage book.log line id me.0.seen.front) waits f.stage in
-      let here : get_elem? views id ≡ some d = subst (λ (j : ℕ). get_elem? views j ≡ some d) (ap line.holder served ∙ stage.2) e in
-      absurd (not_both line.given t (sym turn ∙ (ap (λ (x : View E). x.stage) (same_at views id d me.0 here at) ∙ waits)))
-  looks_home slots book homes views id me t k at waits served false (state, home, for_log) = (
-    with_turn me.0 book.log t,
-    takes 0 (Some state),
-    ap (λ (hs : Homes). get_elem? hs 0) home,
-    (record book { line = out_line book.line }, refl, takes_it book homes views id me.0 t k at waits (sym served) (set homes 0 none) (ap (λ (hs : Homes). set hs 0 none) home)),
-    λ n is. let same : t ≡ n = ap (ticket_or 0) (sym waits ∙ is) in (
-      λ e. record {
-        log = book.log;
-        state = state;
-        now = ap (λ (x : ℕ). let m : Mine S E = (with_turn me.0 book.log x, (0, Some state) ∷ me.1) in m) same;
-        grows = (k.each_view id me.0 at).seen.grows;
-        for_log = for_log;
-      },
-      λ ne. absurd (ne (served ∙ same)),
-    ),
-  )
-
-  -- word 1 is loaded
-  pub looks : (slots id : ℕ) (me : Mine S E) (t : ℕ) → me.0.stage ≡ Waits t → Allows Rule slots id me 1 (λ n. n) (looked stands (step slots 1 0 0 none) me)
-  looks slots id me t waits = allows slots 1 id me (λ n. n) (looked stands (step slots 1 0 0 none) me) (λ book homes views k at. dite (ℕ_discrete book.line.given t)
-      (λ (served : book.line.given ≡ t). looks_home slots book homes views id me t k at waits served book.line.out k.slot)
-      (λ (ne : book.line.given ≢ t). (me.0, keeps, tt, (book, refl, stays book homes views id me.0 k at), λ n is. let same : t ≡ n = ap (ticket_or 0) (sym waits ∙ is) in (λ e. absurd (ne (e ∙ sym same)), λ e. refl))))
-
-  -- the line after the turn was given back
-  abbrev given_line : Line → Line
-  given_line line = record line { given = line.given + 1; out = false }
-
-  given_stage : (log log' front : Front E) (line : Line) (id j : ℕ) (stage : Stage) → line.holder line.given ≡ id → j ≢ id → InStage log line j front stage → InStage log' (given_line line) j front stage
-  given_stage log log' front line id j Outside holds ne h = tt
-  given_stage log log' front line id j (Waits t) holds ne h = let low = h.0 in
-      let other : line.given ≢ t = λ e. ne (sym h.2 ∙ (ap line.holder (sym e) ∙ holds)) in ((let a : ℕ = line.given in let o : a ≢ t = other in omega (arith, low, o)), h.1, h.2)
-  given_stage log log' front line id j (HasTurn t) holds ne h = absurd (ne (sym h.2 ∙ (ap line.holder h.0 ∙ holds)))
-
-  gives_it : (book : Book E) (homes : Homes) (views : List (View E)) (id : ℕ) (v : View E) (t : ℕ) (event : Option E) (state : S) → Kept stands book homes views → get_elem? views id ≡ some v → v.stage ≡ HasTurn t
-      → stands (events (made v.seen.numbers event ++ v.seen.front)) state → among v.seen.numbers (least v.seen.numbers) ≡ true → (homes' : Homes) → homes' ≡ some (Some state) ∷ []
-      → Kept stands (record book { log = made v.seen.numbers event ++ book.log; line = given_line book.line }) homes' (set views id (after_turn v event))
-  gives_it book homes views id v t event state k at turn for_front among_least homes' home = let line : Line = book.line in let ns : List ℕ = v.seen.numbers in let new : Front E = made ns event in let w : View E = after_turn v event in
-      let book' : Book E = record book { log = new ++ book.log; line = given_line line } in let f = k.each_view id v at in
-      let stage : InStage book.log line id v.seen.front (HasTurn t) = subst (InStage book.log line id v.seen.front) turn f.stage in let high = stage.1 in let is = stage.0 in
-      let holds : line.holder line.given ≡ id = ap line.holder (sym stage.0) ∙ stage.2 in let whole : v.seen.front ≡ book.log = stage.4 in let small = k.small in
-      let of_least = f.seen.owned (least ns) among_least in let longer : new ++ v.seen.front ≡ new ++ book.log = ap (λ (z : Front E). new ++ z) whole in record {
-        behind = omega (arith, high, is);
-        small = small;
+  gives_it : (book : Book E) (homes : Homes) (views : List (View E)) (id : ℕ) (v : View E) (done : List E) (state : S) → Kept stands book homes views → get_elem? views id ≡ some v → v.stage ≡ HasTurn
+      → stands (events (made v.seen.numbers done ++ v.seen.front)) state → among v.seen.numbers (least v.seen.numbers) ≡ true → (turns' : ℕ) → IsFree turns' → (homes' : Homes) → homes' ≡ some (Some state) ∷ []
+      → Kept stands (record book { log = made v.seen.numbers done ++ book.log; turns = turns' }) homes' (set views id (after_turn v done))
+  gives_it book homes views id v done state k at turn for_front among_least turns' even homes' home = let ns : List ℕ = v.seen.numbers in let new : Front E = made ns done in let w : View E = after_turn v done in
+      let book' : Book E = record book { log = new ++ book.log; turns = turns' } in let f = k.each_view id v at in
+      let stage : InStage book.log book.turns book.holder id v.seen.front HasTurn = subst (InStage book.log book.turns book.holder id v.seen.front) turn f.stage in
+      let of_least = f.seen.owned (least ns) among_least in let longer : new ++ v.seen.front ≡ new ++ book.log = ap (λ (z : Front E). new ++ z) stage.2 in record {
         counted = length-set views id w ∙ k.counted;
         each_view = set_each (Fits book') views id w
             record {
               seen = record { grows = record { more = []; goes_on = sym longer; of_others = refl }; owned = f.seen.owned };
-              told = sees_more book.log new book.owner book.count id v.told f.told (made_of_others ns v.told.numbers event (f.apart (least ns) among_least));
+              told = sees_more book.log new book.owner book.count id v.told f.told (made_of_others ns v.told.numbers done (f.apart (least ns) among_least));
               apart = f.apart;
               stage = tt;
             }
             (λ j d ne e. let g = k.each_view j d e in let not_here : book.owner (least ns) ≢ j = λ o. ne (sym o ∙ of_least.0) in record {
-              seen = sees_more book.log new book.owner book.count j d.seen g.seen (made_of_others ns d.seen.numbers event (not_among book.log book.owner book.count j d.seen (least ns) g.seen not_here));
-              told = sees_more book.log new book.owner book.count j d.told g.told (made_of_others ns d.told.numbers event (not_among book.log book.owner book.count j d.told (least ns) g.told not_here));
+              seen = sees_more book.log new book.owner book.count j d.seen g.seen (made_of_others ns d.seen.numbers done (not_among book.log book.owner book.count j d.seen (least ns) g.seen not_here));
+              told = sees_more book.log new book.owner book.count j d.told g.told (made_of_others ns d.told.numbers done (not_among book.log book.owner book.count j d.told (least ns) g.told not_here));
               apart = g.apart;
-              stage = given_stage book.log book'.log d.seen.front line id j d.stage holds ne g.stage;
+              stage = given_stage book.log book'.log d.seen.front book.turns turns' book.holder id j d.stage stage.1 ne g.stage;
             });
-        each_ticket = λ n from to. at_set_view views id v w at (λ stage. ticket_of stage ≡ Some n) (line.holder n)
-            (λ held. absurd (let same : t ≡ n = ap (some_or 0) (ap ticket_of (sym turn) ∙ held) in omega (arith, same, is, from))) (k.each_ticket n (let below = from in omega (arith, below)) to);
-        each_entry = entries event k.each_entry of_least.1;
+        each_entry = made_each (λ (n : ℕ). n < book.count) ns done book.log of_least.1 k.each_entry;
         longest = seen_here views id v w at book'.log longer;
-        slot = (state, home, subst (λ (z : Front E). stands (events z) state) longer for_front);
+        slot = record { free = λ _. (state, home, subst (λ (z : Front E). stands (events z) state) longer for_front); taken = λ odd. absurd (not_both turns' even odd) };
       }
-    where
-      entries : (event : Option E) → All (λ (entry : Entry E). entry.seat < book.count) book.log → least v.seen.numbers < book.count → All (λ (entry : Entry E). entry.seat < book.count) (made v.seen.numbers event ++ book.log)
-      entries None all below = all
-      entries (Some e) all below = All-cons (λ (entry : Entry E). entry.seat < book.count) (record { seat = least v.seen.numbers; event = e }) book.log below all
 
-  -- word 1 is counted up, and the slot sent home
-  pub gives_back : (slots id : ℕ) (me : Mine S E) (t : ℕ) (event : Option E) (state : S) (c : List (ℕ × Option S)) → me.0.stage ≡ HasTurn t → me.1 ≡ (0, Some state) ∷ c
-      → stands (events (made me.0.seen.numbers event ++ me.0.seen.front)) state → (n : ℕ) → among me.0.seen.numbers n ≡ true → Allows Rule slots id me 1 (λ n. (n + 1) % 2 ^ 64) (gave event (step slots 1 1 0 none) me)
-  gives_back slots id me t event state c turn carried for_front n is_mine = allows slots 1 id me (λ n. (n + 1) % 2 ^ 64) (gave event (step slots 1 1 0 none) me) (λ book homes views k at. let line : Line = book.line in let v : View E = me.0 in
-      let f = k.each_view id v at in let stage : InStage book.log line id v.seen.front (HasTurn t) = subst (InStage book.log line id v.seen.front) turn f.stage in
-      let high = stage.1 in let is = stage.0 in let small = k.small in let empty : homes ≡ none ∷ [] = away book homes views k line.out stage.3 k.slot in
+  -- word 0 is counted up, and the slot sent home
+  pub gives_back : (slots id : ℕ) (me : Mine S E) (done : List E) (state : S) (c : List (ℕ × Option S)) → me.0.stage ≡ HasTurn → me.1 ≡ (0, Some state) ∷ c
+      → stands (events (made me.0.seen.numbers done ++ me.0.seen.front)) state → (n : ℕ) → among me.0.seen.numbers n ≡ true → Allows Rule slots id me 0 (λ n. (n + 1) % 2 ^ 64) (gave done (step slots 0 1 0 none) me)
+  gives_back slots id me done state c turn carried for_front n is_mine = allows slots 0 id me (λ n. (n + 1) % 2 ^ 64) (gave done (step slots 0 1 0 none) me) (λ book homes views k at. let v : View E = me.0 in
+      let f = k.each_view id v at in let stage : InStage book.log book.turns book.holder id v.seen.front HasTurn = subst (InStage book.log book.turns book.holder id v.seen.front) turn f.stage in
+      let empty : homes ≡ none ∷ [] = (k.slot.taken stage.0).0 in
       let home : put_back homes me.1 ≡ some (Some state) ∷ [] = ap (put_back homes) carried ∙ ap (λ (hs : Homes). set hs 0 (some (Some state))) empty in (
-        after_turn v event,
+        after_turn v done,
         gives,
         tt,
         (
-          record book { log = made v.seen.numbers event ++ book.log; line = given_line line },
-          (λ i. line.drawn ∷ mod-eq_of_lt (let x : line.given + 1 < 2 ^ 64 = omega (arith, high, is, small) in x) i ∷ []),
-          gives_it book homes views id v t event state k at turn for_front (least_among v.seen.numbers n is_mine) (put_back homes me.1) home,
+          record book { log = made v.seen.numbers done ++ book.log; turns = (book.turns + 1) % 2 ^ 64 },
+          refl,
+          gives_it book homes views id v done state k at turn for_front (least_among v.seen.numbers n is_mine) ((book.turns + 1) % 2 ^ 64) (free_again book.turns stage.0) (put_back homes me.1) home,
         ),
         refl,
       ))
-    where
-      away : (book : Book E) (homes : Homes) (views : List (View E)) → Kept stands book homes views → (out : Bool) → out ≡ true → IsSlot stands book.log book.line homes views out → homes ≡ none ∷ []
-      away book homes views k true e s = s.0
-      away book homes views k false e s = absurd (true≢false (sym e))
 
   -- the lists and the owners after a seat came with the count of views as its number
   pub comes : (s : State (Option S) (View E)) → Rule s → Rule (record { words = s.words; homes = s.homes; views = s.views ++ newcomer (length s.views) ∷ [] })
@@ -319,8 +213,6 @@ module _ {S E : Type 0} (stands : List E → S → Type 0) where
         book',
         r.1,
         record {
-          behind = k.behind;
-          small = k.small;
           counted = length-append s.views (w ∷ []) ∙ (let c = k.counted in ap (λ (x : ℕ). x + 1) c);
           each_view = add_each (Fits book') s.views w
               (subst (λ (j : ℕ). Fits book' j w) (sym k.counted) record {
@@ -330,16 +222,11 @@ module _ {S E : Type 0} (stands : List E → S → Type 0) where
                 stage = tt;
               })
               (λ j d e. let g = k.each_view j d e in record { seen = on j d.seen g.seen; told = on j d.told g.told; apart = g.apart; stage = g.stage });
-          each_ticket = λ t from to. at_more s.views w (λ stage. ticket_of stage ≡ Some t) (book.line.holder t) (k.each_ticket t from to);
           each_entry = All-weaker (λ (entry : Entry E). entry.seat < n) (λ (entry : Entry E). entry.seat < n + 1) (λ entry below. omega (arith, below)) book.log k.each_entry;
           longest = seen_more s.views w book.log k.longest;
-          slot = slot_more book.line book.log s.homes s.views w book.line.out k.slot;
+          slot = slot_on book.log book.turns book.holder s.homes s.views (s.views ++ w ∷ []) (turn_more s.views w book.holder) k.slot;
         },
       )
-    where
-      slot_more : (line : Line) (log : Front E) (homes : Homes) (views : List (View E)) (w : View E) (out : Bool) → IsSlot stands log line homes views out → IsSlot stands log line homes (views ++ w ∷ []) out
-      slot_more line log homes views w false h = h
-      slot_more line log homes views w true h = (h.0, at_more views w (λ stage. stage ≡ HasTurn line.given) (line.holder line.given) h.1)
 
   pub enters : (slots : ℕ) → Enters Rule slots 0 (λ n w. entered {S = S} (step slots 0 0 0 none) (newcomer 0, []) n (w, []))
   enters slots s r len small = (newcomer (length s.views), comes s r, (length s.views, refl))
@@ -356,8 +243,6 @@ module _ {S E : Type 0} (stands : List E → S → Type 0) where
         book',
         r.1,
         record {
-          behind = k.behind;
-          small = k.small;
           counted = length-set vs other spent ∙ (length-set s.views id both ∙ k.counted);
           each_view = set_each (Fits book') vs other spent
               record { seen = sees_nothing book.log owner n other; told = sees_nothing book.log owner n other; apart = λ m e. refl; stage = tt }
@@ -370,27 +255,13 @@ module _ {S E : Type 0} (stands : List E → S → Type 0) where
               })
               (λ i x ne' e' far'. let h = k.each_view i x e' in record { seen = on i x.seen far' h.seen; told = on i x.told far' h.told; apart = h.apart; stage = h.stage })
               j d e far);
-          each_ticket = λ t from to. two (λ stage. ticket_of stage ≡ Some t) (book.line.holder t) s.views at at' (λ is. absurd (no_ticket t (ap ticket_of (sym outside) ∙ is))) (λ is. absurd (no_ticket t (ap ticket_of (sym outside') ∙ is)))
-              (k.each_ticket t from to);
           each_entry = k.each_entry;
           longest = seen_two book.log s.views at at' was (λ e. no_back f.seen.grows.more v.seen.front (sym f.seen.grows.goes_on ∙ sym e) ∙ e) near k.longest;
-          slot = slot_two book.line book.log s.homes s.views at at' book.line.out k.slot;
+          slot = slot_on book.log book.turns book.holder s.homes s.views (set vs other spent)
+              (λ h. turn_set vs other w spent at' book.holder (λ is. absurd (not_outside (sym outside' ∙ is))) (turn_set s.views id v both at book.holder (λ is. absurd (not_outside (sym outside ∙ is))) h)) k.slot;
         },
       )
     where
-      two : (is : Stage → Type 0) (j : ℕ) (views : List (View E)) → get_elem? views id ≡ some v → get_elem? (set views id (told_of v w)) other ≡ some w → (is v.stage → is Outside) → (is w.stage → is Outside) → IsAt views j is
-          → IsAt (set (set views id (told_of v w)) other spent) j is
-      two is j views at at' one one' h = at_set_view (set views id (told_of v w)) other w spent at' is j one' (at_set_view views id v (told_of v w) at is j one h)
-
-      slot_two : (line : Line) (log : Front E) (homes : Homes) (views : List (View E)) → get_elem? views id ≡ some v → get_elem? (set views id (told_of v w)) other ≡ some w → (out : Bool) → IsSlot stands log line homes views out
-          → IsSlot stands log line homes (set (set views id (told_of v w)) other spent) out
-      slot_two line log homes views at at' false h = h
-      slot_two line log homes views at at' true h = (
-        h.0,
-        two (λ stage. stage ≡ HasTurn line.given) (line.holder line.given) views at at' (λ is. absurd (no_ticket line.given (ap ticket_of (sym outside ∙ is))))
-            (λ is. absurd (no_ticket line.given (ap ticket_of (sym outside' ∙ is)))) h.1,
-      )
-
       -- the front of the seat that was taken in is what the other one was told
       seen_two : (log : Front E) (views : List (View E)) → get_elem? views id ≡ some v → get_elem? (set views id (told_of v w)) other ≡ some w → get_elem? views other ≡ some w → ([] ≡ log → v.seen.front ≡ log) → id ≢ other
           → IsSeen log views → IsSeen log (set (set views id (told_of v w)) other spent)
@@ -420,8 +291,6 @@ module _ {S E : Type 0} (stands : List E → S → Type 0) where
         book',
         r.1,
         record {
-          behind = k.behind;
-          small = k.small;
           counted = length-append vs (cut v ∷ []) ∙ ap (λ (x : ℕ). x + 1) long;
           each_view = add_each (Fits book') vs (cut v)
               (subst (λ (j : ℕ). Fits book' j (cut v)) (sym long) record {
@@ -433,42 +302,31 @@ module _ {S E : Type 0} (stands : List E → S → Type 0) where
               (set_each (Fits book') s.views id (kept v)
               record { seen = on id v.seen f.apart f.seen; told = sees_nothing book.log owner (n + 1) id; apart = none_apart v.seen.numbers; stage = tt }
               (λ j d ne e. let h = k.each_view j d e in record { seen = others j d.seen ne h.seen; told = others j d.told ne h.told; apart = h.apart; stage = h.stage }));
-          each_ticket = λ t from to. at_more vs (cut v) (λ stage. ticket_of stage ≡ Some t) (book.line.holder t)
-              (at_set_view s.views id v (kept v) at (λ stage. ticket_of stage ≡ Some t) (book.line.holder t) (λ is. absurd (no_ticket t (ap ticket_of (sym outside) ∙ is))) (k.each_ticket t from to));
           each_entry = All-weaker (λ (entry : Entry E). entry.seat < n) (λ (entry : Entry E). entry.seat < n + 1) (λ entry below. omega (arith, below)) book.log k.each_entry;
           longest = seen_more vs (cut v) book.log (seen_set s.views id v (kept v) at book.log (λ e. ⊎_elim (λ (t : v.seen.front ≡ book.log). inl t) (λ (t : v.told.front ≡ book.log). inr (sym empty ∙ t)) e) k.longest);
-          slot = slot_cut book.line book.log s.homes s.views at book.line.out k.slot;
+          slot = slot_on book.log book.turns book.holder s.homes s.views (vs ++ cut v ∷ [])
+              (λ h. turn_more vs (cut v) book.holder (turn_set s.views id v (kept v) at book.holder (λ is. absurd (not_outside (sym outside ∙ is))) h)) k.slot;
         },
-      )
-    where
-      slot_cut : (line : Line) (log : Front E) (homes : Homes) (views : List (View E)) → get_elem? views id ≡ some v → (out : Bool) → IsSlot stands log line homes views out → IsSlot stands log line homes (set views id (kept v) ++ cut v ∷ []) out
-      slot_cut line log homes views at false h = h
-      slot_cut line log homes views at true h = (
-        h.0,
-        at_more (set views id (kept v)) (cut v) (λ stage. stage ≡ HasTurn line.given) (line.holder line.given)
-            (at_set_view views id v (kept v) at (λ stage. stage ≡ HasTurn line.given) (line.holder line.given) (λ is. absurd (no_ticket line.given (ap ticket_of (sym outside ∙ is)))) h.1),
       )
 
   -- the table at the start
-  pub starts : (state : S) → stands [] state → Rule (opening (0 ∷ 0 ∷ []) (Some state ∷ []) (newcomer 0))
-  starts state for_none = (
-    record { log = []; line = record { drawn = 0; given = 0; holder = λ n. 0; out = false }; owner = λ n. 0; count = 1 },
-    refl,
-    record {
-      behind = omega arith;
-      small = omega arith;
-      counted = refl;
-      each_view = λ j d e. ⊎_elim (λ (t : get_elem? [] j ≡ some d). absurd (some-ne-none d (sym t)))
-          (λ (t : (j ≡ 0) × (newcomer 0 ≡ d)). subst (λ (x : ℕ × View E). Fits (record { log = []; line = record { drawn = 0; given = 0; holder = λ n. 0; out = false }; owner = λ n. 0; count = 1 }) x.0 x.1) (λ i. (sym t.0 i, t.1 i)) record {
-            seen = record { grows = grows_from_itself (0 ∷ []) []; owned = λ n e. (refl, (let same = among_one 0 n e in omega (arith, same))) };
-            told = sees_nothing [] (λ n. 0) 1 0;
-            apart = none_apart (0 ∷ []);
-            stage = tt;
-          })
-          (at_end [] (newcomer 0) d j e);
-      each_ticket = λ t from to. absurd (omega (arith, to));
-      each_entry = All-nil (λ (entry : Entry E). entry.seat < 1);
-      longest = (0, newcomer 0, refl, inl refl);
-      slot = (state, refl, for_none);
-    },
-  )
+  pub starts : (state : S) → stands [] state → Rule (opening (0 ∷ []) (Some state ∷ []) (newcomer 0))
+  starts state for_none =
+      let book : Book E = record { log = []; turns = 0; holder = 0; owner = λ n. 0; count = 1 } in (
+        book,
+        refl,
+        record {
+          counted = refl;
+          each_view = λ j d e. ⊎_elim (λ (t : get_elem? [] j ≡ some d). absurd (some-ne-none d (sym t)))
+              (λ (t : (j ≡ 0) × (newcomer 0 ≡ d)). subst (λ (x : ℕ × View E). Fits book x.0 x.1) (λ i. (sym t.0 i, t.1 i)) record {
+                seen = record { grows = grows_from_itself (0 ∷ []) []; owned = λ n e. (refl, (let same = among_one 0 n e in omega (arith, same))) };
+                told = sees_nothing [] (λ n. 0) 1 0;
+                apart = none_apart (0 ∷ []);
+                stage = tt;
+              })
+              (at_end [] (newcomer 0) d j e);
+          each_entry = All-nil (λ (entry : Entry E). entry.seat < 1);
+          longest = (0, newcomer 0, refl, inl refl);
+          slot = record { free = λ _. (state, refl, for_none); taken = λ odd. absurd (not_both 0 refl odd) };
+        },
+      )

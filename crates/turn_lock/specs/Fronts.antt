@@ -1,6 +1,6 @@
 -- The history of all callers is a list of entries, the newest first, and isn't stored. A front is the part of it that
 -- a seat has seen: what the history was at that time. So the history goes on from a front by entries put before it.
-use Rattle.std.specs.Prelude.{◌≡◌, ℕ, List, [], ◌∷◌, ◌++◌, map, filter, Bool, false, ◌||◌, ◌==◌, min, Option, Some, None}
+use Rattle.std.specs.Prelude.{◌≡◌, ℕ, List, [], ◌∷◌, ◌++◌, map, filter, Bool, false, ◌||◌, ◌==◌, min}
 use Rattle.turn_lock.specs.declared.views.Entry.{Entry}
 
 -- n is one of the numbers
@@ -29,10 +29,9 @@ module _ {E : Type 0} where
   abbrev pub own : List ℕ → Front E → Front E
   own numbers front = filter (λ (entry : Entry E). among numbers entry.seat) front
 
-  -- what a turn of a seat with these numbers adds to the history: an entry under the least of them, if there is an event
-  abbrev pub made : List ℕ → Option E → Front E
-  made numbers None = []
-  made numbers (Some event) = record { seat = least numbers; event = event } ∷ []
+  -- what a turn of a seat with these numbers adds to the history: an entry under the least of them for each event
+  abbrev pub made : List ℕ → List E → Front E
+  made numbers done = map (λ (event : E). record { seat = least numbers; event = event }) done
 
 -- the front begins the later one, and what came behind it has no entry with one of these numbers
 pub record Grows {E : Type 0} (numbers : List ℕ) (front later : Front E) : Type 0 where

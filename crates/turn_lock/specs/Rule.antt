@@ -1,6 +1,6 @@
--- The rule of the turn lock. Word 0 counts the tickets drawn, word 1 the turns given back, and the one slot holds the
--- value, or is out with the seat that has the turn. The rule holds between any two atomic steps.
-use Rattle.std.specs.Prelude.{◌≡◌, ℕ, ◌^◌, ◌<◌, ◌≤◌, List, [], ◌∷◌, length, All, Bool, true, false, Option, Some, None, ◌⊎◌}
+-- The rule of the turn lock. Word 0 numbers the turns: it is even while the turn is free, and odd while a seat has it. The one
+-- slot holds the value, or is out with the seat that has the turn. The rule holds between any two atomic steps.
+use Rattle.std.specs.Prelude.{◌≡◌, ℕ, ◌%◌, ◌<◌, List, [], ◌∷◌, length, All, true, false, Option, Some, ◌⊎◌}
 use mathlib.Core.Option.{some, none}
 use mathlib.Core.Option as maybe
 use lib.ListN.{get_elem?}
@@ -8,7 +8,7 @@ use Rattle.atomic_table.specs.Table.{State}
 use Rattle.turn_lock.specs.declared.views.Entry.{Entry}
 use Rattle.turn_lock.specs.declared.views.Sight.{Sight}
 use Rattle.turn_lock.specs.declared.views.Stage.{Stage}
-use Rattle.turn_lock.specs.declared.views.Stage.TheVariants.{Outside, Waits, HasTurn}
+use Rattle.turn_lock.specs.declared.views.Stage.TheVariants.{Outside, HasTurn}
 use Rattle.turn_lock.specs.declared.views.View.{View}
 use Rattle.turn_lock.specs.Fronts.{Front, among, events, Grows}
 
@@ -30,17 +30,19 @@ module _ {E : Type 0} where
   abbrev pub spent : View E
   spent = view nothing nothing Outside
 
--- What the rule alone knows of those who wait: both counters, which view holds a ticket, and whether the slot is out
-pub record Line : Type 0 where
-  pub drawn : ℕ
-  pub given : ℕ
-  pub holder : ℕ → ℕ
-  pub out : Bool
+-- the turn is free, or a seat has it, by its number
+abbrev pub IsFree : ℕ → Type 0
+IsFree turns = turns % 2 ≡ 0
 
--- What the rule alone knows: the history, the line, which view has a number, and how many views there are
+abbrev pub IsTaken : ℕ → Type 0
+IsTaken turns = turns % 2 ≡ 1
+
+-- What the rule alone knows: the history, the number of the turn, the view that has it where it is taken, which view has a
+-- number, and how many views there are
 pub record Book (E : Type 0) : Type 0 where
   pub log : Front E
-  pub line : Line
+  pub turns : ℕ
+  pub holder : ℕ
   pub owner : ℕ → ℕ
   pub count : ℕ
 
@@ -50,53 +52,38 @@ pub record Sees {E : Type 0} (log : Front E) (owner : ℕ → ℕ) (count j : �
   pub grows : Grows seen.numbers seen.front log
   pub owned : (n : ℕ) → among seen.numbers n ≡ true → (owner n ≡ j) × (n < count)
 
--- A ticket held was drawn and isn't served yet. The turn's ticket is the one that is served now; who has the turn has
--- the whole history, and the slot
-abbrev pub InStage : {E : Type 0} → Front E → Line → ℕ → Front E → Stage → Type 0
-InStage log line j front Outside = Unit {0}
-InStage log line j front (Waits ticket) = (line.given ≤ ticket) × (ticket < line.drawn) × (line.holder ticket ≡ j)
-InStage log line j front (HasTurn ticket) = (ticket ≡ line.given) × (ticket < line.drawn) × (line.holder ticket ≡ j) × (line.out ≡ true) × (front ≡ log)
+-- who has the turn has the whole history, and the slot
+abbrev pub InStage : {E : Type 0} → Front E → ℕ → ℕ → ℕ → Front E → Stage → Type 0
+InStage log turns holder j front Outside = Unit {0}
+InStage log turns holder j front HasTurn = IsTaken turns × (holder ≡ j) × (front ≡ log)
 
 pub record Fits {E : Type 0} (book : Book E) (j : ℕ) (v : View E) : Type 0 where
   pub seen : Sees book.log book.owner book.count j v.seen
   pub told : Sees book.log book.owner book.count j v.told
   pub apart : (n : ℕ) → among v.seen.numbers n ≡ true → among v.told.numbers n ≡ false
-  pub stage : InStage book.log book.line j v.seen.front v.stage
+  pub stage : InStage book.log book.turns book.holder j v.seen.front v.stage
 
--- the ticket of a view, if it has one
-abbrev pub ticket_of : Stage → Option ℕ
-ticket_of Outside = None
-ticket_of (Waits ticket) = Some ticket
-ticket_of (HasTurn ticket) = Some ticket
-
--- the view j is in one of these stages
-abbrev pub IsAt : {E : Type 0} → List (View E) → ℕ → (Stage → Type 0) → Type 0
-IsAt {E} views j is = (v : View E) × (get_elem? views j ≡ some v) × is v.stage
+-- the view j has the turn
+abbrev pub HoldsTurn : {E : Type 0} → List (View E) → ℕ → Type 0
+HoldsTurn {E} views j = (v : View E) × (get_elem? views j ≡ some v) × (v.stage ≡ HasTurn)
 
 -- some view has this front, or was told of it
 abbrev pub IsSeen : {E : Type 0} → Front E → List (View E) → Type 0
 IsSeen {E} log views = (j : ℕ) × (v : View E) × (get_elem? views j ≡ some v) × ((v.seen.front ≡ log) ⊎ (v.told.front ≡ log))
 
--- each ticket that was drawn and isn't served yet is held
-abbrev pub AreHeld : {E : Type 0} → Line → List (View E) → Type 0
-AreHeld line views = (t : ℕ) → line.given ≤ t → t < line.drawn → IsAt views (line.holder t) (λ stage. ticket_of stage ≡ Some t)
-
 module _ {S E : Type 0} (stands : List E → S → Type 0) where
-  -- the slot is at home with a value that stands for the history, or it is out and a view has the turn
-  abbrev pub IsSlot : Front E → Line → List (maybe.Option (Option S)) → List (View E) → Bool → Type 0
-  IsSlot log line homes views false = (state : S) × (homes ≡ some (Some state) ∷ []) × stands (events log) state
-  IsSlot log line homes views true = (homes ≡ none ∷ []) × IsAt views (line.holder line.given) (λ stage. stage ≡ HasTurn line.given)
+  -- while the turn is free the slot is at home with a value that stands for the history; else it is out, and a view has the turn
+  pub record IsSlot (log : Front E) (turns holder : ℕ) (homes : List (maybe.Option (Option S))) (views : List (View E)) : Type 0 where
+    pub free : IsFree turns → (state : S) × (homes ≡ some (Some state) ∷ []) × stands (events log) state
+    pub taken : IsTaken turns → (homes ≡ none ∷ []) × HoldsTurn views holder
 
   pub record Kept (book : Book E) (homes : List (maybe.Option (Option S))) (views : List (View E)) : Type 0 where
-    pub behind : book.line.given ≤ book.line.drawn
-    pub small : book.line.drawn < 2 ^ 64
     pub counted : length views ≡ book.count
     pub each_view : (j : ℕ) (v : View E) → get_elem? views j ≡ some v → Fits book j v
-    pub each_ticket : AreHeld book.line views
     pub each_entry : All (λ (entry : Entry E). entry.seat < book.count) book.log
     pub longest : IsSeen book.log views
-    pub slot : IsSlot book.log book.line homes views book.line.out
+    pub slot : IsSlot book.log book.turns book.holder homes views
 
   -- the rule
   abbrev pub Ruled : State (Option S) (View E) → Type 0
-  Ruled s = (book : Book E) × (s.words ≡ book.line.drawn ∷ book.line.given ∷ []) × Kept book s.homes s.views
+  Ruled s = (book : Book E) × (s.words ≡ book.turns ∷ []) × Kept book s.homes s.views

@@ -19,11 +19,11 @@ module _ {S E : Type 0} where
   abbrev pub numbers : SeatOf S E → List ℕ
   numbers seat = seat.me.0.seen.numbers
 
-  -- a seat between two calls: it has a number, no ticket, no slot, and was told nothing that it hasn't seen
+  -- a seat between two calls: it has a number, not the turn, no slot, and was told nothing that it hasn't seen
   pub record IsIdle (table : TableId) (seat : SeatOf S E) : Type 0 where
     pub of_table : seat.table_id ≡ table
     pub no_slot : seat.me.1 ≡ []
-    pub no_ticket : seat.me.0.stage ≡ Outside
+    pub no_turn : seat.me.0.stage ≡ Outside
     pub nothing_told : seat.me.0.told ≡ nothing
     pub numbered : (number : ℕ) × (among (numbers seat) number ≡ true)
 
@@ -33,17 +33,16 @@ module _ {S E : Type 0} where
 
   -- the seat has the turn, and in the slot a value that stands for these events
   pub record HoldsValue (stands : List E → S → Type 0) (seat : SeatOf S E) (history : List E) : Type 0 where
-    pub ticket : ℕ
-    pub has_turn : seat.me.0.stage ≡ HasTurn ticket
+    pub has_turn : seat.me.0.stage ≡ HasTurn
     pub state : S
     pub slot : seat.me.1 ≡ (0, Some state) ∷ []
     pub for_history : stands history state
 
-  -- One turn. The seat has seen what others did meanwhile, and at the end the event of its own, if the call made one.
-  -- The reply and the call after it are those on a value that stands for all before that event
-  pub record Turned (event : Option E) (gives : List E → Type 0) (before after : SeatOf S E) : Type 0 where
+  -- One turn. The seat has seen what others did meanwhile, and at the end the events of its own that the call made, the
+  -- newest first. The reply and the call after it are those on a value that stands for all before these events
+  pub record Turned (done : List E) (gives : List E → Type 0) (before after : SeatOf S E) : Type 0 where
     pub others : Front E
-    pub adds : front after ≡ made (numbers before) event ++ (others ++ front before)
+    pub adds : front after ≡ made (numbers before) done ++ (others ++ front before)
     pub of_others : own (numbers before) others ≡ []
     pub same_numbers : numbers after ≡ numbers before
     pub answers : gives (events (others ++ front before))

@@ -7,15 +7,15 @@ use Rattle.turn_lock.specs.declared.views.Entry.{Entry}
 use Rattle.turn_lock.specs.declared.views.Sight.{Sight}
 use Rattle.turn_lock.specs.declared.views.View.{View}
 use Rattle.turn_lock.specs.Fronts.{Front, among, events, own}
-use Rattle.turn_lock.specs.Rule.{ticket_of, newcomer, Ruled}
+use Rattle.turn_lock.specs.Rule.{newcomer, Ruled}
 
 -- the later list goes on from the front by what was put before it
 abbrev pub Begins : {A : Type 0} → List A → List A → Type 0
 Begins {A} front later = (more : List A) × (later ≡ more ++ front)
 
--- this is one entry, whose number is one of these, and none of these is less
-abbrev pub IsLeast : {E : Type 0} → List ℕ → Front E → Type 0
-IsLeast {E} numbers front = (entry : Entry E) × (front ≡ entry ∷ []) × (among numbers entry.seat ≡ true) × ((n : ℕ) → among numbers n ≡ true → entry.seat ≤ n)
+-- the number is one of these, and none of these is less
+abbrev pub IsLeast : List ℕ → ℕ → Type 0
+IsLeast numbers number = (among numbers number ≡ true) × ((n : ℕ) → among numbers n ≡ true → number ≤ n)
 
 module _ {S E : Type 0} (s : State (Option S) (View E)) where
   -- the view of the seat j
@@ -25,9 +25,6 @@ module _ {S E : Type 0} (s : State (Option S) (View E)) where
   -- the seat j has seen this front with these numbers, or was told of them
   abbrev pub IsSight : ℕ → Sight E → Type 0
   IsSight j sight = (v : View E) × IsView j v × ((v.seen ≡ sight) ⊎ (v.told ≡ sight))
-
-  abbrev pub HoldsTicket : ℕ → ℕ → Type 0
-  HoldsTicket j t = (v : View E) × IsView j v × (ticket_of v.stage ≡ Some t)
 
   -- each front begins it, and it is one of them, or was told of
   pub record IsLongest (log : Front E) : Type 0 where

@@ -2,7 +2,7 @@
 -- the slots that it has; `found` is the word that was found.
 use Rattle.std.specs.Prelude.{◌≡◌, ◌≢◌, ℕ, List, ◌∷◌, ◌++◌, true, false, Option, Some, ◌⊎◌}
 use Rattle.atomic_table.specs.Table.{Me, Step, rest}
-use Rattle.turn_lock.specs.declared.views.Stage.TheVariants.{Outside, Waits, HasTurn}
+use Rattle.turn_lock.specs.declared.views.Stage.TheVariants.{Outside, HasTurn}
 use Rattle.turn_lock.specs.declared.views.View.{View}
 use Rattle.turn_lock.specs.Fronts.{Front, among, events, made, Grows}
 use Rattle.turn_lock.specs.Rule.{sight, nothing, view, newcomer}
@@ -11,15 +11,13 @@ abbrev pub Mine : Type 0 → Type 0 → Type 0
 Mine S E = Me (Option S) (View E)
 
 module _ {E : Type 0} where
-  abbrev pub with_ticket : View E → ℕ → View E
-  with_ticket v ticket = view v.seen v.told (Waits ticket)
+  -- the turn is taken, with this history
+  abbrev pub with_turn : View E → Front E → View E
+  with_turn v front = view (sight front v.seen.numbers) v.told HasTurn
 
-  abbrev pub with_turn : View E → Front E → ℕ → View E
-  with_turn v front ticket = view (sight front v.seen.numbers) v.told (HasTurn ticket)
-
-  -- the turn is given back, and the entry of the event stands at the end of the front
-  abbrev pub after_turn : View E → Option E → View E
-  after_turn v event = view (sight (made v.seen.numbers event ++ v.seen.front) v.seen.numbers) v.told Outside
+  -- the turn is given back, and the entries of these events, the newest first, stand at the end of the front
+  abbrev pub after_turn : View E → List E → View E
+  after_turn v done = view (sight (made v.seen.numbers done ++ v.seen.front) v.seen.numbers) v.told Outside
 
   -- the one view takes in the other, whose front and numbers it is told
   abbrev pub told_of : View E → View E → View E
@@ -54,13 +52,13 @@ module _ {S E : Type 0} where
   abbrev pub entered : Step (Option S) → Mine S E → ℕ → Mine S E → Type 0
   entered st m found m' = (number : ℕ) × (m'.0 ≡ newcomer number)
 
-  -- the ticket was drawn, or another one was found and nothing changed
-  abbrev pub drew : Step (Option S) → Mine S E → ℕ → Mine S E → Type 0
-  drew st m found m' = (found ≡ st.first → m' ≡ (with_ticket m.0 found, m.1)) × (found ≢ st.first → m' ≡ m)
+  -- nothing changes
+  abbrev pub peeked : Step (Option S) → Mine S E → ℕ → Mine S E → Type 0
+  peeked st m found m' = m' ≡ m
 
   -- the turn is given back, and with it the slot
-  abbrev pub gave : Option E → Step (Option S) → Mine S E → ℕ → Mine S E → Type 0
-  gave event st m found m' = m' ≡ (after_turn m.0 event, rest m.1)
+  abbrev pub gave : List E → Step (Option S) → Mine S E → ℕ → Mine S E → Type 0
+  gave done st m found m' = m' ≡ (after_turn m.0 done, rest m.1)
 
   abbrev pub weighed : Step (Option S) → Mine S E → ℕ → Mine S E → Type 0
   weighed st m found m' = (m' ≡ m) × Agree m.0
@@ -70,13 +68,13 @@ module _ {S E : Type 0} where
 
 module _ {S E : Type 0} (stands : List E → S → Type 0) where
   -- the seat has the turn: its front is the history, for which the value in the slot stands
-  pub record Took (ticket : ℕ) (m m' : Mine S E) : Type 0 where
+  pub record Took (m m' : Mine S E) : Type 0 where
     pub log : Front E
     pub state : S
-    pub now : m' ≡ (with_turn m.0 log ticket, (0, Some state) ∷ m.1)
+    pub now : m' ≡ (with_turn m.0 log, (0, Some state) ∷ m.1)
     pub grows : Grows m.0.seen.numbers m.0.seen.front log
     pub for_log : stands (events log) state
 
-  -- a seat that waits takes the turn where its own ticket is served; else nothing changes
-  abbrev pub looked : Step (Option S) → Mine S E → ℕ → Mine S E → Type 0
-  looked st m found m' = (ticket : ℕ) → m.0.stage ≡ Waits ticket → (found ≡ ticket → Took ticket m m') × (found ≢ ticket → m' ≡ m)
+  -- the turn was free under this number, and is taken; or another number was found, and nothing changes
+  abbrev pub tried : Step (Option S) → Mine S E → ℕ → Mine S E → Type 0
+  tried st m found m' = (found ≡ st.first → Took m m') × (found ≢ st.first → m' ≡ m)

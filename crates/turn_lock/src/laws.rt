@@ -1,15 +1,15 @@
 // What the rule and the contracts of the calls say, sentence by sentence. Each law is the contract of a function that
 // does nothing.
-ghost use Rattle.std.specs.Prelude.{◌≡◌, ◌≢◌, ℕ, ◌+◌, ◌<◌, ◌≤◌, ◌↔◌, ◌⊎◌, List, [], ◌∷◌, ◌++◌, All, length, slice_index, true, Option, Some};
+ghost use Rattle.std.specs.Prelude.{◌≡◌, ℕ, ◌<◌, ◌↔◌, ◌⊎◌, List, [], ◌∷◌, ◌++◌, All, length, slice_index, true, Option, Some};
 ghost use mathlib.Core.Option.{some, none};
 ghost use Rattle.atomic_table.specs.Table.{State};
 ghost use Rattle.turn_lock.specs.declared.views.Entry.{Entry};
 ghost use Rattle.turn_lock.specs.declared.views.Stage.TheVariants.{HasTurn};
 ghost use Rattle.turn_lock.specs.declared.views.View.{View};
 ghost use Rattle.turn_lock.specs.Fronts.{Front, among, events, made, own};
-ghost use Rattle.turn_lock.specs.Rule.{Ruled};
+ghost use Rattle.turn_lock.specs.Rule.{HoldsTurn, IsFree, IsTaken, Ruled};
 ghost use Rattle.turn_lock.specs.Seats.{SeatOf, front, numbers, Turned, Joined};
-ghost use Rattle.turn_lock.specs.Sentences.{Always, Begins, EntriesWereMade, HoldsTicket, IsLeast, IsLongest, IsView, NextHasNoEntries, NextIsNobodys, NumbersHaveOneSeat, NumbersHaveTheirEntries, NumbersWereMade, SeenAndToldAreApart, SightsAreOfOneHistory, StandsForLongest, with_newcomer};
+ghost use Rattle.turn_lock.specs.Sentences.{Always, Begins, EntriesWereMade, IsLeast, IsLongest, IsView, NextHasNoEntries, NextIsNobodys, NumbersHaveOneSeat, NumbersHaveTheirEntries, NumbersWereMade, SeenAndToldAreApart, SightsAreOfOneHistory, StandsForLongest, with_newcomer};
 
 use crate::logged::{Logged, TurnCall};
 
@@ -40,35 +40,28 @@ pub fn a_view_has_all_entries_of_its_numbers<S: Logged>()
         → All (λ (entry : Entry S.Event). entry.seat < length s.views) v.seen.front }
 {}
 
-/// Word 1 is at most word 0. The tickets held are the numbers from word 1 up to word 0, each held by one view.
-pub fn each_ticket_is_held_once<S: Logged>()
-    ensures counted { (s : State (Option S) (View S.Event)) → Ruled S.stands s
-        → slice_index s.words 1 ≤ slice_index s.words 0 }
-    ensures held { (s : State (Option S) (View S.Event)) (t : ℕ) → Ruled S.stands s
-        → slice_index s.words 1 ≤ t → t < slice_index s.words 0 → (j : ℕ) × HoldsTicket s j t }
-    ensures waiting { (s : State (Option S) (View S.Event)) (j t : ℕ) → Ruled S.stands s
-        → HoldsTicket s j t → (slice_index s.words 1 ≤ t) × (t < slice_index s.words 0) }
-    ensures once { (s : State (Option S) (View S.Event)) (j k t : ℕ) → Ruled S.stands s
-        → HoldsTicket s j t → HoldsTicket s k t → j ≡ k }
+/// Word 0 is odd exactly while a view has the turn, and even exactly while none has it.
+pub fn the_turn_is_taken_while_its_number_is_odd<S: Logged>()
+    ensures taken { Always S.stands (λ s. IsTaken (slice_index s.words 0)
+        ↔ ((j : ℕ) × HoldsTurn s.views j)) }
+    ensures free { Always S.stands (λ s. IsFree (slice_index s.words 0)
+        ↔ ((j : ℕ) → HoldsTurn s.views j → ⊥)) }
 {}
 
-/// At most one view has the turn. Its ticket is word 1, it has the longest front, and the slot is out.
+/// At most one view has the turn. It has the longest front, and the slot is out.
 pub fn one_view_has_the_turn<S: Logged>()
-    ensures one { (s : State (Option S) (View S.Event)) (j k t u : ℕ) (v w : View S.Event)
-        → Ruled S.stands s → IsView s j v → IsView s k w → v.stage ≡ HasTurn t → w.stage ≡ HasTurn u
-        → j ≡ k }
-    ensures served { (s : State (Option S) (View S.Event)) (j t : ℕ) (v : View S.Event)
-        → Ruled S.stands s → IsView s j v → v.stage ≡ HasTurn t → t ≡ slice_index s.words 1 }
-    ensures longest { (s : State (Option S) (View S.Event)) (j t : ℕ) (v : View S.Event)
-        → Ruled S.stands s → IsView s j v → v.stage ≡ HasTurn t → IsLongest s v.seen.front }
-    ensures slot_out { (s : State (Option S) (View S.Event)) (j t : ℕ) (v : View S.Event)
-        → Ruled S.stands s → IsView s j v → v.stage ≡ HasTurn t → s.homes ≡ none ∷ [] }
+    ensures one { (s : State (Option S) (View S.Event)) (j k : ℕ) → Ruled S.stands s
+        → HoldsTurn s.views j → HoldsTurn s.views k → j ≡ k }
+    ensures longest { (s : State (Option S) (View S.Event)) (j : ℕ) (v : View S.Event)
+        → Ruled S.stands s → IsView s j v → v.stage ≡ HasTurn → IsLongest s v.seen.front }
+    ensures slot_out { (s : State (Option S) (View S.Event)) (j : ℕ) → Ruled S.stands s
+        → HoldsTurn s.views j → s.homes ≡ none ∷ [] }
 {}
 
 /// While no view has the turn the slot is at home, with a value that stands for the longest front.
 pub fn the_value_at_home_stands_for_the_longest_front<S: Logged>()
     ensures at_home { (s : State (Option S) (View S.Event)) → Ruled S.stands s
-        → ((j t : ℕ) (v : View S.Event) → IsView s j v → v.stage ≢ HasTurn t)
+        → ((j : ℕ) → HoldsTurn s.views j → ⊥)
         → (state : S) × (s.homes ≡ some (Some state) ∷ []) }
     ensures stands { (s : State (Option S) (View S.Event)) (state : S) (log : Front S.Event)
         → Ruled S.stands s → s.homes ≡ some (Some state) ∷ [] → IsLongest s log
@@ -100,19 +93,20 @@ pub fn what_a_seat_was_told_obeys_the_rule<S: Logged>()
     ensures made_before { Always S.stands (λ s. EntriesWereMade s) }
 {}
 
-/// An entry is made with the least of its seat's numbers.
+/// A turn makes an entry for each of its events, with the least of its seat's numbers.
 pub fn an_entry_has_the_least_number<S: Logged>()
-    ensures { (ns : List ℕ) (n : ℕ) (event : S.Event) → among ns n ≡ true
-        → IsLeast ns (made ns (Some event)) }
+    ensures each { (ns : List ℕ) (done : List S.Event) → events (made ns done) ≡ done }
+    ensures least { (ns : List ℕ) (n : ℕ) (done : List S.Event) → among ns n ≡ true
+        → All (λ (entry : Entry S.Event). IsLeast ns entry.seat) (made ns done) }
 {}
 
-/// Of the seat's own entries a turn adds the one of its event, if there is one, and changes no other.
-pub fn a_turn_adds_its_own_entry_alone<S: Logged, C: TurnCall<S>>()
+/// Of the seat's own entries a turn adds those of its events, in their order, and changes no other.
+pub fn a_turn_adds_its_own_entries_alone<S: Logged, C: TurnCall<S>>()
     ensures { (call after : C) (reply : C.Reply) (came went : SeatOf S S.Event) (n : ℕ)
         → among (numbers came) n ≡ true
-        → Turned (C.entry call reply) (λ history. C.gives call history reply after) came went
+        → Turned (C.entries call reply) (λ history. C.gives call history reply after) came went
         → own (numbers came) (front went)
-        ≡ made (numbers came) (C.entry call reply) ++ own (numbers came) (front came) }
+        ≡ made (numbers came) (C.entries call reply) ++ own (numbers came) (front came) }
 {}
 
 /// A joined seat has the own entries of both seats, and they are the same that each had.

@@ -1,8 +1,8 @@
 // The lock.
 ghost use Rattle.std.specs.Prelude.{◌≡◌};
 
-use crate::bells::Bells;
 use crate::logged::Logged;
+use crate::turn_bell::TurnBell;
 use crate::views::{Turns, View};
 use atomic_table::Table;
 use std::alloc::Global;
@@ -11,15 +11,10 @@ use std::alloc::Global;
 /// and the numbers of the caller's own entries.
 pub type Seat<S> = atomic_table::Seat<Option<S>, View<<S as Logged>::Event>>;
 
-// Word 0 counts the tickets drawn, and word 1 the turns given back.
-pub(crate) const DRAWN: usize = 0;
+// Word 0 numbers the turns: even while the turn is free, odd while a seat has it.
+pub(crate) const TURNS: usize = 0;
 
-pub(crate) const GIVEN: usize = 1;
-
-// How many bells there are besides the first, by which those that wait for their turn are woken.
-pub(crate) const MORE_BELLS: u32 = 63;
-
-// How often the next to have the turn looks for it before it sleeps.
+// How often who finds the turn taken looks again before he sleeps.
 pub(crate) const MOST_LOOKS: u32 = 100;
 
 // The one slot, with the value.
@@ -29,7 +24,7 @@ pub(crate) const VALUE: usize = 0;
 #[derive(Drop)]
 pub struct TurnLock<S: Logged> {
     pub(crate) table: Table<Option<S>, View<S::Event>, (), Turns<S>, Global>,
-    // The holder of a ticket sleeps by the bell of its number.
-    pub(crate) bells: Bells,
-    ghost sized: { (table.shared.table_id.words ≡ 2) × (table.shared.table_id.slots ≡ 1) },
+    // Who waits for the turn sleeps by it.
+    pub(crate) bell: TurnBell,
+    ghost sized: { (table.shared.table_id.words ≡ 1) × (table.shared.table_id.slots ≡ 1) },
 }

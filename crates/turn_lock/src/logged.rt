@@ -9,23 +9,23 @@ pub trait Logged {
     ghost stands: { List Self.Event → Self → Type 0 };
 }
 
-/// What a caller does in one turn. It makes one event or none.
+/// What a caller does in one turn. It makes any number of events.
 pub trait TurnCall<S: Logged> {
     type Reply;
 
-    ghost use Rattle.std.specs.Prelude.{List, ◌++◌, Option, option_to_list};
+    ghost use Rattle.std.specs.Prelude.{List, ◌++◌};
 
-    // The entry that it makes, if it makes one: its event, by the call before and the reply.
-    ghost entry: { Self → Self.Reply → Option S.Event };
+    // The events that it makes, the newest first, by the call before and the reply.
+    ghost entries: { Self → Self.Reply → List S.Event };
 
     // What the reply and the call after it are, for the call before, on a value that stands for these events. A call
     // that has a `&mut` in it says here that the loan stays the same one.
     ghost gives: { Self → List S.Event → Self.Reply → Self → Type 0 };
 
-    /// Does it. Afterwards the value stands for the event made and those before.
+    /// Does it. Afterwards the value stands for the events made and those before.
     fn run(&mut self, state: &mut S) -> Self::Reply
         ensures stands { (history : List S.Event) → S.stands history state.old
-            → S.stands (option_to_list (entry self.old result) ++ history) state.new }
+            → S.stands (entries self.old result ++ history) state.new }
         ensures gives { (history : List S.Event) → S.stands history state.old
             → gives self.old history result self.new };
 }

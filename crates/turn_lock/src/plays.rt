@@ -1,6 +1,6 @@
 // What each atomic step tells, and how views are cut and joined. These types are for the proofs alone.
 ghost use Rattle.turn_lock.specs.Rule.{spent};
-ghost use Rattle.turn_lock.specs.Steps.{entered, drew, looked, gave, weighed, settled, told_of, kept, cut};
+ghost use Rattle.turn_lock.specs.Steps.{entered, peeked, tried, gave, weighed, settled, told_of, kept, cut};
 
 use crate::logged::Logged;
 use crate::views::View;
@@ -14,31 +14,31 @@ impl<S, E> Play<Option<S>, View<E>> for Enter {
     ghost then = { entered };
 }
 
-// A seat tries to draw a ticket.
-pub(crate) struct Draw;
+// A seat looks whether the turn is free.
+pub(crate) struct Peek;
 
-impl<S, E> Play<Option<S>, View<E>> for Draw {
-    ghost then = { drew };
+impl<S, E> Play<Option<S>, View<E>> for Peek {
+    ghost then = { peeked };
 }
 
-// A seat looks whether its ticket is served.
-pub(crate) struct Look;
+// A seat tries to take the turn.
+pub(crate) struct Try;
 
-impl<S: Logged> Play<Option<S>, View<S::Event>> for Look {
-    ghost then = { looked S.stands };
+impl<S: Logged> Play<Option<S>, View<S::Event>> for Try {
+    ghost then = { tried S.stands };
 }
 
-// The event that a turn made, if it made one. Who gives the turn back picks it.
+// The events that a turn made, the newest first. Who gives the turn back picks them.
 pub(crate) trait Made<E> {
-    ghost use Rattle.std.specs.Prelude.{Option};
+    ghost use Rattle.std.specs.Prelude.{List};
 
-    ghost event: { Option E };
+    ghost events: { List E };
 }
 
 impl<E> Made<E> for Brand {
-    ghost use Rattle.std.specs.Prelude.{None};
+    ghost use Rattle.std.specs.Prelude.{[]};
 
-    ghost event = { None };
+    ghost events = { [] };
 }
 
 // A seat gives the turn back.
@@ -47,7 +47,7 @@ pub(crate) struct Give<N> {
 }
 
 impl<S, E, N: Made<E>> Play<Option<S>, View<E>> for Give<N> {
-    ghost then = { gave N.event };
+    ghost then = { gave N.events };
 }
 
 // A seat compares what it has seen with what it was told.

@@ -2,10 +2,10 @@
 ghost use Rattle.std.specs.Prelude.{◌≡◌, [], ◌∷◌, IfOk, IfErr};
 ghost use Rattle.turn_lock.specs.Seats.{front, numbers, IsSeatOf, Parted, Joined};
 
-use crate::bells::Bells;
-use crate::lock::{DRAWN, MORE_BELLS, Seat, TurnLock};
+use crate::lock::{Seat, TURNS, TurnLock};
 use crate::logged::Logged;
 use crate::plays::{Cut, Enter, Settle, Tell, Weigh};
+use crate::turn_bell::TurnBell;
 use atomic_table::{Refused, Table};
 use std::alloc::{AllocFailed, Global};
 
@@ -18,16 +18,16 @@ impl<S: Logged> TurnLock<S> {
         ensures number { IfOk result (λ made. numbers made.1 ≡ 0 ∷ []) }
         ensures err { IfErr result (λ back. back ≡ state) }
     {
-        let Some(bells) = Bells::new(alloc, MORE_BELLS) else {
-            return Err(state);
-        };
         let mut slots = Vec::new(alloc);
         if let Err(AllocFailed { value }) = slots.push(Some(state)) {
             slots.destroy_empty();
             return Err(value.unwrap());
         }
-        match Table::new(alloc, &[0, 0], slots, &()) {
-            Ok((table, seat)) => Ok((TurnLock { table, bells }, seat)),
+        match Table::new(alloc, &[0], slots, &()) {
+            Ok((table, seat)) => {
+                let bell = TurnBell::new();
+                Ok((TurnLock { table, bell }, seat))
+            }
             Err(Refused { mut slots }) => {
                 let state = slots.pop().unwrap().unwrap();
                 slots.destroy_empty();
@@ -46,9 +46,9 @@ impl<S: Logged> TurnLock<S> {
     {
         // No step sees how many seats there are, so the number is made by a seat that comes. It is noted in this one,
         // which learns that the number is new and has no entries; then it is cut off again, with the front.
-        let (_, note) = self.table.shared.load_new_seat::<Enter>(DRAWN);
+        let (_, note) = self.table.shared.load_new_seat::<Enter>(TURNS);
         self.table.shared.join_seat::<Tell>(&mut seat, note);
-        self.table.shared.load::<Weigh>(&mut seat, DRAWN);
+        self.table.shared.load::<Weigh>(&mut seat, TURNS);
         let other = self.table.shared.split_seat::<Cut>(&mut seat);
         (seat, other)
     }
@@ -61,7 +61,7 @@ impl<S: Logged> TurnLock<S> {
         ensures joined { Joined a b result }
     {
         self.table.shared.join_seat::<Tell>(&mut a, b);
-        self.table.shared.load::<Settle>(&mut a, DRAWN);
+        self.table.shared.load::<Settle>(&mut a, TURNS);
         a
     }
 }

@@ -1,71 +1,68 @@
-// A turn: a ticket is drawn, its holder waits until it is served, takes the value, runs the call, puts the value back
-// and gives the turn back.
-ghost use Rattle.std.specs.Prelude.{◌≡◌, ℕ, [], ◌++◌, true, option_to_list};
-ghost use Rattle.turn_lock.specs.declared.views.Stage.TheVariants.{Waits};
+// A turn: it is taken where it is free, or waited for; then the value is taken out, the call runs on it, the value is put
+// back, and the turn is given back.
+ghost use Rattle.std.specs.Prelude.{◌≡◌, ℕ, [], ◌++◌, true, false};
 ghost use Rattle.turn_lock.specs.Fronts.{among, events};
 ghost use Rattle.turn_lock.specs.Seats.{front, numbers, IsSeatOf, IsSame, HoldsValue, Turned};
-ghost use Rattle.turn_lock.specs.Steps.{with_ticket, after_turn, Took};
+ghost use Rattle.turn_lock.specs.Steps.{after_turn, Took};
 
-use crate::bell::Bell;
-use crate::lock::{DRAWN, GIVEN, MOST_LOOKS, Seat, TurnLock, VALUE};
+use crate::lock::{MOST_LOOKS, Seat, TURNS, TurnLock, VALUE};
 use crate::logged::{Logged, TurnCall};
-use crate::plays::{Draw, Give, Look, Made};
+use crate::plays::{Give, Made, Peek, Try};
 use std::hint::spin_loop;
 use std::marker::Brand;
 use std::snapshot::Snapshot;
 use std::sync::Wait;
 
-// A moment passes, where he who waits is the next and has looks left; else he sleeps until the bell is rung, unless it was
-// since this count.
-fn rest<R: Wait>(rt: &R, bell: &Bell, count: u32, is_next: bool, looks_left: &mut u32) {
-    if is_next && *looks_left > 0 {
-        *looks_left -= 1;
-        spin_loop();
-    } else {
-        bell.sleep(rt, count);
-    }
-}
-
 impl<S: Logged> TurnLock<S> {
-    // Draws a ticket. A failed try finds the number for the next one; at the last number of all, where no ticket is
-    // left, it tries from 0 for ever.
-    fn draw<R: Wait>(&self, rt: &R, seat: &mut Seat<S>) -> u64
+    // Takes the turn, unless another has it, or takes it between the look and the try.
+    fn try_turn(&self, seat: &mut Seat<S>) -> bool
         requires { IsSeatOf self.now seat.old }
         ensures same { IsSame seat.old seat.new }
-        ensures drawn { seat.new.me ≡ (with_ticket seat.old.me.0 result, seat.old.me.1) }
+        ensures took { result ≡ true → Took S.stands seat.old.me seat.new.me }
+        ensures missed { result ≡ false → seat.new.me ≡ seat.old.me }
     {
-        let mut next = 0;
-        for _ in rt.forever() {
-            let found = self
-                .table
-                .shared
-                .compare_exchange::<Draw>(seat, DRAWN, next, next + 1);
-            if found == next {
-                return found;
-            }
-            next = if found == u64::MAX { 0 } else { found };
+        let turns = self.table.shared.load::<Peek>(seat, TURNS);
+        if turns % 2 == 1 {
+            return false;
         }
-        unreachable!()
+        let found = self
+            .table
+            .shared
+            .compare_exchange::<Try>(seat, TURNS, turns, turns + 1);
+        found == turns
     }
 
-    // Waits until the ticket is served, and then has the turn. Who is the next looks some times more before he sleeps, since
-    // most turns are shorter than it takes to sleep and to be woken.
-    fn await_turn<R: Wait>(&self, rt: &R, seat: &mut Seat<S>, ticket: u64)
-        requires { (seat.old.table_id ≡ self.now.table.shared.table_id)
-            × (seat.old.me.0.stage ≡ Waits ticket) }
+    // Takes the turn, which others may have. Looks some times before it sleeps, since most turns are shorter than it takes to
+    // sleep and to be woken.
+    fn await_turn<R: Wait>(&self, rt: &R, seat: &mut Seat<S>)
+        requires { IsSeatOf self.now seat.old }
         ensures same { IsSame seat.old seat.new }
-        ensures took { Took S.stands ticket seat.old.me seat.new.me }
+        ensures took { Took S.stands seat.old.me seat.new.me }
     {
-        let bell = self.bells.of(ticket);
-        let mut looks_left = MOST_LOOKS;
-        for _ in rt.forever() {
-            let count = bell.count();
-            let given = self.table.shared.load::<Look>(seat, GIVEN);
-            if given == ticket {
+        for _ in 0..MOST_LOOKS {
+            if self.try_turn(seat) {
                 return;
             }
-            let is_next = given.wrapping_add(1) == ticket;
-            rest(rt, bell, count, is_next, &mut looks_left);
+            spin_loop();
+        }
+        self.bell.begin_wait();
+        self.sleep_for_turn(rt, seat);
+        self.bell.end_wait();
+    }
+
+    // Takes the turn, and sleeps while others have it. The bell is read before the turn is looked at, so that a turn which is
+    // given back behind the look is heard.
+    fn sleep_for_turn<R: Wait>(&self, rt: &R, seat: &mut Seat<S>)
+        requires { IsSeatOf self.now seat.old }
+        ensures same { IsSame seat.old seat.new }
+        ensures took { Took S.stands seat.old.me seat.new.me }
+    {
+        for _ in rt.forever() {
+            let count = self.bell.count();
+            if self.try_turn(seat) {
+                return;
+            }
+            self.bell.sleep(rt, count);
         }
         unreachable!()
     }
@@ -76,7 +73,7 @@ impl<S: Logged> TurnLock<S> {
         requires value { HoldsValue S.stands seat.old (events (front seat.old)) }
         ensures same { IsSame seat.old seat.new }
         ensures view { seat.new.me.0 ≡ seat.old.me.0 }
-        ensures value { HoldsValue S.stands seat.new (option_to_list (C.entry call.old result)
+        ensures value { HoldsValue S.stands seat.new (C.entries call.old result
             ++ events (front seat.old)) }
         ensures gives { C.gives call.old (events (front seat.old)) result call.new }
     {
@@ -87,9 +84,7 @@ impl<S: Logged> TurnLock<S> {
         reply
     }
 
-    // Gives the turn back, with the entry of the event that the call made, and wakes the one whose ticket is served now, if
-    // he sleeps. He who looks for his turn before it is given back has read his bell before that, and doesn't sleep once it
-    // was rung.
+    // Gives the turn back, with the entries of the events that the call made, and wakes one who sleeps, if anyone waits.
     fn give_back<N: Made<S::Event>, C: TurnCall<S>>(
         &self,
         seat: &mut Seat<S>,
@@ -97,22 +92,22 @@ impl<S: Logged> TurnLock<S> {
         _reply: &C::Reply,
     )
         requires table { seat.old.table_id ≡ self.now.table.shared.table_id }
-        requires event { N.event ≡ C.entry _before.now.value _reply.now }
+        requires events { N.events ≡ C.entries _before.now.value _reply.now }
         requires value { HoldsValue S.stands seat.old
-            (option_to_list (C.entry _before.now.value _reply.now) ++ events (front seat.old)) }
+            (C.entries _before.now.value _reply.now ++ events (front seat.old)) }
         requires numbered { (number : ℕ) × (among (numbers seat.old) number ≡ true) }
         ensures same { IsSame seat.old seat.new }
         ensures gave { seat.new.me
-            ≡ (after_turn seat.old.me.0 (C.entry _before.now.value _reply.now), []) }
+            ≡ (after_turn seat.old.me.0 (C.entries _before.now.value _reply.now), []) }
     {
-        let given = self.table.shared.fetch_add::<Give<N>>(seat, GIVEN, 1);
-        self.bells.of(given.wrapping_add(1)).ring();
+        self.table.shared.fetch_add::<Give<N>>(seat, TURNS, 1);
+        self.bell.ring();
     }
 
-    /// One turn: waits until the seat's ticket is served, and then runs the call on the value. May wait for ever.
+    /// One turn: waits until nobody has it, and then runs the call on the value. May wait for ever.
     ///
-    /// The seat's front afterwards goes on from the one that came, by others' entries and at last the call's own, if
-    /// it made an event. The reply is what the call gives on a value that stands for all before that entry.
+    /// The seat's front afterwards goes on from the one that came, by others' entries and at last the call's own, one for
+    /// each event that it made. The reply is what the call gives on a value that stands for all before these entries.
     pub fn with_turn<C: TurnCall<S>>(
         &self,
         rt: &impl Wait,
@@ -121,11 +116,10 @@ impl<S: Logged> TurnLock<S> {
     ) -> (Seat<S>, C::Reply)
         requires { IsSeatOf self.now seat }
         ensures seat { IsSeatOf self.now result.0 }
-        ensures turned { Turned (C.entry call.old result.1)
+        ensures turned { Turned (C.entries call.old result.1)
             (λ history. C.gives call.old history result.1 call.new) seat result.0 }
     {
-        let ticket = self.draw(rt, &mut seat);
-        self.await_turn(rt, &mut seat, ticket);
+        self.await_turn(rt, &mut seat);
         let before = Snapshot::of(call);
         let reply = self.serve(&mut seat, call);
         self.give_back::<Brand, C>(&mut seat, &before, &reply);

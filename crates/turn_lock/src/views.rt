@@ -18,11 +18,10 @@ pub struct Sight<E> {
     pub numbers: LinkedList<u64>,
 }
 
-/// Where a seat is on its way to a turn. A ticket is a number.
+/// Whether a seat has the turn.
 pub enum Stage {
     Outside,
-    Waits(u64),
-    HasTurn(u64),
+    HasTurn,
 }
 
 /// What a seat has seen, and what it was told of another seat that it took in.

@@ -1,7 +1,9 @@
-use Rattle.std.proofs.Common.{refl}
-use Rattle.turn_lock.specs.Fronts.{least}
-use Rattle.turn_lock.proofs.FrontLaws.{least_among, least_under}
+use Rattle.turn_lock.proofs.FrontLaws.{events_made}
+use Rattle.turn_lock.proofs.SeatFacts.{least_each}
 use Rattle.turn_lock.proofs.laws.an_entry_has_the_least_number.Goals as goal
 
-pub returns : goal.returns
-returns g c = λ ns n event is_mine. (record { seat = least ns; event = event }, refl, least_among ns n is_mine, λ m e. least_under ns m e)
+pub returns-clause-each : goal.returns-clause-each
+returns-clause-each g c = λ ns done. events_made ns done
+
+pub returns-clause-least : goal.returns-clause-least
+returns-clause-least g c = λ ns n done is_mine. least_each ns n done is_mine

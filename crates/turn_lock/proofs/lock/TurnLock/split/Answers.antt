@@ -13,7 +13,7 @@ join_seat-requires g c = let came = c.load_new_seat-note.ensures.2 in (
   search rules,
   search rules,
   search rules,
-  tells _ _ c.args.seat.me.0 _ c.load_new_seat-note.result.1.me.0 c.requires.no_ticket (ap (λ v. v.stage) came.1) c.requires.nothing_told (ap (λ v. v.told) came.1),
+  tells _ _ c.args.seat.me.0 _ c.load_new_seat-note.result.1.me.0 c.requires.no_turn (ap (λ v. v.stage) came.1) c.requires.nothing_told (ap (λ v. v.told) came.1),
 )
 
 pub load-requires : goal.load-requires

@@ -1,6 +1,0 @@
-use Rattle.std.proofs.Common.{◌≡◌, ◌+◌, ◌^◌, ◌<◌}
-use Rattle.turn_lock.specs.Seats.{IsSame}
-use Rattle.turn_lock.proofs.lock.TurnLock.draw.Given as goal
-
-abbrev pub invariant-loop : goal.invariant-loop
-invariant-loop g l = IsSame l.initial.seat l.seat × (l.seat.me ≡ l.initial.seat.me) × (l.next + 1 < 2 ^ 64)
