@@ -1,5 +1,5 @@
 -- What a submit adds to the own entries of a seat.
-use Rattle.std.proofs.Common.{◌≡◌, ℕ, List, [], ◌∷◌, ◌++◌, true, Some, refl, sym, ap, subst, ◌∙◌, append_assoc}
+use Rattle.std.proofs.Common.{◌≡◌, ℕ, List, [], ◌∷◌, ◌++◌, true, refl, sym, ap, subst, ◌∙◌, append_assoc}
 use Rattle.std.specs.Prelude.{Result, Ok, Err}
 use Rattle.wire_base.specs.declared.bytes.NoMemory.{NoMemory}
 use Rattle.turn_lock.specs.Fronts.{Front, among, events, made}
@@ -27,11 +27,11 @@ pub adds_one : (event : Event) (a : StepAnswer) (old new : List ℕ) (first befo
 adds_one event a old new first before after older n is_mine d s =
     let ns = numbers before in
     let e : Entered = entry (events (s.others ++ front before)) event in
-    let own : entered_by ns (front after) ≡ e ∷ entered_by ns (front before) = ap (entered_by ns) s.goes_on ∙ entered_made ns event (s.others ++ front before) n is_mine
+    let own : entered_by ns (front after) ≡ e ∷ entered_by ns (front before) = ap (entered_by ns) s.goes_on ∙ entered_made ns (event ∷ []) (s.others ++ front before) n is_mine
     ∙ ap (λ (l : List Entered). e ∷ l) (entered_behind ns s.others (front before) s.of_others) in
     record {
-      more = made ns (Some event) ++ (s.others ++ d.more);
-      goes_on = longer (front first) (front before) (front after) (made ns (Some event)) s.others d.more d.goes_on s.goes_on;
+      more = made ns (event ∷ []) ++ (s.others ++ d.more);
+      goes_on = longer (front first) (front before) (front after) (made ns (event ∷ [])) s.others d.more d.goes_on s.goes_on;
       same_numbers = s.same_numbers ∙ d.same_numbers;
       own_entries = subst (λ (ms : List ℕ). entered_by ms (front after) ≡ e ∷ entered_by ms (front before)) d.same_numbers own ∙ ap (λ (l : List Entered). e ∷ l) d.own_entries;
     }

@@ -1,5 +1,5 @@
 -- One turn of a seat, and what it adds to the seat's own entries.
-use Rattle.std.proofs.Common.{◌≡◌, ℕ, List, ◌∷◌, ◌++◌, true, sym, ap, ◌∙◌, option_to_list, inl, inr, true≢false}
+use Rattle.std.proofs.Common.{◌≡◌, ℕ, List, ◌∷◌, ◌++◌, true, sym, ap, ◌∙◌, inl, inr, true≢false}
 use Rattle.std.specs.Prelude.{Result, Ok, Err, IsOk, IfOk, OnOk, OnErr}
 use Rattle.std.proofs.lemmas.Bool.{cases_Bool}
 use Rattle.wire_base.specs.declared.bytes.NoMemory.{NoMemory}
@@ -29,7 +29,7 @@ submitted event reply old new before after n is_mine t = record {
 
 -- the agent stands for the event that was entered, and for what was before
 pub stands_on : (event : Event) (old new : Agent) (reply : Result StepAnswer NoMemory) → OnOk reply ((H : History) → StandsFor H old → StandsFor (event ∷ H) new) → OnErr reply ((H : History) → StandsFor H old → StandsFor H new)
-    → (H : History) → StandsFor H old → StandsFor (option_to_list (entered event reply) ++ H) new
+    → (H : History) → StandsFor H old → StandsFor (entered event reply ++ H) new
 stands_on event old new (Ok a) ok err = ok
 stands_on event old new (Err e) ok err = err
 

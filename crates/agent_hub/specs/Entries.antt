@@ -21,6 +21,11 @@ abbrev pub entered_by : List ℕ → Front Event → List Entered
 entered_by numbers [] = []
 entered_by numbers (e ∷ before) = if among numbers e.seat then entry (events before) e.event ∷ entered_by numbers before else entered_by numbers before
 
+-- what is entered in one turn behind a history, the newest first
+abbrev pub in_turn : History → List Event → List Entered
+in_turn history [] = []
+in_turn history (event ∷ done) = entry (done ++ history) event ∷ in_turn history done
+
 -- what happened, without what was before
 abbrev pub events_in : List Entered → List Event
 events_in entries = map (λ (e : Entered). e.event) entries

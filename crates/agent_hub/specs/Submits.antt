@@ -1,6 +1,6 @@
 -- What a submit says of a seat, of its event, and of what that is answered. A seat's front is what the seat has seen of the
 -- one history of all callers; the answer is that of the agent after all that stands before the event.
-use Rattle.std.specs.Prelude.{◌≡◌, ℕ, List, ◌++◌, [], Bool, true, false, not, ◌&&◌, ◌||◌, Option, Some, None, Result, Ok, Err}
+use Rattle.std.specs.Prelude.{◌≡◌, ℕ, List, ◌∷◌, ◌++◌, [], Bool, true, false, not, ◌&&◌, ◌||◌, Result, Ok, Err}
 use Rattle.wire_base.specs.declared.bytes.NoMemory.{NoMemory}
 use Rattle.turn_lock.specs.Fronts.{Front, events, made, own}
 use Rattle.turn_lock.specs.Seats.{SeatOf, front, numbers}
@@ -43,9 +43,9 @@ IsAnswered history event (Ok a) old new = Answers history event a old new
 IsAnswered history event (Err e) old new = (takes_memory history event ≡ true) × (new ≡ old)
 
 -- the event that is entered: none where memory is short
-abbrev pub entered : Event → Result StepAnswer NoMemory → Option Event
-entered event (Ok a) = Some event
-entered event (Err e) = None
+abbrev pub entered : Event → Result StepAnswer NoMemory → List Event
+entered event (Ok a) = event ∷ []
+entered event (Err e) = []
 
 -- The seat has seen what others did meanwhile, and at the end its own event, if memory sufficed, which is answered after all
 -- of that. Of its own entries no other is new

@@ -34,7 +34,7 @@ impl<'a> TurnCall<Held> for Submit<'a> {
     ghost use Rattle.std.specs.Prelude.{◌≡◌};
     ghost use Rattle.agent_hub.specs.Submits.{IsAnswered, entered};
 
-    ghost entry = { λ call reply. entered call.event.now reply };
+    ghost entries = { λ call reply. entered call.event.now reply };
 
     // The place for what is put out stays the same one.
     ghost gives = { λ call history reply after. (after.out.ghost_name ≡ call.out.ghost_name)

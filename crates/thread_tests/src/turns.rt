@@ -1,5 +1,5 @@
 // Seats that take turns at a counter, in two threads and in one.
-ghost use Rattle.std.specs.Prelude.{◌≡◌, ◌%◌, ◌^◌, ◌++◌, length, IfSome, Some, None};
+ghost use Rattle.std.specs.Prelude.{◌≡◌, ◌%◌, ◌^◌, [], ◌∷◌, ◌++◌, length, IfSome};
 ghost use Rattle.turn_lock.specs.Counting.{countdown, IsCountedByTwo};
 ghost use Rattle.turn_lock.specs.Fronts.{events, own};
 ghost use Rattle.turn_lock.specs.Seats.{front, numbers, IsSeatOf, Turned};
@@ -35,9 +35,9 @@ struct Count {
 impl TurnCall<Counter> for Count {
     type Reply = u64;
 
-    ghost use Rattle.std.specs.Prelude.{◌≡◌, ◌%◌, ◌^◌, length, Some};
+    ghost use Rattle.std.specs.Prelude.{◌≡◌, ◌%◌, ◌^◌, [], ◌∷◌, length};
 
-    ghost entry = { λ count _. Some count.call };
+    ghost entries = { λ count _. count.call ∷ [] };
 
     ghost gives = { λ count history was after. (was ≡ length history % 2 ^ 64) × (after ≡ count) };
 
@@ -57,9 +57,9 @@ struct Read<'a> {
 impl<'a> TurnCall<Counter> for Read<'a> {
     type Reply = ();
 
-    ghost use Rattle.std.specs.Prelude.{◌≡◌, ◌%◌, ◌^◌, length, None};
+    ghost use Rattle.std.specs.Prelude.{◌≡◌, ◌%◌, ◌^◌, [], length};
 
-    ghost entry = { λ _ _. None };
+    ghost entries = { λ _ _. [] };
 
     // The place stays the same one.
     ghost gives = { λ read history _ after. (after.into.ghost_name ≡ read.into.ghost_name)
@@ -79,7 +79,7 @@ fn count_one<R: Wait>(
 ) -> (Seat<Counter>, u64)
     requires { IsSeatOf lock.now seat }
     ensures seat { IsSeatOf lock.now result.0 }
-    ensures turned { Turned (Some call)
+    ensures turned { Turned (call ∷ [])
         (λ history. result.1 ≡ length history % 2 ^ 64) seat result.0 }
 {
     lock.with_turn(rt, seat, &mut Count { call })
@@ -89,7 +89,7 @@ fn count_one<R: Wait>(
 fn read_one<R: Wait>(rt: &R, lock: &TurnLock<Counter>, seat: Seat<Counter>) -> (Seat<Counter>, u64)
     requires { IsSeatOf lock.now seat }
     ensures seat { IsSeatOf lock.now result.0 }
-    ensures turned { Turned None (λ history. result.1 ≡ length history % 2 ^ 64) seat result.0 }
+    ensures turned { Turned [] (λ history. result.1 ≡ length history % 2 ^ 64) seat result.0 }
 {
     let mut count = 0;
     let mut call = Read { into: &mut count };

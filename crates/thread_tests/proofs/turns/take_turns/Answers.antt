@@ -1,4 +1,4 @@
-use Rattle.std.proofs.Common.{◌≡◌, ◌∷◌, ◌++◌, Some, add-one, ap, sym, subst, ◌∙◌}
+use Rattle.std.proofs.Common.{◌≡◌, [], ◌∷◌, ◌++◌, add-one, ap, sym, subst, ◌∙◌}
 use Rattle.turn_lock.specs.Counting.{countdown}
 use Rattle.turn_lock.specs.Fronts.{events, own}
 use Rattle.turn_lock.specs.Seats.{front, numbers}
@@ -9,7 +9,7 @@ use Rattle.thread_tests.proofs.turns.take_turns.Goals as goal
 pub loop-call-preserved : goal.loop-call-preserved
 loop-call-preserved g c = let i = c.loop-call.invariant in let before = c.loop-call.seat in let after = c.count_one-next.result.0 in let call = c.loop-call.call in let t = c.count_one-next.ensures.turned in
     let now : events (own (numbers before) (front after)) ≡ call ∷ events (own (numbers before) (front before)) =
-    ap events (own_turned (Some call) _ before after i.0.numbered.0 i.0.numbered.1 t) ∙ made_events (numbers before) (Some call) (own (numbers before) (front before)) in
+    ap events (own_turned (call ∷ []) _ before after i.0.numbered.0 i.0.numbered.1 t) ∙ made_events (numbers before) (call ∷ []) (own (numbers before) (front before)) in
     let same = subst (λ ns. events (own ns (front after)) ≡ call ∷ events (own ns (front before))) i.1 now in (
       c.count_one-next.ensures.seat,
       t.same_numbers ∙ i.1,
