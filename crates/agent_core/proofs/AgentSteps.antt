@@ -1,10 +1,11 @@
 -- What is told of a history after one more event that doesn't stop the agent.
-use Rattle.std.proofs.Common.{◌≡◌, ◌≢◌, ℕ, ◌+◌, ◌<◌, List, [], ◌∷◌, map, Bool, true, false, not, ◌&&◌, length, refl, sym, ap, ◌∙◌, inl, inr, arith}
-use Rattle.std.proofs.lemmas.Bool.{cases_Bool, lt-ltb}
+use Rattle.std.proofs.Common.{◌≡◌, ◌≢◌, ℕ, ◌+◌, ◌<◌, List, [], ◌∷◌, map, Bool, true, false, not, ◌&&◌, length, refl, sym, ap, cond, subst, ◌∙◌, inl, inr, arith}
+use Rattle.std.specs.Prelude.{nat_lt}
+use Rattle.std.proofs.lemmas.Bool.{cases_Bool, lt-ltb, false≢true}
 use Rattle.agent_history.specs.declared.event.Event.{Event}
 use Rattle.nine.specs.declared.message.RMsg.{RMsg}
 use Rattle.nine.specs.Messages.{r_frame}
-use Rattle.agent_history.specs.Deeds.{Deed, is_halted, was_hung}
+use Rattle.agent_history.specs.Deeds.{Deed, Halted, is_halted, was_hung}
 use Rattle.agent_history.specs.Replies.{untaken}
 use Rattle.mailboxes.specs.Deliveries.{replies_at}
 use Rattle.agent_requests.specs.declared.connection.Connection.{Connection}
@@ -12,12 +13,12 @@ use Rattle.agent_requests.specs.Connections.{IsFresh, Keeps, is_opened}
 use Rattle.agent_requests.proofs.KeepLemmas.{keeps_still}
 use Rattle.agent_requests.proofs.ShareLemmas.{shares_still}
 use Rattle.agent_history.specs.Histories.{History, has_stopped, most_events, deeds, does, answer, first_reply, is_reply}
-use Rattle.agent_history.specs.declared.event.Event.TheVariants.{Take}
+use Rattle.agent_history.specs.declared.event.Event.TheVariants.{Request, Hang, Answer, NoAnswer, NoRoom, Take, TakeAsk, Stop}
 use Rattle.agent_core.specs.declared.agent.State.{State}
 use Rattle.agent_core.specs.declared.agent.State.TheVariants.{Runs, Stopped}
 use Rattle.agent_core.specs.declared.agent.Running.{Running}
-use Rattle.agent_core.specs.Events.{Known, Unknown, Live, HungUp, KeepsNothing, SameAt, Stands, is_hung_at, is_stop, gives_reply, is_some_left}
-use Rattle.agent_core.specs.Agents.{RunsAfter, SameRunning, StandsBy, TakesOneIn, connection_at, replies_in, gives_in}
+use Rattle.agent_core.specs.Events.{Known, Unknown, Live, HungUp, KeepsNothing, Lives, LivesOn, SameAt, Stands, is_hung_at, is_stop, gives_reply, is_some_left}
+use Rattle.agent_core.specs.Agents.{Ends, GoesOn, RunsAfter, SameRunning, StandsBy, TakesOneIn, connection_at, replies_in, gives_in}
 use Rattle.agent_core.proofs.EventSteps.{runs_on}
 
 pub goes_on : (H : History) (event : Event) (count : ℕ) → has_stopped H ≡ false → count ≡ length H → count < most_events → count + 1 ≢ most_events → deeds (event ∷ H) ≡ does (deeds H) event
@@ -89,3 +90,38 @@ runs_same H old new h same = record {
     connections = λ q. stands_still (deeds H) q (connection_at old q) (connection_at new q) (same.connections q) (h.lives.connections q);
   };
 }
+
+-- ---- an agent that goes on, and one that ends
+
+-- an event that isn't the last was carried out
+pub runs_next : (H : History) (event : Event) (old new : Running) → RunsAfter H old → GoesOn event old → new.events ≡ old.events + 1
+    → LivesOn event (connection_at old) old.shared (connection_at new) new.shared → RunsAfter (event ∷ H) new
+runs_next H event old new runs more counted lives =
+    let next = goes_on H event old.events runs.running runs.events (omega (arith, more.1)) (λ e. omega (arith, more.1, e)) in
+    record {
+      running = runs_still H event runs.running more.0 next;
+      events = omega (arith, counted, runs.events);
+      lives = subst (λ (done : List Deed). Lives done (connection_at new) new.shared) (sym next) (lives (deeds H) runs.lives);
+    }
+
+last_stops : (H : History) (event : Event) (done : List Deed) → has_stopped H ≡ false → length H + 1 ≡ most_events → has_stopped (event ∷ H) ≡ true
+last_stops H event done running last = rw (running, last) refl
+
+stop_stops : (H : History) (event : Event) → has_stopped H ≡ false → is_stop event ≡ true → has_stopped (event ∷ H) ≡ true
+stop_stops H Stop running is = rw running (either (nat_lt (length H + 1) most_events))
+  where
+    either : (b : Bool) → is_halted (cond b (Halted ∷ deeds H) (Halted ∷ Halted ∷ deeds H)) ≡ true
+    either true = refl
+    either false = refl
+stop_stops H (Request conn frame word) running is = absurd (false≢true is)
+stop_stops H (Hang conn) running is = absurd (false≢true is)
+stop_stops H (Answer call bytes) running is = absurd (false≢true is)
+stop_stops H (NoAnswer call) running is = absurd (false≢true is)
+stop_stops H (NoRoom call) running is = absurd (false≢true is)
+stop_stops H (Take conn) running is = absurd (false≢true is)
+stop_stops H TakeAsk running is = absurd (false≢true is)
+
+-- behind the last event the agent stopped
+pub ends_stopped : (H : History) (event : Event) (r : Running) → RunsAfter H r → Ends event r → has_stopped (event ∷ H) ≡ true
+ends_stopped H event r runs (inl is) = stop_stops H event runs.running is
+ends_stopped H event r runs (inr last) = last_stops H event (deeds H) runs.running (omega (arith, last, runs.events))

@@ -98,9 +98,21 @@ AsksFewerIn event a Stopped new = NoneAsked a
 abbrev pub GoesOn : Event → Running → Type 0
 GoesOn event r = (is_stop event ≡ false) × (r.events + 2 ≤ most_events)
 
+abbrev pub GoesOnIn : Event → State → Type 0
+GoesOnIn event Stopped = Unit {0}
+GoesOnIn event (Runs r) = GoesOn event r
+
+-- an event behind which the agent stops
+abbrev pub Ends : Event → Running → Type 0
+Ends event r = (is_stop event ≡ true) ⊎ (r.events + 1 ≡ most_events)
+
+abbrev pub EndsIn : Event → State → Type 0
+EndsIn event Stopped = ⊥
+EndsIn event (Runs r) = Ends event r
+
 -- a stop and the last event that is carried out leave an agent that stopped, which keeps nothing; else a hang gives up what
 -- is kept of its connection
 abbrev pub GivesUpIn : Event → State → State → Type 0
 GivesUpIn event Stopped new = new ≡ Stopped
-GivesUpIn event (Runs old) Stopped = (is_stop event ≡ true) ⊎ (old.events + 1 ≡ most_events)
+GivesUpIn event (Runs old) Stopped = Ends event old
 GivesUpIn event (Runs old) (Runs new) = GoesOn event old × GivesUp event (connection_at old) (connection_at new) new.shared

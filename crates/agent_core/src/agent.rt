@@ -63,12 +63,46 @@ fn after_stop(event: &Event) -> StepAnswer
     }
 }
 
+impl Running {
+    ghost use Rattle.std.specs.Prelude.{◌≡◌, ◌∷◌, IfOk, IsOk, OnOk, OnErr};
+    ghost use Rattle.agent_history.specs.Histories.{History};
+    ghost use Rattle.agent_core.specs.Events.{Answers, AsksFewer, GivesUp, IsEvent, LeavesOneLess, TakesNoneOf, gives_to};
+    ghost use Rattle.agent_core.specs.Agents.{GoesOn, RunsAfter, SameRunning, connection_at};
+
+    // Carries out an event that isn't the last, in place.
+    fn carry_out(&mut self, alloc: Global, event: &Event, out: &mut Bytes) -> Stepped
+        requires event { IsEvent event.now }
+        requires more { GoesOn event.now self.old }
+        ensures answer { IfOk result (λ a. (H : History) → RunsAfter H self.old
+            → Answers H event.now a out.old out.new) }
+        ensures stands { OnOk result ((H : History) → RunsAfter H self.old
+            → RunsAfter (event.now ∷ H) self.new) }
+        ensures err { OnErr result (SameRunning self.old self.new) }
+        ensures err_stands { OnErr result ((H : History) → RunsAfter H self.old
+            → RunsAfter H self.new) }
+        ensures err_out { OnErr result (out.new ≡ out.old) }
+        ensures takes_none { TakesNoneOf event.now (connection_at self.old) self.old.shared
+            → IsOk result }
+        ensures fewer { IfOk result (λ a. is_reply a ≡ true
+            → LeavesOneLess event.now self.old.shared self.new.shared) }
+        ensures gives { IfOk result (λ a. is_reply a
+            ≡ gives_to event.now (connection_at self.old) self.old.shared) }
+        ensures asks { IfOk result (λ a. AsksFewer event.now a self.old.shared self.new.shared) }
+        ensures gives_up { OnOk result (GivesUp event.now (connection_at self.old)
+            (connection_at self.new) self.new.shared) }
+    {
+        let answer = act(alloc, &mut self.connections, &mut self.shared, event, out)?;
+        self.events += 1;
+        Ok(answer)
+    }
+}
+
 impl Agent {
-    ghost use Rattle.std.specs.Prelude.{◌≡◌, ◌∷◌, [], IfOk, IsOk, OnOk, OnErr, List, option_copied};
+    ghost use Rattle.std.specs.Prelude.{◌≡◌, ◌∷◌, [], IfOk, IsOk, OnOk, OnErr, List, false, true, option_copied};
     ghost use Rattle.agent_history.specs.Histories.{History, answer, deeds};
     ghost use Rattle.agent_history.specs.declared.event.Event.TheVariants as events;
     ghost use Rattle.agent_core.specs.Events.{Answers, IsEvent};
-    ghost use Rattle.agent_core.specs.Agents.{StandsFor, StandsBy, SameAgent, SameState, TakesOne, TakesOneIn, TakesNone, TakesNoneIn, AsksFewerIn, GivesUpIn, gives_in};
+    ghost use Rattle.agent_core.specs.Agents.{StandsFor, StandsBy, SameAgent, SameState, TakesOne, TakesOneIn, TakesNone, TakesNoneIn, AsksFewerIn, EndsIn, GivesUpIn, GoesOnIn, gives_in};
     ghost use Rattle.agent_history.specs.Conversations.{chosen_at, outcome_at};
 
     /// An agent without keys and connections.
@@ -87,10 +121,22 @@ impl Agent {
         })
     }
 
-    // Carries out one event while the agent runs, which then keeps what it kept, or nothing.
-    fn run(&mut self, running: Running, event: &Event, out: &mut Bytes) -> Stepped
+    // Whether an event is the last one that the agent carries out.
+    fn ends_with(&self, event: &Event) -> bool
+        ensures ends { result ≡ true → EndsIn event.now self.now.state }
+        ensures goes_on { result ≡ false → GoesOnIn event.now self.now.state }
+    {
+        match &self.state {
+            State::Stopped => false,
+            State::Runs(running) => is_stop(event) || running.events + 1 == MOST_EVENTS,
+        }
+    }
+
+    // Carries out the last event while the agent runs, which then keeps nothing.
+    fn end(&mut self, running: Running, event: &Event, out: &mut Bytes) -> Stepped
         requires event { IsEvent event.now }
         requires stopped { self.old.state ≡ State.Stopped }
+        requires ends { EndsIn event.now (State.Runs running) }
         ensures answer { IfOk result (λ a. (H : History) → StandsBy H (State.Runs running)
             → Answers H event.now a out.old out.new) }
         ensures stands { OnOk result ((H : History) → StandsBy H (State.Runs running)
@@ -113,17 +159,7 @@ impl Agent {
             events,
         } = running;
         match act(self.alloc, &mut connections, &mut shared, event, out) {
-            Ok(answer) => {
-                if is_stop(event) || events + 1 == MOST_EVENTS {
-                    return Ok(answer);
-                }
-                self.state = State::Runs(Running {
-                    connections,
-                    shared,
-                    events: events + 1,
-                });
-                Ok(answer)
-            }
+            Ok(answer) => Ok(answer),
             Err(NoMemory) => {
                 self.state = State::Runs(Running {
                     connections,
@@ -170,9 +206,15 @@ impl Agent {
         // A hang and a stop give up what was kept.
         ensures gives_up { OnOk result (GivesUpIn event.now self.old.state self.new.state) }
     {
-        match replace(&mut self.state, State::Stopped) {
+        if self.ends_with(event) {
+            return match replace(&mut self.state, State::Stopped) {
+                State::Stopped => Ok(after_stop(event)),
+                State::Runs(running) => self.end(running, event, out),
+            };
+        }
+        match &mut self.state {
             State::Stopped => Ok(after_stop(event)),
-            State::Runs(running) => self.run(running, event, out),
+            State::Runs(running) => running.carry_out(self.alloc, event, out),
         }
     }
 
