@@ -2,11 +2,13 @@
 ghost use Rattle.std.specs.Prelude.{◌≡◌, true, ◌∷◌, IfOk, IsOk, OnOk, OnErr, ◌<◌, option_copied};
 ghost use Rattle.agent_core.specs.Agents.{StandsFor, SameAgent, TakesOne, TakesNone, AsksFewerIn, GivesUpIn, gives_in};
 ghost use Rattle.agent_core.specs.Events.{Answers, IsEvent};
+ghost use Rattle.agent_core.specs.Serves.{TookSo};
+ghost use Rattle.nine.specs.Decoding.{IsFrame};
 ghost use Rattle.agent_history.specs.Conversations.{outcome_at, chosen_at};
 ghost use Rattle.agent_history.specs.Histories.{is_reply, History, answer, deeds};
 ghost use Rattle.agent_history.specs.declared.event.Event.TheVariants as events;
 
-use agent_core::Agent;
+use agent_core::{Agent, Served};
 use agent_history::{Event, StepAnswer};
 use key_ring::Key;
 use roles::Outcome;
@@ -37,6 +39,35 @@ pub fn agent_step(agent: &mut Agent, event: &Event, out: &mut Bytes) -> Result<S
     ensures gives_up { OnOk result (GivesUpIn event.now agent.old.state agent.new.state) }
 {
     agent.step(event, out)
+}
+
+/// As `Agent::serve`.
+pub fn agent_serve(
+    agent: &mut Agent,
+    conn: u64,
+    frame: &[u8],
+    word: [u8; 8],
+    out: &mut Bytes,
+) -> Result<Served, NoMemory>
+    requires { IsFrame frame.now }
+
+    ensures served { IfOk result (λ served. (H : History) → StandsFor H agent.old
+        → TookSo (events.Request conn frame.now word ∷ H) conn served out.old out.new agent.new) }
+
+    ensures err { OnErr result (SameAgent agent.old agent.new) }
+    ensures err_stands { OnErr result ((H : History) → StandsFor H agent.old
+        → StandsFor H agent.new) }
+    ensures err_out { OnErr result (out.new ≡ out.old) }
+{
+    agent.serve(conn, frame, word, out)
+}
+
+/// As `Agent::take_all`.
+pub fn agent_take_all(agent: &mut Agent, conn: u64, out: &mut Bytes) -> Served
+    ensures { (H : History) → StandsFor H agent.old
+        → TookSo H conn result out.old out.new agent.new }
+{
+    agent.take_all(conn, out)
 }
 
 /// As `Agent::has_reply`.

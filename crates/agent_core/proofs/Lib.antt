@@ -3,3 +3,4 @@ pub mod AskSteps
 pub mod AgentSteps
 mod KnownSteps
 mod LiveSteps
+pub mod ServeSteps

@@ -102,6 +102,11 @@ abbrev pub GoesOnIn : Event → State → Type 0
 GoesOnIn event Stopped = Unit {0}
 GoesOnIn event (Runs r) = GoesOn event r
 
+-- the next event isn't the last that is carried out
+abbrev pub HasMore : State → Type 0
+HasMore Stopped = Unit {0}
+HasMore (Runs r) = r.events + 2 ≤ most_events
+
 -- an event behind which the agent stops
 abbrev pub Ends : Event → Running → Type 0
 Ends event r = (is_stop event ≡ true) ⊎ (r.events + 1 ≡ most_events)

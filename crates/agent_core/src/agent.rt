@@ -5,8 +5,9 @@ ghost use Rattle.agent_history.specs.Histories.{answer_after, is_reply};
 ghost use Rattle.agent_core.specs.Events.{NoneAsked};
 
 use crate::connections::Connections;
-use crate::events::{Stepped, act, has_reply, is_stop};
+use crate::events::{Stepped, act, has_reply, is_stop, request_at};
 use crate::news::{News, STOPPED, news_of};
+use crate::served::{Served, TakeEnd};
 use agent_history::{Event, StepAnswer};
 use agent_requests::Shared;
 use key_ring::Key;
@@ -64,8 +65,10 @@ fn after_stop(event: &Event) -> StepAnswer
 }
 
 impl Running {
-    ghost use Rattle.std.specs.Prelude.{◌≡◌, ◌∷◌, IfOk, IsOk, OnOk, OnErr};
-    ghost use Rattle.agent_history.specs.Histories.{History};
+    ghost use Rattle.std.specs.Prelude.{◌≡◌, ◌∷◌, ◌+◌, ◌≤◌, IfOk, IsOk, OnOk, OnErr};
+    ghost use Rattle.agent_history.specs.Histories.{History, most_events};
+    ghost use Rattle.agent_history.specs.declared.event.Event.TheVariants as events;
+    ghost use Rattle.nine.specs.Decoding.{IsFrame};
     ghost use Rattle.agent_core.specs.Events.{Answers, AsksFewer, GivesUp, IsEvent, LeavesOneLess, TakesNoneOf, gives_to};
     ghost use Rattle.agent_core.specs.Agents.{GoesOn, RunsAfter, SameRunning, connection_at};
 
@@ -95,14 +98,44 @@ impl Running {
         self.events += 1;
         Ok(answer)
     }
+
+    // A frame comes that isn't the last event, in place.
+    fn request(
+        &mut self,
+        alloc: Global,
+        conn: u64,
+        frame: &[u8],
+        word: [u8; 8],
+    ) -> Result<(), NoMemory>
+        requires whole { IsFrame frame.now }
+        requires more { self.old.events + 2 ≤ most_events }
+        ensures stands { OnOk result ((H : History) → RunsAfter H self.old
+            → RunsAfter (events.Request conn frame.now word ∷ H) self.new) }
+        ensures err { OnErr result (SameRunning self.old self.new) }
+        ensures err_stands { OnErr result ((H : History) → RunsAfter H self.old
+            → RunsAfter H self.new) }
+    {
+        request_at(
+            alloc,
+            &mut self.connections,
+            &mut self.shared,
+            conn,
+            frame,
+            word,
+        )?;
+        self.events += 1;
+        Ok(())
+    }
 }
 
 impl Agent {
-    ghost use Rattle.std.specs.Prelude.{◌≡◌, ◌∷◌, [], IfOk, IsOk, OnOk, OnErr, List, false, true, option_copied};
+    ghost use Rattle.std.specs.Prelude.{◌≡◌, ◌<◌, ◌∷◌, ◌++◌, ◌+◌, [], ℕ, IfOk, IsOk, OnOk, OnErr, List, false, true, option_copied};
     ghost use Rattle.agent_history.specs.Histories.{History, answer, deeds};
     ghost use Rattle.agent_history.specs.declared.event.Event.TheVariants as events;
     ghost use Rattle.agent_core.specs.Events.{Answers, IsEvent};
-    ghost use Rattle.agent_core.specs.Agents.{StandsFor, StandsBy, SameAgent, SameState, TakesOne, TakesOneIn, TakesNone, TakesNoneIn, AsksFewerIn, EndsIn, GivesUpIn, GoesOnIn, gives_in};
+    ghost use Rattle.nine.specs.Decoding.{IsFrame};
+    ghost use Rattle.agent_core.specs.Serves.{EndsSo, TookSo};
+    ghost use Rattle.agent_core.specs.Agents.{StandsFor, StandsBy, SameAgent, SameState, TakesOne, TakesOneIn, TakesNone, TakesNoneIn, AsksFewerIn, EndsIn, GivesUpIn, GoesOnIn, HasMore, gives_in, kept_replies};
     ghost use Rattle.agent_history.specs.Conversations.{chosen_at, outcome_at};
 
     /// An agent without keys and connections.
@@ -216,6 +249,129 @@ impl Agent {
             State::Stopped => Ok(after_stop(event)),
             State::Runs(running) => running.carry_out(self.alloc, event, out),
         }
+    }
+
+    // Whether the next event is the last one that is carried out.
+    fn is_last(&self) -> bool
+        ensures { result ≡ false → HasMore self.now.state }
+    {
+        match &self.state {
+            State::Stopped => false,
+            State::Runs(running) => running.events + 1 == MOST_EVENTS,
+        }
+    }
+
+    // A frame comes as the last event.
+    fn end_by_request(&mut self, conn: u64, frame: &[u8], word: [u8; 8]) -> Result<(), NoMemory>
+        requires { IsFrame frame.now }
+        ensures stands { OnOk result ((H : History) → StandsFor H self.old
+            → StandsFor (events.Request conn frame.now word ∷ H) self.new) }
+        ensures err { OnErr result (SameAgent self.old self.new) }
+        ensures err_stands { OnErr result ((H : History) → StandsFor H self.old
+            → StandsFor H self.new) }
+    {
+        let frame = Bytes::from_slice(self.alloc, frame)?;
+        let event = Event::Request { conn, frame, word };
+        self.step(&event, &mut Bytes::new(self.alloc))?;
+        Ok(())
+    }
+
+    // A frame comes.
+    fn request(&mut self, conn: u64, frame: &[u8], word: [u8; 8]) -> Result<(), NoMemory>
+        requires { IsFrame frame.now }
+        ensures stands { OnOk result ((H : History) → StandsFor H self.old
+            → StandsFor (events.Request conn frame.now word ∷ H) self.new) }
+        ensures err { OnErr result (SameAgent self.old self.new) }
+        ensures err_stands { OnErr result ((H : History) → StandsFor H self.old
+            → StandsFor H self.new) }
+    {
+        if self.is_last() {
+            return self.end_by_request(conn, frame, word);
+        }
+        match &mut self.state {
+            State::Stopped => Ok(()),
+            State::Runs(running) => running.request(self.alloc, conn, frame, word),
+        }
+    }
+
+    // Takes the oldest reply of a connection, after so many others. It counts it too.
+    fn take(&mut self, conn: u64, others: u64, out: &mut Bytes) -> Result<u64, NoMemory>
+        requires left { gives_in (events.Take conn) self.old.state ≡ true }
+        ensures counted { IfOk result (λ count. count ≡ others + 1) }
+        ensures stands { OnOk result ((H : History) → StandsFor H self.old
+            → StandsFor (events.Take conn ∷ H) self.new) }
+        ensures told { OnOk result ((H : History) → StandsFor H self.old
+            → out.new ≡ out.old ++ (answer H (events.Take conn)).1) }
+        ensures fewer { OnOk result (kept_replies self.new conn < kept_replies self.old conn) }
+        ensures err_stands { OnErr result ((H : History) → StandsFor H self.old
+            → StandsFor H self.new) }
+        ensures err_out { OnErr result (out.new ≡ out.old) }
+    {
+        let Some(count) = others.checked_add(1) else {
+            return Err(NoMemory);
+        };
+        self.step(&Event::Take { conn }, out)?;
+        Ok(count)
+    }
+
+    // Why no reply of a connection is left.
+    fn why_none(&self) -> TakeEnd
+        ensures { (H : History) (conn : ℕ) → StandsFor H self.now
+            → is_reply (answer H (events.Take conn)).0 ≡ false → EndsSo result conn H }
+    {
+        match &self.state {
+            State::Stopped => TakeEnd::Stopped,
+            State::Runs(_) => TakeEnd::NoneLeft,
+        }
+    }
+
+    /// Takes the replies that wait on a connection, the oldest first, and puts them behind `out`. Where there is no memory
+    /// for one, those before it were taken; nor is there room for one that can't be counted.
+    pub fn take_all(&mut self, conn: u64, out: &mut Bytes) -> Served
+        ensures { (H : History) → StandsFor H self.old
+            → TookSo H conn result out.old out.new self.new }
+    {
+        let mut taken = 0;
+        while self.has_reply(conn) {
+            match self.take(conn, taken, out) {
+                Ok(count) => taken = count,
+                Err(NoMemory) => {
+                    return Served {
+                        taken,
+                        end: TakeEnd::NoRoom,
+                    };
+                }
+            }
+        }
+        Served {
+            taken,
+            end: self.why_none(),
+        }
+    }
+
+    /// Serves a frame on a connection as a request, and then takes the replies that wait on it. The frame is whole and has
+    /// at least 7 bytes. Where memory runs out for the request, agent and `out` are as before, and nothing was entered.
+    pub fn serve(
+        &mut self,
+        conn: u64,
+        frame: &[u8],
+        word: [u8; 8],
+        out: &mut Bytes,
+    ) -> Result<Served, NoMemory>
+        requires { IsFrame frame.now }
+
+        // The history goes on by the request and by a take for each reply that was left.
+        ensures served { IfOk result (λ served. (H : History) → StandsFor H self.old
+            → TookSo (events.Request conn frame.now word ∷ H) conn served out.old out.new self.new) }
+
+        // After want of memory all is as before.
+        ensures err { OnErr result (SameAgent self.old self.new) }
+        ensures err_stands { OnErr result ((H : History) → StandsFor H self.old
+            → StandsFor H self.new) }
+        ensures err_out { OnErr result (out.new ≡ out.old) }
+    {
+        self.request(conn, frame, word)?;
+        Ok(self.take_all(conn, out))
     }
 
     /// What is new since this was last asked, for those who wait. The agent stands for what it stood for, and it takes no

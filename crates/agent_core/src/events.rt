@@ -91,8 +91,8 @@ fn take(conn: u64, connection: &mut Connection, shared: &mut Shared, out: &mut B
     Ok(StepAnswer::Reply)
 }
 
-// A frame on a connection of this number.
-fn request_at(
+/// A frame on a connection of this number.
+pub(crate) fn request_at(
     alloc: Global,
     connections: &mut Connections,
     shared: &mut Shared,

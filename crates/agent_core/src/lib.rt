@@ -5,6 +5,8 @@ mod agent;
 mod connections;
 mod events;
 mod news;
+mod served;
 
 pub use agent::Agent;
 pub use news::{NO_NEWS, News, SettledFor};
+pub use served::{Served, TakeEnd};

@@ -6,7 +6,7 @@ ghost use Rattle.agent_core.specs.Agents.{StandsFor};
 ghost use Rattle.agent_core.specs.Events.{Answers, IsEvent};
 
 use crate::unlike::Unlike;
-use agent_core::Agent;
+use agent_core::{Agent, TakeEnd};
 use agent_history::{Event, StepAnswer};
 use std::alloc::Global;
 use wire_base::{Bytes, NoMemory, Shape, get_u32};
@@ -106,7 +106,7 @@ pub(crate) fn take(alloc: Global, agent: &mut Agent, conn: u64) -> Result<Bytes,
     Ok(out)
 }
 
-// Asks, and takes the one reply, if there is one.
+// Serves a frame, which has one reply, if any.
 pub(crate) fn converse(
     alloc: Global,
     agent: &mut Agent,
@@ -114,10 +114,16 @@ pub(crate) fn converse(
     word: [u8; 8],
     request: &[u8],
 ) -> Result<Bytes, Unlike> {
-    ask(alloc, agent, conn, word, request)?;
-    let reply = take(alloc, agent, conn)?;
-    expect(alloc, agent, &Event::Take { conn }, StepAnswer::NoReply)?;
-    Ok(reply)
+    let frame = whole(alloc, request)?;
+    let mut out = Bytes::new(alloc);
+    let served = agent.serve(conn, frame.as_slice(), word, &mut out)?;
+    if served.end != TakeEnd::NoneLeft || served.taken > 1 {
+        return Err(Unlike::Event);
+    }
+    if out.as_slice().is_empty() == (served.taken == 1) {
+        return Err(Unlike::Bytes);
+    }
+    Ok(out)
 }
 
 // Where the answer to a question ends: a ticket request has kind 1, and the digits of a user stand behind a request.
