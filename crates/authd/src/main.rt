@@ -11,7 +11,7 @@ use auth_program::{
     AuthdWords, AuthsrvWords, ClientSpawner, Ending, Status, read_authd_words, read_core,
 };
 use auth_server::{AuthCore, accept_clients};
-use sockets::{SocketListener, ThreadSpawner};
+use sockets::{SocketListener, ThreadSpawner, Unstarted};
 use std::alloc::Global;
 use std::env;
 use std::fs::File;
@@ -148,7 +148,12 @@ fn tell(rt: &HostRuntime, ending: Ending)
 
 fn main(rt: HostRuntime) -> ExitCode {
     let ending = match begin(&rt) {
-        Ok((address, core)) => match ThreadSpawner::new(rt, rt.alloc()) {
+        Ok((address, core)) => match ThreadSpawner::new(
+            rt,
+            rt.alloc(),
+            "authd",
+            Unstarted::Dropped,
+        ) {
             Ok(threads) => match listen(&rt, &address) {
                 Some(mut listener) => {
                     let mut spawner = ClientSpawner::new(threads);

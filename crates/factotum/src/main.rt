@@ -10,25 +10,29 @@ ghost use Rattle.agent_serving.specs.Submits.{IsSeatOf};
 ghost use Rattle.agent_serving.specs.Words.{IsWithin};
 
 use agent_serving::{
-    Again, Agent, Hub, HubSeat, HubSpawner, ServeEnd, Task as JobTask, Tools, end_number,
-    print_end, read_serve_words, serve,
+    Again, Agent, Hub, HubSeat, HubSpawner, ServeEnd, ServeWords, Task as JobTask, Tools,
+    end_number, print_end, read_serve_words, serve,
 };
 use auth_program::{Status, print_status};
 use factotum_program::{Task, read_words, run_command};
-use sockets::{SocketListener, TcpDialer, ThreadSpawner};
+use read_ahead::ReadAhead;
+use sockets::{Line, LinesOf, OwnLines, SharedLines, SocketListener, TcpDialer, ThreadSpawner};
 use std::alloc::Global;
 use std::env;
-use std::fs::{File, Files};
+use std::fs::File;
 use std::io::{self, ErrorKind, Read};
-use std::net::Net;
+use std::net::{Net, TcpStream};
 use std::process::ExitCode;
-use std::sync::Arc;
+use std::sync::{Arc, Wait};
 use std::time::{Clock, Duration};
 use wire_base::{Bytes, Text, TextList};
 use wire_streams::{ReadSource, ReadWords, WriteSink, write_all};
 
 /// Where words are drawn from.
 const RANDOM: &str = "/dev/urandom";
+
+/// How many bytes of it one read asks for: 64 words.
+const MANY: usize = 512;
 
 /// The authentication server that is asked where the words name none.
 const AUTH_SERVER: &[u8] = b"127.0.0.1:5670";
@@ -59,6 +63,25 @@ impl<F: Read> Read for Opened<F> {
         }
     }
 }
+
+/// A file that many read from. It is opened once.
+#[derive(Drop)]
+struct Shared(Arc<Opened<File>, Global>);
+
+impl Read for Shared {
+    fn read(&mut self, buf: &mut [u8]) -> io::Result<usize> {
+        match &*self.0 {
+            Opened::File(file) => {
+                let mut file = file;
+                file.read(buf)
+            }
+            Opened::Shut => Err(ErrorKind::NotFound.into()),
+        }
+    }
+}
+
+/// Words of a file, many of which are read at once.
+type HostWords<F> = ReadWords<ReadAhead<ReadSource<F>>>;
 
 // Writes a line to standard error: what became of a file or an address, and its name.
 fn tell_of(rt: &HostRuntime, what: &[u8], name: &[u8]) {
@@ -140,6 +163,11 @@ fn run(rt: &HostRuntime, words: &[Text]) -> Status
         Ok(address) => address,
         Err(status) => return status,
     };
+    let Ok(ahead) = ReadAhead::new(rt.alloc(), MANY, ReadSource::new(rand)) else {
+        return Status::NoMemory;
+    };
+    let limit = Duration::from_secs(PATIENCE);
+    let lines = OwnLines::new(rt.alloc());
     run_command(
         rt.alloc(),
         words,
@@ -147,46 +175,70 @@ fn run(rt: &HostRuntime, words: &[Text]) -> Status
         &mut ReadSource::new(keys),
         &mut ReadSource::new(speaks),
         &mut WriteSink::new(rt.stdout()),
-        &mut TcpDialer::new(*rt, rt.alloc(), address, Duration::from_secs(PATIENCE)),
-        &mut ReadWords::new(ReadSource::new(rand)),
+        &mut TcpDialer::new(*rt, rt.alloc(), address, limit, lines),
+        &mut ReadWords::new(ahead),
     )
 }
 
-// What the tools of each job of an agent at a socket are made from: the address of the authentication server, and how many
-// questions are answered by yes for the user.
+// What the tools of each job of an agent at a socket are made from: the address of the authentication server and the
+// connections to it that all jobs keep, where all jobs draw words from and the words of this one, and how many questions are
+// answered by yes for the user.
 #[derive(Drop)]
 struct HostTools {
+    alloc: Global,
     auth: Text,
+    lines: SharedLines<Line<TcpStream>>,
+    random: Shared,
+    words: HostWords<Shared>,
     consents: u32,
+}
+
+impl HostTools {
+    // None where there is no memory.
+    fn new(
+        alloc: Global,
+        auth: Text,
+        lines: SharedLines<Line<TcpStream>>,
+        random: Shared,
+        consents: u32,
+    ) -> Option<HostTools> {
+        let theirs = Shared(Arc::try_clone(&random.0).ok()?);
+        let ahead = ReadAhead::new(alloc, MANY, ReadSource::new(theirs)).ok()?;
+        Some(HostTools {
+            alloc,
+            auth,
+            lines,
+            random,
+            words: ReadWords::new(ahead),
+            consents,
+        })
+    }
 }
 
 impl Again for HostTools {
     fn again(&self) -> Option<Self> {
-        match self.auth.copy() {
-            Ok(auth) => Some(HostTools {
-                auth,
-                consents: self.consents,
-            }),
-            Err(_) => None,
-        }
+        let auth = self.auth.copy().ok()?;
+        let random = Shared(Arc::try_clone(&self.random.0).ok()?);
+        let lines = self.lines.share()?;
+        HostTools::new(self.alloc, auth, lines, random, self.consents)
     }
 }
 
-impl<R: Net + Files + Clock + AllocGlobal + Copy + Drop> Tools<R> for HostTools {
-    type Dial = TcpDialer<R>;
+impl<R: Net<Stream = TcpStream> + Clock + Wait + AllocGlobal + Copy + Drop> Tools<R> for HostTools {
+    type Dial = TcpDialer<R, LinesOf<R, Line<TcpStream>>>;
 
-    type Rand = ReadWords<ReadSource<Opened<R::File>>>;
+    type Rand = HostWords<Shared>;
 
     fn tools(self, rt: &R) -> (Self::Dial, Self::Rand) {
-        let HostTools { auth, .. } = self;
-        let random = match File::open(rt, RANDOM) {
-            Ok(file) => Opened::File(file),
-            Err(_) => Opened::Shut,
-        };
-        (
-            TcpDialer::new(*rt, rt.alloc(), auth, Duration::from_secs(PATIENCE)),
-            ReadWords::new(ReadSource::new(random)),
-        )
+        let HostTools {
+            auth,
+            lines,
+            words,
+            ..
+        } = self;
+        let limit = Duration::from_secs(PATIENCE);
+        let dialer = TcpDialer::new(*rt, rt.alloc(), auth, limit, lines.of(*rt));
+        (dialer, words)
     }
 
     fn consents(&self) -> u32 {
@@ -235,6 +287,20 @@ fn server_address(rt: &HostRuntime, words: &[Text], place: Option<usize>) -> Opt
     address.ok()
 }
 
+// Where the jobs of an agent at a socket draw their words from. None where there is no memory for it.
+fn open_random(rt: &HostRuntime) -> Option<Shared> {
+    Some(Shared(Arc::new(rt.alloc(), open(rt, RANDOM.as_bytes())).ok()?))
+}
+
+// The tools of all jobs, by what the words give. None where there is no memory for them.
+fn tools(rt: &HostRuntime, words: &[Text], given: ServeWords) -> Option<HostTools>
+    requires { IsWithin given.auth words.now }
+{
+    let auth = server_address(rt, words, given.auth)?;
+    let lines = SharedLines::new(rt.alloc())?;
+    HostTools::new(rt.alloc(), auth, lines, open_random(rt)?, given.consents)
+}
+
 // Writes the line of an end of serving to standard error.
 fn tell_end(rt: &HostRuntime, end: ServeEnd) {
     let mut line = Bytes::new(rt.alloc());
@@ -264,15 +330,15 @@ fn main(rt: HostRuntime) -> ExitCode {
         && let Some(given) = read_serve_words(words.as_slice())
     {
         let words = words.as_slice();
-        let auth = server_address(&rt, words, given.auth);
-        let end = match (auth, new_hub(&rt), ThreadSpawner::new(rt, rt.alloc())) {
-            (Some(auth), Ok((hub, seat)), Ok(threads)) => match Arc::try_clone(&hub) {
+        let tools = tools(&rt, words, given);
+        let end = match (
+            tools,
+            new_hub(&rt),
+            ThreadSpawner::new(rt, rt.alloc(), "factotum", Unstarted::Dropped),
+        ) {
+            (Some(tools), Ok((hub, seat)), Ok(threads)) => match Arc::try_clone(&hub) {
                 Ok(shared) => match listen(&rt, &words[given.listen]) {
                     Ok(mut listener) => {
-                        let tools = HostTools {
-                            auth,
-                            consents: given.consents,
-                        };
                         let mut spawner = HubSpawner::new(shared, tools, threads);
                         let alloc = rt.alloc();
                         serve(&rt, alloc, &hub, seat, &mut listener, &mut spawner).1

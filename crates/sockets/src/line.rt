@@ -3,34 +3,19 @@ ghost use Rattle.std.specs.Prelude.{◌≡◌, ◌<◌, ◌≤◌, IfSome, lengt
 ghost use Rattle.sockets.specs.Endings.{answer_length};
 
 use crate::hearing::read_answer;
-use std::io::{self, Read, Write};
+use std::io::{self, ErrorKind, Read, Write};
 use std::net::{Net, OpenStream, TcpStream, ToSocketAddrs};
 use std::os::unix::net::UnixStream;
+use std::thread;
 use std::time::{Clock, Duration, Instant};
 use wire_base::{Shape, Text};
 use wire_streams::{MOST_ANSWER, ReadSource, WriteSink, write_all};
 
 /// A connection over TCP, or over a Unix socket.
 #[derive(Drop)]
-pub(crate) enum Line<S> {
+pub enum Line<S> {
     Tcp(S),
     Unix(UnixStream),
-}
-
-impl<S: Read + Write + OpenStream> Line<S> {
-    // No wait is longer than this from now on; none at all is an error.
-    fn set_limit(&self, limit: Duration) -> io::Result<()> {
-        match self {
-            Line::Tcp(stream) => {
-                stream.set_read_timeout(Some(limit))?;
-                stream.set_write_timeout(Some(limit))
-            }
-            Line::Unix(stream) => {
-                stream.set_read_timeout(Some(limit))?;
-                stream.set_write_timeout(Some(limit))
-            }
-        }
-    }
 }
 
 /// A connection up to a moment, behind which each call fails.
@@ -43,20 +28,32 @@ pub(crate) struct Timed<'a, C, S> {
 
 impl<C: Clock, S: Read + Write + OpenStream> Read for Timed<'_, C, S> {
     fn read(&mut self, buf: &mut [u8]) -> io::Result<usize> {
-        self.line.set_limit(time_left(self.clock, self.until)?)?;
+        let left = time_left(self.clock, self.until)?;
         match &mut *self.line {
-            Line::Tcp(stream) => stream.read(buf),
-            Line::Unix(stream) => stream.read(buf),
+            Line::Tcp(stream) => {
+                stream.set_read_timeout(Some(left))?;
+                stream.read(buf)
+            }
+            Line::Unix(stream) => {
+                stream.set_read_timeout(Some(left))?;
+                stream.read(buf)
+            }
         }
     }
 }
 
 impl<C: Clock, S: Read + Write + OpenStream> Write for Timed<'_, C, S> {
     fn write(&mut self, buf: &[u8]) -> io::Result<usize> {
-        self.line.set_limit(time_left(self.clock, self.until)?)?;
+        let left = time_left(self.clock, self.until)?;
         match &mut *self.line {
-            Line::Tcp(stream) => stream.write(buf),
-            Line::Unix(stream) => stream.write(buf),
+            Line::Tcp(stream) => {
+                stream.set_write_timeout(Some(left))?;
+                stream.write(buf)
+            }
+            Line::Unix(stream) => {
+                stream.set_write_timeout(Some(left))?;
+                stream.write(buf)
+            }
         }
     }
 
@@ -65,8 +62,13 @@ impl<C: Clock, S: Read + Write + OpenStream> Write for Timed<'_, C, S> {
     }
 }
 
+// How long it is to a moment; none at all is an error.
 fn time_left<C: Clock>(clock: &C, until: Instant) -> io::Result<Duration> {
-    Ok(until.duration_since(Instant::now(clock)?))
+    let left = until.duration_since(Instant::now(clock)?);
+    if left.is_zero() {
+        return Err(ErrorKind::TimedOut.into());
+    }
+    Ok(left)
 }
 
 /// The moment that is so far from now. None where there is no such moment.
@@ -74,8 +76,30 @@ pub(crate) fn deadline<C: Clock>(clock: &C, limit: Duration) -> Option<Instant> 
     Instant::now(clock).ok()?.checked_add(limit)
 }
 
+/// How many milliseconds pass until a Unix socket whose queue is full is tried again.
+const REST: u64 = 5;
+
+// Connects to a Unix socket. One whose queue is full is tried again up to a moment.
+fn open_unix<N: Net + Clock>(net: &N, path: &str, until: Instant) -> io::Result<UnixStream> {
+    for _ in 0..u64::MAX {
+        match mio::net::UnixStream::connect(net, path) {
+            Ok(stream) => {
+                let stream = UnixStream::from(stream);
+                stream.set_nonblocking(false)?;
+                return Ok(stream);
+            }
+            Err(error) if error.kind() == ErrorKind::WouldBlock => {
+                let left = time_left(net, until)?;
+                thread::sleep(net, left.min(Duration::from_millis(REST)));
+            }
+            Err(error) => return Err(error),
+        }
+    }
+    Err(ErrorKind::TimedOut.into())
+}
+
 /// Connects to an address: the path of a Unix socket where it begins with `/`, else a host, `:` and a port. None where
-/// there is nobody, or it isn't so.
+/// there is nobody up to a moment, or it isn't so. How long a host's name is looked up isn't bounded.
 pub(crate) fn open_line<N: Net + Clock>(
     net: &N,
     address: &Text,
@@ -83,7 +107,7 @@ pub(crate) fn open_line<N: Net + Clock>(
 ) -> Option<Line<N::Stream>> {
     let address = std::str::from_utf8(address.as_slice()).ok()?;
     if address.starts_with('/') {
-        return Some(Line::Unix(UnixStream::connect(net, address).ok()?));
+        return Some(Line::Unix(open_unix(net, address, until).ok()?));
     }
     for place in address.to_socket_addrs(net).ok()? {
         let left = time_left(net, until).ok()?;

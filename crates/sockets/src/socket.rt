@@ -3,11 +3,12 @@ ghost use Rattle.std.specs.Prelude.{◌≡◌, ◌≢◌, ◌<◌, ◌≤◌, If
 ghost use Rattle.wire_streams.specs.Dials.{IsAnswer, exchanged, has_failed};
 ghost use Rattle.wire_streams.specs.declared.dialer.Made.TheVariants.{Close};
 ghost use Rattle.sockets.specs.Endings.{answer_length};
-ghost use Rattle.sockets.specs.Kept.{KeepsOthers, dial_of, is_kept, kept_after};
+ghost use Rattle.sockets.specs.Kept.{Moves, dial_of, kept_after};
+ghost use Rattle.sockets.specs.Kept.Standing.{Free};
 
+use crate::kept::Keeps;
 use crate::line::{Line, ask, deadline, open_line};
 use std::alloc::Global;
-use std::collections::BTreeMap;
 use std::net::Net;
 use std::time::{Clock, Duration};
 use wire_base::{Bytes, NoMemory, Shape, Text};
@@ -16,20 +17,21 @@ use wire_streams::{Dial, Dialer, MOST_ANSWER};
 /// A dialer that asks over TCP or a Unix socket. It tells no content. Each exchange that fails is counted, up to the
 /// last value of the counter.
 #[derive(Drop)]
-pub struct TcpDialer<N: Net> {
+pub struct TcpDialer<N, K> {
     net: N,
     alloc: Global,
     address: Text,
     limit: Duration,
-    kept: BTreeMap<u64, Line<N::Stream>>,
+    kept: K,
     faults: u64,
 }
 
-impl<N: Net + Clock> TcpDialer<N> {
+impl<N: Net + Clock, K: Keeps<Line<N::Stream>>> TcpDialer<N, K> {
     /// A dialer of an address: the path of a Unix socket where it begins with `/`, else a host, `:` and a port. Dialing
-    /// what isn't so fails. An exchange that isn't over within `limit` fails.
-    pub fn new(net: N, alloc: Global, address: Text, limit: Duration) -> TcpDialer<N>
-        ensures kept { (conv : ℕ) → is_kept result.kept conv ≡ false }
+    /// what isn't so fails. An exchange that isn't over within `limit` fails, but for the time in which a host's name is
+    /// looked up. Connections are kept in `kept`.
+    pub fn new(net: N, alloc: Global, address: Text, limit: Duration, kept: K) -> TcpDialer<N, K>
+        ensures kept { result.kept ≡ kept }
         ensures faults { result.faults ≡ 0 }
     {
         TcpDialer {
@@ -37,9 +39,29 @@ impl<N: Net + Clock> TcpDialer<N> {
             alloc,
             address,
             limit,
-            kept: BTreeMap::new(alloc),
+            kept,
             faults: 0,
         }
+    }
+
+    // Asks over a new connection, and hands that out with the answer.
+    fn ask_anew(
+        &self,
+        request: &[u8],
+        shape: Shape,
+        room: &mut [u8],
+    ) -> Option<(Line<N::Stream>, usize)>
+        requires { length room.old ≡ MOST_ANSWER }
+        ensures room { length room.new ≡ length room.old }
+        ensures ends { IfSome result (λ heard.
+            length (take heard.1 room.new) ≤ answer_length shape (take heard.1 room.new)) }
+        ensures within { IfSome result (λ heard. heard.1 ≤ length room.new) }
+        ensures some { IfSome result (λ heard. 0 < heard.1) }
+    {
+        let until = deadline(&self.net, self.limit)?;
+        let mut line = open_line(&self.net, &self.address, until)?;
+        let count = ask(&self.net, &mut line, until, request, shape, room)?;
+        Some((line, count))
     }
 
     // Asks over a connection of its own.
@@ -51,44 +73,14 @@ impl<N: Net + Clock> TcpDialer<N> {
         ensures within { IfSome result (λ count. count ≤ length room.new) }
         ensures some { IfSome result (λ count. 0 < count) }
     {
-        let until = deadline(&self.net, self.limit)?;
-        let mut line = open_line(&self.net, &self.address, until)?;
-        ask(&self.net, &mut line, until, request, shape, room)
-    }
-
-    // Asks for a challenge over a new connection, and keeps it under the number.
-    fn begin(
-        &mut self,
-        conv: u64,
-        request: &[u8],
-        room: &mut [u8],
-    ) -> Result<Option<usize>, NoMemory>
-        requires { length room.old ≡ MOST_ANSWER }
-        ensures room { length room.new ≡ length room.old }
-        ensures ends { IfOk result (λ heard. IfSome heard (λ count.
-            length (take count room.new) ≤ answer_length Shape.Challenge (take count room.new))) }
-        ensures within { IfOk result (λ heard. IfSome heard (λ count. count ≤ length room.new)) }
-        ensures some { IfOk result (λ heard. IfSome heard (λ count. 0 < count)) }
-        ensures here { IfOk result (λ heard. IfSome heard (λ _.
-            is_kept self.new.kept conv ≡ true)) }
-        ensures others { KeepsOthers conv self.old.kept self.new.kept }
-        ensures same { OnErr result (is_kept self.new.kept conv ≡ is_kept self.old.kept conv) }
-        ensures faults { self.new.faults ≡ self.old.faults }
-    {
-        let Some(until) = deadline(&self.net, self.limit) else {
-            return Ok(None);
-        };
-        let Some(line) = open_line(&self.net, &self.address, until) else {
-            return Ok(None);
-        };
-        self.kept.insert(conv, line)?;
-        match self.kept.get_mut(&conv) {
-            Some(line) => Ok(ask(&self.net, line, until, request, Shape::Challenge, room)),
-            None => Ok(None),
+        match self.ask_anew(request, shape, room) {
+            Some((_line, count)) => Some(count),
+            None => None,
         }
     }
 
-    // Asks for a challenge, and keeps no connection under the number where there is no answer.
+    // Asks for a challenge over a new connection, and keeps that under the number, for which a place is set aside before,
+    // where there is an answer.
     fn ask_and_keep(
         &mut self,
         conv: u64,
@@ -101,16 +93,17 @@ impl<N: Net + Clock> TcpDialer<N> {
             length (take count room.new) ≤ answer_length Shape.Challenge (take count room.new))) }
         ensures within { IfOk result (λ heard. IfSome heard (λ count. count ≤ length room.new)) }
         ensures some { IfOk result (λ heard. IfSome heard (λ count. 0 < count)) }
-        ensures here { IfOk result (λ heard. is_kept self.new.kept conv ≡ is_some heard) }
-        ensures others { KeepsOthers conv self.old.kept self.new.kept }
-        ensures same { OnErr result (is_kept self.new.kept conv ≡ is_kept self.old.kept conv) }
+        ensures kept { Moves (kept_after Shape.Challenge (dial_of result)) conv
+            (K.standings self.old.kept) (K.standings self.new.kept) }
         ensures faults { self.new.faults ≡ self.old.faults }
     {
-        let heard = self.begin(conv, request, room)?;
-        if heard.is_none() {
-            self.kept.remove(&conv);
-        }
-        Ok(heard)
+        self.kept.reserve(conv)?;
+        let Some((line, count)) = self.ask_anew(request, Shape::Challenge, room) else {
+            self.kept.take(conv);
+            return Ok(None);
+        };
+        self.kept.keep(conv, line);
+        Ok(Some(count))
     }
 
     // Asks over the connection that is kept under the number, which is then given up.
@@ -121,11 +114,11 @@ impl<N: Net + Clock> TcpDialer<N> {
             length (take count room.new) ≤ answer_length Shape.Vouch (take count room.new)) }
         ensures within { IfSome result (λ count. count ≤ length room.new) }
         ensures some { IfSome result (λ count. 0 < count) }
-        ensures here { is_kept self.new.kept conv ≡ false }
-        ensures others { KeepsOthers conv self.old.kept self.new.kept }
+        ensures kept { Moves (λ _. Free) conv
+            (K.standings self.old.kept) (K.standings self.new.kept) }
         ensures faults { self.new.faults ≡ self.old.faults }
     {
-        let mut line = self.kept.remove(&conv)?;
+        let mut line = self.kept.take(conv)?;
         let until = deadline(&self.net, self.limit)?;
         ask(&self.net, &mut line, until, request, Shape::Vouch, room)
     }
@@ -144,9 +137,8 @@ impl<N: Net + Clock> TcpDialer<N> {
             length (take count room.new) ≤ answer_length shape (take count room.new))) }
         ensures within { IfOk result (λ heard. IfSome heard (λ count. count ≤ length room.new)) }
         ensures some { IfOk result (λ heard. IfSome heard (λ count. 0 < count)) }
-        ensures here { is_kept self.new.kept conv
-            ≡ kept_after shape (dial_of result) (is_kept self.old.kept conv) }
-        ensures others { KeepsOthers conv self.old.kept self.new.kept }
+        ensures kept { Moves (kept_after shape (dial_of result)) conv
+            (K.standings self.old.kept) (K.standings self.new.kept) }
         ensures faults { self.new.faults ≡ self.old.faults }
     {
         match shape {
@@ -157,7 +149,7 @@ impl<N: Net + Clock> TcpDialer<N> {
     }
 }
 
-impl<N: Net + Clock> Dialer for TcpDialer<N> {
+impl<N: Net + Clock, K: Keeps<Line<N::Stream>>> Dialer for TcpDialer<N, K> {
     ghost use Rattle.std.specs.Prelude.{None};
     ghost use Rattle.wire_streams.specs.Causes.{CountsOutcome};
     ghost use Rattle.wire_streams.specs.Dials.{Makes};
@@ -178,9 +170,8 @@ impl<N: Net + Clock> Dialer for TcpDialer<N> {
         ensures ends { result ≡ Dial.Heard → length out.new ≤ answer_length shape out.new }
 
         // The connections that are kept: under this number as the shape says, all others as before.
-        ensures here { is_kept self.new.kept conv
-            ≡ kept_after shape result (is_kept self.old.kept conv) }
-        ensures others { KeepsOthers conv self.old.kept self.new.kept }
+        ensures stands { Moves (kept_after shape result) conv
+            (K.standings self.old.kept) (K.standings self.new.kept) }
     {
         let Ok(mut room) = vec![in self.alloc; 0u8; MOST_ANSWER] else {
             return Dial::NoMemory;
@@ -202,9 +193,9 @@ impl<N: Net + Clock> Dialer for TcpDialer<N> {
     fn close(&mut self, conv: u64)
         ensures told { Makes None None (Close conv) }
         ensures exact { self.new.faults ≡ self.old.faults }
-        ensures here { is_kept self.new.kept conv ≡ false }
-        ensures others { KeepsOthers conv self.old.kept self.new.kept }
+        ensures stands { Moves (λ _. Free) conv
+            (K.standings self.old.kept) (K.standings self.new.kept) }
     {
-        self.kept.remove(&conv);
+        self.kept.take(conv);
     }
 }

@@ -11,7 +11,7 @@ use agent_serving::{Again, HubSpawner, ServeEnd, Tools, serve};
 use auth_server::{AuthCore, Session};
 use auth_tables::{parse_keys, parse_speaks};
 use frames::{LOG_IN, READ_KEYS};
-use sockets::ThreadSpawner;
+use sockets::{ThreadSpawner, Unstarted};
 use std::alloc::Global;
 use std::sync::Arc;
 use std::sync::atomic::{AtomicU64, Ordering};
@@ -347,7 +347,7 @@ fn a_connection_is_answered_while_another_waits(rt: HostRuntime) -> Result<(), F
     let tools = GateTools {
         flags: Arc::try_clone(&flags)?,
     };
-    let Ok(threads) = ThreadSpawner::new(rt, alloc) else {
+    let Ok(threads) = ThreadSpawner::new(rt, alloc, "tests", Unstarted::Told) else {
         return Err("no thread".into());
     };
     let mut spawner = HubSpawner::new(Arc::try_clone(&hub)?, tools, threads);

@@ -1,7 +1,7 @@
 // Jobs in threads of their own.
 use crate::expect::expect;
 use crossbeam_channel::{Receiver, Sender};
-use sockets::{Job, ThreadSpawner};
+use sockets::{Job, ThreadSpawner, Unstarted};
 use std::sync::Wait;
 use std::test::Fail;
 use wire_streams::Spawner;
@@ -32,7 +32,7 @@ impl<R: Wait> Job<R> for Task {
 fn jobs_run_beside_each_other(rt: HostRuntime) -> Result<(), Fail> {
     let (to_first, from_second) = crossbeam_channel::unbounded(rt.alloc())?;
     let (to_us, from_first) = crossbeam_channel::unbounded(rt.alloc())?;
-    let Ok(mut spawner) = ThreadSpawner::new(rt, rt.alloc()) else {
+    let Ok(mut spawner) = ThreadSpawner::new(rt, rt.alloc(), "tests", Unstarted::Told) else {
         return Err("no thread".into());
     };
     let first = Task::HandOn {
