@@ -1,8 +1,9 @@
 -- The first bad line of a table.
-use Rattle.std.proofs.Common.{◌≡◌, ◌↔◌, ℕ, ◌+◌, List, [], ◌∷◌, ◌++◌, Bool, true, false, cond, length, Option, Some, None, refl, sym, ap, ◌∙◌, inl, inr, append-nil}
-use Rattle.std.proofs.lemmas.Bool.{cases_Bool, cond-true, cond-false}
+use Rattle.std.proofs.Common.{◌≡◌, ◌↔◌, ℕ, ◌+◌, ◌<◌, ◌≤◌, not, ◌&&◌, ◌||◌, arith, subst, List, [], ◌∷◌, ◌++◌, Bool, true, false, cond, length, Option, Some, None, refl, sym, ap, ◌∙◌, inl, inr, append-nil}
+use Rattle.std.proofs.lemmas.Bool.{cases_Bool, cond-true, cond-false, leb-false}
 use Rattle.std.proofs.lemmas.List.{append_assoc}
-use Rattle.auth_tables.specs.Lines.{IsFirstBad, NoneIsBad, first_bad, first_bad_behind, is_bad}
+use Rattle.std.specs.Prelude.{nat_le}
+use Rattle.auth_tables.specs.Lines.{counted, counts, most_lines, IsFirstBad, NoneIsBad, first_bad, first_bad_behind, is_bad}
 
 module _ (fits : List (List ℕ) → List ℕ → Bool) where
   bad_first : (before lines : List (List ℕ)) (line : List ℕ) → is_bad fits before line ≡ true → first_bad_behind fits before (line ∷ lines) ≡ Some (length before + 1)
@@ -103,3 +104,39 @@ module _ (fits : List (List ℕ) → List ℕ → Bool) where
 
   pub none_iff : (lines : List (List ℕ)) → first_bad fits lines ≡ None ↔ NoneIsBad fits lines
   none_iff lines = (none_then lines, then_none lines)
+
+-- ---- how many lines count
+
+counted_more : (before : List (List ℕ)) (line : List ℕ) → length (counted (before ++ line ∷ [])) ≡ length (counted before) + cond (counts line) 1 0
+counted_more [] line = by_test (counts line)
+  where
+    by_test : (b : Bool) → length (cond b (line ∷ []) []) ≡ 0 + cond b 1 0
+    by_test true = refl
+    by_test false = refl
+counted_more (other ∷ before) line = by_test (counts other) (counted_more before line)
+  where
+    by_test : (b : Bool) → length (counted (before ++ line ∷ [])) ≡ length (counted before) + cond (counts line) 1 0 → length (cond b (other ∷ counted (before ++ line ∷ [])) (counted (before ++ line ∷ []))) ≡ length (cond b (other ∷ counted before) (counted before)) + cond (counts line) 1 0
+    by_test true h = omega (arith, h)
+    by_test false h = h
+
+room_for : (n : ℕ) (c fit : Bool) → n ≤ most_lines → (c && (nat_le most_lines n || not fit)) ≡ false → n + cond c 1 0 ≤ most_lines
+room_for n true fit h good = elim (cases_Bool (nat_le most_lines n)) [
+  | inl y ↦ absurd (let s : true ≡ false = ap (λ (b : Bool). b || not fit) (sym y) ∙ good in cc)
+  | inr few ↦ let lt : n < 4096 = leb-false 4096 n few in omega (arith, lt)
+]
+room_for n false fit h good = omega (arith, h)
+
+rest_counted : (fits : List (List ℕ) → List ℕ → Bool) (before lines : List (List ℕ)) → length (counted before) ≤ most_lines → first_bad_behind fits before lines ≡ None → length (counted (before ++ lines)) ≤ most_lines
+rest_counted fits before [] h good = subst (λ (lines : List (List ℕ)). length (counted lines) ≤ most_lines) (sym (append-nil before)) h
+rest_counted fits before (line ∷ lines) h good = elim (cases_Bool (is_bad fits before line)) [
+  | inl bad ↦ absurd (let s : Some (length before + 1) ≡ None = sym (bad_first fits before lines line bad) ∙ good in cc)
+  | inr fine ↦
+      subst (λ (lines : List (List ℕ)). length (counted lines) ≤ most_lines) (append_assoc before (line ∷ []) lines)
+      (rest_counted fits (before ++ line ∷ []) lines (subst (λ (n : ℕ). n ≤ most_lines) (sym (counted_more before line)) (room_for (length (counted before)) (counts line) (fits (counted before) line) h fine))
+      (sym (good_first fits before lines line fine) ∙ good))
+]
+
+-- where no line is bad, no more count than may
+pub few_count : (fits : List (List ℕ) → List ℕ → Bool) (lines : List (List ℕ)) → first_bad fits lines ≡ None → length (counted lines) ≤ most_lines
+unfolding first_bad
+few_count fits lines good = rest_counted fits [] lines (omega arith) good

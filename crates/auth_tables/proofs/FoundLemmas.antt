@@ -1,12 +1,17 @@
 -- A table that tells what lines say, and one line more.
-use Rattle.std.proofs.Common.{◌≡◌, ℕ, List, [], ◌∷◌, ◌++◌, Bool, true, false, cond, not, Option, Some, None, refl, sym, ap, subst, ◌∙◌, inl, inr}
+use Rattle.std.proofs.Common.{◌≡◌, ℕ, List, [], ◌∷◌, ◌++◌, Bool, true, false, cond, Option, Some, None, Result, Ok, Err, arith, refl, sym, ap, ◌∙◌}
 use Rattle.std.specs.Prelude.{is_some, is_none}
 use Rattle.std.specs.List.{filter_map, cons_option}
 use Rattle.std.specs.Map.{lookup}
 use Rattle.std.specs.Str.{bytes_eq}
 use Rattle.std.specs.Cmp.Lexicographic.{bytes_decides, nat_list_eq_equiv}
-use Rattle.auth_tables.specs.Keys.{KeyLine, UserKey, key_of, key_in, keys_in, fits_keys, gives_new}
-use Rattle.auth_tables.specs.Steps.{TellsKeys}
+use Rattle.auth_tables.specs.Keys.{KeyLine, UserKey, bad_key_line, key_of, key_in, keys_in, fits_keys, gives_new}
+use Rattle.std.specs.Prelude.{IfOk, OnOk}
+use Rattle.attr_tuples.specs.Cutting.{text_lines}
+use Rattle.auth_tables.specs.Lines.{counted}
+use Rattle.auth_tables.specs.Printing.{IsTable}
+use Rattle.auth_tables.specs.Steps.{Keeps, TellsKeys}
+use Rattle.auth_tables.proofs.BadLaws.{few_count}
 
 after_first : {B : Type 0} (o : Option B) (all some : List B) (y : B) → all ≡ some ++ y ∷ [] → cons_option o all ≡ cons_option o some ++ y ∷ []
 after_first None all some y e = e
@@ -67,3 +72,11 @@ module _ (before : List (List ℕ)) (line user : List ℕ) (key : UserKey) (tabl
     where
       swapped : cond (bytes_eq user other) (Some key) (key_of other (keys_in before)) ≡ cond (bytes_eq other user) (Some key) (key_of other (keys_in before))
       swapped = ap (λ (b : Bool). cond b (Some key) (key_of other (keys_in before))) (nat_list_eq_equiv.symm user other)
+
+-- what was read whole, with no bad line, is a table
+pub read_is_table : {E : Type 0} (file : List ℕ) (r : Result (List KeyLine) E) → IfOk r (λ (table : List KeyLine). Keeps (counted (text_lines file)) table) → OnOk r (bad_key_line file ≡ None) → IfOk r IsTable
+read_is_table file (Err e) keeps good = tt
+read_is_table file (Ok table) keeps good =
+    let most = few_count fits_keys (text_lines file) good in
+    let few = keeps.few in
+    record { lines = keeps.good; apart = keeps.apart; few = omega (arith, most, few) }

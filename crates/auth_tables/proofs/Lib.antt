@@ -5,3 +5,5 @@ pub mod FoundLemmas
 pub mod SpeakLemmas
 pub mod SpeakLaws
 pub mod BadLaws
+pub mod PrintLemmas
+pub mod ReadLaws

@@ -1,18 +1,37 @@
 -- Words for the steps of reading a table. No public contract cites them.
-use Rattle.std.specs.Prelude.{◌≡◌, ℕ, ◌+◌, ◌≤◌, List, [], ◌∷◌, ◌++◌, true, not, Bool, Option, Some, None, Result, Ok, Err, length, if◌then◌else◌}
+use Rattle.std.specs.Prelude.{◌≡◌, ℕ, ◌≤◌, All, List, [], ◌++◌, Bool, Option, Some, None, length, codes, if◌then◌else◌}
 use Rattle.std.specs.Borrow.{Bor}
-use Rattle.attr_tuples.specs.Cutting.{lines_left, turns_left}
+use Rattle.attr_tuples.specs.Cutting.{lines_left}
 use Rattle.auth_tables.specs.Lines.{counted, first_bad_behind}
-use Rattle.auth_tables.specs.Keys.{KeyLine, key_of, keys_in}
+use Rattle.hex.specs.Hex.{encode_lower}
+use Rattle.attr_tuples.specs.Words.{value_text}
+use Rattle.auth_tables.specs.Keys.{KeyLine, UserKey, key_of, keys_in}
+use Rattle.auth_tables.specs.Printing.{AreApart, IsKeyLine, is_of_password}
 use Rattle.auth_tables.specs.Speaks.{SpeakLine, names_in, names_of, speaks_in}
 
 -- a table of keys tells of each user what lines give him
 abbrev pub TellsKeys : List (List ℕ) → List KeyLine → Type 0
 TellsKeys lines table = (user : List ℕ) → key_of user table ≡ key_of user (keys_in lines)
 
+-- and its lines can be given, no user has two, and each stands for one that was read
+pub record Keeps (lines : List (List ℕ)) (table : List KeyLine) : Type 0 where
+  pub tells : TellsKeys lines table
+  pub good : All IsKeyLine table
+  pub apart : AreApart table
+  pub few : length table ≤ length lines
+
 -- a table of speakers tells of each host what lines give it
 abbrev pub TellsSpeaks : List (List ℕ) → List SpeakLine → Type 0
 TellsSpeaks lines table = (host : List ℕ) → names_of host table ≡ names_in (speaks_in lines) host
+
+-- ---- a key as it is written behind its user
+
+abbrev pub digits_text : UserKey → List ℕ
+digits_text key = if is_of_password key.des key.password then [] else codes " !hex=" ++ value_text (encode_lower key.des)
+
+abbrev pub password_text : Option (List ℕ) → List ℕ
+password_text None = []
+password_text (Some password) = codes " !password=" ++ value_text password
 
 -- ---- a table read line by line
 

@@ -1,50 +1,118 @@
 // The table of users' keys.
-ghost use Rattle.std.specs.Prelude.{◌≡◌, ◌+◌, ◌<◌, ◌^◌, ◌||◌, ℕ, List, None, Some, true, codes, length, option_map, IfErr, IfOk, OnOk, OnErr};
+ghost use Rattle.std.specs.Prelude.{◌≡◌, ◌+◌, ◌<◌, ◌^◌, ◌||◌, ◌++◌, ℕ, List, None, Some, true, codes, length, take, option_map, IfErr, IfOk, IfSome, OnOk, OnErr};
 ghost use Rattle.attr_tuples.specs.Attributes.{is_given};
 ghost use Rattle.attr_tuples.specs.Forms.{is_hex_key};
 ghost use Rattle.attr_tuples.specs.Giving.{gives, is_any};
+ghost use Rattle.hex.specs.Hex.{encode_lower};
+ghost use Rattle.auth_tables.specs.Printing.{IsKeyLine, IsTable, key_line};
 ghost use Rattle.auth_tables.specs.Keys.{KeyLine, bad_key_line, gives_only, is_user_key, key_given, key_in, key_of, key_said, table_keys};
 ghost use Rattle.auth_tables.specs.declared.lines.TableFault.TheVariants.{Line};
 
 use crate::lines::{Table, TableFault, read_table, read_tuple};
-use attr_tuples::{Attr, Tuple, Value, gives_any, gives_user, is_named, value_of};
+use attr_tuples::{Attr, Tuple, Value, gives_any, gives_user, is_named, put_value, value_of};
 use key_lists::{choose_key, decode_key};
-use sealing::Key7;
+use sealing::{Key7, pass_to_key};
 use std::alloc::Global;
 use std::collections::BTreeMap;
 use std::marker::Model;
-use wire_base::{NoMemory, Text};
+use wire_base::{Bytes, NoMemory, Text};
 
 /// What the server knows of a user. It has no Debug, which would print a secret.
 #[derive(Drop)]
 pub struct AsKey {
-    line: Tuple,
     des: Key7,
+    password: Option<Text>,
 }
 
 impl Model for AsKey {
-    ghost use Rattle.std.specs.Prelude.{codes};
-    ghost use Rattle.attr_tuples.specs.Matching.{value_of};
+    ghost use Rattle.std.specs.Prelude.{option_map};
     ghost use Rattle.auth_tables.specs.Keys.{UserKey};
 
     ghost Value = { UserKey };
 
-    ghost view = { λ k. record { des = k.des.0; password = value_of (codes "!password") k.line } };
+    ghost view = { λ k. record { des = k.des.0; password = k.password } };
 }
 
 impl AsKey {
-    ghost use Rattle.std.specs.Prelude.{◌≡◌, true, option_map};
+    ghost use Rattle.std.specs.Prelude.{◌≡◌, ◌++◌, true, option_map, length, take, IfOk, OnOk, OnErr};
+    ghost use Rattle.hex.specs.Hex.{IsBytes};
     ghost use Rattle.auth_tables.specs.Keys.{is_user_key, key_given};
+    ghost use Rattle.auth_tables.specs.Printing.{is_of_password, key_of_password, is_new_password};
+    ghost use Rattle.auth_tables.specs.Steps.{digits_text, password_text};
 
     // The key of a line that gives one.
-    fn new(line: Tuple) -> AsKey
-        requires { is_user_key line ≡ true }
-        ensures { result ≡ (key_given line).1 }
+    fn new(line: &Tuple) -> Result<AsKey, NoMemory>
+        requires { is_user_key line.now ≡ true }
+        ensures value { IfOk result (λ key. key ≡ (key_given line.now).1) }
+        ensures sized { IfOk result (λ key. (length key.des ≡ 7) × IsBytes key.des) }
     {
-        let digits = value_of(&line, b"!hex".as_slice());
-        let password = value_of(&line, b"!password".as_slice());
+        let digits = value_of(line, b"!hex".as_slice());
+        let password = value_of(line, b"!password".as_slice());
         let des = choose_key(digits, password);
-        AsKey { line, des }
+        let password = copy_text(password)?;
+        Ok(AsKey::of(des.0, password))
+    }
+
+    // A DES key and a password.
+    fn of(des: [u8; 7], password: Option<Text>) -> AsKey
+        ensures value { result ≡ record { des = des; password = password } }
+        ensures seven { length des ≡ 7 }
+        ensures bytes { IsBytes des }
+    {
+        AsKey {
+            des: Key7(des),
+            password,
+        }
+    }
+
+    // The key of a user whose password this is.
+    fn of_password(alloc: Global, password: &[u8]) -> Result<AsKey, NoMemory>
+        requires { is_new_password password.now ≡ true }
+        ensures value { IfOk result (λ key. key ≡ key_of_password password.now) }
+        ensures sized { IfOk result (λ key. (length key.des ≡ 7) × IsBytes key.des) }
+    {
+        let Some(text) = Text::from_slice(alloc, password)? else {
+            unreachable!();
+        };
+        let des = pass_to_key(password);
+        Ok(AsKey::of(des.0, Some(text)))
+    }
+
+    // Whether the password stands for the DES key.
+    fn is_of_password(&self) -> bool
+        ensures { result ≡ is_of_password self.now.des self.now.password }
+    {
+        match &self.password {
+            Some(password) => self.des == pass_to_key(password.as_slice()),
+            None => false,
+        }
+    }
+
+    // Appends the digits of the key, where the password doesn't stand for it. What is appended before memory runs out stays,
+    // here and below.
+    #[tactic(auto, using(wire_base::proofs::FrontLemmas::kept_then))]
+    fn append_digits(&self, out: &mut Bytes) -> Result<(), NoMemory>
+        ensures ok { OnOk result (out.new ≡ out.old ++ digits_text self.now) }
+        ensures err { OnErr result (take (length out.old) out.new ≡ out.old) }
+    {
+        if self.is_of_password() {
+            return Ok(());
+        }
+        out.append(b" !hex=")?;
+        put_value(&digits_of(&self.des), out)
+    }
+
+    // Appends the password, where there is one.
+    #[tactic(auto, using(wire_base::proofs::FrontLemmas::kept_then, crate::proofs::PrintLemmas::password_put))]
+    fn append_password(&self, out: &mut Bytes) -> Result<(), NoMemory>
+        ensures ok { OnOk result (out.new ≡ out.old ++ password_text self.now.password) }
+        ensures err { OnErr result (take (length out.old) out.new ≡ out.old) }
+    {
+        let Some(password) = self.password() else {
+            return Ok(());
+        };
+        out.append(b" !password=")?;
+        put_value(password.as_slice(), out)
     }
 
     /// The DES key. It was made when the table was read.
@@ -54,17 +122,37 @@ impl AsKey {
         self.des
     }
 
-    /// The password, where the line gives one.
+    /// The password, where there is one.
     pub fn password(&self) -> Option<&Text>
         ensures { option_map (λ password. password.now) result ≡ self.now.password }
     {
-        value_of(&self.line, b"!password".as_slice())
+        self.password.as_ref()
     }
+}
+
+// A copy of a text, where there is one.
+fn copy_text(text: Option<&Text>) -> Result<Option<Text>, NoMemory>
+    ensures { IfOk result (λ copy. copy ≡ option_map (λ text. text.now) text.entry) }
+{
+    match text {
+        Some(text) => Ok(Some(text.copy()?)),
+        None => Ok(None),
+    }
+}
+
+// The digits of a key.
+fn digits_of(key: &Key7) -> [u8; 14]
+    ensures { result ≡ encode_lower key.now.0 }
+{
+    let mut digits = [0; 14];
+    hex::encode_to_slice(key.0, &mut digits).unwrap();
+    digits
 }
 
 /// The keys of users. It has no Debug, which would print secrets.
 #[derive(Drop)]
 pub struct KeyTable {
+    alloc: Global,
     keys: BTreeMap<Vec<u8>, AsKey>,
 }
 
@@ -78,15 +166,17 @@ impl Model for KeyTable {
 }
 
 impl KeyTable {
-    ghost use Rattle.std.specs.Prelude.{◌≡◌, ℕ, List, [], Some, OnOk, is_some, option_copied, if◌then◌else◌};
+    ghost use Rattle.std.specs.Prelude.{◌≡◌, ◌+◌, ◌≤◌, ℕ, List, [], Some, All, OnOk, is_some, length, option_copied, if◌then◌else◌};
     ghost use Rattle.std.specs.Str.{bytes_eq};
     ghost use Rattle.auth_tables.specs.Keys.{key_of};
+    ghost use Rattle.auth_tables.specs.Printing.{AreApart, IsKeyLine};
 
     // No keys.
     fn new(alloc: Global) -> KeyTable
         ensures { result ≡ [] }
     {
         KeyTable {
+            alloc,
             keys: BTreeMap::new(alloc),
         }
     }
@@ -106,21 +196,94 @@ impl KeyTable {
 
     // Puts the key of a user in.
     fn put(&mut self, user: Vec<u8>, key: AsKey) -> Result<(), NoMemory>
-        ensures { OnOk result ((other : List ℕ) → key_of other self.new
+        ensures told { OnOk result ((other : List ℕ) → key_of other self.new
             ≡ (if bytes_eq user.items other then Some key else key_of other self.old)) }
+        ensures good { OnOk result (IsKeyLine (user.items, key) → All IsKeyLine self.old
+            → All IsKeyLine self.new) }
+        ensures apart { OnOk result (AreApart self.new) }
+        ensures few { OnOk result (length self.new ≤ length self.old + 1) }
     {
         self.keys.insert(user, key)?;
         Ok(())
     }
 }
 
+// Appends the line of a user's key.
+#[tactic(auto, using(wire_base::proofs::FrontLemmas::kept_then, crate::proofs::PrintLemmas::line_is))]
+fn append_line(user: &[u8], key: &AsKey, out: &mut Bytes) -> Result<(), NoMemory>
+    ensures ok { OnOk result (out.new ≡ out.old ++ key_line (user.now, key.now)) }
+    ensures err { OnErr result (take (length out.old) out.new ≡ out.old) }
+{
+    out.append(b"user=")?;
+    put_value(user, out)?;
+    key.append_digits(out)?;
+    key.append_password(out)?;
+    out.push(b'\n')
+}
+
+impl KeyTable {
+    ghost use Rattle.std.specs.Prelude.{◌≡◌, ◌++◌, length, take, true, is_some, IfOk, OnOk, OnErr};
+    ghost use Rattle.std.specs.Map.{set_value};
+    ghost use Rattle.std.specs.Str.{bytes_eq};
+    ghost use Rattle.auth_tables.specs.Keys.{key_of};
+    ghost use Rattle.auth_tables.specs.Printing.{IsTable, is_new_password, table_text, with_password};
+
+    /// Gives a user a password, and the key that it stands for, in place of what the table had of him; whether he is there.
+    /// The password is text of 8 to 27 bytes from the blank on.
+    pub fn set_password(&mut self, user: &[u8], password: &[u8]) -> Result<bool, NoMemory>
+        requires { is_new_password password.now ≡ true }
+        ensures found { IfOk result (λ found. found ≡ is_some (key_of user.now self.old)) }
+        ensures set { OnOk result (self.new ≡ with_password user.now password.now self.old) }
+        ensures table { OnOk result (IsTable self.old → IsTable self.new) }
+        ensures err { OnErr result (self.new ≡ self.old) }
+    {
+        let key = AsKey::of_password(self.alloc, password)?;
+        Ok(self.replace(user, key))
+    }
+
+    // Puts a key in the place of a user's, whether he is there.
+    fn replace(&mut self, user: &[u8], key: AsKey) -> bool
+        ensures found { result ≡ is_some (key_of user.now self.old) }
+        ensures set { self.new ≡ set_value (bytes_eq user.now) self.old key }
+    {
+        let Some(slot) = self.keys.get_mut(user) else {
+            return false;
+        };
+        *slot = key;
+        true
+    }
+
+    /// Appends the table as text, a line for each user, in the order of their bytes: his name, his password where there is
+    /// one, and the digits of his DES key where the password doesn't stand for it.
+    pub fn print_keys(&self, out: &mut Bytes) -> Result<(), NoMemory>
+        ensures ok { OnOk result (out.new ≡ out.old ++ table_text self.now) }
+        ensures err { OnErr result (out.new ≡ out.old) }
+    {
+        let before = out.len();
+        let done = self.append_lines(out);
+        out.undo_on_err(before, done)
+    }
+
+    // Appends the lines. What is appended before memory runs out stays.
+    #[tactic(auto, using(wire_base::proofs::FrontLemmas::kept_then))]
+    fn append_lines(&self, out: &mut Bytes) -> Result<(), NoMemory>
+        ensures ok { OnOk result (out.new ≡ out.old ++ table_text self.now) }
+        ensures err { OnErr result (take (length out.old) out.new ≡ out.old) }
+    {
+        for (user, key) in self.keys.iter() {
+            append_line(user.as_slice(), key, out)?;
+        }
+        Ok(())
+    }
+}
+
 impl Table for KeyTable {
     ghost use Rattle.auth_tables.specs.Keys.{fits_keys};
-    ghost use Rattle.auth_tables.specs.Steps.{TellsKeys};
+    ghost use Rattle.auth_tables.specs.Steps.{Keeps};
 
     ghost fits = { fits_keys };
 
-    ghost tells = { TellsKeys };
+    ghost tells = { Keeps };
 
     fn take(&mut self, alloc: Global, line: &[u8]) -> Result<bool, NoMemory> {
         let Some((user, key)) = read_key(alloc, line)? else {
@@ -137,8 +300,9 @@ impl Table for KeyTable {
 // The user and the key that a line gives, if it gives one.
 #[tactic(auto, unfolding(crate::specs::Keys::key_in))]
 fn read_key(alloc: Global, line: &[u8]) -> Result<Option<(Vec<u8>, AsKey)>, NoMemory>
-    ensures { IfOk result (λ found. option_map (λ key. (key.0.items, key.1)) found
+    ensures said { IfOk result (λ found. option_map (λ key. (key.0.items, key.1)) found
         ≡ key_in line.now) }
+    ensures good { IfOk result (λ found. IfSome found (λ key. IsKeyLine (key.0.items, key.1))) }
 {
     let tuple = read_tuple(alloc, line)?;
     make_key(alloc, tuple)
@@ -146,8 +310,9 @@ fn read_key(alloc: Global, line: &[u8]) -> Result<Option<(Vec<u8>, AsKey)>, NoMe
 
 // The user and the key of a tuple, if there is one and it is a user's key.
 fn make_key(alloc: Global, tuple: Option<Tuple>) -> Result<Option<(Vec<u8>, AsKey)>, NoMemory>
-    ensures { IfOk result (λ found. option_map (λ key. (key.0.items, key.1)) found
+    ensures said { IfOk result (λ found. option_map (λ key. (key.0.items, key.1)) found
         ≡ key_said tuple) }
+    ensures good { IfOk result (λ found. IfSome found (λ key. IsKeyLine (key.0.items, key.1))) }
 {
     let Some(line) = tuple else {
         return Ok(None);
@@ -156,7 +321,8 @@ fn make_key(alloc: Global, tuple: Option<Tuple>) -> Result<Option<(Vec<u8>, AsKe
         return Ok(None);
     }
     let user = copy_user(alloc, &line)?;
-    Ok(Some((user, AsKey::new(line))))
+    let key = AsKey::new(&line)?;
+    Ok(Some((user, key)))
 }
 
 // The user of a line.
@@ -207,6 +373,7 @@ pub fn parse_keys(alloc: Global, file: &[u8]) -> Result<KeyTable, TableFault>
     requires { length file.now + 1 < 2 ^ 32 }
     ensures keys { IfOk result (λ table. (user : List ℕ)
         → key_of user table ≡ key_of user (table_keys file.now)) }
+    ensures table { IfOk result IsTable }
     ensures good { OnOk result (bad_key_line file.now ≡ None) }
     ensures bad { IfErr result (λ fault. (line : ℕ) → fault ≡ Line line
         → bad_key_line file.now ≡ Some line) }

@@ -2,6 +2,8 @@
 ghost use Rattle.std.specs.Prelude.{◌≡◌, ◌≢◌, ◌↔◌, ℕ, List, ◌∷◌, ◌++◌, Bool, true, false, Some, None};
 ghost use Rattle.std.specs.List.{Contains};
 ghost use Rattle.auth_tables.specs.Lines.{IsFirstBad, NoneIsBad, first_bad};
+ghost use Rattle.auth_tables.specs.Keys.{KeyLine, bad_key_line, table_keys};
+ghost use Rattle.auth_tables.specs.Printing.{IsTable, table_text};
 ghost use Rattle.auth_tables.specs.Speaks.{SpeakLine, Speaks, may_speak, names_in};
 
 /// A host may speak for a user exactly where it is the user, or where one of its lines gives it the user or `*` and none
@@ -26,4 +28,11 @@ pub fn the_first_bad_line_is_told()
         → first_bad fits lines ≡ Some n ↔ IsFirstBad fits lines n }
     ensures none { (fits : List (List ℕ) → List ℕ → Bool) (lines : List (List ℕ))
         → first_bad fits lines ≡ None ↔ NoneIsBad fits lines }
+{}
+
+/// A table that is written is read as it is, and none of its lines is bad.
+pub fn a_written_table_is_read()
+    ensures keys { (keys : List KeyLine) → IsTable keys → table_keys (table_text keys) ≡ keys }
+    ensures good { (keys : List KeyLine) → IsTable keys
+        → bad_key_line (table_text keys) ≡ None }
 {}

@@ -1,5 +1,5 @@
-use Rattle.std.proofs.Common.{◌∷◌, codes, ap, ◌∙◌}
-use Rattle.std.specs.Prelude.{List, ℕ}
+use Rattle.std.proofs.Common.{codes, ap, ◌∙◌}
+use Rattle.std.specs.Prelude.{List}
 use Rattle.std.specs.List.{list_any, flat_map}
 use Rattle.std.specs.Str.{bytes_eq}
 use Rattle.attr_tuples.specs.declared.attr.Attr.{Attr}
