@@ -7,3 +7,4 @@ pub mod MadeLemmas
 pub mod AskLemmas
 pub mod RequestLemmas
 pub mod ResumeLaws
+pub mod ExchangeLemmas

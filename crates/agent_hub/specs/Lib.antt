@@ -6,5 +6,6 @@ pub mod Replying
 pub mod Dials
 pub mod Asking
 pub mod Requesting
+pub mod Exchanging
 pub mod Handing
 pub mod Resuming

@@ -50,7 +50,7 @@ impl<'a> TurnCall<Held> for Submit<'a> {
 /// An agent that many callers share, each through its seat.
 #[derive(Drop)]
 pub struct Hub {
-    lock: TurnLock<Held>,
+    pub(crate) lock: TurnLock<Held>,
     pub(crate) bells: HubBells,
 }
 

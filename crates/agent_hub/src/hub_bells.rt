@@ -42,9 +42,27 @@ impl HubBells {
             _ => {}
         }
         match news.settled {
-            SettledFor::Nobody => {}
             SettledFor::One(conn) => self.of(conn).ring(),
-            SettledFor::Several => self.replies.ring_all(),
+            SettledFor::Nobody | SettledFor::Several => {}
+        }
+        self.ring_all_for(news);
+    }
+
+    /// Rings for what is new behind the events of a connection that takes its own replies: on the other connection
+    /// whose reads were settled, on all where these are several or the agent stopped, and for what is due to be asked.
+    pub(crate) fn ring_others(&self, own: u64, news: News) {
+        match news.settled {
+            SettledFor::One(conn) if conn != own => self.of(conn).ring(),
+            SettledFor::Nobody | SettledFor::One(_) | SettledFor::Several => {}
+        }
+        self.ring_all_for(news);
+    }
+
+    // Rings on all connections where reads of several were settled, or the agent stopped; and for what is due to be
+    // asked.
+    fn ring_all_for(&self, news: News) {
+        if news.settled == SettledFor::Several {
+            self.replies.ring_all();
         }
         if news.asks {
             self.questions.ring();

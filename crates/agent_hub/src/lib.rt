@@ -3,6 +3,7 @@
 //! one history, of which the laws of what seats see are stated here too.
 #![tactic(auto)]
 
+mod exchange;
 mod held;
 mod hub;
 mod hub_bells;
@@ -13,6 +14,7 @@ mod requests;
 mod resuming_laws;
 
 pub use agent_core::Agent;
+pub use exchange::{Exchanged, TakesEnd};
 pub use held::Held;
 pub use hub::{Hub, HubSeat, Submitted};
 pub use laws::a_submit_is_one_event_of_the_agent;

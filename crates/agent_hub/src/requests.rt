@@ -21,7 +21,7 @@ use wire_base::{Bytes, NoMemory};
 use wire_streams::{Got, Source, Words};
 
 /// The greatest size of a frame.
-const MOST_FRAME: u32 = 8216;
+pub(crate) const MOST_FRAME: u32 = 8216;
 
 /// How many bytes of a connection are taken.
 const MOST_INPUT: usize = 1 << 40;

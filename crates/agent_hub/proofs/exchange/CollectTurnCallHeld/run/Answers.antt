@@ -1,0 +1,4 @@
+use Rattle.agent_hub.proofs.exchange.CollectTurnCallHeld.run.Goals as goal
+
+pub returns-clause-stands : goal.returns-clause-stands
+returns-clause-stands c = λ history stands. c.take_news-self.ensures _ (c.take_until-collected.ensures history stands).stands

@@ -1,0 +1,8 @@
+use Rattle.std.proofs.Common.{refl}
+use Rattle.agent_hub.proofs.exchange.ExchangeTurnCallHeld.run.Goals as goal
+
+pub returns-clause-stands : goal.returns-clause-stands
+returns-clause-stands c = λ history stands. c.take_news-self.ensures _ (c.serve_frames-batch.ensures history stands).stands
+
+pub returns-clause-gives : goal.returns-clause-gives
+returns-clause-gives c = λ history stands. (refl, (c.serve_frames-batch.ensures history stands).handles)
