@@ -3,13 +3,14 @@ ghost use Rattle.std.specs.Prelude.{◌≤◌, ◌≡◌, ◌∷◌, ◌<◌, []
 ghost use Rattle.agent_core.specs.Events.{IsEvent};
 ghost use Rattle.agent_history.specs.declared.event.Event.TheVariants.{Hang};
 ghost use Rattle.agent_hub.specs.Asking.{AsksEndSo};
+ghost use Rattle.agent_hub.specs.Exchanging.{IsCollected, IsExchanged};
 ghost use Rattle.agent_hub.specs.Replying.{OutEndsSo};
-ghost use Rattle.agent_hub.specs.Requesting.{InEndsSo};
+ghost use Rattle.agent_hub.specs.Requesting.{InEndsSo, frames_in};
 ghost use Rattle.agent_hub.specs.Submits.{IsSeatOf, IsSubmitted, HubSeat};
 ghost use Rattle.wire_streams.specs.Causes.{Rose};
 
 use agent_history::Event;
-use agent_hub::{AsksEnd, Hub, HubSeat, InEnd, OutEnd, Submitted};
+use agent_hub::{AsksEnd, Exchanged, Hub, HubSeat, InEnd, OutEnd, Submitted, TakesEnd};
 use std::alloc::Global;
 use std::sync::Wait;
 use wire_base::Bytes;
@@ -29,6 +30,41 @@ pub fn hub_submit<R: Wait>(
     ensures submitted { IsSubmitted event.now result.1 out.old out.new seat result.0 }
 {
     hub.submit(rt, seat, event, out)
+}
+
+/// As `Hub::exchange`.
+pub fn hub_exchange<R: Wait>(
+    hub: &Hub,
+    rt: &R,
+    alloc: Global,
+    seat: HubSeat,
+    conn: u64,
+    frames: &[u8],
+    words: &[[u8; 8]],
+    out: &mut Bytes,
+) -> (HubSeat, Exchanged)
+    requires { IsSeatOf hub.now seat }
+    ensures seat { IsSeatOf hub.now result.0 }
+    ensures exchanged { IsExchanged conn (frames_in frames.now) words.now result.1
+        out.old out.new seat result.0 }
+{
+    hub.exchange(rt, alloc, seat, conn, frames, words, out)
+}
+
+/// As `Hub::collect`.
+pub fn hub_collect<R: Wait>(
+    hub: &Hub,
+    rt: &R,
+    seat: HubSeat,
+    conn: u64,
+    most: usize,
+    out: &mut Bytes,
+) -> (HubSeat, u64, TakesEnd)
+    requires { IsSeatOf hub.now seat }
+    ensures seat { IsSeatOf hub.now result.0 }
+    ensures collected { IsCollected conn result.2 out.old out.new seat result.0 }
+{
+    hub.collect(rt, seat, conn, most, out)
 }
 
 /// As `serve_asks`.

@@ -8,7 +8,9 @@ mod sessions;
 
 use agent_core::Agent;
 use agent_history::{Event, StepAnswer};
-use agent_hub::{AsksEnd, Hub, HubSeat, InEnd, OutEnd, serve_asks, serve_in, serve_out};
+use agent_hub::{
+    AsksEnd, Exchanged, Hub, HubSeat, InEnd, OutEnd, TakesEnd, serve_asks, serve_in, serve_out,
+};
 use sessions::{ADD_KEY, AGREED, BAD_SIZE, KEY_ADDED, KEYS_READ, LOG_IN, READ_KEYS, VERSION};
 use std::alloc::Global;
 use std::process::Abort;
@@ -176,6 +178,118 @@ fn a_joined_seat_goes_on_from_both(rt: HostRuntime) -> Result<(), Fail> {
     let alloc = rt.alloc();
     let (hub, seat) = new_hub(alloc)?;
     join_and_read(&rt, alloc, &hub, seat)
+}
+
+// Serves a batch, which comes to this and puts these bytes out.
+fn exchange<R: Wait + Abort>(
+    rt: &R,
+    alloc: Global,
+    hub: &Hub,
+    seat: HubSeat,
+    conn: u64,
+    frames: &[u8],
+    words: &[[u8; 8]],
+    wanted: Exchanged,
+    replies: &[u8],
+) -> HubSeat
+    requires { IsSeatOf hub.now seat }
+    ensures { IsSeatOf hub.now result }
+{
+    let mut out = Bytes::new(alloc);
+    let (seat, exchanged) = hub.exchange(rt, alloc, seat, conn, frames, words, &mut out);
+    assert_eq!(rt; exchanged, wanted);
+    assert_eq!(rt; out.as_slice(), replies);
+    seat
+}
+
+// Takes what waits on a connection: so many replies, which are these bytes.
+fn collect<R: Wait + Abort>(
+    rt: &R,
+    alloc: Global,
+    hub: &Hub,
+    seat: HubSeat,
+    conn: u64,
+    most: usize,
+    wanted: (u64, TakesEnd),
+    replies: &[u8],
+) -> HubSeat
+    requires { IsSeatOf hub.now seat }
+    ensures { IsSeatOf hub.now result }
+{
+    let mut out = Bytes::new(alloc);
+    let (seat, taken, end) = hub.collect(rt, seat, conn, most, &mut out);
+    assert_eq!(rt; (taken, end), wanted);
+    assert_eq!(rt; out.as_slice(), replies);
+    seat
+}
+
+/// A batch of this many frames is answered whole.
+const fn all(frames: usize) -> Exchanged {
+    Exchanged {
+        entered: frames,
+        taken: frames as u64,
+        end: TakesEnd::NoneLeft,
+    }
+}
+
+// Batches: one whole, one with a word too many; replies that wait are taken, up to a limit; then the agent stops.
+fn serve_batches<R: Wait + Abort>(
+    rt: &R,
+    alloc: Global,
+    hub: &Hub,
+    seat: HubSeat,
+) -> Result<(), Fail>
+    requires { IsSeatOf hub.now seat }
+{
+    let words = [[7_u8; 8]; 5];
+    let seat = exchange(rt, alloc, hub, seat, 0, ADD_KEY, &words, all(5), KEY_ADDED);
+    let short = Exchanged {
+        entered: 1,
+        taken: 1,
+        end: TakesEnd::Left,
+    };
+    let seat = exchange(
+        rt,
+        alloc,
+        hub,
+        seat,
+        1,
+        BAD_SIZE,
+        &words[..2],
+        short,
+        AGREED,
+    );
+    let seat = collect(rt, alloc, hub, seat, 1, 1, (0, TakesEnd::NoneLeft), b"");
+    let seat = ask_all(rt, alloc, hub, seat, 2, VERSION)?;
+    let seat = collect(rt, alloc, hub, seat, 2, 0, (0, TakesEnd::Left), b"");
+    let seat = collect(rt, alloc, hub, seat, 2, 1, (1, TakesEnd::Left), AGREED);
+    let seat = exchange(
+        rt,
+        alloc,
+        hub,
+        seat,
+        3,
+        READ_KEYS,
+        &words,
+        all(5),
+        KEYS_READ,
+    );
+    let seat = submit(rt, alloc, hub, seat, &Event::Stop, StepAnswer::Done, b"")?;
+    let ended = Exchanged {
+        entered: 1,
+        taken: 0,
+        end: TakesEnd::Stopped,
+    };
+    let seat = exchange(rt, alloc, hub, seat, 3, VERSION, &words[..1], ended, b"");
+    collect(rt, alloc, hub, seat, 3, 1, (0, TakesEnd::Stopped), b"");
+    Ok(())
+}
+
+#[test]
+fn batches_are_served_in_one_turn(rt: HostRuntime) -> Result<(), Fail> {
+    let alloc = rt.alloc();
+    let (hub, seat) = new_hub(alloc)?;
+    serve_batches(&rt, alloc, &hub, seat)
 }
 
 /// The numbers of the calls that fail, counted from 1.
