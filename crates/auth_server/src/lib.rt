@@ -14,6 +14,7 @@ mod session;
 pub use client::AuthJob;
 pub use laws::{a_stream_has_one_session, every_ticket_request_gets_two_tickets};
 pub use listen::{ListenEnd, accept_clients};
+pub use records::{refuse, word_key};
 pub use serve::{AuthEnd, serve_auth};
 pub use server::AuthCore;
 pub use session::{AsStep, Session};

@@ -13,8 +13,8 @@ use wire_base::Name;
 /// How many bytes a challenge's length is written in.
 const LENGTH_BYTES: usize = 5;
 
-/// The key that a word stands for.
-pub(crate) fn word_key(word: &[u8; 8]) -> Key7
+/// The key that a word stands for: its first seven bytes.
+pub fn word_key(word: &[u8; 8]) -> Key7
     ensures { result.0 ≡ word_key word.now }
 {
     let [a, b, c, d, e, f, g, _] = *word;
@@ -69,9 +69,9 @@ fn seal_for(num: u8, asked: &TicketReq, client: Name<28>, shared: Key7, key: &Ke
     seal_ticket(&ticket, key)
 }
 
-/// An error and its text, with NULs to 64 bytes.
+/// An error and its text of at most 64 bytes, with NULs to 64 bytes (AuthErr of authsrv(6)).
 #[tactic(auto, unfolding(crate::specs::Answers::refusal))]
-pub(crate) fn refuse(text: &[u8]) -> [u8; 65]
+pub fn refuse(text: &[u8]) -> [u8; 65]
     requires { length text.now ≤ 64 }
     ensures { result ≡ refusal text.now }
 {
