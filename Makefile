@@ -25,15 +25,17 @@ build:
 	@echo 'bin/factotum, bin/authd and bin/nine_show are built, each proved'
 
 demo:
-	@scripts/need rt
-	@echo 'The programs are built without their proofs for this demonstration, about a minute each; make build proves them.'
-	@if command -v python3 >/dev/null 2>&1; then scripts/login --unproved; fi
-	@scripts/demo --unproved
+	@scripts/need rt python3
+	@echo 'The programs are built without their proofs for this demonstration, each once; make build proves them.'
+	@scripts/build_unproved factotum authd nine_show
+	@scripts/login bin/unproved
+	@scripts/demo bin/unproved
 
 attacks:
-	@scripts/need rt
-	@echo 'The program is built without its proof for each of five scripts, a minute each; make build proves it.'
-	@scripts/attacks --unproved
+	@scripts/need rt python3
+	@echo 'The program is built without its proof, once; make build proves it.'
+	@scripts/build_unproved factotum
+	@scripts/attacks bin/unproved
 
 test:
 	@scripts/need rt python3

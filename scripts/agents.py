@@ -1,5 +1,5 @@
-"""What the scripts of this folder share: a 9P2000 client of an agent, and the programs that they start, from a folder or, without
-their proofs, by the toolchain."""
+"""What the scripts of this folder share: a 9P2000 client of an agent, and the programs that they start, from a folder or, built
+without their proofs, from bin/unproved."""
 import os
 import shutil
 import signal
@@ -79,14 +79,15 @@ class Started:
     """The programs that were started, to be ended."""
 
     def __init__(self, folder, unproved):
-        self.folder, self.unproved, self.all = folder, unproved, []
+        if unproved:
+            folder = os.path.join(TOP, "bin", "unproved")
+            if subprocess.run([os.path.join(TOP, "scripts", "build_unproved"), "factotum", "authd"], check=False).returncode:
+                raise SystemExit(1)
+        self.folder, self.all = folder, []
         self.scratch = tempfile.mkdtemp(prefix="login-")
 
     def start(self, *words, **how):
-        if self.unproved:
-            words = [os.path.join(TOP, "scripts", "unproved"), *words]
-        else:
-            words = [os.path.join(self.folder, words[0]), *words[1:]]
+        words = [os.path.join(self.folder, words[0]), *words[1:]]
         process = subprocess.Popen(words, start_new_session=True, **how)
         self.all.append(process)
         return process
