@@ -16,7 +16,9 @@ use agent_serving::{
 use auth_program::{Status, print_status};
 use factotum_program::{Task, read_words, run_command};
 use read_ahead::ReadAhead;
-use sockets::{Line, LinesOf, OwnLines, SharedLines, SocketListener, TcpDialer, ThreadSpawner};
+use sockets::{
+    Line, LinesOf, OwnLines, SharedLines, SocketListener, TcpDialer, ThreadSpawner, Unstarted,
+};
 use std::alloc::Global;
 use std::env;
 use std::fs::File;
