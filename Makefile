@@ -1,6 +1,6 @@
 # make alone lists what can be made.
 .POSIX:
-.PHONY: help build demo attacks test prove bench soak install uninstall deb clean
+.PHONY: help build demo attacks test wakes prove bench soak install uninstall deb clean
 
 PREFIX = /usr/local
 VERSION = 0.1
@@ -11,6 +11,7 @@ help:
 	@echo 'make demo    runs logins between two agents and a conversation, without proofs, and shows each request and reply'
 	@echo 'make attacks plays the attacks of docs/WEAKNESSES.md, without proofs, and says what happened'
 	@echo 'make test    builds without proofs and runs every row, stored run and test: minutes'
+	@echo 'make wakes   shows that no wake-up is lost, and finds wrong bodies that lose one: up to half an hour'
 	@echo 'make prove   runs the gate: every proof, wrong body, test and program: over an hour from nothing'
 	@echo 'make bench   measures it and its codec beside plain C programs, the server and the ciphers beside OpenSSL'
 	@echo 'make soak    ten minutes of mixed load on two agents: no wrong reply, no growth, no thread left'
@@ -40,6 +41,11 @@ attacks:
 test:
 	@scripts/need rt python3
 	@scripts/try_all
+
+wakes:
+	@scripts/need rt python3
+	@scripts/wake_ups
+	@scripts/wakes
 
 prove:
 	@scripts/need rt git bash awk python3
