@@ -1,16 +1,13 @@
 #!/usr/bin/env python3
-"""Prints the messages of crates/role_rows/data/tickets.messages: ticket requests, each with the whole answer that it has. With
-the word `literals` it prints the first of them for the tests of authsrv_program.
+"""Prints the messages of crates/role_rows/data/tickets.messages: ticket requests, each with the whole answer that it has.
 
 Written from the manual's words (Plan 9: the ticket request and the tickets of authsrv(6)), the keys of a name, a host and
 a user being those of the tests' tables. It shares nothing with the proved code.
 """
-import sys
-
 from message_rows import show_heading, show_message
 from passwords import pass_to_key
 from sealing import seal
-from tickets_text import field, lines
+from tickets_text import field
 
 CHAL = bytes(range(0xa0, 0xa8))
 WORDS = [bytes(range(0x10, 0x18)), bytes(range(0x20, 0x28)), bytes(range(0x30, 0x38))]
@@ -62,11 +59,5 @@ def print_messages() -> None:
     show_message("answers_a_stranger", b"".join(answer(*CASES[0][2:5], False)))
 
 
-def print_literals() -> None:
-    print("// the first of them, for the tests of authsrv_program")
-    print(f"const REQUEST: &[u8; 141] = {lines(request(*CASES[0][2:5]))};")
-    print(f"const ANSWER: &[u8; 145] = {lines(answer(*CASES[0][2:]))};")
-
-
 if __name__ == "__main__":
-    print_literals() if sys.argv[1:] == ["literals"] else print_messages()
+    print_messages()
