@@ -29,7 +29,7 @@ pub enum Unstarted {
 #[derive(Drop)]
 pub struct ThreadSpawner<J: Drop, R> {
     rt: R,
-    name: &'static str,
+    name: String,
     unstarted: Unstarted,
     jobs: Sender<J>,
     started: Receiver<bool>,
@@ -46,7 +46,7 @@ where
     pub fn new(
         rt: R,
         alloc: Global,
-        name: &'static str,
+        name: &str,
         unstarted: Unstarted,
     ) -> Result<ThreadSpawner<J, R>, NoStart>
         ensures { IfOk result (λ spawner. spawner.faults ≡ 0) }
@@ -55,6 +55,9 @@ where
             return Err(NoStart);
         };
         let Ok((tell, started)) = crossbeam_channel::unbounded(alloc) else {
+            return Err(NoStart);
+        };
+        let Ok(name) = String::from_str(alloc, name) else {
             return Err(NoStart);
         };
         let theirs = rt;
@@ -113,7 +116,7 @@ impl<J: Drop, R: Clock + Eprint> ThreadSpawner<J, R> {
             return;
         }
         self.told = Some(now);
-        let _ = self.rt.eprint(self.name);
+        let _ = self.rt.eprint(self.name.as_str());
         let _ = self.rt.eprint(": no thread could be made\n");
     }
 }
