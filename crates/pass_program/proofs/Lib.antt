@@ -1,0 +1,4 @@
+pub mod ChangeLemmas
+pub mod FillLemmas
+pub mod SessionLemmas
+pub mod CauseLemmas
