@@ -4,3 +4,4 @@ pub mod Sessions
 pub mod Changing
 pub mod Words
 pub mod Steps
+pub mod Notes

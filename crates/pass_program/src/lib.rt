@@ -12,7 +12,7 @@ mod session;
 mod status;
 mod table;
 
-pub use log::{Log, NoLog};
+pub use log::{Log, NoLog, print_event};
 pub use refusal::{Event, Refusal};
 pub use run::{read_pass_words, run_pass, run_pass_noting};
 pub use status::{PassStatus, print_status};

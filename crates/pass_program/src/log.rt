@@ -1,6 +1,9 @@
 //! Where events are told, by those that were.
-use crate::refusal::Event;
-use wire_base::Name;
+ghost use Rattle.std.specs.Prelude.{◌≡◌, ◌++◌, OnErr, OnOk, length, map, take};
+ghost use Rattle.pass_program.specs.Notes.{event_text, event_words, shown_byte};
+
+use crate::refusal::{Event, Refusal};
+use wire_base::{Bytes, Name, NoMemory};
 
 /// Where what becomes of users is told. It is given their names and nothing that they sent besides.
 pub trait Log {
@@ -26,4 +29,63 @@ impl Log for NoLog {
     ghost noted = { λ _. None };
 
     fn note(&mut self, _: &Name<28>, _: Event) {}
+}
+
+// A byte of a name as it is shown on a line, which no name may end or change: one that isn't a visible sign of ASCII is `?`.
+fn shown_byte(byte: u8) -> u8
+    ensures { result ≡ shown_byte byte }
+{
+    if byte > b' ' && byte < 127 {
+        byte
+    } else {
+        b'?'
+    }
+}
+
+// Appends a name as it is shown. What is appended before memory runs out stays, here and below.
+fn append_shown(name: &[u8], out: &mut Bytes) -> Result<(), NoMemory>
+    ensures ok { OnOk result (out.new ≡ out.old ++ map shown_byte name.now) }
+    ensures err { OnErr result (take (length out.old) out.new ≡ out.old) }
+{
+    for byte in name {
+        out.push(shown_byte(*byte))?;
+    }
+    Ok(())
+}
+
+// What became of a user, in words.
+fn event_words(event: Event) -> &'static [u8]
+    ensures { result.now ≡ event_words event }
+{
+    match event {
+        Event::Refused(Refusal::BadRequest) => b"bad request",
+        Event::Refused(Refusal::BadOldPassword) => b"bad old password",
+        Event::Refused(Refusal::BadNewPassword) => b"bad new password",
+        Event::Refused(Refusal::NoSecretKept) => b"no secret kept",
+        Event::Refused(Refusal::TableNotWritten) => b"table not written",
+        Event::Changed => b"password changed",
+    }
+}
+
+#[tactic(auto, using(wire_base::proofs::FrontLemmas::kept_then))]
+fn append_event(user: &Name<28>, event: Event, out: &mut Bytes) -> Result<(), NoMemory>
+    ensures ok { OnOk result (out.new ≡ out.old ++ event_text user.now event) }
+    ensures err { OnErr result (take (length out.old) out.new ≡ out.old) }
+{
+    out.append(b"pass_change: ")?;
+    append_shown(user.text(), out)?;
+    out.append(b": ")?;
+    out.append(event_words(event))?;
+    out.push(b'\n')
+}
+
+/// Appends the line of an event for standard error: the user's name, each byte of which that isn't a visible sign of ASCII is
+/// shown as `?`, and what became of him.
+pub fn print_event(user: &Name<28>, event: Event, out: &mut Bytes) -> Result<(), NoMemory>
+    ensures ok { OnOk result (out.new ≡ out.old ++ event_text user.now event) }
+    ensures err { OnErr result (out.new ≡ out.old) }
+{
+    let before = out.len();
+    let done = append_event(user, event, out);
+    out.undo_on_err(before, done)
 }

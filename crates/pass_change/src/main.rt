@@ -1,0 +1,330 @@
+//! pass_change: one client's change of its password, on standard input and output. All that it says and asks is in a library;
+//! here the table of keys is opened, and the new one made beside it and put in its place.
+#![tactic(auto)]
+
+use pass_program::{
+    Event, Log, PassStatus, print_event, print_status, read_pass_words, run_pass_noting,
+};
+use std::fs::{self, File, OpenOptions, TryLockError};
+use std::io::{self, ErrorKind, Read, Write};
+use std::os::fd::AsRawFd;
+use std::os::unix::fs::OpenOptionsExt;
+use std::path::Path;
+use std::process::ExitCode;
+use std::time::Duration;
+use std::{env, thread};
+use wire_base::{Bytes, Name, Text, TextList};
+use wire_streams::{ReadSource, ReadWords, WriteSink, write_all};
+
+/// Where words are drawn from.
+const RANDOM: &str = "/dev/urandom";
+
+/// What stands for a descriptor that is closed.
+const NOTHING: &str = "/dev/null";
+
+/// How often the new table is tried to be made, and how long many thousandths of a second a pause has: ten seconds in all.
+const TRIES: u32 = 100;
+
+const PAUSE: u64 = 100;
+
+/// The option, which stands behind the line of a faulty command line.
+const OPTIONS: &[u8] = b"    pass_change --keys PATH\n";
+
+/// How the program ends.
+#[derive(Clone, Copy)]
+enum Ending {
+    /// With a client.
+    Status(PassStatus),
+    /// Another change is under way, for longer than is waited.
+    Held,
+    /// The new table of one that has gone is still there.
+    LeftBehind,
+    /// The new table was written, and couldn't be put in the place of the old one, or it isn't known to be kept there.
+    NotPlaced,
+}
+
+impl Ending {
+    /// The number that the process ends with.
+    fn number(self) -> u8 {
+        match self {
+            Ending::Status(status) => status.number(),
+            Ending::Held | Ending::LeftBehind => 14,
+            Ending::NotPlaced => 15,
+        }
+    }
+}
+
+/// A table that is read; each read of one that couldn't be opened fails.
+#[derive(Drop)]
+enum OldTable {
+    File(File),
+    Shut,
+}
+
+impl Read for OldTable {
+    fn read(&mut self, buf: &mut [u8]) -> io::Result<usize> {
+        match self {
+            OldTable::File(file) => file.read(buf),
+            OldTable::Shut => Err(ErrorKind::NotFound.into()),
+        }
+    }
+}
+
+/// A table that is written; each write to one that couldn't be made fails.
+#[derive(Drop)]
+enum NewTable<'a> {
+    File(&'a File),
+    Shut,
+}
+
+impl Write for NewTable<'_> {
+    fn write(&mut self, buf: &[u8]) -> io::Result<usize> {
+        match self {
+            NewTable::File(file) => (*file).write(buf),
+            NewTable::Shut => Err(ErrorKind::NotFound.into()),
+        }
+    }
+
+    fn flush(&mut self) -> io::Result<()> {
+        Ok(())
+    }
+}
+
+/// Refusals are told on standard error as they come, and a change once the new table is in its place.
+#[derive(Drop)]
+struct HostLog {
+    rt: HostRuntime,
+    changed: Option<Name<28>>,
+}
+
+impl Log for HostLog {
+    ghost use Rattle.std.specs.Prelude.{None};
+
+    ghost noted = { λ _. None };
+
+    fn note(&mut self, user: &Name<28>, event: Event) {
+        match event {
+            Event::Refused(_) => tell_event(&self.rt, user, event),
+            Event::Changed => self.changed = Some(*user),
+        }
+    }
+}
+
+// Writes bytes to standard error.
+fn tell(rt: &HostRuntime, text: &[u8]) {
+    let _ = write_all(text, &mut WriteSink::new(rt.stderr()));
+}
+
+// Writes a line to standard error: what happened to a file, and its name.
+fn tell_of(rt: &HostRuntime, what: &[u8], name: &str) {
+    tell(rt, what);
+    tell(rt, name.as_bytes());
+    tell(rt, b"\n");
+}
+
+// Writes the line of an event to standard error.
+fn tell_event(rt: &HostRuntime, user: &Name<28>, event: Event) {
+    let mut line = Bytes::new(rt.alloc());
+    if print_event(user, event, &mut line).is_ok() {
+        tell(rt, line.as_slice());
+    }
+}
+
+// Opens a file; one that can't be opened is named on standard error.
+fn open(rt: &HostRuntime, path: &str) -> OldTable {
+    match File::open(rt, path) {
+        Ok(file) => OldTable::File(file),
+        Err(_) => {
+            tell_of(rt, b"pass_change: can't open ", path);
+            OldTable::Shut
+        }
+    }
+}
+
+// A descriptor from 0 to 2 that is closed is given to what can't be used as it is, so that no file gets it: 0 can't be read,
+// and 1 and 2 can't be written.
+fn hold(rt: &HostRuntime, standard: i32) -> Option<File> {
+    let held = if standard == 0 {
+        OpenOptions::new().write(true).open(rt, NOTHING)
+    } else {
+        File::open(rt, NOTHING)
+    };
+    match held {
+        Ok(file) if file.as_raw_fd() == standard => Some(file),
+        _ => None,
+    }
+}
+
+// Makes the new table, for its owner alone, and holds it against others. None where it can't be made. Where it is there,
+// another change is waited for.
+fn make(rt: &HostRuntime, path: &str) -> Result<Option<File>, Ending> {
+    for _ in 0..TRIES {
+        let made = OpenOptions::new()
+            .write(true)
+            .create_new(true)
+            .mode(0o600)
+            .open(rt, path);
+        match made {
+            Ok(file) => {
+                let _ = file.try_lock();
+                return Ok(Some(file));
+            }
+            Err(error) if error.kind() == ErrorKind::AlreadyExists => {
+                thread::sleep(rt, Duration::from_millis(PAUSE));
+            }
+            Err(_) => {
+                tell_of(rt, b"pass_change: can't make ", path);
+                return Ok(None);
+            }
+        }
+    }
+    Err(who_holds(rt, path))
+}
+
+// Whether the process that made a new table is still there: then it holds the file's lock.
+fn who_holds(rt: &HostRuntime, path: &str) -> Ending {
+    let Ok(file) = File::open(rt, path) else {
+        return Ending::Held;
+    };
+    match file.try_lock() {
+        Ok(()) => Ending::LeftBehind,
+        Err(TryLockError::WouldBlock | TryLockError::Error(_)) => Ending::Held,
+    }
+}
+
+// Keeps what was written to a folder.
+fn sync_folder(rt: &HostRuntime, path: &str) -> io::Result<()> {
+    let folder = match Path::new(path).parent() {
+        Some(folder) if !folder.as_str().is_empty() => folder.as_str(),
+        _ => ".",
+    };
+    File::open(rt, folder)?.sync_all()
+}
+
+// Puts the new table in the place of the old one.
+fn place(rt: &HostRuntime, file: &File, new: &str, path: &str) -> io::Result<()> {
+    file.sync_all()?;
+    fs::rename(rt, new, path)?;
+    sync_folder(rt, path)
+}
+
+// Serves the client by a table, of which the new one was made or not.
+fn serve(
+    rt: &HostRuntime,
+    words: &[Text],
+    path: &str,
+    made: Option<&File>,
+    log: &mut HostLog,
+) -> PassStatus {
+    let table = match made {
+        Some(file) => NewTable::File(file),
+        None => NewTable::Shut,
+    };
+    run_pass_noting(
+        rt.alloc(),
+        words,
+        &mut ReadSource::new(rt.stdin()),
+        &mut ReadSource::new(open(rt, path)),
+        &mut WriteSink::new(rt.stdout()),
+        &mut WriteSink::new(table),
+        &mut ReadWords::new(ReadSource::new(open(rt, RANDOM))),
+        log,
+    )
+}
+
+// Changes a password of the table at a path.
+fn change(rt: &HostRuntime, words: &[Text], path: &str) -> Ending {
+    let Ok(new) = format!(in rt.alloc(); "{path}.new") else {
+        return Ending::Status(PassStatus::NoMemory);
+    };
+    let made = match make(rt, new.as_str()) {
+        Ok(made) => made,
+        Err(ending) => return ending,
+    };
+    let mut log = HostLog {
+        rt: *rt,
+        changed: None,
+    };
+    let status = serve(rt, words, path, made.as_ref(), &mut log);
+    let Some(file) = made else {
+        return Ending::Status(status);
+    };
+    if status != (PassStatus::Fine { changed: true }) {
+        let _ = fs::remove_file(rt, new.as_str());
+        return Ending::Status(status);
+    }
+    if place(rt, &file, new.as_str(), path).is_err() {
+        let _ = fs::remove_file(rt, new.as_str());
+        return Ending::NotPlaced;
+    }
+    if let Some(user) = log.changed {
+        tell_event(rt, &user, Event::Changed);
+    }
+    Ending::Status(status)
+}
+
+// The words behind the program's name. Words that aren't text are a faulty command line.
+fn command_words(rt: &HostRuntime) -> Result<TextList, PassStatus> {
+    let alloc = rt.alloc();
+    let mut words = TextList::new(alloc);
+    let Ok(args) = env::args(rt) else {
+        return Err(PassStatus::Usage);
+    };
+    for word in args.skip(1) {
+        match Text::from_slice(alloc, word.as_bytes()) {
+            Ok(Some(text)) => {
+                if words.push(text).is_err() {
+                    return Err(PassStatus::NoMemory);
+                }
+            }
+            Ok(None) => return Err(PassStatus::Usage),
+            Err(_) => return Err(PassStatus::NoMemory),
+        }
+    }
+    Ok(words)
+}
+
+// Does what the words say.
+fn run(rt: &HostRuntime) -> Ending {
+    let words = match command_words(rt) {
+        Ok(words) => words,
+        Err(status) => return Ending::Status(status),
+    };
+    let Some(path) = read_pass_words(words.as_slice()) else {
+        return Ending::Status(PassStatus::Usage);
+    };
+    match std::str::from_utf8(path.as_slice()) {
+        Ok(path) => change(rt, words.as_slice(), path),
+        Err(_) => Ending::Status(PassStatus::Usage),
+    }
+}
+
+// Writes the line of an ending to standard error.
+fn tell_ending(rt: &HostRuntime, ending: Ending) {
+    match ending {
+        Ending::Status(status) => {
+            let mut line = Bytes::new(rt.alloc());
+            if print_status(rt.alloc(), status, &mut line).is_ok() {
+                tell(rt, line.as_slice());
+            }
+            if status == PassStatus::Usage {
+                tell(rt, OPTIONS);
+            }
+        }
+        Ending::Held => tell(rt, b"pass_change: another change is under way\n"),
+        Ending::LeftBehind => tell(
+            rt,
+            b"pass_change: the new table of a change that has gone is in the way: remove it\n",
+        ),
+        Ending::NotPlaced => tell(rt, b"pass_change: the new table isn't in its place\n"),
+    }
+}
+
+fn main(rt: HostRuntime) -> ExitCode {
+    let _input = hold(&rt, 0);
+    let _output = hold(&rt, 1);
+    let _errors = hold(&rt, 2);
+    let ending = run(&rt);
+    tell_ending(&rt, ending);
+    ExitCode::from(ending.number())
+}
