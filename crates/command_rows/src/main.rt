@@ -1,5 +1,5 @@
-//! command_rows: cases of the commands, of their words and of the statuses that they end with, which stand in files of rows. It
-//! tells how many cases each file has, and each that isn't as wanted, and ends with status 1 where there is one.
+//! command_rows: cases of the commands, of their words and of the statuses that they end with, and of changes of passwords, which
+//! stand in files of rows. It tells how many cases each file has, and each that isn't as wanted, and ends with status 1 where there is one.
 #![tactic(auto)]
 
 use anyhow::{Context, bail};
@@ -8,6 +8,7 @@ use std::process::ExitCode;
 use wire_streams::{WriteSink, write_all};
 
 mod came;
+mod changes;
 mod command_words;
 mod commands;
 mod hearing;
@@ -25,6 +26,7 @@ enum Subject {
     Commands,
     CommandWords,
     Statuses,
+    Changes,
 }
 
 /// A file of rows.
@@ -33,7 +35,7 @@ struct Listed {
     subject: Subject,
 }
 
-static FILES: [Listed; 8] = [
+static FILES: [Listed; 9] = [
     Listed {
         file: "pipes.rows",
         subject: Subject::Commands,
@@ -66,6 +68,10 @@ static FILES: [Listed; 8] = [
         file: "statuses.rows",
         subject: Subject::Statuses,
     },
+    Listed {
+        file: "changes.rows",
+        subject: Subject::Changes,
+    },
 ];
 
 // Writes to standard output.
@@ -88,6 +94,7 @@ fn play_rows(
         Subject::Commands => commands::play(rt, file, rows, report),
         Subject::CommandWords => command_words::play(rt.alloc(), file, rows, report),
         Subject::Statuses => statuses::play(rt.alloc(), file, rows, report),
+        Subject::Changes => changes::play(rt, file, rows, report),
     }
 }
 

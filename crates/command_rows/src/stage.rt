@@ -14,6 +14,7 @@ pub(crate) struct Faults {
     pub(crate) speaks: u64,
     pub(crate) word: u64,
     pub(crate) dial: u64,
+    pub(crate) table: u64,
 }
 
 const NO_FAULTS: Faults = Faults {
@@ -23,6 +24,7 @@ const NO_FAULTS: Faults = Faults {
     speaks: 0,
     word: 0,
     dial: 0,
+    table: 0,
 };
 
 /// What stands for the rows that follow.
@@ -50,6 +52,7 @@ fn note_fault(faults: &mut Faults, field: &[u8]) -> anyhow::Result<()> {
         "speaks_fault" => faults.speaks = number,
         "word_fault" => faults.word = number,
         "dial_fault" => faults.dial = number,
+        "table_fault" => faults.table = number,
         _ => bail!("{name} is no fault"),
     }
     Ok(())
