@@ -7,11 +7,12 @@ use pass_program::{
 };
 use std::fs::{self, File, OpenOptions, TryLockError};
 use std::io::{self, ErrorKind, Read, Write};
-use std::os::fd::AsRawFd;
+use std::net::TcpStream;
+use std::os::fd::{AsFd, AsRawFd};
 use std::os::unix::fs::OpenOptionsExt;
 use std::path::Path;
 use std::process::ExitCode;
-use std::time::Duration;
+use std::time::{Duration, Instant};
 use std::{env, thread};
 use wire_base::{Bytes, Name, Text, TextList};
 use wire_streams::{ReadSource, ReadWords, WriteSink, write_all};
@@ -26,6 +27,9 @@ const NOTHING: &str = "/dev/null";
 const TRIES: u32 = 100;
 
 const PAUSE: u64 = 100;
+
+/// How many seconds a client at a socket has for its whole session, so that one that says nothing holds up no other.
+const PATIENCE: u64 = 60;
 
 /// The option, which stands behind the line of a faulty command line.
 const OPTIONS: &[u8] = b"    pass_change --keys PATH\n";
@@ -51,6 +55,54 @@ impl Ending {
             Ending::Held | Ending::LeftBehind => 14,
             Ending::NotPlaced => 15,
         }
+    }
+}
+
+/// Standard input. Where it is a socket, no read of it waits longer than to a moment, and behind that each fails.
+#[derive(Drop)]
+struct Client<'a> {
+    rt: &'a HostRuntime,
+    line: Option<TcpStream>,
+    until: Option<Instant>,
+}
+
+impl<'a> Client<'a> {
+    // The client, who begins now.
+    fn new(rt: &'a HostRuntime) -> Client<'a> {
+        let patience = Duration::from_secs(PATIENCE);
+        let line = match rt.stdin().as_fd().try_clone_to_owned() {
+            Ok(descriptor) => Some(TcpStream::from(descriptor)),
+            Err(_) => None,
+        };
+        if let Some(line) = &line {
+            let _ = line.set_write_timeout(Some(patience));
+        }
+        let until = match Instant::now(rt) {
+            Ok(now) => now.checked_add(patience),
+            Err(_) => None,
+        };
+        Client { rt, line, until }
+    }
+
+    // Has the next read wait no longer than there is time.
+    fn set_limit(&self) -> io::Result<()> {
+        let (Some(line), Some(until)) = (&self.line, self.until) else {
+            return Ok(());
+        };
+        let left = until.duration_since(Instant::now(self.rt)?);
+        if left.is_zero() {
+            return Err(ErrorKind::TimedOut.into());
+        }
+        // What is no socket has no limit.
+        let _ = line.set_read_timeout(Some(left));
+        Ok(())
+    }
+}
+
+impl Read for Client<'_> {
+    fn read(&mut self, buf: &mut [u8]) -> io::Result<usize> {
+        self.set_limit()?;
+        self.rt.stdin().read(buf)
     }
 }
 
@@ -223,7 +275,7 @@ fn serve(
     run_pass_noting(
         rt.alloc(),
         words,
-        &mut ReadSource::new(rt.stdin()),
+        &mut ReadSource::new(Client::new(rt)),
         &mut ReadSource::new(open(rt, path)),
         &mut WriteSink::new(rt.stdout()),
         &mut WriteSink::new(table),
