@@ -23,15 +23,16 @@ const RANDOM: &str = "/dev/urandom";
 /// What stands for a descriptor that is closed.
 const NOTHING: &str = "/dev/null";
 
-/// How often the new table is tried to be made, and how long many thousandths of a second a pause has: ten seconds in all.
+/// How many times the new table is tried to be made.
 const TRIES: u32 = 100;
 
+/// The pause between two tries, in milliseconds: ten seconds in all.
 const PAUSE: u64 = 100;
 
 /// How many seconds a client at a socket has for its whole session, so that one that says nothing holds up no other.
 const PATIENCE: u64 = 60;
 
-/// The option, which stands behind the line of a faulty command line.
+/// The option, which is told after the line of a faulty command line.
 const OPTIONS: &[u8] = b"    pass_change --keys PATH\n";
 
 /// How the program ends.
