@@ -2,7 +2,7 @@
 ghost use Rattle.std.specs.Prelude.{◌≡◌, ◌<◌, ◌≤◌, None, length, IfOk};
 ghost use Rattle.agent_hub.specs.Submits.{IsSeatOf};
 
-use super::sessions::{ADD_KEY, AGREED, BAD_SIZE, KEYS_READ, KEY_ADDED, READ_KEYS, VERSION};
+use super::sessions::{ADD_KEY, AGREED, BAD_SIZE, KEY_ADDED, KEYS_READ, READ_KEYS, VERSION};
 use super::{MANY, new_hub, submit};
 use agent_history::{Event, StepAnswer};
 use agent_hub::{Hub, HubSeat};
@@ -12,7 +12,7 @@ use std::alloc::Global;
 use std::process::Abort;
 use std::sync::Wait;
 use std::test::Fail;
-use wire_streams::{Got, MemSink, MemSource, MemWords, Put, Sink, Source, Words, WordFault};
+use wire_streams::{Got, MemSink, MemSource, MemWords, Put, Sink, Source, WordFault, Words};
 
 /// The numbers of the calls that fail, counted from 1.
 #[derive(Clone, Copy)]
@@ -76,18 +76,68 @@ fn serve<R: Wait + Abort>(
 fn serve_all<R: Wait + Abort>(rt: &R, alloc: Global, hub: &Hub, seat: HubSeat) -> Result<(), Fail>
     requires { IsSeatOf hub.now seat }
 {
-    let seat = serve(rt, alloc, hub, seat, 0, ADD_KEY, NONE, LineEnd::End, KEY_ADDED)?;
+    let seat = serve(
+        rt,
+        alloc,
+        hub,
+        seat,
+        0,
+        ADD_KEY,
+        NONE,
+        LineEnd::End,
+        KEY_ADDED,
+    )?;
     let torn = LineEnd::Torn { at: 19 };
     let seat = serve(rt, alloc, hub, seat, 1, &ADD_KEY[..30], NONE, torn, AGREED)?;
     let bad = LineEnd::BadFrame { at: 19, size: 4 };
     let seat = serve(rt, alloc, hub, seat, 2, BAD_SIZE, NONE, bad, AGREED)?;
     let read = Faults { read: 2, ..NONE };
-    let seat = serve(rt, alloc, hub, seat, 3, VERSION, read, LineEnd::ReadFault, AGREED)?;
+    let seat = serve(
+        rt,
+        alloc,
+        hub,
+        seat,
+        3,
+        VERSION,
+        read,
+        LineEnd::ReadFault,
+        AGREED,
+    )?;
     let draw = Faults { draw: 2, ..NONE };
-    let seat = serve(rt, alloc, hub, seat, 4, ADD_KEY, draw, LineEnd::WordFault, AGREED)?;
+    let seat = serve(
+        rt,
+        alloc,
+        hub,
+        seat,
+        4,
+        ADD_KEY,
+        draw,
+        LineEnd::WordFault,
+        AGREED,
+    )?;
     let write = Faults { write: 1, ..NONE };
-    let seat = serve(rt, alloc, hub, seat, 5, VERSION, write, LineEnd::WriteFault, b"")?;
-    let seat = serve(rt, alloc, hub, seat, 6, READ_KEYS, NONE, LineEnd::End, KEYS_READ)?;
+    let seat = serve(
+        rt,
+        alloc,
+        hub,
+        seat,
+        5,
+        VERSION,
+        write,
+        LineEnd::WriteFault,
+        b"",
+    )?;
+    let seat = serve(
+        rt,
+        alloc,
+        hub,
+        seat,
+        6,
+        READ_KEYS,
+        NONE,
+        LineEnd::End,
+        KEYS_READ,
+    )?;
     let seat = submit(rt, alloc, hub, seat, &Event::Stop, StepAnswer::Done, b"")?;
     serve_stopped(rt, alloc, hub, seat)
 }
@@ -101,7 +151,17 @@ fn serve_stopped<R: Wait + Abort>(
 ) -> Result<(), Fail>
     requires { IsSeatOf hub.now seat }
 {
-    serve(rt, alloc, hub, seat, 7, VERSION, NONE, LineEnd::Stopped, b"")?;
+    serve(
+        rt,
+        alloc,
+        hub,
+        seat,
+        7,
+        VERSION,
+        NONE,
+        LineEnd::Stopped,
+        b"",
+    )?;
     Ok(())
 }
 
@@ -123,7 +183,17 @@ fn serve_many<R: Wait + Abort>(
     requires { IsSeatOf hub.now seat }
 {
     for conn in 0..count {
-        seat = serve(rt, alloc, hub, seat, conn, VERSION, NONE, LineEnd::End, AGREED)?;
+        seat = serve(
+            rt,
+            alloc,
+            hub,
+            seat,
+            conn,
+            VERSION,
+            NONE,
+            LineEnd::End,
+            AGREED,
+        )?;
     }
     Ok(())
 }
