@@ -5,9 +5,9 @@ are as logins.py says.
 Written by hand from the manual's words (Plan 9: factotum(4)) and the texts of rpc, prompts and the log. Nothing of the
 project's own code is used.
 """
-from agent import A, V, clunk, error, flush, opened, rclunk, read, remove, rflush, rread, rversion, rwrite, version, write
-from logins import (ANN, ANN_KEY, ANSWER, CHC, CHS, CLIENT, EVE, KN, MINE, NAMES, NEEDS, OTHER, QUESTION, SERVER, SHOWN, SRV,
-                    SRV_KEY, THEIRS, WIDE, ASKED, Session, client, main, one, proof, ticket, treq)
+from agent import clunk, error, flush, opened, rclunk, read, rflush, rread, rwrite, write
+from logins import (ANN_KEY, ANSWER, ASKED, CHC, CHS, CLIENT, KN, MINE, NAMES, NEEDS, QUESTION, SERVER, SRV, SRV_KEY, THEIRS, WIDE,
+                    client, main, one, proof, ticket, treq)
 from whole_logins import CHALLENGE, DIGITS, OFFER, mail_question, mail_start, vouch
 
 DENIED = "error confirmation denied"
@@ -309,177 +309,9 @@ def lines():
     line(s, "log", "1 error no server")
 
 
-# ---- every pause, and what comes to it
-def for_server(s):
-    asks(s)
-    s.asked(1, 0, QUESTION)
-
-
-def for_challenge(s):
-    s.wait(1, mail_start("apop", "server"), word=CHS)
-    s.asked(1, 0, mail_question("apop"))
-
-
-def for_vouch(s):
-    for_challenge(s)
-    s.answer(1, OFFER)
-    s.told(1, "ok")
-    s.rpc(1, "read", ("ok", CHALLENGE))
-    s.rpc(1, ("write", b"ann"), "ok")
-    s.wait(1, ("write", DIGITS["apop"]))
-    s.asked(2, 0, mail_question("apop", b"ann"))
-
-
-def for_consent(s):
-    files(s, "confirm", "needkey")
-    asks(s)
-    line(s, "confirm", "confirm tag=1 " + PUBLIC)
-
-
-def for_key(s):
-    files(s, "confirm", "needkey")
-    asks(s)
-    line(s, "needkey", "needkey tag=1 " + NEEDLINE)
-
-
-# what a pause is called, its keys, how it is come to, the call that is out, whether its connection is kept, and the answer to
-# its call with what is then told
-PAUSES = [
-    ("for the authentication server", [ANN_KEY], for_server, 1, False, ANSWER, "ok"),
-    ("for a challenge", [SRV_KEY.replace("srvpass1", "srvpass")], for_challenge, 1, True, OFFER, "ok"),
-    ("for a vouch", [SRV_KEY.replace("srvpass1", "srvpass")], for_vouch, 2, False, vouch(), "ok"),
-    ("for consent", [CONFIRM_KEY], for_consent, 0, False, None, None),
-    ("for a key", [], for_key, 0, False, None, None),
-]
-
-
-def paused(name, keys, come, what):
-    s = one("a request that waits %s, and %s" % (name, what), *keys)
-    if not keys:
-        s.key()
-    come(s)
-    return s
-
-
-def unreached(s, call, why):
-    """The call stays without an answer."""
-    if call:
-        s.told(1, why)
-    else:
-        s.nothing()
-        s.refuses(read(1, 0, WIDE), "rpc busy")
-
-
-def pauses():
-    for name, keys, come, call, kept, answer, said in PAUSES:
-        s = paused(name, keys, come, "more requests")
-        s.refuses(write(1, "read"), "rpc busy")
-        s.refuses(read(1, 0, WIDE), "rpc busy")
-        s.refuses(read(1, 0, WIDE, 101), "duplicate tag", tag=101)
-        s.unasked()
-        s.outcome(1, "running")
-
-        s = paused(name, keys, come, "a flush")
-        s.say(flush(101), rflush())
-        s.nothing()
-        if call:
-            s.answer(call, answer)
-            s.nothing()
-            s.got(1, said)
-
-        s = paused(name, keys, come, "its answer")
-        s.answer(call or 1, answer or ANSWER)
-        if call:
-            s.told(1, said)
-        else:
-            s.nothing()
-            s.refuses(read(1, 0, WIDE), "rpc busy")
-
-        for kind, why in [("f", "error no server"), ("m", "error out of memory")]:
-            s = paused(name, keys, come, "no answer, or no room for one")
-            s.step(kind, 0, call or 1)
-            unreached(s, call, why)
-            if call:
-                s.broken(1, why)
-
-        for request, answered in [(clunk(1), rclunk()), (remove(1), error("permission denied"))]:
-            s = paused(name, keys, come, "its fid is given up")
-            s.step("p", 0, 0, request)
-            s.take(answered)
-            s.take(error("unknown fid", 101))
-            s.nothing()
-            if kept:
-                s.dropped(0)
-            s.unasked()
-            if not call:
-                for file in ["confirm", "needkey"]:
-                    refused(s, file, "tag=1 answer=yes", "unknown tag")
-            s.answer(call or 1, answer or ANSWER)
-            s.nothing()
-
-        s = paused(name, keys, come, "a version")
-        s.say(version(), rversion())
-        if kept:
-            s.dropped(0)
-        s.unasked()
-        s.outcome(1, "")
-        if not call:
-            refused(s, "confirm", "tag=1 answer=yes", "unknown tag")
-            awaits(s, "confirm", 7)
-            awaits(s, "needkey", 8)
-
-        s = paused(name, keys, come, "a hang")
-        s.step("h", 0, 0)
-        if kept:
-            s.dropped(0)
-        s.unasked()
-        s.step("g", 0, 0)
-        s.answer(call or 1, answer or ANSWER)
-        if not call:
-            refused(s, "needkey", "tag=1", "unknown tag")
-            awaits(s, "confirm", 7)
-
-        s = paused(name, keys, come, "a stop")
-        s.step("s", 0, 0)
-        s.step("x", 0, 0)
-        s.step("g", 0, 0)
-        s.answer(call or 1, answer or ANSWER)
-
-        s = paused(name, keys, come, "an edit of the keys")
-        s.line("delkey proto=p9sk1") if keys else s.line("key " + ANN_KEY)
-        s.nothing()
-        s.unasked()
-        if call:
-            s.answer(call, answer)
-            s.told(1, said)
-        elif not keys:
-            reply(s, "needkey", "tag=1")
-            s.asked(1, 0, QUESTION)
-        else:
-            reply(s, "confirm", "tag=1 answer=yes")
-            line(s, "needkey", "needkey tag=1 " + NEEDLINE)
-
-        if call:
-            continue
-        for file in ["confirm", "needkey"]:
-            mine = (file == "confirm") == bool(keys)
-            s = paused(name, keys, come, "%s is closed" % file)
-            s.say(clunk(FILES[file]), rclunk(), 1)
-            if mine:
-                s.told(1, DENIED if keys else NEEDS)
-            else:
-                s.nothing()
-                s.refuses(read(1, 0, WIDE), "rpc busy")
-            s.unasked()
-        s = paused(name, keys, come, "who holds the files hangs up")
-        s.step("h", 0, 1)
-        s.told(1, DENIED if keys else NEEDS)
-
-
 TABLES = [
     (rows, "prompts", "what users are asked, and what they reply"),
     (lines, "log", "what the log tells"),
-    (pauses, "pauses", "every pause of a conversation, and what comes to it"),
 ]
 
 NAMED = {"CHALLENGE": CHALLENGE, "OFFER": OFFER, "DIGITS": DIGITS["apop"], "RFC_CHALLENGE": RFC_CHALLENGE, "RFC_DIGITS": RFC_DIGITS,

@@ -1,6 +1,6 @@
 #!/usr/bin/env python3
-"""Prints conversations of rpc with agents, event by event, as files of rows; rows.py says how they are written. whole_logins.py
-and asking.py print more of them.
+"""Prints conversations of rpc with agents, event by event, as files of rows; rows.py says how they are written. whole_logins.py,
+asking.py and pauses.py print more of them.
 
 Written by hand from the manual's words (Plan 9: factotum(4), p9sk1 of authsrv(6), section 5), the order of the tests of each
 request and the texts of rpc; OpenSSL's DES seals. Frames come from agent.py. Nothing of the project's own code is used.
@@ -21,8 +21,8 @@ connection's, a call's or none), what is given and what has to come:
 import sys
 from contextlib import contextmanager
 
-from agent import (A, V, attach, clunk, error, flush, frame, opened, open_, print_sessions, rattach, rclunk, read, remove, rflush,
-                   ropen, rread, rversion, rwrite, stat, version, walk, write, at)
+from agent import (A, V, clunk, error, flush, frame, opened, print_sessions, rclunk, read, remove, rflush, rread, rversion, rwrite,
+                   stat, version, write, at)
 from passwords import pass_to_key
 from sealing import expand, seal
 from tickets_text import field
@@ -838,75 +838,12 @@ def waits():
     s.nothing()
 
 
-# ---- as many as there may be
-def houses():
-    s = Session("as many conversations as there may be")
-    s.begin()
-    s.begin(1)
-    for fid in range(1, 256, 15):
-        s.open(*range(fid, fid + 15))
-    s.open(1, conn=1)
-    s.say(*at(2, *RPC), 1)
-    s.refuses(open_(2, 2), "too many conversations", 1)
-    s.refuses(open_(2, 0x42), "permission denied", 1)
-    s.refuses(open_(1, 2), "already open", 1)
-    s.refuses(walk(0, 256, "factotum"), "too many fids")
-    s.say(clunk(255), rclunk())
-    s.say(open_(2, 2), ropen("rpc"), 1)
-    s.say(*at(255, *RPC))
-    s.refuses(open_(255, 2), "too many conversations")
-    s.say(version(), rversion(), 1)
-    s.say(open_(255, 2), ropen("rpc"))
-    s.rpc(255, "read", "protocol not started")
-
-    s = Session("as many reads of a connection as may wait")
-    s.key(ANN_KEY)
-    s.begin()
-    s.begin(1)
-    s.open(65, 66, 67)
-    client(s, 65)
-    s.store(65, ("write", ASKED))
-    s.store(67, "read")
-    s.refuses(read(67, 0, 19), "read too small")
-    for fid in range(1, 65):
-        with s.group():
-            s.open(fid)
-            asking(s, fid)
-    s.open(1, conn=1)
-    s.refuses(read(65, 0, WIDE), "too many waiting")
-    s.refuses(read(65, 0, 0), "too many waiting")
-    s.refuses(read(64, 0, WIDE), "rpc busy")
-    s.refuses(read(66, 0, WIDE), "no rpc pending")
-    s.store(66, "read")
-    s.refuses(read(66, 0, WIDE), "too many waiting")
-    s.refuses(write(66, "x"), "rpc busy")
-    s.refuses(read(67, 0, 19), "read too small")
-    s.got(67, "protocol not started")
-    asking(s, 1, conn=1)
-    s.say(flush(107), rflush())
-    s.got(66, "protocol not started")
-    s.again(65)
-    s.refuses(read(7, 0, WIDE), "too many waiting")
-    s.answer(3, ANSWER)
-    s.told(3, "ok")
-    s.again(7)
-    for call in range(1, 65):
-        if call != 3:
-            s.asked(call, call + 2, QUESTION)
-    s.asked(65, 67, QUESTION)
-    s.asked(66, 0, QUESTION)
-    s.unasked()
-    s.answer(7, ANSWER)
-    s.told(7, "ok")
-
-
 TABLES = [
     (rows, "looked_for", "what is looked for, what is asked and the lengths of a request"),
     (logins, "logins", "whole logins between two agents"),
     (requests, "requests", "reads, writes, requests and starts of rpc"),
     (moves, "moves", "moves of p9sk1, searches for keys and what breaks a conversation"),
     (waits, "waits", "reads that wait"),
-    (houses, "houses", "as many conversations and waiting reads as there may be"),
 ]
 
 

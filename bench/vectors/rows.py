@@ -1,6 +1,6 @@
-"""Writes sessions with agents as the files of rows that the program agent_rows plays; agent.py, logins.py, asking.py and
-whole_logins.py make the sessions. A session is a name and its steps, each of which is a letter, an agent, a number, what is
-given and what has to come; logins.py says what the letters are.
+"""Writes sessions with agents as the files of rows that the program agent_rows plays; agent.py, logins.py, asking.py,
+pauses.py and whole_logins.py make the sessions. A session is a name and its steps, each of which is a letter, an agent, a number,
+what is given and what has to come; logins.py says what the letters are.
 
 A row stands for a step, or for those that go together: a request of rpc and its answer are a row. What a row is, the head of
 each file says.
