@@ -26,6 +26,11 @@ impl Came {
         Ok(())
     }
 
+    /// How many fields there are.
+    pub(crate) fn len(&self) -> usize {
+        self.fields.len()
+    }
+
     /// Puts a number in decimal.
     pub(crate) fn put_number(&mut self, number: u64) -> anyhow::Result<()> {
         let digits = format!(in self.alloc; "{number}")?;

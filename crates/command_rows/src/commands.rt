@@ -6,7 +6,8 @@ use crate::texts::argument;
 use crate::{hearing, pieces, real_files, rooms};
 use anyhow::bail;
 use row_files::{Report, Row};
-use wire_streams::{Got, MemSource, Source};
+use wire_base::Shape;
+use wire_streams::{Got, Made, MemSource, Outcome, Source};
 
 // Puts what the next read gives: its bytes, or that it failed.
 fn put_next(input: &mut MemSource, came: &mut Came) -> anyhow::Result<()> {
@@ -31,9 +32,74 @@ fn put_last(row: &Row, written: &[u8], came: &mut Came) -> anyhow::Result<()> {
 // Puts how many calls the dialer had.
 fn put_calls(memory: &Memory, came: &mut Came) -> anyhow::Result<()> {
     match memory.around.calls() {
-        Some(calls) => came.put_number(calls as u64),
+        Some(calls) => came.put_number(calls.len() as u64),
         None => bail!("the dialer tells no calls"),
     }
+}
+
+fn shape_word(shape: Shape) -> &'static [u8] {
+    match shape {
+        Shape::Tickets => b"tickets",
+        Shape::Challenge => b"challenge",
+        Shape::Vouch => b"vouch",
+    }
+}
+
+fn outcome_word(outcome: &Outcome) -> &'static [u8] {
+    match outcome {
+        Outcome::Answered(_) => b"heard",
+        Outcome::Unanswered => b"failed",
+        Outcome::NoRoom => b"no_room",
+    }
+}
+
+// Puts a call of the dialer.
+fn put_call(
+    rt: &HostRuntime,
+    stage: &Stage,
+    row: &Row,
+    call: &Made,
+    came: &mut Came,
+) -> anyhow::Result<()> {
+    match call {
+        Made::Close { conv } => {
+            came.put(b"close")?;
+            came.put_number(*conv)
+        }
+        Made::Exchange {
+            conv,
+            request,
+            shape,
+            outcome,
+        } => {
+            came.put(shape_word(*shape))?;
+            came.put_number(*conv)?;
+            let at = came.len();
+            stage.texts.put_came(rt, row, at, request.as_slice(), came)?;
+            Ok(came.put(outcome_word(outcome))?)
+        }
+    }
+}
+
+// Puts the word that is drawn next, and the calls of the dialer.
+fn put_calls_made(
+    rt: &HostRuntime,
+    stage: &Stage,
+    row: &Row,
+    memory: &mut Memory,
+    came: &mut Came,
+) -> anyhow::Result<()> {
+    match memory.around.next_word() {
+        Some(word) => came.put(&word)?,
+        None => came.put(b"failed")?,
+    }
+    let Some(calls) = memory.around.calls() else {
+        bail!("the dialer tells no calls");
+    };
+    for call in calls {
+        put_call(rt, stage, row, call, came)?;
+    }
+    Ok(())
 }
 
 // Puts what a verb compares beside the status.
@@ -54,6 +120,12 @@ fn put_rest(
                 .texts
                 .put_came(rt, row, 2, memory.output.content(), came)?;
             put_next(&mut memory.input, came)
+        }
+        b"calls" => {
+            stage
+                .texts
+                .put_came(rt, row, 2, memory.output.content(), came)?;
+            put_calls_made(rt, stage, row, memory, came)
         }
         b"last" => {
             put_last(row, memory.output.content(), came)?;

@@ -4,12 +4,13 @@ ghost use Rattle.auth_program.specs.Statuses.{is_printable};
 
 use crate::came::Came;
 use crate::stage::{Faults, Stage, words_of};
+use anyhow::bail;
 use auth_program::{Status, print_status};
 use factotum_program::run_command;
 use row_files::Row;
 use std::alloc::Global;
 use wire_base::{Bytes, Text};
-use wire_streams::{MemDialer, MemSink, MemSource, MemWords, Sink, Source};
+use wire_streams::{Made, MemDialer, MemSink, MemSource, MemWords, Sink, Source, Words};
 
 /// The numbers of the calls that fail: this one alone.
 fn fails(alloc: Global, number: u64) -> anyhow::Result<Vec<u64>> {
@@ -41,10 +42,20 @@ pub(crate) fn drawn_of(alloc: Global, bytes: &[u8], fault: u64) -> anyhow::Resul
     Ok(MemWords::new(words, fails))
 }
 
-/// A dialer without answers, of which the exchange of a number fails.
-fn dialer_of(alloc: Global, fault: u64) -> anyhow::Result<MemDialer> {
+/// A dialer of the two answers of a stage, or of none, of which the exchange of a number fails.
+fn dialer_of(alloc: Global, stage: &Stage, fault: u64) -> anyhow::Result<MemDialer> {
     let fails = fails(alloc, fault)?;
-    Ok(MemDialer::new(alloc, Vec::new(alloc), fails))
+    let (first, second) = (stage.first_heard.as_slice(), stage.second_heard.as_slice());
+    if first.is_empty() {
+        return Ok(MemDialer::new(alloc, Vec::new(alloc), fails));
+    }
+    if first.len() > 100 || second.len() > 100 {
+        bail!("a long answer");
+    }
+    let mut answers = Vec::new(alloc);
+    answers.push(Bytes::from_slice(alloc, first)?)?;
+    answers.push(Bytes::from_slice(alloc, second)?)?;
+    Ok(MemDialer::new(alloc, answers, fails))
 }
 
 /// A command's objects but for its input and output.
@@ -67,12 +78,12 @@ pub(crate) fn put_status(alloc: Global, status: &Status, came: &mut Came) -> any
 }
 
 impl Around {
-    /// The tables and words of a stage.
+    /// The tables, the words and the answers of a stage.
     pub(crate) fn new(alloc: Global, stage: &Stage, faults: &Faults) -> anyhow::Result<Around> {
         Ok(Around {
             keys: source_of(alloc, stage.keys.as_slice(), faults.keys)?,
             speaks: source_of(alloc, stage.speaks.as_slice(), faults.speaks)?,
-            dial: dialer_of(alloc, faults.dial)?,
+            dial: dialer_of(alloc, stage, faults.dial)?,
             rand: drawn_of(alloc, stage.drawn.as_slice(), faults.word)?,
         })
     }
@@ -112,12 +123,14 @@ impl Around {
         self.run(alloc, words.as_slice(), input, output, came)
     }
 
-    /// How many calls of the dialer were made, where it tells them.
-    pub(crate) fn calls(&self) -> Option<usize> {
-        match self.dial.made() {
-            Some(made) => Some(made.len()),
-            None => None,
-        }
+    /// The calls of the dialer, where it tells them.
+    pub(crate) fn calls(&self) -> Option<&[Made]> {
+        self.dial.made()
+    }
+
+    /// The word that is drawn next, if one is.
+    pub(crate) fn next_word(&mut self) -> Option<[u8; 8]> {
+        self.rand.word8().ok()
     }
 }
 

@@ -1,4 +1,5 @@
-// What stands around the commands of a file's rows: texts, tables, words to be drawn, and which calls fail.
+// What stands around the commands of a file's rows: texts, tables, words to be drawn, what the dialer hears, and which calls
+// fail.
 use crate::texts::{Texts, argument};
 use anyhow::bail;
 use row_files::Row;
@@ -35,6 +36,8 @@ pub(crate) struct Stage {
     pub(crate) speaks: Bytes,
     pub(crate) drawn: Bytes,
     pub(crate) held: Bytes,
+    pub(crate) first_heard: Bytes,
+    pub(crate) second_heard: Bytes,
     pub(crate) faults: Faults,
 }
 
@@ -74,7 +77,7 @@ pub(crate) fn words_of(alloc: Global, line: &[u8]) -> anyhow::Result<TextList> {
 }
 
 impl Stage {
-    /// No texts, empty tables, no words, and no call that fails.
+    /// No texts, empty tables, no words, nothing that the dialer hears, and no call that fails.
     pub(crate) fn new(alloc: Global) -> Stage {
         Stage {
             texts: Texts::new(alloc),
@@ -82,6 +85,8 @@ impl Stage {
             speaks: Bytes::new(alloc),
             drawn: Bytes::new(alloc),
             held: Bytes::new(alloc),
+            first_heard: Bytes::new(alloc),
+            second_heard: Bytes::new(alloc),
             faults: NO_FAULTS,
         }
     }
@@ -108,6 +113,10 @@ impl Stage {
             b"speaks" => self.speaks = self.bytes_at(rt, row, 1)?,
             b"drawn" => self.drawn = self.bytes_at(rt, row, 1)?,
             b"holds" => self.held = self.bytes_at(rt, row, 1)?,
+            b"heard" => {
+                self.first_heard = self.bytes_at(rt, row, 1)?;
+                self.second_heard = self.bytes_at(rt, row, 2)?;
+            }
             b"faults" => self.faults = self.faults_of(row, 1)?,
             _ => return Ok(false),
         }
