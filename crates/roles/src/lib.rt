@@ -1,5 +1,6 @@
-//! by which a key is asked for, and what each call of a p9sk1 client or server comes to (authsrv(6) and factotum(4) of
-//! the Plan 9 manual). The machines that do so stand above, and so do the histories that speak of them.
+//! The roles of protocols: how a conversation starts, what it needs and how it ends, what a machine of a role promises,
+//! the templates by which a key is asked for, and what each call of a p9sk1 client or server comes to (authsrv(6) and
+//! factotum(4) of the Plan 9 manual). The machines that do so stand above, and so do the histories that speak of them.
 #![tactic(auto)]
 
 mod answer;
