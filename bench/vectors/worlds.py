@@ -230,6 +230,132 @@ def cram_login() -> Record:
     return mail_login("cram", CRAM, lambda challenge: hmac.new(b"annpass", challenge, "md5").hexdigest())
 
 
+# ---- what the network tries in vain
+def begun(*starts: tuple[str, str]) -> Record:
+    """A record in which conversations of p9sk1 are started, with the words 1.., 2.. and so on."""
+    record = Record()
+    for (name, role), word in zip(starts, words(1, len(starts))):
+        record.put("start", name, "p9sk1", role, word)
+    return record
+
+
+def asked(record: Record, client: str, server: str, words_of: tuple[bytes, bytes], drawn: list[bytes]) -> tuple[bytes, bytes]:
+    """p9sk1 from its first message to the grant, which isn't handed to the client yet: the grant, and the shared key."""
+    mine, theirs = words_of
+    record.put("in", server, record.give("out", client, mine))
+    record.put("in", client, record.give("out", server, request(TREQ, theirs)))
+    question = record.give("ask", client, request(TREQ, theirs, b"ann", b"ann"))
+    record.put("asgot", "r", question, *drawn)
+    return record.give("asgave", "r", grant_of(theirs, drawn)), drawn[0][:7]
+
+
+def grant_of(chal: bytes, drawn: list[bytes]) -> bytes:
+    shared = drawn[0][:7]
+    return bytes([OK]) + ticket(ANN, TO_CLIENT, chal, b"ann", shared) + ticket(SRV, TO_SERVER, chal, b"ann", shared)
+
+
+def passed_on(record: Record, client: str, chal: bytes, grant: bytes, shared: bytes) -> bytes:
+    """The client hears the grant, and gives its ticket and its proof."""
+    record.put("heard", client, grant)
+    return record.give("out", client, grant[73:] + proof(BY_CLIENT, chal, shared))
+
+
+PAIR = (("c", "client"), ("s", "server"))
+
+
+def own_proof_given_back() -> Record:
+    record, (mine, theirs) = begun(*PAIR), words(1, 2)
+    grant, shared = asked(record, "c", "s", (mine, theirs), words(4, 3))
+    record.put("in", "c", passed_on(record, "c", theirs, grant, shared)[72:])
+    record.put("fail", "c", "wrong kind")
+    return record
+
+
+def tickets_exchanged() -> Record:
+    record, (mine, theirs) = begun(*PAIR), words(1, 2)
+    grant, _ = asked(record, "c", "s", (mine, theirs), words(4, 3))
+    record.put("heard", "c", grant[:1] + grant[73:] + grant[1:73])
+    record.put("fail", "c", "badkey")
+    return record
+
+
+def answer_to_another_question() -> Record:
+    record, (first, second, theirs, others) = begun(("c", "client"), ("d", "client"), ("s", "server"), ("t", "server")), words(1, 4)
+    record.put("in", "s", record.give("out", "c", first))
+    to_first = record.give("out", "s", request(TREQ, theirs))
+    record.put("in", "t", record.give("out", "d", second))
+    to_second = record.give("out", "t", request(TREQ, others))
+    record.put("in", "c", to_first)
+    record.give("ask", "c", request(TREQ, theirs, b"ann", b"ann"))
+    record.put("in", "d", to_second)
+    question = record.give("ask", "d", request(TREQ, others, b"ann", b"ann"))
+    drawn = words(5, 3)
+    record.put("asgot", "r", question, *drawn)
+    record.put("heard", "c", record.give("asgave", "r", grant_of(others, drawn)))
+    record.put("fail", "c", "wrong challenge")
+    return record
+
+
+def question_for_another_user() -> Record:
+    record, (mine, theirs), drawn = begun(*PAIR), words(1, 2), words(4, 3)
+    record.put("in", "s", record.give("out", "c", mine))
+    record.put("in", "c", record.give("out", "s", request(TREQ, theirs)))
+    record.give("ask", "c", request(TREQ, theirs, b"ann", b"ann"))
+    record.put("asgot", "r", request(TREQ, theirs, b"ann", b"srv"), *drawn)
+
+    def drawn_ticket(key: bytes, kind: int) -> bytes:
+        return seal(key, bytes([kind]) + theirs + field(b"ann", 28) + field(b"srv", 28) + drawn[0][:7])
+
+    # For who may not ask, the keys of both tickets are drawn, the server's first.
+    grant = bytes([OK]) + drawn_ticket(drawn[2][:7], TO_CLIENT) + drawn_ticket(drawn[1][:7], TO_SERVER)
+    record.put("heard", "c", record.give("asgave", "r", grant))
+    record.put("fail", "c", "badkey")
+    return record
+
+
+def proof_for_another_client() -> Record:
+    record, (first, second, theirs) = begun(("c", "client"), ("d", "client"), ("s", "server")), words(1, 3)
+    record.put("in", "s", record.give("out", "c", first))
+    to_both = record.give("out", "s", request(TREQ, theirs))
+    record.give("out", "d", second)
+    question = request(TREQ, theirs, b"ann", b"ann")
+    for client in "cd":
+        record.put("in", client, to_both)
+        record.give("ask", client, question)
+    drawn = words(5, 3)
+    record.put("asgot", "r", question, *drawn)
+    grant = record.give("asgave", "r", grant_of(theirs, drawn))
+    for client in "cd":
+        passed = passed_on(record, client, theirs, grant, drawn[0][:7])
+    record.put("in", "s", passed)
+    record.put("accept", "s", "ann", "ann")
+    record.put("in", "d", record.give("out", "s", proof(BY_SERVER, first, drawn[0][:7])))
+    record.put("fail", "d", "wrong challenge")
+    return record
+
+
+def proof_given_twice() -> Record:
+    record, (mine, theirs) = begun(*PAIR), words(1, 2)
+    grant, shared = asked(record, "c", "s", (mine, theirs), words(4, 3))
+    record.put("in", "s", passed_on(record, "c", theirs, grant, shared))
+    record.put("accept", "s", "ann", "ann")
+    record.put("reply", "s", "phase awaits read")
+    return record
+
+
+def proof_at_another_conversation() -> Record:
+    record, (mine, theirs, others) = begun(*PAIR, ("t", "server")), words(1, 3)
+    grant, shared = asked(record, "c", "s", (mine, theirs), words(4, 3))
+    passed = passed_on(record, "c", theirs, grant, shared)
+    record.put("in", "s", passed)
+    record.put("accept", "s", "ann", "ann")
+    record.put("in", "t", mine)
+    record.give("out", "t", request(TREQ, others))
+    record.put("in", "t", passed)
+    record.put("fail", "t", "wrong challenge")
+    return record
+
+
 RECORDS = {
     "mail_client": mail_client,
     "negotiated_login": negotiated_login,
@@ -238,6 +364,13 @@ RECORDS = {
     "turned_client": turned_client,
     "offer_taken_away": offer_taken_away,
     "guessed_password": guessed_password,
+    "own_proof_given_back": own_proof_given_back,
+    "tickets_exchanged": tickets_exchanged,
+    "answer_to_another_question": answer_to_another_question,
+    "question_for_another_user": question_for_another_user,
+    "proof_for_another_client": proof_for_another_client,
+    "proof_given_twice": proof_given_twice,
+    "proof_at_another_conversation": proof_at_another_conversation,
     "p9sk1_login": p9sk1_login,
     "apop_login": apop_login,
     "cram_login": cram_login,
