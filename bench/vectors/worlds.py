@@ -230,7 +230,16 @@ def cram_login() -> Record:
     return mail_login("cram", CRAM, lambda challenge: hmac.new(b"annpass", challenge, "md5").hexdigest())
 
 
-# ---- what the network tries in vain
+# ---- what the network tries in vain, in scripts that begin as those of gen do
+GEN_BEGINS = """askey user=ann !password=annpass
+askey user=srv !password=srvpass
+node a
+node b
+ctl a key proto=p9sk1 dom=x user=ann !password=annpass
+ctl b key proto=p9sk1 dom=x user=srv !password=srvpass
+"""
+
+
 def begun(*starts: tuple[str, str]) -> Record:
     """A record in which conversations of p9sk1 are started, with the words 1.., 2.. and so on."""
     record = Record()
@@ -356,14 +365,7 @@ def proof_at_another_conversation() -> Record:
     return record
 
 
-RECORDS = {
-    "mail_client": mail_client,
-    "negotiated_login": negotiated_login,
-    "one_ticket_for_two": one_ticket_for_two,
-    "mail_login_for_another": mail_login_for_another,
-    "turned_client": turned_client,
-    "offer_taken_away": offer_taken_away,
-    "guessed_password": guessed_password,
+IN_VAIN = {
     "own_proof_given_back": own_proof_given_back,
     "tickets_exchanged": tickets_exchanged,
     "answer_to_another_question": answer_to_another_question,
@@ -371,6 +373,17 @@ RECORDS = {
     "proof_for_another_client": proof_for_another_client,
     "proof_given_twice": proof_given_twice,
     "proof_at_another_conversation": proof_at_another_conversation,
+}
+
+RECORDS = {
+    **IN_VAIN,
+    "mail_client": mail_client,
+    "negotiated_login": negotiated_login,
+    "one_ticket_for_two": one_ticket_for_two,
+    "mail_login_for_another": mail_login_for_another,
+    "turned_client": turned_client,
+    "offer_taken_away": offer_taken_away,
+    "guessed_password": guessed_password,
     "p9sk1_login": p9sk1_login,
     "apop_login": apop_login,
     "cram_login": cram_login,
@@ -381,6 +394,7 @@ def main() -> None:
     folder = Path(sys.argv[1])
     for name, made in RECORDS.items():
         if (folder / f"{name}.script").exists():
+            assert name not in IN_VAIN or (folder / f"{name}.script").read_text().startswith(GEN_BEGINS)
             (folder / f"{name}.record").write_text("".join(line + "\n" for line in made().lines))
 
 
