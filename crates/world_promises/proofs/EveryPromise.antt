@@ -9,9 +9,8 @@ use Rattle.clean_runs.proofs.Clients.{clients_are_answered, clients_are_hosts}
 use Rattle.clean_runs.proofs.Apart.{each_by_a_ticket, one_by_a_match, one_by_a_ticket, one_under_a_grant}
 use Rattle.clean_runs.proofs.Texts.{one_by_a_text}
 use Rattle.clean_runs.proofs.Users.{servers_name_the_user}
-use Rattle.world_promises.proofs.ScriptLaws.{scripts_are_legal}
 use Rattle.world_promises.specs.Statements.{IsPromised, OfEveryCleanScript}
-use Rattle.world_promises.proofs.EveryScript.{of_scripts}
+use Rattle.world_promises.proofs.EveryScript.{fronts_are_legal, of_scripts}
 
 pub servers_name_the_user_so : OfEveryCleanScript (λ history z atoms l. ServersNameTheUser history l)
 servers_name_the_user_so = of_scripts (λ history z atoms l. ServersNameTheUser history l) (λ history z atoms l legal clean. servers_name_the_user (case_of history z atoms l legal clean))
@@ -45,7 +44,7 @@ one_by_a_match_so = of_scripts (λ history z atoms l. OneByAMatch history z l) (
 
 pub promised : (script : List ℕ) → IsPromised script
 promised script = record {
-  legal = scripts_are_legal script;
+  legal = fronts_are_legal script;
   bridged = of_scripts IsBridged all_bridged script;
   secret = of_scripts IsSecret all_secret script;
   named = servers_name_the_user_so script;

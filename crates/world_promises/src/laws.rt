@@ -1,9 +1,17 @@
 // Laws of every script, each the contract of a function that does nothing.
+ghost use Rattle.std.specs.Prelude.{ℕ, List};
 ghost use Rattle.clean_runs.specs.Statements.{IsBridged, IsSecret};
 ghost use Rattle.clean_runs.specs.AgreementStatements.{ClientsAreAnswered, ClientsAreHosts, ClientsMatch, EachByATicket, OneByAMatch, OneByAText, OneByATicket, OneUnderAGrant, ServersAgree, ServersNameTheUser};
-ghost use Rattle.world_promises.specs.Statements.{EachIsPromised, OfEveryCleanScript};
+ghost use Rattle.world_promises.specs.Statements.{EachIsPromised, FrontsAreLegal, OfEveryCleanScript};
 
-/// Where the record of a script is clean it is a symbolic run, and each message that it gives is spelled by its label.
+/// Each front of the record of a script of at most 2^22 bytes is a history that a network can have, under the setting of the
+/// whole: so is what was recorded of a run that was cut short.
+pub fn fronts_of_records_are_legal()
+    ensures { (script : List ℕ) → FrontsAreLegal script }
+{}
+
+/// Where a front of the record of a script is clean it is a symbolic run, and each message that it gives is spelled by its
+/// label.
 pub fn scripts_are_symbolic_runs()
     ensures { OfEveryCleanScript IsBridged }
 {}
@@ -34,7 +42,7 @@ pub fn tickets_serve_once()
     ensures matched_by_one { OfEveryCleanScript (λ history z atoms l. OneByAMatch history z l) }
 {}
 
-/// All of this is promised of every script of at most 2^22 bytes, and that its record is one that a network can have.
+/// All of this is promised of each front of the record of every script of at most 2^22 bytes, whatever comes behind it.
 pub fn every_script_is_promised()
     ensures { EachIsPromised }
 {}

@@ -15,7 +15,7 @@ pub use act_laws::{
 };
 pub use answer_laws::{absences_do, absences_leave, answers_do, answers_leave};
 pub use laws::{
-    every_script_is_promised, scripts_are_symbolic_runs, scripts_keep_their_secrets,
-    servers_accept_by_grants, tickets_serve_once,
+    every_script_is_promised, fronts_of_records_are_legal, scripts_are_symbolic_runs,
+    scripts_keep_their_secrets, servers_accept_by_grants, tickets_serve_once,
 };
 pub use request_laws::{requests_are_done, requests_leave_the_others};
