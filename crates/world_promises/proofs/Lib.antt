@@ -15,6 +15,8 @@ pub mod TalkSides
 pub mod SearchDeeds
 pub mod MetDeeds
 pub mod SearchEnds
+pub mod BegunSearches
+pub mod OpenSearches
 pub mod EndPhases
 pub mod FrameReads
 pub mod AskedTexts

@@ -229,6 +229,10 @@ talk_fit (call ∷ t) = step_fit (standing t) (standing t).phase call (talk_fit 
 pub seeks_need : (t : List Call) → (standing t).phase ≡ Seeking → is_sought (need_in (standing t).begun) ≡ true
 seeks_need t e = (subst (λ p. Fit p (standing t).starting (standing t).begun) e (talk_fit t)).0
 
+-- and behind a write that needs it, or by a start
+pub seeks_behind : (t : List Call) → (standing t).phase ≡ Seeking → Behind (standing t).starting (standing t).begun
+seeks_behind t e = (subst (λ p. Fit p (standing t).starting (standing t).begun) e (talk_fit t)).1
+
 -- a conversation that rests needs nothing
 pub rests_need : (t : List Call) → (standing t).phase ≡ Resting → need_in (standing t).begun ≡ Nothing
 rests_need t e = subst (λ p. Fit p (standing t).starting (standing t).begun) e (talk_fit t)

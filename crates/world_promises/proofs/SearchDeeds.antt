@@ -62,7 +62,7 @@ IsShut done = (holder_of done Confirm ≡ None) × (holder_of done Needkey ≡ N
 found_nobody : (done : List Deed) (conv : ℕ) → IsShut done → asks_nobody (finds (standing_of done conv) (asking done) (keys_of done)) ≡ true
 found_nobody done conv shut = nobody (finds (standing_of done conv) (asking done) (keys_of done)) (λ key. none_asks_consent done conv key shut.0) (none_asks_key done conv shut.1)
 
-prompts_none : (conv : ℕ) (came : Found) (done : List Deed) → asks_nobody came ≡ true → deed.sought conv came done ≡ OfTalk conv (calls.Sought came) ∷ done
+pub prompts_none : (conv : ℕ) (came : Found) (done : List Deed) → asks_nobody came ≡ true → deed.sought conv came done ≡ OfTalk conv (calls.Sought came) ∷ done
 prompts_none conv (Chosen key) done is = refl
 prompts_none conv (AsksConsent key) done is = absurd cc
 prompts_none conv AsksKey done is = absurd cc
@@ -77,7 +77,7 @@ abbrev pub is_seeking : Phase → Bool
 is_seeking Seeking = true
 is_seeking phase = false
 
-still : (conv : ℕ) (done : List Deed) (phase : Phase) → is_seeking phase ≡ false → seeking conv phase done ≡ done
+pub still : (conv : ℕ) (done : List Deed) (phase : Phase) → is_seeking phase ≡ false → seeking conv phase done ≡ done
 still conv done Resting e = refl
 still conv done (Waiting request) e = refl
 still conv done Seeking e = absurd cc
@@ -86,7 +86,7 @@ still conv done OnNeedkey e = refl
 still conv done OnServer e = refl
 still conv done (Kept answer) e = refl
 
-seeks : (phase : Phase) → is_seeking phase ≡ true → phase ≡ Seeking
+pub seeks : (phase : Phase) → is_seeking phase ≡ true → phase ≡ Seeking
 seeks Resting e = absurd cc
 seeks (Waiting request) e = absurd cc
 seeks Seeking e = refl
@@ -95,7 +95,7 @@ seeks OnNeedkey e = absurd cc
 seeks OnServer e = absurd cc
 seeks (Kept answer) e = absurd cc
 
-unsought : (phase : Phase) → is_seeking phase ≡ false → phase ≡ Seeking → ⊥
+pub unsought : (phase : Phase) → is_seeking phase ≡ false → phase ≡ Seeking → ⊥
 unsought phase e same = let no_way : true ≡ false = sym (ap is_seeking same) ∙ e in cc
 
 -- ---- searches one after the other

@@ -32,14 +32,14 @@ use Rattle.world_promises.proofs.StartNeeds.{Chooses, Once, starts_so}
 
 -- ---- phases by needs
 
-unsought : (n : Need) (answer : RpcAnswer) → is_sought n ≡ false → phase_after n answer ≡ Seeking → ⊥
+pub unsought : (n : Need) (answer : RpcAnswer) → is_sought n ≡ false → phase_after n answer ≡ Seeking → ⊥
 unsought Nothing answer none e = cc e
 unsought (Key template) answer none e = cc none
 unsought (Offers template) answer none e = cc none
 unsought (Pick templates) answer none e = cc none
 unsought (Exchange request shape) answer none e = cc e
 
-sought_so : (n : Need) (answer : RpcAnswer) → phase_after n answer ≡ Seeking → is_sought n ≡ true
+pub sought_so : (n : Need) (answer : RpcAnswer) → phase_after n answer ≡ Seeking → is_sought n ≡ true
 sought_so Nothing answer e = absurd (cc e)
 sought_so (Key template) answer e = refl
 sought_so (Offers template) answer e = refl
@@ -66,7 +66,7 @@ one_found b starting said answer (Offered list) once is =
 one_found b starting said answer (Picked place) once is =
     unsought (needs b.start (picked place ∷ b.moves)) (move_answer a.Ok b.key (answers b.start b.moves (picked place))) (once (picked place) (pick_meets (needs b.start b.moves) place is))
 
-once_rests : (n : ℕ) (b : Begun) (starting : Bool) (said : Said) (answer : RpcAnswer) (list : KeyList) (asks : Asking) → Once (needs b.start) b.moves → Rests (suc n) list asks (stood b starting said answer)
+pub once_rests : (n : ℕ) (b : Begun) (starting : Bool) (said : Said) (answer : RpcAnswer) (list : KeyList) (asks : Asking) → Once (needs b.start) b.moves → Rests (suc n) list asks (stood b starting said answer)
 once_rests n b starting said answer list asks once e =
     let s = stood b starting said answer in
     rests_so n list asks (sought s (finds s asks list)) (one_found b starting said answer (finds s asks list) once (finds_for s asks list (sought_so (needs b.start b.moves) answer e)))
@@ -77,14 +77,14 @@ either_rests : (s : Standing) (b : Bool) (one other : Found) → ((sought s one)
 either_rests s true one other p q = p
 either_rests s false one other p q = q
 
-none_found : (s : Standing) (said : Said) (asks : Asking) → (sought s (found_among said asks [])).phase ≡ Seeking → ⊥
+pub none_found : (s : Standing) (said : Said) (asks : Asking) → (sought s (found_among said asks [])).phase ≡ Seeking → ⊥
 none_found s said asks = either_rests s (is_denied said asks []) Denied _ (λ e. cc e) (either_rests s _ AsksKey NoneServes (λ e. cc e) (λ e. cc e))
 
-finds_key : (s : Standing) (template : List Attr) (asks : Asking) (list : KeyList) → need_in s.begun ≡ Key template → serving template (role_name s.begun) list ≡ [] → finds s asks list ≡ found_among s.said asks []
+pub finds_key : (s : Standing) (template : List Attr) (asks : Asking) (list : KeyList) → need_in s.begun ≡ Key template → serving template (role_name s.begun) list ≡ [] → finds s asks list ≡ found_among s.said asks []
 unfolding finds found_by
 finds_key s template asks list e none = ap (λ n. found_for n (role_name s.begun) s.said asks list) e ∙ ap (found_among s.said asks) none
 
-finds_offers : (s : Standing) (template : List Attr) (asks : Asking) (list : KeyList) → need_in s.begun ≡ Offers template → finds s asks list ≡ Offered (offered_by template (role_name s.begun) list)
+pub finds_offers : (s : Standing) (template : List Attr) (asks : Asking) (list : KeyList) → need_in s.begun ≡ Offers template → finds s asks list ≡ Offered (offered_by template (role_name s.begun) list)
 unfolding finds
 finds_offers s template asks list e = ap (λ n. found_for n (role_name s.begun) s.said asks list) e
 

@@ -41,7 +41,7 @@ StartsSo n = Once n [] ⊎ Chooses n
 -- ---- p9any
 
 -- what a template begins with
-asked_proto : (role : Role) (start : List Attr) (dom : Option (List ℕ)) → (more : List Attr) × (asked (codes "p9sk1") role start dom ≡ for_p9sk1 more)
+pub asked_proto : (role : Role) (start : List Attr) (dom : Option (List ℕ)) → (more : List Attr) × (asked (codes "p9sk1") role start dom ≡ for_p9sk1 more)
 unfolding asked
 asked_proto role start dom = (_, refl)
 
@@ -72,10 +72,10 @@ any_by start Server e = inr (any_server start e)
 
 -- ---- APOP and CRAM
 
-abbrev begins : Side → Progress Post
+abbrev pub begins : Side → Progress Post
 begins side = record { stage = mail.first_stage side; broken = None }
 
-mail_by : (start : Start) (side : Side) (call : Call) → meets (mail.need_at start (begins side)) call ≡ true → is_sought (mail.need_at start (then_course (begins side) (mail.verdict start (begins side) call))) ≡ false
+pub mail_by : (start : Start) (side : Side) (call : Call) → meets (mail.need_at start (begins side)) call ≡ true → is_sought (mail.need_at start (then_course (begins side) (mail.verdict start (begins side) call))) ≡ false
 mail_by start side.Client call is = absurd cc
 mail_by start side.Server (found key password) is = refl
 mail_by start side.Server (give b) is = absurd cc

@@ -18,4 +18,4 @@ pub use laws::{
     every_script_is_promised, fronts_of_records_are_legal, scripts_are_symbolic_runs,
     scripts_keep_their_secrets, servers_accept_by_grants, tickets_serve_once,
 };
-pub use request_laws::{requests_are_done, requests_leave_the_others};
+pub use request_laws::{no_search_is_left_open, requests_are_done, requests_leave_the_others};
