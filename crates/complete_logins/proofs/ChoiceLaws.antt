@@ -12,15 +12,15 @@ use Rattle.roles.specs.declared.stage.Role.{Role}
 use Rattle.roles.specs.declared.stage.Role.TheVariants.{Client, Server, Speakfor}
 use Rattle.roles.specs.Courses as sk
 use Rattle.roles.specs.Starts.{Start, role_of}
-use Rattle.roles.specs.Talks.{Verdict, give, get, found, heard, offered, picked, goes, tested}
-use Rattle.conv_p9any.specs.declared.stage.Stage.TheVariants.{ServerOffers, ServerFirst, ServerSecond, ClientFirst, ClientPick, ClientSecond, ClientThird}
+use Rattle.roles.specs.Talks.{Call, Verdict, give, get, found, heard, offered, picked, goes, tested}
+use Rattle.conv_p9any.specs.declared.stage.Stage.TheVariants.{ServerOffers, ServerKey, ServerFirst, ServerSecond, ClientFirst, ClientPick, ClientSecond, ClientThird}
 use Rattle.conv_p9any.specs.Courses.{answer_after, choice_came, chosen_start, course, entered, first_stage, list_came, move, offers_came, puts_after, waits}
 use Rattle.conv_p9any.specs.Offers.{choice_of, eligible, is_offered, words}
 use Rattle.conv_p9any.specs.Talks.{Standing, choosing, within, needs_any}
 use Rattle.conv_p9any.specs.Texts.{text_with_nul, with_text}
 use Rattle.complete_logins.specs.Calls.{AllWell, IsWell}
 use Rattle.complete_logins.specs.Logins.{Login, LogsIn, MayLogIn, alone, client_asked, client_heard, client_talk, grant_of, question_in, server_greeted, server_shown, server_talk}
-use Rattle.complete_logins.specs.Choices.{Choice, IsChosen, MayChoose, chosen, client_chosen, client_picks, dom_of, p9sk1, server_chosen, server_offers}
+use Rattle.complete_logins.specs.Choices.{Choice, FoundKey, IsChosen, MayChoose, chosen, client_chosen, client_picks, dom_of, keys_found, p9sk1, server_chosen, server_offers}
 use Rattle.complete_logins.proofs.PassLemmas.{at, well_of}
 use Rattle.complete_logins.proofs.LoginLaws.{login_ends}
 use Rattle.complete_logins.proofs.TextLemmas.{Offered, choice_is_clean, choice_is_offered, choice_is_short, is_of_list, text_is_read}
@@ -38,15 +38,35 @@ is_offer c may = is_of_list name c.client c.list c.place may.plain may.picks
 
 -- ---- the server offers
 
-server_0 : (c : Choice) → MayChoose c → course p9sk1 c.server [] ≡ at (choosing ServerOffers)
-server_0 c may = ap (λ role. at (choosing (first_stage role))) may.server_role
+-- keys that it is told lead it back to the offers
+begins_so : (c : Choice) → MayChoose c → course p9sk1 c.server [] ≡ at (choosing ServerOffers)
+begins_so c may = ap (λ role. at (choosing (first_stage role))) may.server_role
+
+none_there : (c : Choice) (before : List Call) → course p9sk1 c.server before ≡ at (choosing ServerOffers) → Passes c.server before (offered []) (choosing ServerKey) g.Wait []
+none_there c before here = passes_by c.server before (offered []) (choosing ServerOffers) (choosing ServerKey) g.Wait [] here refl
+
+key_there : (c : Choice) (before : List Call) (k : FoundKey) → course p9sk1 c.server before ≡ at (choosing ServerOffers) → Passes c.server (offered [] ∷ before) (found k.key k.password) (choosing ServerOffers) g.Wait []
+key_there c before k here = passes_by c.server (offered [] ∷ before) (found k.key k.password) (choosing ServerKey) (choosing ServerOffers) g.Wait [] (none_there c before here).course refl
+
+offers_again : (c : Choice) → MayChoose c → (keys : List FoundKey) → course p9sk1 c.server (keys_found keys) ≡ at (choosing ServerOffers)
+offers_again c may [] = begins_so c may
+offers_again c may (k ∷ earlier) = (key_there c (keys_found earlier) k (offers_again c may earlier)).course
+
+keys_well : (c : Choice) → MayChoose c → (keys : List FoundKey) → AllWell (answer_after p9sk1 c.server) (keys_found keys)
+keys_well c may [] = tt
+keys_well c may (k ∷ earlier) =
+    let here = offers_again c may earlier in
+    (well_of (key_there c (keys_found earlier) k here) tt, (well_of (none_there c (keys_found earlier) here) tt, keys_well c may earlier))
+
+server_0 : (c : Choice) → MayChoose c → course p9sk1 c.server (keys_found c.keys) ≡ at (choosing ServerOffers)
+server_0 c may = offers_again c may c.keys
 
 some_offers : (list : List ℕ) → 0 < length list → offers_came list ≡ goes (choosing (ServerFirst list)) g.Ok []
 some_offers [] some = absurd (omega (arith, some))
 some_offers (b ∷ list) some = refl
 
-server_1 : (c : Choice) → MayChoose c → Passes c.server [] (offered c.list) (choosing (ServerFirst c.list)) g.Ok []
-server_1 c may = passes_by c.server [] (offered c.list) (choosing ServerOffers) (choosing (ServerFirst c.list)) g.Ok [] (server_0 c may) (some_offers c.list may.some)
+server_1 : (c : Choice) → MayChoose c → Passes c.server (keys_found c.keys) (offered c.list) (choosing (ServerFirst c.list)) g.Ok []
+server_1 c may = passes_by c.server (keys_found c.keys) (offered c.list) (choosing ServerOffers) (choosing (ServerFirst c.list)) g.Ok [] (server_0 c may) (some_offers c.list may.some)
 
 server_2 : (c : Choice) → MayChoose c → Passes c.server (server_offers c) get (choosing (ServerSecond c.list)) g.Ok (text_with_nul c.list)
 server_2 c may = passes_by c.server (server_offers c) get (choosing (ServerFirst c.list)) (choosing (ServerSecond c.list)) g.Ok (text_with_nul c.list) (server_1 c may).course refl
@@ -114,7 +134,7 @@ client_well : (c : Choice) → MayChoose c → AllWell (answer_after p9sk1 c.cli
 client_well c may = (well_of (client_3 c may) (waits_well (needs_any (sk.need_after (chosen_start p9sk1 c.client (said c)) []))), (well_of (client_2 c may) tt, (well_of (client_1 c may) tt, tt)))
 
 server_well : (c : Choice) → MayChoose c → AllWell (answer_after p9sk1 c.server) (server_chosen c)
-server_well c may = (well_of (server_3 c may) (waits_well (needs_any (sk.need_after (chosen_start p9sk1 c.server (said c)) []))), (well_of (server_2 c may) tt, (well_of (server_1 c may) tt, tt)))
+server_well c may = (well_of (server_3 c may) (waits_well (needs_any (sk.need_after (chosen_start p9sk1 c.server (said c)) []))), (well_of (server_2 c may) tt, (well_of (server_1 c may) tt, keys_well c may c.keys)))
 
 -- ---- what both meet from there on
 

@@ -1,6 +1,6 @@
 -- A login by APOP or CRAM goes move by move: what each side is given is what the other gave, in a form that is written out,
 -- and each test of the next move is met by it.
-use Rattle.std.proofs.Common.{◌≡◌, ℕ, ◌+◌, ◌<◌, ◌≤◌, List, [], ◌∷◌, ◌++◌, length, take, drop, nat_lt, nat_le, Bool, true, false, not, ◌&&◌, ◌||◌, ◌==◌, slice_index, Some, None, Ok, if◌then◌else◌, refl, sym, ap, ◌∙◌, arith, length-append, subst}
+use Rattle.std.proofs.Common.{◌≡◌, ℕ, ◌+◌, ◌<◌, ◌≤◌, List, [], ◌∷◌, ◌++◌, length, take, drop, nat_lt, nat_le, Bool, true, false, not, ◌&&◌, ◌||◌, ◌==◌, slice_index, Option, Some, None, Ok, if◌then◌else◌, refl, sym, ap, ◌∙◌, arith, length-append, subst}
 use Rattle.std.proofs.lemmas.Bool.{and_parts, eq-eqb, le-leb, le-ltb, leb-true}
 use Rattle.std.proofs.lemmas.List.{drop-append-le, drop_at, length-drop, take-append-le, take_at}
 use Rattle.std.specs.Str.{bytes_eq}
@@ -17,8 +17,8 @@ use Rattle.sealing.specs.declared.request.TicketReq.{TicketReq}
 use Rattle.sealing.specs.declared.ticket.Ticket.{Ticket}
 use Rattle.sealing.proofs.RequestLaws.{request_again, request_written}
 use Rattle.sealing.proofs.SealedLaws.{authenticator_opened}
-use Rattle.auth_server.specs.Requests.{Challenge, asked_so}
-use Rattle.auth_server.specs.Answers.{answer, answer_to, are_digits, challenge_answer, challenge_text, digits_for, grant, held, held_after, is_right, judged, key_or, mail_answer, password_of, shared_key, vouch, vouch_text, word}
+use Rattle.auth_server.specs.Requests.{Asked, Challenge, asked_so, is_for}
+use Rattle.auth_server.specs.Answers.{Knowledge, answer, answer_to, are_digits, challenge_answer, challenge_text, digits_for, grant, held, held_after, held_mail, is_right, judged, key_or, mail_answer, password_of, shared_key, vouch, vouch_text, word}
 use Rattle.roles.specs.declared.answer.Cause.TheVariants.{WrongKind, ServerSaidNo, BadKey}
 use Rattle.roles.specs.declared.answer.Gave.{Gave}
 use Rattle.roles.specs.declared.answer.Gave.TheVariants as g
@@ -135,14 +135,25 @@ is_mail : (p : Proto) → (request_kind p == 1) ≡ false
 is_mail Apop = refl
 is_mail Cram = refl
 
-first_answer : (l : MailLogin) → MayMail l → answer l.known [] (asked_so (first_request l) l.words) ≡ challenge_answer (challenge l)
+-- a request is the first where no challenge of its kind is held
+comes_first : (known : Knowledge) (asked : Asked) (r : TicketReq) (o : Option Challenge) → is_for r.kind o ≡ false → judged known asked r o ≡ judged known asked r None
+comes_first known asked r None none = refl
+comes_first known asked r (Some c) none =
+    let other : (c.kind == r.kind) ≡ false = none in
+    rw other refl
+
+first_answer : (l : MailLogin) → MayMail l → answer l.known l.before (asked_so (first_request l) l.words) ≡ challenge_answer (challenge l)
 unfolding answer
 first_answer l may =
-    ap (answer_to l.known (asked_so (first_request l) l.words) None) (request_read (request_about [] l) (fits_first l may))
-    ∙ ap (λ (tickets : Bool). if tickets then grant l.known l.words (request_about [] l) else challenge_answer (challenge l)) (is_mail (proto l))
+    let asked = asked_so (first_request l) l.words in
+    let r = request_about [] l in
+    let before = held l.known l.before in
+    ap (answer_to l.known asked before) (request_read r (fits_first l may))
+    ∙ ap (λ (tickets : Bool). if tickets then grant l.known l.words r else mail_answer l.known asked r (judged l.known asked r before)) (is_mail (proto l))
+    ∙ ap (mail_answer l.known asked r) (comes_first l.known asked r before may.unheld)
 
-challenge_comes : (l : MailLogin) → MayMail l → answer l.known [] (asked_first l) ≡ challenge_answer (challenge l)
-challenge_comes l may = ap (answer l.known []) (first_is l may) ∙ first_answer l may
+challenge_comes : (l : MailLogin) → MayMail l → answer l.known l.before (asked_first l) ≡ challenge_answer (challenge l)
+challenge_comes l may = ap (answer l.known l.before) (first_is l may) ∙ first_answer l may
 
 spelled : (text : List ℕ) → challenge_answer text ≡ 9 ∷ (counted_by (length text) ++ text)
 unfolding challenge_answer
@@ -174,8 +185,8 @@ hears_challenge l may b is =
     (omega (arith, challenge_long l may)) (omega (arith, few_bytes l may))
     ∙ ap (λ text. goes (ServerFirst l.server_key text) g.Ok []) (drop_at front (challenge l) 5 five)
 
-server_2 : (l : MailLogin) → MayMail l → Passes l.server (server_started l) (heard (answer l.known [] (asked_first l))) (ServerFirst l.server_key (challenge l)) g.Ok []
-server_2 l may = passes_by l.server (server_started l) (heard (answer l.known [] (asked_first l))) (ServerAsk l.server_key) (ServerFirst l.server_key (challenge l)) g.Ok [] (server_1 l may).course (hears_challenge l may _ (challenge_comes l may ∙ spelled (challenge l)))
+server_2 : (l : MailLogin) → MayMail l → Passes l.server (server_started l) (heard (answer l.known l.before (asked_first l))) (ServerFirst l.server_key (challenge l)) g.Ok []
+server_2 l may = passes_by l.server (server_started l) (heard (answer l.known l.before (asked_first l))) (ServerAsk l.server_key) (ServerFirst l.server_key (challenge l)) g.Ok [] (server_1 l may).course (hears_challenge l may _ (challenge_comes l may ∙ spelled (challenge l)))
 
 server_3 : (l : MailLogin) → MayMail l → Passes l.server (server_heard l) get (ServerSecond l.server_key (challenge l)) g.Ok (challenge l)
 server_3 l may = passes_by l.server (server_heard l) get (ServerFirst l.server_key (challenge l)) (ServerSecond l.server_key (challenge l)) g.Ok (challenge l) (server_2 l may).course refl
@@ -252,10 +263,14 @@ then_read l may =
 abbrev given_out : MailLogin → Challenge
 given_out l = record { kind = request_kind (proto l); text = challenge l }
 
-held_is : (l : MailLogin) → MayMail l → held l.known (asked_so (first_request l) l.words ∷ []) ≡ Some (given_out l)
+held_is : (l : MailLogin) → MayMail l → held l.known (asked_so (first_request l) l.words ∷ l.before) ≡ Some (given_out l)
 held_is l may =
-    ap (held_after l.known (asked_so (first_request l) l.words) None) (request_read (request_about [] l) (fits_first l may))
-    ∙ ap (λ (tickets : Bool). if tickets then None else Some (given_out l)) (is_mail (proto l))
+    let asked = asked_so (first_request l) l.words in
+    let r = request_about [] l in
+    let before = held l.known l.before in
+    ap (held_after l.known asked before) (request_read r (fits_first l may))
+    ∙ ap (λ (tickets : Bool). if tickets then before else held_mail l.known asked r before (judged l.known asked r before)) (is_mail (proto l))
+    ∙ ap (held_mail l.known asked r before) (comes_first l.known asked r before may.unheld)
 
 same_digits : (p : Proto) (challenge password : List ℕ) → digits_for (request_kind p) challenge password ≡ digits_by p challenge password
 same_digits Apop challenge password = refl
@@ -273,12 +288,12 @@ answered_right l may =
     let kinds : (request_kind (proto l) == request_kind (proto l)) ≡ true = eq-eqb (request_kind (proto l)) (request_kind (proto l)) refl in
     rw (kinds, right l may) refl
 
-vouch_is : (l : MailLogin) → MayMail l → answer l.known (asked_so (first_request l) l.words ∷ []) (asked_so (then_request l) l.later_words) ≡ vouch l.known l.later_words (request_about l.user l)
+vouch_is : (l : MailLogin) → MayMail l → answer l.known (asked_so (first_request l) l.words ∷ l.before) (asked_so (then_request l) l.later_words) ≡ vouch l.known l.later_words (request_about l.user l)
 unfolding answer
 vouch_is l may =
     let asked = asked_so (then_request l) l.later_words in
     let r = request_about l.user l in
-    ap (answer_to l.known asked (held l.known (asked_so (first_request l) l.words ∷ []))) (then_read l may)
+    ap (answer_to l.known asked (held l.known (asked_so (first_request l) l.words ∷ l.before))) (then_read l may)
     ∙ ap (λ held. answer_to l.known asked held (Ok r)) (held_is l may)
     ∙ ap (λ (tickets : Bool). if tickets then grant l.known l.later_words r else mail_answer l.known asked r (judged l.known asked r (Some (given_out l)))) (is_mail (proto l))
     ∙ answered_right l may
@@ -289,10 +304,10 @@ vouch_spelled l may =
     ap (λ key. vouch_text (request_about l.user l) (shared_key l.later_words) (key_or key (word 1 l.later_words))) may.server_known.knows
     ∙ ap (vouch_text (request_about l.user l) (shared_key l.later_words)) may.server_known.same
 
-vouch_comes : (l : MailLogin) → MayMail l → answer l.known (asked_first l ∷ []) (asked_then l) ≡ 4 ∷ both l
+vouch_comes : (l : MailLogin) → MayMail l → answer l.known (asked_first l ∷ l.before) (asked_then l) ≡ 4 ∷ both l
 vouch_comes l may =
-    ap (λ asked. answer l.known (asked ∷ []) (asked_then l)) (first_is l may)
-    ∙ ap (answer l.known (asked_so (first_request l) l.words ∷ [])) (then_is l may)
+    ap (λ asked. answer l.known (asked ∷ l.before) (asked_then l)) (first_is l may)
+    ∙ ap (answer l.known (asked_so (first_request l) l.words ∷ l.before)) (then_is l may)
     ∙ vouch_is l may ∙ vouch_spelled l may
 
 length_both : (l : MailLogin) → MayMail l → length (4 ∷ both l) ≡ 86
@@ -319,8 +334,8 @@ hears_vouch l may b is =
     ∙ ap (λ a. tested (vouch_tests l.server l.user (ticket l) a) done) (proof_there l may)
     ∙ tested_well (vouch_tests l.server l.user (ticket l) (proof l)) done (vouch_fits l)
 
-server_6 : (l : MailLogin) → MayMail l → Passes l.server (server_answered l) (heard (answer l.known (asked_first l ∷ []) (asked_then l))) (ServerDone l.server_key (challenge l) l.user (digits l) (both l)) g.Ok []
-server_6 l may = passes_by l.server (server_answered l) (heard (answer l.known (asked_first l ∷ []) (asked_then l))) (ServerVouch l.server_key (challenge l) l.user (digits l)) (ServerDone l.server_key (challenge l) l.user (digits l) (both l)) g.Ok [] (server_5 l may).course (hears_vouch l may _ (vouch_comes l may))
+server_6 : (l : MailLogin) → MayMail l → Passes l.server (server_answered l) (heard (answer l.known (asked_first l ∷ l.before) (asked_then l))) (ServerDone l.server_key (challenge l) l.user (digits l) (both l)) g.Ok []
+server_6 l may = passes_by l.server (server_answered l) (heard (answer l.known (asked_first l ∷ l.before) (asked_then l))) (ServerVouch l.server_key (challenge l) l.user (digits l)) (ServerDone l.server_key (challenge l) l.user (digits l) (both l)) g.Ok [] (server_5 l may).course (hears_vouch l may _ (vouch_comes l may))
 
 -- ---- the whole
 

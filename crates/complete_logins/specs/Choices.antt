@@ -1,11 +1,12 @@
 -- A login by p9sk1 that p9any leads to (authsrv(6) of the Plan 9 manual): the server offers a list, the client picks one of
 -- its domains, and what it says then reaches the server as it was sent.
-use Rattle.std.specs.Prelude.{◌≡◌, ℕ, ◌<◌, List, [], ◌∷◌, ◌==◌, false, length, codes}
+use Rattle.std.specs.Prelude.{◌≡◌, ℕ, ◌<◌, List, [], ◌∷◌, ◌==◌, false, length, codes, Option}
 use Rattle.std.specs.List.{list_any}
+use Rattle.roles.specs.declared.key.SkKey.{SkKey}
 use Rattle.roles.specs.declared.stage.Role.TheVariants.{Server}
 use Rattle.roles.specs.Courses as sk
 use Rattle.roles.specs.Starts.{Start, role_of}
-use Rattle.roles.specs.Talks.{Call, give, get, offered, picked}
+use Rattle.roles.specs.Talks.{Call, give, get, found, offered, picked}
 use Rattle.conv_p9any.specs.declared.stage.TheConstants.{MOST_TEXT}
 use Rattle.conv_p9any.specs.Courses.{answer_after, ended_after, need_after, outcome_after, puts_after}
 use Rattle.conv_p9any.specs.Inner.{Inner, inner_start}
@@ -20,10 +21,17 @@ p9sk1 = record { name = codes "p9sk1"; answers = sk.answer_after; puts = sk.puts
 abbrev pub by_p9any : Start → Speaker
 by_p9any start = record { answers = answer_after p9sk1 start; puts = puts_after p9sk1 start; needs = need_after p9sk1 start; ends = outcome_after p9sk1 start; ended = ended_after p9sk1 start }
 
--- how both sides start, the list that the server offers, and which of the domains that it may choose the client picks
+-- a key that is found, and its password
+pub record FoundKey : Type 0 where
+  pub key : SkKey
+  pub password : Option (List ℕ)
+
+-- how both sides start, the keys that the server found one after the other while it had nothing to offer, the newest first, the
+-- list that it offers, and which of the domains that it may choose the client picks
 pub record Choice : Type 0 where
   pub client : Start
   pub server : Start
+  pub keys : List FoundKey
   pub list : List ℕ
   pub place : ℕ
 
@@ -33,8 +41,13 @@ dom_of c = dom_at (codes "p9sk1") c.client c.list c.place
 
 -- ---- what both sides meet, the newest first
 
+-- where there is nothing to offer a key is asked for, and behind it the offers are looked for again
+abbrev pub keys_found : List FoundKey → List Call
+keys_found [] = []
+keys_found (k ∷ earlier) = found k.key k.password ∷ offered [] ∷ keys_found earlier
+
 abbrev pub server_offers : Choice → List Call
-server_offers c = offered c.list ∷ []
+server_offers c = offered c.list ∷ keys_found c.keys
 
 abbrev pub client_picks : Choice → List Call
 client_picks c = picked c.place ∷ give (puts_after p9sk1 c.server (server_offers c) get) ∷ []
@@ -50,7 +63,7 @@ chosen c = record { client = by_p9any c.client; client_met = client_chosen c; se
 
 -- ---- what may be chosen
 
--- The server offers something, in a list that fits a message and has no NUL, without consenting to the choice, and the
+-- The server offers something, at once or behind keys that it is told, in a list that fits a message and has no NUL, without consenting to the choice, and the
 -- client picks one of the domains that it may choose.
 pub record MayChoose (c : Choice) : Type 0 where
   pub client_role : role_of c.client.template ≡ Server → ⊥

@@ -1,27 +1,29 @@
 -- A login to a mail server by APOP (RFC 1939) or CRAM (RFC 2195), whose messages reach the other side as they were sent, as
 -- the name of the user does, which the mail protocol carries. The server asks the authentication server for a challenge, and
 -- on the same connection to vouch for the user (authsrv(6) of the Plan 9 manual).
-use Rattle.std.specs.Prelude.{◌≡◌, ℕ, List, [], ◌∷◌, true, Option, Some}
+use Rattle.std.specs.Prelude.{◌≡◌, ℕ, List, [], ◌∷◌, true, false, Option, Some}
 use Rattle.wire_base.specs.Names.{IsName}
 use Rattle.wire_base.specs.declared.name.AuthInfo.{AuthInfo}
 use Rattle.attr_tuples.specs.Forms.{is_dom, is_user}
 use Rattle.sealing.specs.Keys.{expanded}
 use Rattle.sealing.specs.Fitting.{IsBlock}
 use Rattle.auth_tables.specs.Keys.{UserKey}
-use Rattle.auth_server.specs.Requests.{Asked, asked_so}
-use Rattle.auth_server.specs.Answers.{Knowledge, answer, shared_key, word}
+use Rattle.auth_server.specs.Requests.{Asked, asked_so, is_for}
+use Rattle.auth_server.specs.Answers.{Knowledge, answer, held, shared_key, word}
 use Rattle.roles.specs.declared.key.SkKey.{SkKey}
 use Rattle.roles.specs.declared.need.Outcome.TheVariants.{Accepted, Finished}
 use Rattle.roles.specs.Starts.{Start}
 use Rattle.roles.specs.Talks.{Call, give, get, found, heard}
 use Rattle.conv_challenge.specs.declared.stage.Side.TheVariants.{Client, Server}
 use Rattle.conv_challenge.specs.Courses.{answer_after, ended_after, need_after, outcome_after, puts_after}
+use Rattle.conv_challenge.specs.Servers.{request_kind}
 use Rattle.conv_challenge.specs.Starts.{proto_of, side_of}
 use Rattle.complete_logins.specs.Calls.{AllWell}
 use Rattle.complete_logins.specs.Logins.{IsUser, KnowsKey, question_in}
 
 -- who logs in, and where: how both sides start, the key and the password that the client finds, the key that the server
--- finds, the name of the user, what the authentication server knows, and the words that it draws for the two requests
+-- finds, the name of the user, what the authentication server knows, what the session was asked before, and the words that
+-- are drawn for the two requests
 pub record MailLogin : Type 0 where
   pub client : Start
   pub client_key : SkKey
@@ -31,6 +33,7 @@ pub record MailLogin : Type 0 where
   pub server_password : Option (List ℕ)
   pub user : List ℕ
   pub known : Knowledge
+  pub before : List Asked
   pub words : List (List ℕ)
   pub later_words : List (List ℕ)
 
@@ -44,7 +47,7 @@ abbrev pub asked_first : MailLogin → Asked
 asked_first l = asked_so (question_in (need_after l.server (server_started l))) l.words
 
 abbrev pub server_heard : MailLogin → List Call
-server_heard l = heard (answer l.known [] (asked_first l)) ∷ server_started l
+server_heard l = heard (answer l.known l.before (asked_first l)) ∷ server_started l
 
 -- the client is given it, and finds its key
 abbrev pub client_challenged : MailLogin → List Call
@@ -60,7 +63,7 @@ asked_then l = asked_so (question_in (need_after l.server (server_answered l))) 
 
 -- all that the server meets, and all that the client meets
 abbrev pub server_talk : MailLogin → List Call
-server_talk l = heard (answer l.known (asked_first l ∷ []) (asked_then l)) ∷ server_answered l
+server_talk l = heard (answer l.known (asked_first l ∷ l.before) (asked_then l)) ∷ server_answered l
 
 abbrev pub client_talk : MailLogin → List Call
 client_talk l = get ∷ client_challenged l
@@ -74,13 +77,14 @@ pub record KnowsPassword (known : Knowledge) (user password : List ℕ) : Type 0
   pub same : line.password ≡ Some password
 
 -- Both sides speak the same protocol; the authentication server knows the server's key, and the client's password as that
--- of the user who is named.
+-- of the user who is named. Of the session's earlier requests none left a challenge of this protocol that isn't answered.
 pub record MayMail (l : MailLogin) : Type 0 where
   pub client_side : side_of l.client.template ≡ Client
   pub server_side : side_of l.server.template ≡ Server
   pub same_proto : proto_of l.client.template ≡ proto_of l.server.template
   pub server_word : IsBlock 8 l.server.word
   pub server_known : KnowsKey l.known l.server_key
+  pub unheld : is_for (request_kind (proto_of l.server.template)) (held l.known l.before) ≡ false
   pub server_user : IsUser l.server_key.user
   pub dom_name : IsName 48 l.server_key.dom
   pub right : KnowsPassword l.known l.user l.password

@@ -10,14 +10,15 @@ pub fn a_login_by_p9sk1_ends_well()
     ensures { LoginsEnd }
 {}
 
-/// The same under p9any: the server offers a list, the client picks a domain of it, and the login in that domain goes as one
-/// by p9sk1 alone.
+/// The same under p9any: the server offers a list, which it has at once or behind keys that it is told while it has nothing to
+/// offer, the client picks a domain of it, and the login in that domain goes as one by p9sk1 alone.
 pub fn a_login_by_p9any_ends_well()
     ensures { ChoicesEnd }
 {}
 
 /// A client and a server of APOP, or of CRAM, where the authentication server knows the client's password as that of the user
-/// who is named: every call of both is answered well, the client comes to its end, and the server accepts the user.
+/// who is named: every call of both is answered well, the client comes to its end, and the server accepts the user. The
+/// session may have had any requests before, but for one that left a challenge of the protocol which isn't answered.
 pub fn a_mail_login_ends_well()
     ensures { MailLoginsEnd }
 {}
