@@ -344,7 +344,7 @@ impl Hub {
             out.old out.new seat result.0 }
     {
         let (seat, batch, news) = self.serve_batch(rt, alloc, seat, conn, frames, words, out);
-        self.bells.ring_others(conn, news);
+        self.bells.ring_others(rt, conn, news);
         let exchanged = Exchanged {
             entered: batch.taken.len(),
             taken: sum_of(batch.taken.as_slice()),
@@ -393,7 +393,7 @@ impl Hub {
         ensures collected { IsCollected conn result.2 out.old out.new seat result.0 }
     {
         let (seat, collected, news) = self.take_some(rt, seat, conn, most, out);
-        self.bells.ring_others(conn, news);
+        self.bells.ring_others(rt, conn, news);
         (seat, collected.taken, collected.end)
     }
 }

@@ -6,6 +6,7 @@ use crate::held::Held;
 use crate::hub_bells::HubBells;
 use agent_core::{Agent, NO_NEWS, News};
 use agent_history::{Event, StepAnswer};
+use mio::Waker;
 use std::alloc::Global;
 use std::sync::Wait;
 use turn_lock::{Seat, TurnCall, TurnLock};
@@ -119,7 +120,7 @@ impl Hub {
         ensures submitted { IsSubmitted event.now result.1 out.old out.new seat result.0 }
     {
         let (seat, answer, news) = self.carry_out(rt, seat, event, out);
-        self.bells.ring_for(event, news);
+        self.bells.ring_for(rt, event, news);
         (seat, answer)
     }
 
@@ -133,6 +134,18 @@ impl Hub {
     /// looked at again.
     pub fn sleep_for_replies<R: Wait>(&self, rt: &R, conn: u64, count: u32) {
         self.bells.of(conn).sleep(rt, count);
+    }
+
+    /// From now on the waker of a connection is woken when there may be new replies on it, or the agent stopped. It takes the
+    /// place of an earlier one. A job that looks at the agent once its waker is here doesn't wait past a reply. It claims
+    /// nothing: the agent has to be looked at again. May wait for others that do the same.
+    pub fn wake_by<R: Wait>(&self, rt: &R, conn: u64, waker: Waker) -> Result<(), NoMemory> {
+        self.bells.wakers.hold(rt, conn, waker)
+    }
+
+    /// No waker of a connection is woken any more.
+    pub fn wake_no_more<R: Wait>(&self, rt: &R, conn: u64) {
+        self.bells.wakers.give_up(rt, conn);
     }
 
     /// Two seats with the front of the one that came: it keeps its numbers, and the other has a new number, without

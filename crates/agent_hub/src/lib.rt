@@ -12,6 +12,7 @@ mod questions;
 mod replies;
 mod requests;
 mod resuming_laws;
+mod wakers;
 
 pub use agent_core::Agent;
 pub use exchange::{Exchanged, TakesEnd};
