@@ -18,6 +18,7 @@ use Rattle.turn_lock.specs.Seats.{front, numbers}
 use Rattle.agent_history.specs.declared.event.Event.{Event}
 use Rattle.agent_history.specs.declared.event.Event.TheVariants.{Hang, Take}
 use Rattle.agent_history.specs.declared.event.StepAnswer.{StepAnswer}
+use Rattle.agent_history.specs.Histories.{answer, has_stopped, is_reply}
 use Rattle.wire_base.specs.declared.bytes.NoMemory.{NoMemory as Short}
 use Rattle.agent_hub.specs.Submits.{HubSeat, IsSubmitted}
 use Rattle.agent_hub.specs.Entries.{Entered, entry}
@@ -32,7 +33,7 @@ use Rattle.frame_batches.specs.Batches.{AreFrames, passed, with_more}
 use Rattle.frame_batches.proofs.BatchLemmas.{next_ones, their_frames}
 use Rattle.agent_lines.specs.declared.ends.LineEnd.{LineEnd}
 use Rattle.agent_lines.specs.declared.ends.LineEnd.TheVariants.{End, Torn, BadFrame, ReadFault, WordFault, Flood, NoMemory, Stopped, WriteFault}
-use Rattle.agent_lines.specs.Lining.{CausedBy, Ends, EndsBy, HandsAll, HandsSome, LineEndsSo, MissesBytes, Moment, NoneLeft, Serves, TookAll, moment, most_batch}
+use Rattle.agent_lines.specs.Lining.{CausedBy, Ends, EndsBy, HandsAll, HandsSome, LineEndsSo, MissesBytes, Moment, Serves, TookAll, moment, most_batch}
 use Rattle.agent_lines.specs.Turns.{BatchEndsSo, DrawsMore, Going, Halts, InputEndsBy, Sends, SettledBy, Settles, SettlesSo, TurnSo}
 
 -- ---- words and frames
@@ -572,26 +573,38 @@ misses_none NoMemory kept none unlike = none
 misses_none Stopped kept none unlike = none
 misses_none WriteFault kept none unlike = absurd (unlike refl)
 
-took_all : (end : LineEnd) (conn : ℕ) (seen : Seen Event) → NoneLeft conn seen → TookAll end conn seen
-took_all End conn seen none = none
-took_all (Torn at) conn seen none = none
-took_all (BadFrame at size) conn seen none = none
-took_all ReadFault conn seen none = none
-took_all WordFault conn seen none = none
-took_all Flood conn seen none = none
-took_all NoMemory conn seen none = tt
-took_all Stopped conn seen none = none
-took_all WriteFault conn seen none = tt
+took_all : (end : LineEnd) (conn : ℕ) (seen : Seen Event) → is_reply (answer (events seen) (Take conn)).0 ≡ false → (end ≡ Stopped → ⊥) → TookAll end conn seen
+took_all End conn seen none goes = inr none
+took_all (Torn at) conn seen none goes = inr none
+took_all (BadFrame at size) conn seen none goes = inr none
+took_all ReadFault conn seen none goes = inr none
+took_all WordFault conn seen none goes = inr none
+took_all Flood conn seen none goes = inr none
+took_all NoMemory conn seen none goes = tt
+took_all Stopped conn seen none goes = absurd (goes refl)
+took_all WriteFault conn seen none goes = tt
+
+took_stopped : (end : LineEnd) (conn : ℕ) (seen : Seen Event) → has_stopped (events seen) ≡ true → TookAll end conn seen
+took_stopped End conn seen stop = inl stop
+took_stopped (Torn at) conn seen stop = inl stop
+took_stopped (BadFrame at size) conn seen stop = inl stop
+took_stopped ReadFault conn seen stop = inl stop
+took_stopped WordFault conn seen stop = inl stop
+took_stopped Flood conn seen stop = inl stop
+took_stopped NoMemory conn seen stop = tt
+took_stopped Stopped conn seen stop = stop
+took_stopped WriteFault conn seen stop = tt
 
 module _ (conn : ℕ) (first : Moment) (end : LineEnd) (seat after : HubSeat) (words : Option (List (List ℕ))) (input output : Option (List ℕ)) (old new : List ℕ) where
-  -- nothing was left to take
-  pub settle_done : (took : TakesEnd) (by : LineEnd) → Ends conn [] end old first (moment seat words input output) → IsCollected conn took old new seat after → new ≡ [] → SettledBy end took by → (end ≡ WriteFault → ⊥)
-      → Settles conn by first (moment after words input output) new
-  settle_done ended.NoneLeft by e x none is unlike = subst (λ (b : LineEnd). Settles conn b first (moment after words input output) new) (sym is)
-      (record { ends = ends_took conn first end ended.NoneLeft seat after words input output old new e x; misses = misses_none end new none unlike; took = took_all end conn (front after) (inr x.ends.1) })
-  settle_done ended.Stopped by e x none is unlike = subst (λ (b : LineEnd). Settles conn b first (moment after words input output) new) (sym is)
-      (record { ends = ends_took conn first end ended.Stopped seat after words input output old new e x; misses = misses_none end new none unlike; took = took_all end conn (front after) (inl x.ends) })
-  settle_done ended.Left by e x none is unlike = subst (λ (b : LineEnd). Settles conn b first (moment after words input output) new) (sym is)
+  -- nothing was left to take, or the agent is looked at once more
+  pub settle_done : (took : TakesEnd) (result : Result (Unit {0}) LineEnd) → Ends conn [] end old first (moment seat words input output) → IsCollected conn took old new seat after → new ≡ [] → SettledBy end took result → (end ≡ WriteFault → ⊥)
+      → SettlesSo result conn end first (moment after words input output) new
+  settle_done took (Ok x) e c none is unlike = ends_took conn first end took seat after words input output old new e c
+  settle_done ended.NoneLeft (Err by) e x none is unlike = subst (λ (b : LineEnd). Settles conn b first (moment after words input output) new) (sym is.0)
+      (record { ends = ends_took conn first end ended.NoneLeft seat after words input output old new e x; misses = misses_none end new none unlike; took = took_all end conn (front after) x.ends.1 is.1 })
+  settle_done ended.Stopped (Err by) e x none is unlike = subst (λ (b : LineEnd). Settles conn b first (moment after words input output) new) (sym is)
+      (record { ends = ends_took conn first end ended.Stopped seat after words input output old new e x; misses = misses_none end new none unlike; took = took_stopped end conn (front after) x.ends })
+  settle_done ended.Left (Err by) e x none is unlike = subst (λ (b : LineEnd). Settles conn b first (moment after words input output) new) (sym is)
       (record { ends = ends_short conn first end (moment after words input output) new (ends_took conn first end ended.Left seat after words input output old new e x); misses = none; took = tt })
 
 -- after a write fault nothing more is tried

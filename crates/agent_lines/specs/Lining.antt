@@ -99,7 +99,7 @@ MissesBytes WriteFault unwritten = 0 < length unwritten
 abbrev pub NoneLeft : ℕ → Front Event → Type 0
 NoneLeft conn seen = (has_stopped (events seen) ≡ true) ⊎ (is_reply (answer (events seen) (Take conn)).0 ≡ false)
 
--- unless memory was short or the sink failed, so it was
+-- unless memory was short or the sink failed, so it was; and where the end is that the agent stopped, it had
 abbrev pub TookAll : LineEnd → ℕ → Front Event → Type 0
 TookAll End conn seen = NoneLeft conn seen
 TookAll (Torn at) conn seen = NoneLeft conn seen
@@ -108,7 +108,7 @@ TookAll ReadFault conn seen = NoneLeft conn seen
 TookAll WordFault conn seen = NoneLeft conn seen
 TookAll Flood conn seen = NoneLeft conn seen
 TookAll NoMemory conn seen = Unit {0}
-TookAll Stopped conn seen = NoneLeft conn seen
+TookAll Stopped conn seen = has_stopped (events seen) ≡ true
 TookAll WriteFault conn seen = Unit {0}
 
 -- The connection ended so, and was hung up: it was served, all replies that didn't have to wait were taken, and behind that

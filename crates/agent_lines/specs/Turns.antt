@@ -57,11 +57,12 @@ pub record Settles (conn : ℕ) (end : LineEnd) (first now : Moment) (kept : Lis
   pub misses : MissesBytes end kept
   pub took : TookAll end conn (front now.seat)
 
--- by the end of the last takes, where nothing was kept
-abbrev pub SettledBy : LineEnd → TakesEnd → LineEnd → Type 0
-SettledBy end takes.NoneLeft by = by ≡ end
-SettledBy end takes.Stopped by = by ≡ end
-SettledBy end takes.Left by = by ≡ NoMemory
+-- by the end of the last takes, where nothing was kept; where the agent had stopped, by takes that it answered so
+abbrev pub SettledBy : LineEnd → TakesEnd → Result (Unit {0}) LineEnd → Type 0
+SettledBy end took (Ok x) = Unit {0}
+SettledBy end takes.NoneLeft (Err by) = (by ≡ end) × (end ≡ Stopped → ⊥)
+SettledBy end takes.Stopped (Err by) = by ≡ end
+SettledBy end takes.Left (Err by) = by ≡ NoMemory
 
 -- it isn't settled yet, or it is
 abbrev pub SettlesSo : Result (Unit {0}) LineEnd → ℕ → LineEnd → Moment → Moment → List ℕ → Type 0

@@ -273,14 +273,20 @@ fn write_on<W: Offers, A: Awaits>(
     Ok(())
 }
 
-// How a connection ends whose last takes ended so.
-fn settled(end: LineEnd, took: TakesEnd) -> LineEnd
+// How a connection ends whose last takes ended so. An agent that stopped answers so: else it is looked at once more.
+fn settled(end: LineEnd, took: TakesEnd) -> Result<(), LineEnd>
     ensures { SettledBy end took result }
 {
-    if took == TakesEnd::Left {
-        return LineEnd::NoMemory;
+    match took {
+        TakesEnd::Left => Err(LineEnd::NoMemory),
+        TakesEnd::Stopped => Err(end),
+        TakesEnd::NoneLeft => {
+            if end == LineEnd::Stopped {
+                return Ok(());
+            }
+            Err(end)
+        }
     }
-    end
 }
 
 // Writes, or where nothing is kept takes what is left.
@@ -313,7 +319,7 @@ fn settle_on<R: Wait, W: Offers, A: Awaits>(
     if kept.len() > 0 {
         return (seat, Ok(()));
     }
-    (seat, Err(settled(end, took)))
+    (seat, settled(end, took))
 }
 
 // Takes the replies that needn't wait, and writes all that is kept, where no more is handed on for this cause.
