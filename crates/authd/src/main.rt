@@ -117,7 +117,7 @@ fn begin(rt: &HostRuntime) -> Result<(Text, Arc<AuthCore, Global>), Status>
 
 // Listens at an address. Where nobody can, that is told on standard error.
 fn listen(rt: &HostRuntime, address: &Text) -> Option<SocketListener<HostRuntime>> {
-    match SocketListener::open(*rt, rt.alloc(), address) {
+    match SocketListener::open(*rt, rt.alloc(), address, None) {
         Ok(listener) => {
             tell_of(rt, b"authd: listening on ", address);
             Some(listener)

@@ -1,6 +1,8 @@
-// What is asked of the outside: each call of a source, a sink, words, a dialer, a listener and a spawner.
+// What is asked of the outside: each call of a source, a sink, one that may have no room, words, a dialer, a listener and a
+// spawner.
 ghost use Rattle.std.specs.Prelude.{◌≡◌, ◌≢◌, ◌<◌, ◌≤◌, length};
 ghost use Rattle.std.specs.Result.{is_err};
+ghost use Rattle.readiness.specs.Offers.{OffersSo, offer_failed};
 ghost use Rattle.wire_streams.specs.Causes.{CountsOutcome};
 ghost use Rattle.wire_streams.specs.Dials.{IsAnswer, Makes, exchanged, has_failed};
 ghost use Rattle.wire_streams.specs.Listening.{Accepts};
@@ -9,6 +11,7 @@ ghost use Rattle.wire_streams.specs.Streams.{Reads, Writes, read_failed, write_f
 ghost use Rattle.wire_streams.specs.Words.{Draws};
 ghost use Rattle.wire_streams.specs.declared.dialer.Made.TheVariants.{Close};
 
+use readiness::{Offer, Offers};
 use wire_base::{Bytes, Shape};
 use wire_streams::{
     Dial, Dialer, Got, ListenFault, Listener, NoStart, Put, Sink, Source, Spawner, WordFault, Words,
@@ -33,6 +36,16 @@ pub fn write<W: Sink>(sink: &mut W, piece: &[u8]) -> Put
     ensures exact { CountsOutcome (W.faults sink.old) (W.faults sink.new) (write_failed result) }
 {
     sink.write(piece)
+}
+
+/// As `Offers::offer`.
+pub fn offer<W: Offers>(sink: &mut W, piece: &[u8]) -> Offer
+    requires { 0 < length piece.now }
+    ensures bytes { OffersSo (W.holds sink.old) (W.holds sink.new) result piece.now }
+    ensures counted { W.faults sink.old ≤ W.faults sink.new }
+    ensures exact { CountsOutcome (W.faults sink.old) (W.faults sink.new) (offer_failed result) }
+{
+    sink.offer(piece)
 }
 
 /// As `Words::word8`.

@@ -2,17 +2,18 @@
 ghost use Rattle.std.specs.Prelude.{◌≡◌, ◌≤◌, ◌⊎◌, IfErr, IfOk, Err, true, false};
 ghost use Rattle.sockets.specs.Addresses.{is_path, is_unix};
 
+use crate::connection::{SocketSink, SocketSource, ends_of};
 use crate::listening_socket::Socket;
 use crate::unix::{OpenFault, listen_at};
 use std::alloc::Global;
 use std::fs::Files;
 use std::io::{self, ErrorKind};
-use std::net::{Net, OpenListener, OpenStream, TcpListener};
+use std::net::{Net, OpenListener, TcpListener, TcpStream};
 use std::os::unix::net::UnixListener;
 use std::thread;
 use std::time::{Clock, Duration};
-use wire_base::Text;
-use wire_streams::{ListenFault, Listener, ReadSource, WriteSink};
+use wire_base::{NoMemory, Text};
+use wire_streams::{ListenFault, Listener};
 
 /// How many milliseconds accepting rests after a failure that isn't the peer's, before it is tried again.
 const REST: u64 = 50;
@@ -25,11 +26,13 @@ pub(crate) enum Opened<L> {
 }
 
 /// A listener over TCP or a Unix socket. It tells no content. What a client spoils, or what passes, as a want of file
-/// descriptors, isn't the end of accepting. Each failure that lasts is counted, up to the last value of the counter.
+/// descriptors or memory, isn't the end of accepting. Each failure that lasts is counted, up to the last value of the counter.
 #[derive(Drop)]
 pub struct SocketListener<R: Net> {
     rt: R,
+    alloc: Global,
     opened: Opened<R::Listener>,
+    patience: Option<Duration>,
     faults: u64,
 }
 
@@ -75,10 +78,16 @@ fn open_tcp<R: Net>(rt: &R, address: &str) -> Result<R::Listener, OpenFault>
     }
 }
 
-impl<R: Net + Files + Clock + Drop> SocketListener<R> {
+impl<R: Net<Stream = TcpStream> + Files + Clock + Drop> SocketListener<R> {
     /// Listens at an address: the path of a Unix socket where it begins with `/`, else a host, `:` and a port. Such a socket
-    /// can be opened by its user alone. One that is there already, and on which nobody answers, is replaced.
-    pub fn open(rt: R, alloc: Global, address: &Text) -> Result<SocketListener<R>, OpenFault>
+    /// can be opened by its user alone. One that is there already, and on which nobody answers, is replaced. What is offered to
+    /// a connection's peer is given up for now where there is no room for it within `patience`; where that is None it waits.
+    pub fn open(
+        rt: R,
+        alloc: Global,
+        address: &Text,
+        patience: Option<Duration>,
+    ) -> Result<SocketListener<R>, OpenFault>
         ensures form { IfOk result (λ listener. is_unix listener.opened ≡ is_path address.now) }
         ensures faults { IfOk result (λ listener. listener.faults ≡ 0) }
         ensures no_socket { result ≡ Err OpenFault.NoSocket → is_path address.now ≡ true }
@@ -91,29 +100,33 @@ impl<R: Net + Files + Clock + Drop> SocketListener<R> {
         };
         Ok(SocketListener {
             rt,
+            alloc,
             opened,
+            patience,
             faults: 0,
         })
     }
 
-    // Waits for the next connection, both of whose ends are of one stream.
-    fn accept_once(&self) -> io::Result<(Socket<R::Stream>, Socket<R::Stream>)> {
+    // Waits for the next connection.
+    fn accept_socket(&self) -> io::Result<Socket> {
         match &self.opened {
-            Opened::Tcp(listener) => {
-                let (stream, _) = listener.accept()?;
-                let other = stream.try_clone()?;
-                Ok((Socket::Tcp(stream), Socket::Tcp(other)))
-            }
-            Opened::Unix(listener) => {
-                let (stream, _) = listener.accept()?;
-                let other = stream.try_clone()?;
-                Ok((Socket::Unix(stream), Socket::Unix(other)))
-            }
+            Opened::Tcp(listener) => Ok(Socket::Tcp(listener.accept()?.0)),
+            Opened::Unix(listener) => Ok(Socket::Unix(listener.accept()?.0)),
+        }
+    }
+
+    // Waits for the next connection, and makes its two ends.
+    fn accept_once(&self) -> io::Result<(SocketSource, SocketSink)> {
+        let socket = self.accept_socket()?;
+        socket.set_patience(self.patience)?;
+        match ends_of(self.alloc, socket) {
+            Ok(ends) => Ok(ends),
+            Err(NoMemory) => Err(ErrorKind::OutOfMemory.into()),
         }
     }
 
     // Waits for the next connection, whatever spoils others meanwhile. None where accepting has no use any more.
-    fn accept_next(&self) -> Option<(Socket<R::Stream>, Socket<R::Stream>)> {
+    fn accept_next(&self) -> Option<(SocketSource, SocketSink)> {
         for _ in 0..u64::MAX {
             match self.accept_once() {
                 Ok(pair) => return Some(pair),
@@ -142,30 +155,28 @@ fn failure_of(kind: ErrorKind) -> Failure
     }
 }
 
-impl<R: Net + Files + Clock + Drop> Listener for SocketListener<R> {
+impl<R: Net<Stream = TcpStream> + Files + Clock + Drop> Listener for SocketListener<R> {
     ghost use Rattle.std.specs.Prelude.{None};
     ghost use Rattle.std.specs.Result.{is_err};
     ghost use Rattle.wire_streams.specs.Listening.{Accepts};
     ghost use Rattle.wire_streams.specs.Causes.{CountsOutcome};
 
-    type In = ReadSource<Socket<R::Stream>>;
+    type In = SocketSource;
 
-    type Out = WriteSink<Socket<R::Stream>>;
+    type Out = SocketSink;
 
     ghost to_come = { λ _. None };
 
     ghost faults = { λ listener. listener.faults };
 
-    fn accept(
-        &mut self,
-    ) -> Result<(ReadSource<Socket<R::Stream>>, WriteSink<Socket<R::Stream>>), ListenFault>
+    fn accept(&mut self) -> Result<(SocketSource, SocketSink), ListenFault>
         ensures accepted { Accepts None None result }
         ensures counted { self.old.faults ≤ self.new.faults }
         ensures exact { CountsOutcome self.old.faults self.new.faults (is_err result) }
         ensures form { is_unix self.new.opened ≡ is_unix self.old.opened }
     {
         match self.accept_next() {
-            Some((source, sink)) => Ok((ReadSource::new(source), WriteSink::new(sink))),
+            Some(ends) => Ok(ends),
             None => {
                 self.faults = self.faults.saturating_add(1);
                 Err(ListenFault)

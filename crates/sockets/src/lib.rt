@@ -5,6 +5,7 @@
 #![tactic(auto)]
 
 mod accepting;
+mod connection;
 mod ending;
 mod hearing;
 mod job;
@@ -16,12 +17,12 @@ mod spawner;
 mod unix;
 
 pub use accepting::SocketListener;
+pub use connection::{SocketSink, SocketSource};
 pub use ending::answer_length;
 pub use hearing::read_answer;
 pub use job::Job;
 pub use kept::{Keeps, LinesOf, OwnLines, SharedLines};
 pub use line::Line;
-pub use listening_socket::Socket;
 pub use socket::TcpDialer;
 pub use spawner::{ThreadSpawner, Unstarted};
 pub use unix::OpenFault;

@@ -1,32 +1,31 @@
-// A connection.
-use std::io::{self, Read, Write};
+// A connection that is accepted.
+use std::io;
+use std::net::TcpStream;
+use std::os::fd::{AsRawFd, RawFd};
 use std::os::unix::net::UnixStream;
+use std::time::Duration;
 
-/// One end of a connection over TCP, or over a Unix socket.
+/// A connection over TCP, or over a Unix socket.
 #[derive(Drop)]
-pub enum Socket<S> {
-    Tcp(S),
+pub(crate) enum Socket {
+    Tcp(TcpStream),
     Unix(UnixStream),
 }
 
-impl<S: Read> Read for Socket<S> {
-    fn read(&mut self, buf: &mut [u8]) -> io::Result<usize> {
+impl Socket {
+    /// Has a write that finds no room wait for so long, and without an end where none is given.
+    pub(crate) fn set_patience(&self, patience: Option<Duration>) -> io::Result<()> {
         match self {
-            Socket::Tcp(stream) => stream.read(buf),
-            Socket::Unix(stream) => stream.read(buf),
-        }
-    }
-}
-
-impl<S: Write> Write for Socket<S> {
-    fn write(&mut self, buf: &[u8]) -> io::Result<usize> {
-        match self {
-            Socket::Tcp(stream) => stream.write(buf),
-            Socket::Unix(stream) => stream.write(buf),
+            Socket::Tcp(stream) => stream.set_write_timeout(patience),
+            Socket::Unix(stream) => stream.set_write_timeout(patience),
         }
     }
 
-    fn flush(&mut self) -> io::Result<()> {
-        Ok(())
+    /// The number of its descriptor.
+    pub(crate) fn descriptor(&self) -> RawFd {
+        match self {
+            Socket::Tcp(stream) => stream.as_raw_fd(),
+            Socket::Unix(stream) => stream.as_raw_fd(),
+        }
     }
 }
