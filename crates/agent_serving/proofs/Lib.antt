@@ -1,2 +1,3 @@
 mod ServingLemmas
 mod PromptLemmas
+mod WordLemmas

@@ -1,29 +1,17 @@
 -- What an agent of many connections has accepted, which jobs were taken for that, and what its seat entered. What a listener
 -- and a spawner tell is optional. The definitions are the project's own.
-use Rattle.std.specs.Prelude.{◌≡◌, ◌<◌, ◌≤◌, ℕ, ◌+◌, zero, suc, List, [], ◌∷◌, ◌++◌, length, Option}
+use Rattle.std.specs.Prelude.{◌≡◌, ◌≤◌, ℕ, ◌+◌, ◌-◌, ◌^◌, min, List, [], ◌∷◌, ◌++◌, length, Option}
+use Rattle.std.specs.List.{AllByRecursion}
 use Rattle.agent_history.specs.declared.event.Event.{Event}
-use Rattle.agent_history.specs.declared.event.Event.TheVariants.{Take, Stop}
+use Rattle.agent_history.specs.declared.event.Event.TheVariants.{Hang, Stop, Take}
 use Rattle.wire_streams.specs.Listening.{Came}
 use Rattle.wire_streams.specs.Spawning.{Gains}
 use Rattle.agent_hub.specs.Submits.{HubSeat}
 use Rattle.agent_hub.specs.Entries.{Adds, Entered, events_in}
 use Rattle.agent_serving.specs.declared.job.Job.{Job}
-use Rattle.agent_serving.specs.declared.job.Job.TheVariants.{In, Out, Asks, Prompts}
+use Rattle.agent_serving.specs.declared.job.Job.TheVariants.{Asks, Line, Prompts}
 use Rattle.agent_serving.specs.declared.accept.ServeEnd.{ServeEnd}
 use Rattle.agent_serving.specs.declared.accept.ServeEnd.TheVariants.{NoThread, ListenFault, NoMemory}
-
--- The two jobs of a connection: one takes what comes, the other writes the replies, both under its number
-pub record IsServed {I O : Type 0} (conn : ℕ) (connection : I × O) (one other : Job I O) : Type 0 where
-  pub taker : HubSeat
-  pub writer : HubSeat
-  pub takes : one ≡ In taker conn connection.0
-  pub writes : other ≡ Out writer conn connection.1
-
--- these are the jobs of these connections, in order, the first of which has this number
-abbrev pub AreServed : {I O : Type 0} → ℕ → List (I × O) → List (Job I O) → Type 0
-AreServed n [] [] = Unit {0}
-AreServed n (c ∷ more) (one ∷ other ∷ jobs) = IsServed n c one other × AreServed (n + 1) more jobs
-AreServed n connections jobs = ⊥
 
 -- a job asks the authentication server
 pub record IsAsking {I O : Type 0} (job : Job I O) : Type 0 where
@@ -39,62 +27,83 @@ pub record IsPrompting {I O : Type 0} (job : Job I O) : Type 0 where
   pub seat : HubSeat
   pub prompts : job ≡ Prompts seat prompts_conn
 
--- all jobs of these connections: the one that asks, the one that answers for the user, and then two for each, in order,
--- numbered from 0
-abbrev pub AreJobs : {I O : Type 0} → List (I × O) → List (Job I O) → Type 0
-AreJobs connections [] = ⊥
-AreJobs connections (job ∷ []) = ⊥
-AreJobs connections (one ∷ other ∷ jobs) = IsAsking one × (IsPrompting other × AreServed 0 connections jobs)
+-- Connections that were accepted, in order, numbered from 0, with the jobs that were taken for them, how many found no thread,
+-- and what was entered, the newest first. Each was opened by a take. Then its job was taken, which has both of its ends; or
+-- there was no thread for that, and it was hung up.
+pub data Opened {I O : Type 0} : List (I × O) → List (Job I O) → ℕ → List Event → Type 0 where
+  NoneYet : Opened [] [] 0 []
+  Started : (before : List (I × O)) (jobs : List (Job I O)) (lost : ℕ) (events : List Event) (connection : I × O) (seat : HubSeat) → Opened before jobs lost events
+      → Opened (before ++ connection ∷ []) (jobs ++ Line seat (length before) connection.0 connection.1 ∷ []) lost (Take (length before) ∷ events)
+  Lost : (before : List (I × O)) (jobs : List (Job I O)) (lost : ℕ) (events : List Event) (connection : I × O) → Opened before jobs lost events
+      → Opened (before ++ connection ∷ []) jobs (lost + 1) (Hang (length before) ∷ Take (length before) ∷ events)
 
--- the events by which the first so many connections are opened, the newest first
-abbrev pub takes : ℕ → List Event
-takes zero = []
-takes (suc n) = Take n ∷ takes n
+-- a count of faults rose by as many, or stands at the last value of a counter of 64 bits
+abbrev pub RoseBy : ℕ → ℕ → ℕ → Type 0
+RoseBy many before now = min (before + many) (2 ^ 64 - 1) ≤ now
 
--- how many connections were accepted at most whose take was refused for memory
-abbrev pub most_refused : ServeEnd → ℕ
-most_refused NoThread = 0
-most_refused ListenFault = 0
-most_refused NoMemory = 1
-
--- which jobs the spawner lacks: none, but where the end is that it took one no more
-abbrev pub Lacks : {J : Type 0} → ServeEnd → List J → Type 0
-Lacks NoThread missing = 0 < length missing
-Lacks ListenFault missing = missing ≡ []
-Lacks NoMemory missing = missing ≡ []
-
-module _ {I O : Type 0} (first seat : HubSeat) (came left : Option (List (I × O))) (taken now : Option (List (Job I O))) where
-  -- so many connections were accepted and opened, and all of their jobs were taken
-  pub record Going (conn : ℕ) : Type 0 where
+-- From the first seat to this one, where a listener told so before and now, a spawner had taken so before and now, and counted so
+-- many faults before and now
+module _ {I O : Type 0} (asks : ℕ) (first seat : HubSeat) (came left : Option (List (I × O))) (taken now : Option (List (Job I O))) (faults failed : ℕ) where
+  -- So many jobs were taken that ask the authentication server, and one that answers for the user. Connections were accepted, and
+  -- of those that weren't refused each was opened; behind that these events were entered. Each job that wasn't taken is a fault
+  pub record Serving (last : List Event) (refused : List (I × O)) : Type 0 where
+    pub asking : List (Job I O)
+    pub ask : AllByRecursion IsAsking asking
+    pub many : length asking ≡ asks
+    pub prompting : Job I O
+    pub prompts : IsPrompting prompting
     pub accepted : List (I × O)
-    pub arrived : Came came left accepted
-    pub number : conn ≡ length accepted
-    pub jobs : List (Job I O)
-    pub are : AreJobs accepted jobs
-    pub took : Gains taken now jobs
-    pub mine : List Entered
-    pub added : Adds mine first seat
-    pub entered : events_in mine ≡ takes conn
-
-  -- What came to this end: of the connections that came those at the front were opened, each by a take of the seat's own,
-  -- with these events behind them. Of the jobs of those all were taken, or the first of them.
-  pub record EndedBy (last : List Event) (end : ServeEnd) : Type 0 where
-    pub accepted : List (I × O)
-    pub refused : List (I × O)
     pub arrived : Came came left (accepted ++ refused)
-    pub few : length refused ≤ most_refused end
-    pub jobs : List (Job I O)
-    pub missing : List (Job I O)
-    pub are : AreJobs accepted (jobs ++ missing)
-    pub lacks : Lacks end missing
-    pub took : Gains taken now jobs
+    pub lines : List (Job I O)
+    pub lost : ℕ
+    pub events : List Event
+    pub opened : Opened accepted lines lost events
+    pub took : Gains taken now (asking ++ prompting ∷ lines)
+    pub cause : RoseBy lost faults failed
     pub mine : List Entered
     pub added : Adds mine first seat
-    pub entered : events_in mine ≡ last ++ takes (length accepted)
+    pub entered : events_in mine ≡ last ++ events
 
--- before the agent stops, and behind that
-abbrev pub Ended : {I O : Type 0} → ServeEnd → HubSeat → HubSeat → Option (List (I × O)) → Option (List (I × O)) → Option (List (Job I O)) → Option (List (Job I O)) → Type 0
-Ended end first seat came left taken now = EndedBy first seat came left taken now [] end
+  -- it goes on, and this is the number of the next connection
+  pub record Going (conn : ℕ) : Type 0 where
+    pub serving : Serving [] []
+    pub number : conn ≡ length serving.accepted
 
-abbrev pub ServesSo : {I O : Type 0} → ServeEnd → HubSeat → HubSeat → Option (List (I × O)) → Option (List (I × O)) → Option (List (Job I O)) → Option (List (Job I O)) → Type 0
-ServesSo end first seat came left taken now = EndedBy first seat came left taken now (Stop ∷ []) end
+  -- nothing was accepted: of the jobs that ask these were taken, and there was no thread for the next one, or for the one that
+  -- answers for the user
+  pub record NotBegun (last : List Event) : Type 0 where
+    pub none : Came came left []
+    pub asking : List (Job I O)
+    pub ask : AllByRecursion IsAsking asking
+    pub few : length asking ≤ asks
+    pub took : Gains taken now asking
+    pub mine : List Entered
+    pub added : Adds mine first seat
+    pub entered : events_in mine ≡ last
+
+  -- What came to this end: it hadn't begun; accepting failed; or there was no memory for the take of the last connection that
+  -- came, or no number for one more
+  abbrev pub EndedBy : List Event → ServeEnd → Type 0
+  EndedBy last NoThread = NotBegun last
+  EndedBy last ListenFault = Serving last []
+  EndedBy last NoMemory = (refused : List (I × O)) × (length refused ≤ 1) × Serving last refused
+
+-- at the end the agent was stopped
+abbrev pub ServesSo : {I O : Type 0} → ServeEnd → ℕ → HubSeat → HubSeat → Option (List (I × O)) → Option (List (I × O)) → Option (List (Job I O)) → Option (List (Job I O)) → ℕ → ℕ → Type 0
+ServesSo end asks first seat came left taken now faults failed = EndedBy asks first seat came left taken now faults failed (Stop ∷ []) end
+
+-- ---- of the code alone: the jobs that ask, started one after the other
+
+-- so many of them were taken, and nothing was entered
+pub record Asking {I O : Type 0} (first seat : HubSeat) (taken now : Option (List (Job I O))) (many : ℕ) : Type 0 where
+  pub asking : List (Job I O)
+  pub ask : AllByRecursion IsAsking asking
+  pub count : length asking ≡ many
+  pub took : Gains taken now asking
+  pub added : Adds [] first seat
+
+-- at most so many were
+pub record AsksSome {I O : Type 0} (first seat : HubSeat) (taken now : Option (List (Job I O))) (most : ℕ) : Type 0 where
+  pub many : ℕ
+  pub few : many ≤ most
+  pub asking : Asking first seat taken now many

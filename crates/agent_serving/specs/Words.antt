@@ -1,15 +1,28 @@
--- The words of the program's command line, as lists of bytes: the command's name, and its options with their values.
-use Rattle.std.specs.Prelude.{ℕ, ◌<◌, ◌==◌, nat_lt, length, List, [], ◌∷◌, Bool, ◌&&◌, codes, slice_index, if◌then◌else◌, Option, Some, None}
+-- The words of the program's command line, as lists of bytes: the command's name, and its options, each with its value behind
+-- it, in any order. Options go by their long names (getopt_long(3), Argument Syntax), without `=`.
+use Rattle.std.specs.Prelude.{ℕ, ◌+◌, ◌<◌, ◌==◌, nat_le, nat_lt, length, List, [], ◌∷◌, Bool, true, false, not, ◌&&◌, codes, slice_index, slice_index_or, if◌then◌else◌, Option, Some, None, is_some}
 use Rattle.std.specs.Str.{bytes_eq}
-use Rattle.auth_program.specs.Words.{is_value}
+use Rattle.auth_program.specs.Words.{is_among, is_value}
 use Rattle.side_files.specs.Decimals.{number_of}
 use Rattle.agent_serving.specs.declared.words.ServeWords.{ServeWords}
+use Rattle.agent_serving.specs.declared.words.TheConstants.{CONSENTS, ASKS, MOST_ASKS}
 
--- this option stands here, with a value
-abbrev pub gives : List ℕ → List ℕ → List ℕ → Bool
-gives option name value = bytes_eq name option && is_value value
+-- where it listens, the authentication server, how many questions are answered by yes, and how many may be asked at a time
+abbrev pub serve_options : List (List ℕ)
+serve_options = codes "--listen" ∷ codes "--auth" ∷ codes "--consent" ∷ codes "--asks" ∷ []
 
--- the number that digits are, where it is below 2^32
+-- the place of the value behind an option, where that is given; the words are options and values, counted from this number
+abbrev pub place_of : List ℕ → ℕ → List (List ℕ) → Option ℕ
+place_of option at (name ∷ value ∷ words) = if bytes_eq name option then Some (at + 1) else place_of option (at + 2) words
+place_of option at words = None
+
+-- the words are options, each with a value, and none is given twice
+abbrev pub are_options : List (List ℕ) → Bool
+are_options (name ∷ value ∷ words) = is_among serve_options name && (is_value value && (not (is_some (place_of name 0 words)) && are_options words))
+are_options (name ∷ []) = false
+are_options [] = true
+
+-- the number that a word is: decimal, without zeros (48) in front, and below 2^32
 abbrev pub below : Option ℕ → Option ℕ
 below None = None
 below (Some n) = if nat_lt n 4294967296 then Some n else None
@@ -17,51 +30,38 @@ below (Some n) = if nat_lt n 4294967296 then Some n else None
 abbrev pub plain_number : List ℕ → Option ℕ
 plain_number digits = below (number_of digits)
 
--- the number that a word is: decimal, without zeros (48) in front, and below 2^32
-abbrev pub consents_of : List ℕ → Option ℕ
-consents_of word = if nat_lt 1 (length word) && slice_index word 0 == 48 then None else plain_number word
+abbrev pub number_in : List ℕ → Option ℕ
+number_in word = if nat_lt 1 (length word) && slice_index word 0 == 48 then None else plain_number word
 
--- the places of the addresses, and a number if it is one
-abbrev pub served : ℕ → Option ℕ → Option ℕ → Option ServeWords
-served listen auth None = None
-served listen auth (Some consents) = Some (record { listen = listen; auth = auth; consents = consents })
+-- the number at a place, and where there is no place the usual one
+abbrev pub number_at : ℕ → List (List ℕ) → Option ℕ → Option ℕ
+number_at usual words None = Some usual
+number_at usual words (Some place) = number_in (slice_index_or words place [])
 
--- `--listen` and another option, in either order: the places of their values behind the command's name
-abbrev pub two_options : List ℕ → List ℕ → List ℕ → List ℕ → Option ServeWords
-two_options one a two b =
-    if gives (codes "--listen") one a && gives (codes "--auth") two b then served 2 (Some 4) (Some 0)
-    else if gives (codes "--auth") one a && gives (codes "--listen") two b then served 4 (Some 2) (Some 0)
-    else if gives (codes "--listen") one a && gives (codes "--consent") two b then served 2 None (consents_of b)
-    else if gives (codes "--consent") one a && gives (codes "--listen") two b then served 4 None (consents_of a)
-    else None
+-- the number that an option gives
+abbrev pub number_behind : List ℕ → ℕ → List (List ℕ) → Option ℕ
+number_behind option usual words = number_at usual words (place_of option 0 words)
 
--- the two options beside `--listen`, in either order, whose values stand at these places
-abbrev pub two_behind : ℕ → ℕ → ℕ → List ℕ → List ℕ → List ℕ → List ℕ → Option ServeWords
-two_behind listen first second one a two b =
-    if gives (codes "--auth") one a && gives (codes "--consent") two b then served listen (Some first) (consents_of b)
-    else if gives (codes "--consent") one a && gives (codes "--auth") two b then served listen (Some second) (consents_of a)
-    else None
+-- a number from 1 to the most
+abbrev pub few_asks : Option ℕ → Option ℕ
+few_asks None = None
+few_asks (Some n) = if nat_le 1 n && nat_le n MOST_ASKS then Some n else None
 
--- all three options, in any order
-abbrev pub three_options : List ℕ → List ℕ → List ℕ → List ℕ → List ℕ → List ℕ → Option ServeWords
-three_options one a two b three c =
-    if gives (codes "--listen") one a then two_behind 2 4 6 two b three c
-    else if gives (codes "--listen") two b then two_behind 4 2 6 one a three c
-    else if gives (codes "--listen") three c then two_behind 6 2 4 one a two b
-    else None
+-- what is given, where an address to listen at and the numbers are
+abbrev pub served : Option ℕ → Option ℕ → Option ℕ → Option ℕ → Option ServeWords
+served None auth consents asks = None
+served (Some listen) auth None asks = None
+served (Some listen) auth (Some consents) None = None
+served (Some listen) auth (Some consents) (Some asks) = Some (record { listen = listen; auth = auth; consents = consents; asks = asks })
 
--- `--listen` alone
-abbrev pub one_option : List ℕ → List ℕ → Option ServeWords
-one_option one a = if gives (codes "--listen") one a then served 2 None (Some 0) else None
-
--- the options behind the command's name
+-- what the options say behind the command's name, which is the word of the number 0
 abbrev pub options_in : List (List ℕ) → Option ServeWords
-options_in (one ∷ a ∷ []) = one_option one a
-options_in (one ∷ a ∷ two ∷ b ∷ []) = two_options one a two b
-options_in (one ∷ a ∷ two ∷ b ∷ three ∷ c ∷ []) = three_options one a two b three c
-options_in words = None
+options_in words =
+    if are_options words
+    then served (place_of (codes "--listen") 1 words) (place_of (codes "--auth") 1 words) (number_behind (codes "--consent") CONSENTS words) (few_asks (number_behind (codes "--asks") ASKS words))
+    else None
 
--- the places of the values, where the words are those of the command
+-- what the words say, where they are those of the command
 abbrev pub serve_words : List (List ℕ) → Option ServeWords
 serve_words [] = None
 serve_words (name ∷ words) = if bytes_eq name (codes "serve") then options_in words else None

@@ -1,9 +1,9 @@
-// Connections accepted, each of which is two jobs.
-ghost use Rattle.std.specs.Prelude.{◌≡◌, ◌≤◌, ◌+◌, Err, IfErr, List, OnErr, OnOk, Option};
+// The jobs of an agent that serves many connections, started one after the other.
+ghost use Rattle.std.specs.Prelude.{◌≡◌, ◌≤◌, ◌+◌, [], ℕ, Err, IfErr, List, OnErr, OnOk, Option};
 ghost use Rattle.wire_streams.specs.Causes.{Rose};
 ghost use Rattle.agent_hub.specs.Submits.{HubSeat, IsSeatOf};
 ghost use Rattle.agent_serving.specs.Jobs.{seat_of};
-ghost use Rattle.agent_serving.specs.Serving.{Ended, Going, ServesSo};
+ghost use Rattle.agent_serving.specs.Serving.{Asking, AsksSome, EndedBy, Going, ServesSo};
 
 use crate::job::Job;
 use agent_history::Event;
@@ -16,7 +16,7 @@ use wire_streams::{Listener, NoStart, Spawner};
 /// Why an agent accepts no more connections.
 #[derive(Clone, Copy, Debug, PartialEq, Eq)]
 pub enum ServeEnd {
-    /// A job couldn't be given to a thread.
+    /// A job of the agent's questions couldn't be given to a thread.
     NoThread,
     /// Accepting failed.
     ListenFault,
@@ -24,15 +24,16 @@ pub enum ServeEnd {
     NoMemory,
 }
 
-/// Has the authentication server asked by one job and the user's questions answered by another, on the connection 2^64 - 1,
-/// and accepts connections, numbered from 0, each of which is two jobs: one that hands on what comes, and one that writes the
-/// replies. Each connection is opened by a take before its jobs start,
-/// so that a client which sends nothing is hung up as any other. At the end the agent stops. It may wait.
+/// Has the authentication server asked by so many jobs and the user's questions answered by another, on the connection
+/// 2^64 - 1, and accepts connections, numbered from 0, each of which is a job. Each connection is opened by a take before its
+/// job starts, so that a client which sends nothing is hung up as any other. One whose job can't be given to a thread is hung
+/// up at once, and accepting goes on. At the end the agent stops. It may wait.
 pub fn serve<R: Wait, L: Listener, P: Spawner<Job<L::In, L::Out>>>(
     rt: &R,
     alloc: Global,
     hub: &Hub,
     seat: HubSeat,
+    asks: u32,
     listener: &mut L,
     spawner: &mut P,
 ) -> (HubSeat, ServeEnd)
@@ -46,8 +47,9 @@ where
     ensures seat { IsSeatOf hub.now result.0 }
 
     // The jobs taken, and what the seat entered, by the connections accepted and the end.
-    ensures served { ServesSo result.1 seat result.0 (L.to_come listener.old)
-        (L.to_come listener.new) (P.taken spawner.old) (P.taken spawner.new) }
+    ensures served { ServesSo result.1 asks seat result.0 (L.to_come listener.old)
+        (L.to_come listener.new) (P.taken spawner.old) (P.taken spawner.new)
+        (P.faults spawner.old) (P.faults spawner.new) }
 
     // A fault comes only where the count of its object rose, and no count falls.
     ensures listen_fault { result.1 ≡ ServeEnd.ListenFault
@@ -57,7 +59,7 @@ where
     ensures counted_accepts { L.faults listener.old ≤ L.faults listener.new }
     ensures counted_jobs { P.faults spawner.old ≤ P.faults spawner.new }
 {
-    let (seat, end) = accept_all(rt, alloc, hub, seat, listener, spawner);
+    let (seat, end) = accept_all(rt, alloc, hub, seat, asks, listener, spawner);
     let mut nothing = Bytes::new(alloc);
     let (seat, _) = hub.submit(rt, seat, &Event::Stop, &mut nothing);
     (seat, end)
@@ -69,6 +71,7 @@ fn accept_all<R: Wait, L: Listener, P: Spawner<Job<L::In, L::Out>>>(
     alloc: Global,
     hub: &Hub,
     seat: HubSeat,
+    asks: u32,
     listener: &mut L,
     spawner: &mut P,
 ) -> (HubSeat, ServeEnd)
@@ -79,8 +82,9 @@ where
     requires takes { (job : Job L.In L.Out) → IsSeatOf hub.now (seat_of job)
         → P.takes spawner.old job }
     ensures seat { IsSeatOf hub.now result.0 }
-    ensures ended { Ended result.1 seat result.0 (L.to_come listener.old) (L.to_come listener.new)
-        (P.taken spawner.old) (P.taken spawner.new) }
+    ensures ended { EndedBy asks seat result.0 (L.to_come listener.old) (L.to_come listener.new)
+        (P.taken spawner.old) (P.taken spawner.new)
+        (P.faults spawner.old) (P.faults spawner.new) [] result.1 }
     ensures listen_fault { result.1 ≡ ServeEnd.ListenFault
         → Rose (L.faults listener.old) (L.faults listener.new) }
     ensures no_thread { result.1 ≡ ServeEnd.NoThread
@@ -88,7 +92,7 @@ where
     ensures counted_accepts { L.faults listener.old ≤ L.faults listener.new }
     ensures counted_jobs { P.faults spawner.old ≤ P.faults spawner.new }
 {
-    let (mut seat, begun) = begin(hub, seat, spawner);
+    let (mut seat, begun) = begin(hub, seat, asks, spawner);
     let Ok(()) = begun else {
         return (seat, ServeEnd::NoThread);
     };
@@ -107,10 +111,41 @@ where
     unreachable!()
 }
 
-// Starts the job that asks the authentication server, and the one that answers for the user.
+// Starts so many jobs that ask the authentication server.
+fn begin_asks<I: Drop, O: Drop, P: Spawner<Job<I, O>>>(
+    hub: &Hub,
+    mut seat: HubSeat,
+    asks: u32,
+    spawner: &mut P,
+) -> (HubSeat, Result<(), NoStart>)
+    requires seat { IsSeatOf hub.now seat }
+    requires takes { (job : Job I O) → IsSeatOf hub.now (seat_of job)
+        → P.takes spawner.old job }
+    ensures seat { IsSeatOf hub.now result.0 }
+    ensures takes { (job : Job I O) → IsSeatOf hub.now (seat_of job)
+        → P.takes spawner.new job }
+    ensures asking { OnOk result.1
+        (Asking seat result.0 (P.taken spawner.old) (P.taken spawner.new) asks) }
+    ensures lacking { OnErr result.1
+        (AsksSome seat result.0 (P.taken spawner.old) (P.taken spawner.new) asks) }
+    ensures no_thread { OnErr result.1 (Rose (P.faults spawner.old) (P.faults spawner.new)) }
+    ensures counted { P.faults spawner.old ≤ P.faults spawner.new }
+{
+    for _ in 0..asks {
+        let (kept, theirs) = hub.split(seat);
+        seat = kept;
+        if let Err(fault) = spawner.spawn(Job::Asks { seat: theirs }) {
+            return (seat, Err(fault));
+        }
+    }
+    (seat, Ok(()))
+}
+
+// Starts so many jobs that ask the authentication server, and the one that answers for the user.
 fn begin<I: Drop, O: Drop, P: Spawner<Job<I, O>>>(
     hub: &Hub,
     seat: HubSeat,
+    asks: u32,
     spawner: &mut P,
 ) -> (HubSeat, Result<(), NoStart>)
     requires seat { IsSeatOf hub.now seat }
@@ -120,15 +155,16 @@ fn begin<I: Drop, O: Drop, P: Spawner<Job<I, O>>>(
     ensures takes { (job : Job I O) → IsSeatOf hub.now (seat_of job)
         → P.takes spawner.new job }
     ensures begun { OnOk result.1 ((came : Option (List (I × O)))
-        → Going seat result.0 came came (P.taken spawner.old) (P.taken spawner.new) 0) }
+        → Going asks seat result.0 came came (P.taken spawner.old) (P.taken spawner.new)
+        (P.faults spawner.old) (P.faults spawner.new) 0) }
     ensures ended { OnErr result.1 ((came : Option (List (I × O)))
-        → Ended ServeEnd.NoThread seat result.0 came came
-        (P.taken spawner.old) (P.taken spawner.new)) }
+        → EndedBy asks seat result.0 came came (P.taken spawner.old) (P.taken spawner.new)
+        (P.faults spawner.old) (P.faults spawner.new) [] ServeEnd.NoThread) }
     ensures no_thread { OnErr result.1 (Rose (P.faults spawner.old) (P.faults spawner.new)) }
     ensures counted { P.faults spawner.old ≤ P.faults spawner.new }
 {
-    let (seat, asks) = hub.split(seat);
-    if let Err(fault) = spawner.spawn(Job::Asks { seat: asks }) {
+    let (seat, begun) = begin_asks(hub, seat, asks, spawner);
+    if let Err(fault) = begun {
         return (seat, Err(fault));
     }
     let (seat, prompts) = hub.split(seat);
@@ -136,13 +172,13 @@ fn begin<I: Drop, O: Drop, P: Spawner<Job<I, O>>>(
         seat: prompts,
         conn: u64::MAX,
     };
-    if let Err(fault) = spawner.spawn(job) {
-        return (seat, Err(fault));
+    match spawner.spawn(job) {
+        Ok(()) => (seat, Ok(())),
+        Err(fault) => (seat, Err(fault)),
     }
-    (seat, Ok(()))
 }
 
-// Accepts the connection of this number, opens it, and starts its two jobs.
+// Accepts the connection of this number, opens it, and starts its job; or hangs it up where there is no thread for that.
 fn serve_next<R: Wait, L: Listener, P: Spawner<Job<L::In, L::Out>>>(
     rt: &R,
     alloc: Global,
@@ -161,19 +197,21 @@ where
     ensures seat { IsSeatOf hub.now result.0 }
     ensures takes { (job : Job L.In L.Out) → IsSeatOf hub.now (seat_of job)
         → P.takes spawner.new job }
-    ensures going { OnOk result.1 ((first : HubSeat) (came : Option (List (L.In × L.Out)))
-        (taken : Option (List (Job L.In L.Out)))
-        → Going first seat came (L.to_come listener.old) taken (P.taken spawner.old) conn
-        → Going first result.0 came (L.to_come listener.new)
-        taken (P.taken spawner.new) (conn + 1)) }
-    ensures ends { IfErr result.1 (λ end. (first : HubSeat)
-        (came : Option (List (L.In × L.Out))) (taken : Option (List (Job L.In L.Out)))
-        → Going first seat came (L.to_come listener.old) taken (P.taken spawner.old) conn
-        → Ended end first result.0 came (L.to_come listener.new) taken (P.taken spawner.new)) }
+    ensures going { OnOk result.1 ((asks : ℕ) (first : HubSeat)
+        (came : Option (List (L.In × L.Out))) (taken : Option (List (Job L.In L.Out))) (faults : ℕ)
+        → Going asks first seat came (L.to_come listener.old) taken (P.taken spawner.old)
+        faults (P.faults spawner.old) conn
+        → Going asks first result.0 came (L.to_come listener.new) taken (P.taken spawner.new)
+        faults (P.faults spawner.new) (conn + 1)) }
+    ensures ends { IfErr result.1 (λ end. (asks : ℕ) (first : HubSeat)
+        (came : Option (List (L.In × L.Out))) (taken : Option (List (Job L.In L.Out))) (faults : ℕ)
+        → Going asks first seat came (L.to_come listener.old) taken (P.taken spawner.old)
+        faults (P.faults spawner.old) conn
+        → EndedBy asks first result.0 came (L.to_come listener.new) taken (P.taken spawner.new)
+        faults (P.faults spawner.new) [] end) }
     ensures listen_fault { result.1 ≡ Err ServeEnd.ListenFault
         → Rose (L.faults listener.old) (L.faults listener.new) }
-    ensures no_thread { result.1 ≡ Err ServeEnd.NoThread
-        → Rose (P.faults spawner.old) (P.faults spawner.new) }
+    ensures begun { result.1 ≡ Err ServeEnd.NoThread → ⊥ }
     ensures counted_accepts { L.faults listener.old ≤ L.faults listener.new }
     ensures counted_jobs { P.faults spawner.old ≤ P.faults spawner.new }
 {
@@ -186,22 +224,15 @@ where
         return (seat, Err(ServeEnd::NoMemory));
     };
     let (seat, theirs) = hub.split(seat);
-    let job = Job::In {
+    let job = Job::Line {
         seat: theirs,
         conn,
         source,
-    };
-    let Ok(()) = spawner.spawn(job) else {
-        return (seat, Err(ServeEnd::NoThread));
-    };
-    let (seat, theirs) = hub.split(seat);
-    let job = Job::Out {
-        seat: theirs,
-        conn,
         sink,
     };
     let Ok(()) = spawner.spawn(job) else {
-        return (seat, Err(ServeEnd::NoThread));
+        let (seat, _) = hub.submit(rt, seat, &Event::Hang { conn }, &mut nothing);
+        return (seat, Ok(()));
     };
     (seat, Ok(()))
 }

@@ -1,7 +1,7 @@
-//! An agent that serves many connections: each connection that comes is two jobs for a spawner, one that takes what
-//! is sent to the agent and one that writes what it replies. A further job asks the authentication server, and one
-//! answers what the agent asks its user. All of them share one agent, and one history. Beside it the program as a
-//! library: its command words, each job as a task of a thread, and what it ends with.
+//! An agent that serves many connections: each connection that comes is a job for a spawner, which hands on what is sent
+//! to the agent and writes what it replies. Further jobs ask the authentication server, and one answers what the agent
+//! asks its user. All of them share one agent, and one history. Beside it the program as a library: its command words,
+//! each job as a task of a thread, and what it ends with.
 #![tactic(auto)]
 
 mod accept;
@@ -10,6 +10,7 @@ mod job;
 mod prompts;
 mod spawner;
 mod task;
+mod waits;
 mod words;
 
 pub use accept::{ServeEnd, serve};
@@ -19,4 +20,5 @@ pub use job::{Job, JobEnd, run_job};
 pub use prompts::{PromptsEnd, serve_prompts};
 pub use spawner::HubSpawner;
 pub use task::{Again, Task, Tools};
+pub use waits::LineWaits;
 pub use words::{ServeWords, read_serve_words};

@@ -1,12 +1,16 @@
 // Each job as a task of a thread.
 use crate::job::{Job, run_job};
+use crate::waits::LineWaits;
 use agent_hub::Hub;
 use attr_tuples::Tuple;
 use prompters::{Chain, Deny, Limited, Prompter};
+use readiness::{Offers, Watched};
 use std::alloc::Global;
 use std::marker::Model;
+use std::net::Net;
 use std::sync::{Arc, Wait};
-use wire_streams::{Dialer, Sink, Source, Words};
+use std::time::Clock;
+use wire_streams::{Dialer, Source, Words};
 
 /// What the tools of a job are made from, once for each job.
 pub trait Again: Sized {
@@ -54,9 +58,9 @@ impl<I, O, T> Model for Task<I, O, T> {
 
 impl<R, I, O, T> sockets::Job<R> for Task<I, O, T>
 where
-    R: Wait + AllocGlobal,
-    I: Source + Drop,
-    O: Sink + Drop,
+    R: Wait + Net + Clock + AllocGlobal,
+    I: Source + Watched + Drop,
+    O: Offers + Drop,
     T: Tools<R> + Drop,
 {
     // The prompters of the job that answers for the user are one that says yes so often, if ever, and one that says no; where
@@ -78,7 +82,25 @@ where
             }
         }
         let mut chain = Chain::new(list);
+        let mut waits = waits_of(rt, alloc, &hub, &job);
         let (mut dial, mut rand) = tools.tools(rt);
-        let _ended = run_job(rt, alloc, &hub, job, &mut dial, &mut rand, &mut chain);
+        let _ended = run_job(
+            rt, alloc, &hub, job, &mut dial, &mut rand, &mut chain, &mut waits,
+        );
+    }
+}
+
+// What the job of a connection waits by; other jobs don't wait for one.
+fn waits_of<'a, R: Wait, I: Watched, O>(
+    rt: &'a R,
+    alloc: Global,
+    hub: &'a Hub,
+    job: &Job<I, O>,
+) -> LineWaits<'a, R> {
+    match job {
+        Job::Line { conn, source, .. } => {
+            LineWaits::new(rt, alloc, hub, *conn, source.descriptor())
+        }
+        Job::Asks { .. } | Job::Prompts { .. } => LineWaits::new(rt, alloc, hub, u64::MAX, None),
     }
 }

@@ -22,6 +22,7 @@ pub fn serve<R: Wait, L: Listener, P: Spawner<Job<L::In, L::Out>>>(
     alloc: Global,
     hub: &Hub,
     seat: HubSeat,
+    asks: u32,
     listener: &mut L,
     spawner: &mut P,
 ) -> (HubSeat, ServeEnd)
@@ -33,8 +34,9 @@ where
         → P.takes spawner.old job }
     ensures seat { IsSeatOf hub.now result.0 }
 
-    ensures served { ServesSo result.1 seat result.0 (L.to_come listener.old)
-        (L.to_come listener.new) (P.taken spawner.old) (P.taken spawner.new) }
+    ensures served { ServesSo result.1 asks seat result.0 (L.to_come listener.old)
+        (L.to_come listener.new) (P.taken spawner.old) (P.taken spawner.new)
+        (P.faults spawner.old) (P.faults spawner.new) }
 
     ensures listen_fault { result.1 ≡ ServeEnd.ListenFault
         → Rose (L.faults listener.old) (L.faults listener.new) }
@@ -43,7 +45,7 @@ where
     ensures counted_accepts { L.faults listener.old ≤ L.faults listener.new }
     ensures counted_jobs { P.faults spawner.old ≤ P.faults spawner.new }
 {
-    agent_serving::serve(rt, alloc, hub, seat, listener, spawner)
+    agent_serving::serve(rt, alloc, hub, seat, asks, listener, spawner)
 }
 
 /// As `end_number`.

@@ -42,9 +42,12 @@ const AUTH_SERVER: &[u8] = b"127.0.0.1:5670";
 /// How many seconds an exchange with it may take.
 const PATIENCE: u64 = 30;
 
+/// How many milliseconds replies wait for room at a client before something else is looked at.
+const ROOM: u64 = 1;
+
 /// The commands and their options, which stand behind the line of a faulty command line.
 const COMMANDS: &[u8] = b"    factotum pipe [--auth ADDR]
-    factotum serve --listen ADDR [--auth ADDR] [--consent N]
+    factotum serve --listen ADDR [--auth ADDR] [--consent N] [--asks N]
     factotum authsrv --dom D --keys PATH --speaks PATH
     factotum world
     factotum gen --number N --rounds K
@@ -250,7 +253,7 @@ impl<R: Net<Stream = TcpStream> + Clock + Wait + AllocGlobal + Copy + Drop> Tool
 
 // Listens at an address. Where nobody can, that is told on standard error.
 fn listen(rt: &HostRuntime, address: &Text) -> Result<SocketListener<HostRuntime>, ServeEnd> {
-    match SocketListener::open(*rt, rt.alloc(), address) {
+    match SocketListener::open(*rt, rt.alloc(), address, Some(Duration::from_millis(ROOM))) {
         Ok(listener) => {
             tell_of(rt, b"factotum: listening on ", address.as_slice());
             Ok(listener)
@@ -336,14 +339,23 @@ fn main(rt: HostRuntime) -> ExitCode {
         let end = match (
             tools,
             new_hub(&rt),
-            ThreadSpawner::new(rt, rt.alloc(), "factotum", Unstarted::Dropped),
+            ThreadSpawner::new(rt, rt.alloc(), "factotum", Unstarted::Told),
         ) {
             (Some(tools), Ok((hub, seat)), Ok(threads)) => match Arc::try_clone(&hub) {
                 Ok(shared) => match listen(&rt, &words[given.listen]) {
                     Ok(mut listener) => {
                         let mut spawner = HubSpawner::new(shared, tools, threads);
                         let alloc = rt.alloc();
-                        serve(&rt, alloc, &hub, seat, &mut listener, &mut spawner).1
+                        serve(
+                            &rt,
+                            alloc,
+                            &hub,
+                            seat,
+                            given.asks,
+                            &mut listener,
+                            &mut spawner,
+                        )
+                        .1
                     }
                     Err(end) => end,
                 },

@@ -18,7 +18,7 @@ fn text(alloc: Global, bytes: &[u8]) -> Result<Text, Fail> {
 }
 
 // What the peer sends is read, and what is written comes to it.
-fn speaks<R: Net + Files + Clock + Drop, S: Read + Write>(
+fn speaks<R: Net<Stream = TcpStream> + Files + Clock + Drop, S: Read + Write>(
     listener: &mut SocketListener<R>,
     peer: &mut S,
 ) -> Result<bool, Fail> {
@@ -45,13 +45,13 @@ fn free_address(rt: &HostRuntime) -> Result<Text, Fail> {
 fn accepts_over_tcp(rt: HostRuntime) -> Result<(), Fail> {
     let address = free_address(&rt)?;
     let place = std::str::from_utf8(address.as_slice()).map_err(|_| "address")?;
-    let mut listener = SocketListener::open(rt, rt.alloc(), &address).map_err(
+    let mut listener = SocketListener::open(rt, rt.alloc(), &address, None).map_err(
         |_| "it doesn't listen",
     )?;
     let mut peer = TcpStream::connect(&rt, place)?;
     assert!(rt; speaks(&mut listener, &mut peer)?);
     for bad in [b"127.0.0.1".as_slice(), b"127.0.0.1:x", b""] {
-        let opened = SocketListener::open(rt, rt.alloc(), &text(rt.alloc(), bad)?);
+        let opened = SocketListener::open(rt, rt.alloc(), &text(rt.alloc(), bad)?, None);
         assert!(rt; matches!(opened, Err(OpenFault::BadAddress)));
     }
     Ok(())
@@ -66,19 +66,19 @@ fn accepts_over_a_unix_socket(rt: HostRuntime) -> Result<(), Fail> {
     let address = text(alloc, place.as_bytes())?;
     for _ in 0..2 {
         // The second round finds the file of a listener that is gone.
-        let mut listener = SocketListener::open(rt, alloc, &address).map_err(
+        let mut listener = SocketListener::open(rt, alloc, &address, None).map_err(
             |_| "it doesn't listen",
         )?;
         let mut peer = UnixStream::connect(&rt, place)?;
         assert!(rt; speaks(&mut listener, &mut peer)?);
         let mode = fs::metadata(&rt, place)?.mode();
         expect(&rt, &(mode % 0o1000), &0o600);
-        let second = SocketListener::open(rt, alloc, &address);
+        let second = SocketListener::open(rt, alloc, &address, None);
         assert!(rt; matches!(second, Err(OpenFault::InUse)));
     }
     fs::remove_file(&rt, place)?;
     fs::write(&rt, place, "not a socket")?;
-    let opened = SocketListener::open(rt, alloc, &address);
+    let opened = SocketListener::open(rt, alloc, &address, None);
     assert!(rt; matches!(opened, Err(OpenFault::NoSocket)));
     fs::remove_file(&rt, place)?;
     Ok(())

@@ -11,8 +11,10 @@ use agent_serving::{Again, HubSpawner, ServeEnd, Tools, serve};
 use auth_server::{AuthCore, Session};
 use auth_tables::{parse_keys, parse_speaks};
 use frames::{LOG_IN, READ_KEYS};
+use readiness::{Offer, Offers, Watched};
 use sockets::{ThreadSpawner, Unstarted};
 use std::alloc::Global;
+use std::os::fd::RawFd;
 use std::sync::Arc;
 use std::sync::atomic::{AtomicU64, Ordering};
 use std::test::Fail;
@@ -105,6 +107,12 @@ fn count_frames(frames: &[u8]) -> u64 {
     count
 }
 
+impl Watched for Requests {
+    fn descriptor(&self) -> Option<RawFd> {
+        None
+    }
+}
+
 /// What a client is sent.
 #[derive(Drop)]
 struct Replies {
@@ -139,6 +147,15 @@ impl Sink for Replies {
             self.flags.second.fetch_add(count, Ordering::SeqCst);
         }
         put
+    }
+}
+
+impl Offers for Replies {
+    fn offer(&mut self, piece: &[u8]) -> Offer {
+        match self.write(piece) {
+            Put::Took(count) => Offer::Took(count),
+            Put::Failed => Offer::Failed,
+        }
     }
 }
 
@@ -351,7 +368,7 @@ fn a_connection_is_answered_while_another_waits(rt: HostRuntime) -> Result<(), F
         return Err("no thread".into());
     };
     let mut spawner = HubSpawner::new(Arc::try_clone(&hub)?, tools, threads);
-    let (_, end) = serve(&rt, alloc, &hub, seat, &mut listener, &mut spawner);
+    let (_, end) = serve(&rt, alloc, &hub, seat, 1, &mut listener, &mut spawner);
     assert_eq!(rt; end, ServeEnd::ListenFault);
     assert_eq!(rt; flags.failed.load(Ordering::SeqCst), 0);
     assert_eq!(rt; flags.first.load(Ordering::SeqCst), LOG_IN_REQUESTS);

@@ -6,10 +6,12 @@ ghost use Rattle.agent_serving.specs.Jobs.{seat_of};
 
 use agent_core::Agent;
 use agent_history::{Event, StepAnswer};
-use agent_hub::{AsksEnd, Hub, HubSeat, InEnd, OutEnd};
+use agent_hub::{AsksEnd, Hub, HubSeat};
+use agent_lines::LineEnd;
 use agent_serving::{Job, JobEnd, PromptsEnd, ServeEnd, run_job, serve};
 use attr_tuples::Tuple;
 use prompters::{Chain, Deny, Limited, Prompter};
+use readiness::AtOnce;
 use std::alloc::Global;
 use std::process::Abort;
 use std::sync::Wait;
@@ -255,7 +257,16 @@ fn answer<R: Wait>(rt: &R, alloc: Global, hub: &Hub, seat: HubSeat) -> Result<(J
     let job: ServedJob = Job::Prompts { seat, conn: 9 };
     let mut dialer = MemDialer::new(alloc, Vec::new(alloc), Vec::new(alloc));
     let mut words = MemWords::new(Vec::new(alloc), Vec::new(alloc));
-    let (_, end) = run_job(rt, alloc, hub, job, &mut dialer, &mut words, &mut chain);
+    let (_, end) = run_job(
+        rt,
+        alloc,
+        hub,
+        job,
+        &mut dialer,
+        &mut words,
+        &mut chain,
+        &mut AtOnce,
+    );
     Ok((end, chain.len()))
 }
 
@@ -364,7 +375,16 @@ fn expect_end<R: Wait + Abort>(
     let words = vec![in alloc; [7_u8; 8]; 4]?;
     let mut words = MemWords::new(words, Vec::new(alloc));
     let mut chain = nobody(alloc);
-    let (seat, end) = run_job(rt, alloc, hub, job, &mut dialer, &mut words, &mut chain);
+    let (seat, end) = run_job(
+        rt,
+        alloc,
+        hub,
+        job,
+        &mut dialer,
+        &mut words,
+        &mut chain,
+        &mut AtOnce,
+    );
     assert_eq!(rt; end, wanted);
     Ok(seat)
 }
@@ -373,20 +393,13 @@ fn expect_end<R: Wait + Abort>(
 fn each_job_does_what_it_names(rt: HostRuntime) -> Result<(), Fail> {
     let alloc = rt.alloc();
     let (hub, seat) = new_hub(alloc)?;
-    let source = MemSource::new(VERSION.to_vec(alloc)?, Vec::new(alloc));
-    let take = Job::In {
+    let line = Job::Line {
         seat,
         conn: 0,
-        source,
+        source: MemSource::new(VERSION.to_vec(alloc)?, Vec::new(alloc)),
+        sink: MemSink::new(Vec::new(alloc), Vec::new(alloc)),
     };
-    let seat = expect_end(&rt, alloc, &hub, take, JobEnd::In(InEnd::End))?;
-    let sink = MemSink::new(Vec::new(alloc), Vec::new(alloc));
-    let write = Job::Out {
-        seat,
-        conn: 0,
-        sink,
-    };
-    let seat = expect_end(&rt, alloc, &hub, write, JobEnd::Out(OutEnd::Gone))?;
+    let seat = expect_end(&rt, alloc, &hub, line, JobEnd::Line(LineEnd::End))?;
     let prompts = Job::Prompts { seat, conn: 1 };
     let idle = JobEnd::Prompts(PromptsEnd::Idle);
     let seat = expect_end(&rt, alloc, &hub, prompts, idle)?;
@@ -401,40 +414,64 @@ fn each_job_does_what_it_names(rt: HostRuntime) -> Result<(), Fail> {
 // The name of a job's kind, and its connection.
 fn name_of(job: &ServedJob) -> (&'static str, u64) {
     match job {
-        Job::In { conn, .. } => ("in", *conn),
-        Job::Out { conn, .. } => ("out", *conn),
+        Job::Line { conn, .. } => ("line", *conn),
         Job::Asks { .. } => ("asks", 0),
         Job::Prompts { conn, .. } => ("prompts", *conn),
     }
 }
 
-#[test]
-fn each_connection_is_two_jobs(rt: HostRuntime) -> Result<(), Fail> {
-    let alloc = rt.alloc();
-    let (hub, seat) = new_hub(alloc)?;
+// So many connections whose clients send nothing.
+fn silent(alloc: Global, count: usize) -> Result<MemListener<MemSource, MemSink>, Fail> {
     let mut pairs = Vec::new(alloc);
-    for _ in 0..2 {
+    for _ in 0..count {
         let source = MemSource::new(Vec::new(alloc), Vec::new(alloc));
         let sink = MemSink::new(Vec::new(alloc), Vec::new(alloc));
         pairs.push((source, sink))?;
     }
-    let mut listener = MemListener::new(pairs, Vec::new(alloc));
+    Ok(MemListener::new(pairs, Vec::new(alloc)))
+}
+
+// These jobs were taken.
+fn expect_jobs(rt: &impl Abort, taken: &[ServedJob], wanted: &[(&str, u64)]) {
+    assert_eq!(rt; taken.len(), wanted.len());
+    for (job, want) in taken.iter().zip(wanted.iter()) {
+        let (name, conn) = name_of(job);
+        assert_eq!(rt; name, want.0);
+        assert_eq!(rt; conn, want.1);
+    }
+}
+
+// The fifth job finds no thread: that of the second connection, which is hung up.
+#[test]
+fn each_connection_is_a_job_or_hung_up(rt: HostRuntime) -> Result<(), Fail> {
+    let alloc = rt.alloc();
+    let (hub, seat) = new_hub(alloc)?;
+    let mut listener = silent(alloc, 3)?;
     let jobs: Vec<ServedJob> = Vec::new(alloc);
-    let mut spawner = MemSpawner::new(jobs, Vec::new(alloc));
-    let (_, end) = serve(&rt, alloc, &hub, seat, &mut listener, &mut spawner);
+    let mut spawner = MemSpawner::new(jobs, [5].to_vec(alloc)?);
+    let (_, end) = serve(&rt, alloc, &hub, seat, 2, &mut listener, &mut spawner);
     assert_eq!(rt; end, ServeEnd::ListenFault);
     let wanted = [
         ("asks", 0),
+        ("asks", 0),
         ("prompts", u64::MAX),
-        ("in", 0),
-        ("out", 0),
-        ("in", 1),
-        ("out", 1),
+        ("line", 0),
+        ("line", 2),
     ];
-    let taken = spawner.content();
-    assert_eq!(rt; taken.len(), wanted.len());
-    for (job, want) in taken.iter().zip(wanted.iter()) {
-        assert_eq!(rt; name_of(job), *want);
-    }
+    expect_jobs(&rt, spawner.content(), &wanted);
+    Ok(())
+}
+
+// Without a thread for a job of the questions nothing is accepted.
+#[test]
+fn nothing_is_accepted_without_the_jobs_of_questions(rt: HostRuntime) -> Result<(), Fail> {
+    let alloc = rt.alloc();
+    let (hub, seat) = new_hub(alloc)?;
+    let mut listener = silent(alloc, 1)?;
+    let jobs: Vec<ServedJob> = Vec::new(alloc);
+    let mut spawner = MemSpawner::new(jobs, [2].to_vec(alloc)?);
+    let (_, end) = serve(&rt, alloc, &hub, seat, 2, &mut listener, &mut spawner);
+    assert_eq!(rt; end, ServeEnd::NoThread);
+    expect_jobs(&rt, spawner.content(), &[("asks", 0)]);
     Ok(())
 }

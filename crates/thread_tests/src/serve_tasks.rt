@@ -32,11 +32,13 @@ fn expect_words(
     listen: usize,
     auth: Option<usize>,
     consents: u32,
+    asks: u32,
 ) -> Result<(), Fail> {
     let wanted = ServeWords {
         listen,
         auth,
         consents,
+        asks,
     };
     expect(rt, &read(alloc, line)?, &Some(wanted));
     Ok(())
@@ -45,24 +47,34 @@ fn expect_words(
 #[test]
 fn options_come_in_any_order(rt: HostRuntime) -> Result<(), Fail> {
     let alloc = rt.alloc();
-    expect_words(&rt, alloc, b"serve --listen /s", 2, None, 0)?;
-    expect_words(&rt, alloc, b"serve --auth a:1 --listen /s", 4, Some(2), 0)?;
-    expect_words(&rt, alloc, b"serve --consent 7 --listen /s", 4, None, 7)?;
+    expect_words(&rt, alloc, b"serve --listen /s", 2, None, 0, 8)?;
     expect_words(
         &rt,
         alloc,
-        b"serve --auth a:1 --consent 4294967295 --listen /s",
-        6,
+        b"serve --auth a:1 --listen /s",
+        4,
         Some(2),
+        0,
+        8,
+    )?;
+    expect_words(&rt, alloc, b"serve --consent 7 --listen /s", 4, None, 7, 8)?;
+    expect_words(
+        &rt,
+        alloc,
+        b"serve --asks 1 --auth a:1 --consent 4294967295 --listen /s",
+        8,
+        Some(4),
         u32::MAX,
+        1,
     )?;
     expect_words(
         &rt,
         alloc,
-        b"serve --consent 0 --listen /s --auth a:1",
+        b"serve --consent 0 --listen /s --auth a:1 --asks 64",
         4,
         Some(6),
         0,
+        64,
     )
 }
 
@@ -70,12 +82,18 @@ static FAULTY: &[&[u8]] = &[
     b"serve",
     b"serve --consent 1",
     b"serve --listen",
+    b"serve --listen -s",
     b"serve --listen /s --consent 01",
     b"serve --listen /s --consent 4294967296",
     b"serve --listen /s --consent 1x",
     b"serve --listen /s --consent -1",
     b"serve --listen /s --listen /t",
     b"serve --listen /s --consent 1 --consent 2",
+    b"serve --listen /s --asks 0",
+    b"serve --listen /s --asks 65",
+    b"serve --listen /s --asks 08",
+    b"serve --listen /s --ask 8",
+    b"serve --listen /s --asks",
     b"serves --listen /s",
 ];
 
@@ -143,15 +161,16 @@ fn accept_one(rt: &impl Wait, alloc: Global, lost: u64) -> Result<ServeEnd, Fail
     let sink = MemSink::new(Vec::new(alloc), Vec::new(alloc));
     pairs.push((source, sink))?;
     let mut listener = MemListener::new(pairs, Vec::new(alloc));
-    let (_, end) = serve(rt, alloc, &hub, seat, &mut listener, &mut spawner);
+    let (_, end) = serve(rt, alloc, &hub, seat, 1, &mut listener, &mut spawner);
     Ok(end)
 }
 
-// Four jobs are started: the fourth call is made, and no fifth.
+// Two jobs for questions are started: without the second nothing is accepted. The third is the connection's, which is hung up
+// without it.
 #[test]
 fn each_job_is_a_task_with_tools_of_its_own(rt: HostRuntime) -> Result<(), Fail> {
     let alloc = rt.alloc();
-    expect(&rt, &accept_one(&rt, alloc, 4)?, &ServeEnd::NoThread);
-    expect(&rt, &accept_one(&rt, alloc, 5)?, &ServeEnd::ListenFault);
+    expect(&rt, &accept_one(&rt, alloc, 2)?, &ServeEnd::NoThread);
+    expect(&rt, &accept_one(&rt, alloc, 3)?, &ServeEnd::ListenFault);
     Ok(())
 }

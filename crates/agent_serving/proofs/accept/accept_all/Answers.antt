@@ -19,7 +19,7 @@ pub returns-then-conn-clause-seat : goal.returns-then-conn-clause-seat
 returns-then-conn-clause-seat g c = c.loop.invariant.seat
 
 pub returns-then-conn-clause-ended : goal.returns-then-conn-clause-ended
-returns-then-conn-clause-ended g c = no_number c.args.seat _ _ c.loop.seat _ _ _ c.loop.invariant.going
+returns-then-conn-clause-ended g c = no_number c.args.asks c.args.seat _ _ _ c.loop.seat _ _ _ _ c.loop.invariant.going
 
 pub returns-then-conn-clause-counted_accepts : goal.returns-then-conn-clause-counted_accepts
 returns-then-conn-clause-counted_accepts g c = c.loop.invariant.accepts
@@ -34,13 +34,13 @@ pub serve_next-next-requires-clause-takes : goal.serve_next-next-requires-clause
 serve_next-next-requires-clause-takes g c = c.loop.invariant.takes
 
 pub returns-in-Err-clause-ended : goal.returns-in-Err-clause-ended
-returns-in-Err-clause-ended g c = (rw c.in-Err.is at c.serve_next-next.ensures.ends) c.args.seat _ _ c.loop.invariant.going
+returns-in-Err-clause-ended g c = (rw c.in-Err.is at c.serve_next-next.ensures.ends) c.args.asks c.args.seat _ _ _ c.loop.invariant.going
 
 pub returns-in-Err-clause-listen_fault : goal.returns-in-Err-clause-listen_fault
 returns-in-Err-clause-listen_fault g c e = rose_since _ _ _ c.loop.invariant.accepts (c.serve_next-next.ensures.listen_fault (c.in-Err.is ∙ ap Err e))
 
 pub returns-in-Err-clause-no_thread : goal.returns-in-Err-clause-no_thread
-returns-in-Err-clause-no_thread g c e = rose_since _ _ _ c.loop.invariant.jobs (c.serve_next-next.ensures.no_thread (c.in-Err.is ∙ ap Err e))
+returns-in-Err-clause-no_thread g c e = absurd (c.serve_next-next.ensures.begun (c.in-Err.is ∙ ap Err e))
 
 pub returns-in-Err-clause-counted_accepts : goal.returns-in-Err-clause-counted_accepts
 returns-in-Err-clause-counted_accepts g c = omega (arith, c.loop.invariant.accepts, c.serve_next-next.ensures.counted_accepts)
@@ -52,7 +52,7 @@ pub loop-preserved : goal.loop-preserved
 loop-preserved g c = record {
   seat = c.serve_next-next.ensures.seat;
   takes = c.serve_next-next.ensures.takes;
-  going = (rw c.in-Ok-served.is at c.serve_next-next.ensures.going) c.args.seat _ _ c.loop.invariant.going;
+  going = (rw c.in-Ok-served.is at c.serve_next-next.ensures.going) c.args.asks c.args.seat _ _ _ c.loop.invariant.going;
   accepts = omega (arith, c.loop.invariant.accepts, c.serve_next-next.ensures.counted_accepts);
   jobs = omega (arith, c.loop.invariant.jobs, c.serve_next-next.ensures.counted_jobs);
 }

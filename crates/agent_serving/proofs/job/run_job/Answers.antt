@@ -1,17 +1,11 @@
 use Rattle.agent_serving.proofs.job.run_job.Goals as goal
 
-pub returns-in-In-clause-done : goal.returns-in-In-clause-done
-returns-in-In-clause-done g c = rw c.in-In.is (record {
-  now = c.serve_in-seat.new.source;
-  ends = c.serve_in-seat.ensures.handed;
-  fault = c.serve_in-seat.ensures.read_fault;
-})
-
-pub returns-in-Out-clause-done : goal.returns-in-Out-clause-done
-returns-in-Out-clause-done g c = rw c.in-Out.is (record {
-  now = c.serve_out-seat.new.sink;
-  ends = c.serve_out-seat.ensures.delivered;
-  fault = c.serve_out-seat.ensures.cause;
+pub returns-in-Line-clause-done : goal.returns-in-Line-clause-done
+returns-in-Line-clause-done g c = rw c.in-Line.is (record {
+  read = c.serve_line-seat.new.source;
+  written = c.serve_line-seat.new.sink;
+  ends = c.serve_line-seat.ensures.served;
+  caused = c.serve_line-seat.ensures.caused;
 })
 
 pub returns-in-Asks-clause-done : goal.returns-in-Asks-clause-done
