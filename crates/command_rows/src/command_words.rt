@@ -4,10 +4,10 @@ use crate::stage::words_of;
 use crate::texts::argument;
 use anyhow::bail;
 use auth_program::{AuthdWords, AuthsrvWords, Status, read_authd_words, read_authsrv_words};
+use factotum_program::{GenWords, is_world, read_gen_words};
 use row_files::{Report, Row};
 use std::alloc::Global;
 use wire_base::Text;
-use world_program::{GenWords, is_world, read_gen_words};
 
 // Puts that the words are no command's.
 fn put_refusal(status: Status, came: &mut Came) -> anyhow::Result<()> {

@@ -10,3 +10,4 @@ mod words;
 
 pub use command::run_command;
 pub use words::{Task, read_words};
+pub use world_program::{GenWords, is_world, read_gen_words};
