@@ -420,33 +420,18 @@ fn name_of(job: &ServedJob) -> (&'static str, u64) {
     }
 }
 
-// So many connections whose clients send nothing.
-fn silent(alloc: Global, count: usize) -> Result<MemListener<MemSource, MemSink>, Fail> {
-    let mut pairs = Vec::new(alloc);
-    for _ in 0..count {
-        let source = MemSource::new(Vec::new(alloc), Vec::new(alloc));
-        let sink = MemSink::new(Vec::new(alloc), Vec::new(alloc));
-        pairs.push((source, sink))?;
-    }
-    Ok(MemListener::new(pairs, Vec::new(alloc)))
-}
-
-// These jobs were taken.
-fn expect_jobs(rt: &impl Abort, taken: &[ServedJob], wanted: &[(&str, u64)]) {
-    assert_eq!(rt; taken.len(), wanted.len());
-    for (job, want) in taken.iter().zip(wanted.iter()) {
-        let (name, conn) = name_of(job);
-        assert_eq!(rt; name, want.0);
-        assert_eq!(rt; conn, want.1);
-    }
-}
-
 // The fifth job finds no thread: that of the second connection, which is hung up.
 #[test]
 fn each_connection_is_a_job_or_hung_up(rt: HostRuntime) -> Result<(), Fail> {
     let alloc = rt.alloc();
     let (hub, seat) = new_hub(alloc)?;
-    let mut listener = silent(alloc, 3)?;
+    let mut pairs = Vec::new(alloc);
+    for _ in 0..3 {
+        let source = MemSource::new(Vec::new(alloc), Vec::new(alloc));
+        let sink = MemSink::new(Vec::new(alloc), Vec::new(alloc));
+        pairs.push((source, sink))?;
+    }
+    let mut listener = MemListener::new(pairs, Vec::new(alloc));
     let jobs: Vec<ServedJob> = Vec::new(alloc);
     let mut spawner = MemSpawner::new(jobs, [5].to_vec(alloc)?);
     let (_, end) = serve(&rt, alloc, &hub, seat, 2, &mut listener, &mut spawner);
@@ -458,20 +443,10 @@ fn each_connection_is_a_job_or_hung_up(rt: HostRuntime) -> Result<(), Fail> {
         ("line", 0),
         ("line", 2),
     ];
-    expect_jobs(&rt, spawner.content(), &wanted);
-    Ok(())
-}
-
-// Without a thread for a job of the questions nothing is accepted.
-#[test]
-fn nothing_is_accepted_without_the_jobs_of_questions(rt: HostRuntime) -> Result<(), Fail> {
-    let alloc = rt.alloc();
-    let (hub, seat) = new_hub(alloc)?;
-    let mut listener = silent(alloc, 1)?;
-    let jobs: Vec<ServedJob> = Vec::new(alloc);
-    let mut spawner = MemSpawner::new(jobs, [2].to_vec(alloc)?);
-    let (_, end) = serve(&rt, alloc, &hub, seat, 2, &mut listener, &mut spawner);
-    assert_eq!(rt; end, ServeEnd::NoThread);
-    expect_jobs(&rt, spawner.content(), &[("asks", 0)]);
+    let taken = spawner.content();
+    assert_eq!(rt; taken.len(), wanted.len());
+    for (job, want) in taken.iter().zip(wanted.iter()) {
+        assert_eq!(rt; name_of(job), *want);
+    }
     Ok(())
 }
