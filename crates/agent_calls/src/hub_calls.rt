@@ -1,20 +1,21 @@
-// The public calls of `agent_hub`.
-ghost use Rattle.std.specs.Prelude.{◌≤◌, ◌≡◌, ◌∷◌, ◌<◌, []};
+// The public calls of `agent_hub`, and the job of a connection over them.
+ghost use Rattle.std.specs.Prelude.{◌≤◌, ◌<◌};
 ghost use Rattle.agent_core.specs.Events.{IsEvent};
-ghost use Rattle.agent_history.specs.declared.event.Event.TheVariants.{Hang};
 ghost use Rattle.agent_hub.specs.Asking.{AsksEndSo};
 ghost use Rattle.agent_hub.specs.Exchanging.{IsCollected, IsExchanged};
-ghost use Rattle.agent_hub.specs.Replying.{OutEndsSo};
-ghost use Rattle.agent_hub.specs.Requesting.{InEndsSo, frames_in};
+ghost use Rattle.agent_hub.specs.Requesting.{frames_in};
 ghost use Rattle.agent_hub.specs.Submits.{IsSeatOf, IsSubmitted, HubSeat};
+ghost use Rattle.agent_lines.specs.Lining.{CausedBy, LineEndsSo, moment};
 ghost use Rattle.wire_streams.specs.Causes.{Rose};
 
 use agent_history::Event;
-use agent_hub::{AsksEnd, Exchanged, Hub, HubSeat, InEnd, OutEnd, Submitted, TakesEnd};
+use agent_hub::{AsksEnd, Exchanged, Hub, HubSeat, Submitted, TakesEnd};
+use agent_lines::LineEnd;
+use readiness::{Awaits, Offers};
 use std::alloc::Global;
 use std::sync::Wait;
 use wire_base::Bytes;
-use wire_streams::{Dialer, Sink, Source, Words, WriteFault};
+use wire_streams::{Dialer, Source, Words};
 
 /// As `Hub::submit`.
 pub fn hub_submit<R: Wait>(
@@ -84,44 +85,30 @@ pub fn serve_asks<R: Wait, D: Dialer>(
     agent_hub::serve_asks(rt, alloc, hub, seat, dialer)
 }
 
-/// As `serve_out`.
-pub fn serve_out<R: Wait, W: Sink>(
-    rt: &R,
-    alloc: Global,
-    hub: &Hub,
-    seat: HubSeat,
-    conn: u64,
-    sink: &mut W,
-) -> (HubSeat, OutEnd)
-    requires { IsSeatOf hub.now seat }
-    ensures seat { IsSeatOf hub.now result.0 }
-    ensures delivered { OutEndsSo result.1 conn seat result.0 (W.holds sink.old) (W.holds sink.new) }
-    ensures cause { result.1 ≡ OutEnd.WriteFault → Rose (W.faults sink.old) (W.faults sink.new) }
-    ensures counted { W.faults sink.old ≤ W.faults sink.new }
-{
-    agent_hub::serve_out(rt, alloc, hub, seat, conn, sink)
-}
-
-/// As `serve_in`.
-pub fn serve_in<R: Wait, S: Source, G: Words>(
+/// As `serve_line`.
+pub fn serve_line<R: Wait, S: Source, W: Offers, G: Words, A: Awaits>(
     rt: &R,
     alloc: Global,
     hub: &Hub,
     seat: HubSeat,
     conn: u64,
     source: &mut S,
+    sink: &mut W,
     words: &mut G,
-) -> (HubSeat, InEnd)
+    awaits: &mut A,
+) -> (HubSeat, LineEnd)
     requires { IsSeatOf hub.now seat }
     ensures seat { IsSeatOf hub.now result.0 }
-    ensures handed { InEndsSo conn (Hang conn ∷ []) seat result.0 (G.to_come words.old)
-        (G.to_come words.new) (S.left source.old) (S.left source.new) result.1 }
-    ensures read_fault { result.1 ≡ InEnd.ReadFault
-        → Rose (S.faults source.old) (S.faults source.new) }
-    ensures word_fault { result.1 ≡ InEnd.WordFault
-        → Rose (G.faults words.old) (G.faults words.new) }
+    ensures served { LineEndsSo result.1 conn
+        (moment seat (G.to_come words.old) (S.left source.old) (W.holds sink.old))
+        (moment result.0 (G.to_come words.new) (S.left source.new) (W.holds sink.new)) }
+    ensures caused { CausedBy result.1
+        (Rose (S.faults source.old) (S.faults source.new))
+        (Rose (G.faults words.old) (G.faults words.new))
+        (Rose (W.faults sink.old) (W.faults sink.new)) }
     ensures counted_reads { S.faults source.old ≤ S.faults source.new }
     ensures counted_words { G.faults words.old ≤ G.faults words.new }
+    ensures counted_writes { W.faults sink.old ≤ W.faults sink.new }
 {
-    agent_hub::serve_in(rt, alloc, hub, seat, conn, source, words)
+    agent_lines::serve_line(rt, alloc, hub, seat, conn, source, sink, words, awaits)
 }

@@ -17,8 +17,7 @@ use Rattle.agent_hub.specs.declared.exchange.Exchanged.{Exchanged}
 use Rattle.agent_hub.specs.declared.exchange.TakesEnd.{TakesEnd}
 use Rattle.agent_hub.specs.declared.exchange.TakesEnd.TheVariants.{NoneLeft, Stopped, Left}
 use Rattle.agent_hub.specs.Submits.{HubSeat}
-use Rattle.agent_hub.specs.Entries.{Adds, Entered, entered_by, events_in, in_turn}
-use Rattle.agent_hub.specs.Replying.{text_of}
+use Rattle.agent_hub.specs.Entries.{Adds, Entered, entered_by, events_in, in_turn, text_of}
 use Rattle.agent_hub.specs.Requesting.{Drawn, frames_in, frames_of, most_frame, requests, words_of}
 use Rattle.agent_hub.specs.Exchanging.{Converses, Collects, CutsOff, EndsBy, EntersAll, GoesOn, Handled, Handles, IsCollected, IsExchanged, Puts, Serves, ServesOne, Serving, TakesEndSo, TakesSome, Taking, TookOne, batch_events, drawn_in, events_for, handled_behind, handled_for, is_take, taken_of, without_takes}
 use Rattle.agent_hub.proofs.EntryLemmas.{adds_none}

@@ -30,6 +30,11 @@ in_turn history (event ∷ done) = entry (done ++ history) event ∷ in_turn his
 abbrev pub events_in : List Entered → List Event
 events_in entries = map (λ (e : Entered). e.event) entries
 
+-- the bytes that some entries were answered by, those of the oldest first
+abbrev pub text_of : List Entered → List ℕ
+text_of [] = []
+text_of (e ∷ older) = text_of older ++ (answer e.before e.event).1
+
 -- the newest of these entries was answered so
 abbrev pub LastIs : StepAnswer → List Entered → Type 0
 LastIs a [] = ⊥

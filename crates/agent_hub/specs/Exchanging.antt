@@ -15,8 +15,7 @@ use Rattle.agent_hub.specs.declared.exchange.Exchanged.{Exchanged}
 use Rattle.agent_hub.specs.declared.exchange.TakesEnd.{TakesEnd}
 use Rattle.agent_hub.specs.declared.exchange.TakesEnd.TheVariants.{NoneLeft, Stopped, Left}
 use Rattle.agent_hub.specs.Submits.{HubSeat}
-use Rattle.agent_hub.specs.Entries.{Adds, Entered, events_in, in_turn}
-use Rattle.agent_hub.specs.Replying.{text_of}
+use Rattle.agent_hub.specs.Entries.{Adds, Entered, events_in, in_turn, text_of}
 use Rattle.agent_hub.specs.Requesting.{Drawn, drawn_for, frames_in, frames_of, most_frame, requests, words_of}
 
 abbrev pub is_take : ℕ → Event → Bool

@@ -2,10 +2,8 @@ pub use Rattle.agent_core.specs.Events
 pub mod EventOnce
 pub mod Submits
 pub mod Entries
-pub mod Replying
 pub mod Dials
 pub mod Asking
 pub mod Requesting
 pub mod Exchanging
-pub mod Handing
 pub mod Resuming

@@ -10,7 +10,6 @@ ghost use Rattle.agent_hub.specs.Exchanging.{Collects, CutsOff, EndsBy, Handles,
 
 use crate::held::Held;
 use crate::hub::{Hub, HubSeat};
-use crate::requests::MOST_FRAME;
 use agent_core::{Agent, NO_NEWS, News, TakeEnd};
 use agent_history::Event;
 use std::alloc::Global;
@@ -20,6 +19,9 @@ use wire_base::{Bytes, NoMemory, u32_at};
 
 /// The least size of a frame.
 const LEAST_FRAME: u32 = 7;
+
+/// The greatest size of a frame.
+const MOST_FRAME: u32 = 8216;
 
 /// How many replies are taken in one turn, so that none lasts long.
 const MOST_TAKES: u64 = 65536;

@@ -1,6 +1,6 @@
-//! The hub: one agent behind a turn lock, whose callers submit events, each through its seat, and loops that serve
-//! a connection's requests, its replies, and the questions for the authentication server. All that callers do is
-//! one history, of which the laws of what seats see are stated here too.
+//! The hub: one agent behind a turn lock, whose callers submit events, each through its seat, and a loop that serves the
+//! questions for the authentication server. All that callers do is one history, of which the laws of what seats see are
+//! stated here too.
 #![tactic(auto)]
 
 mod exchange;
@@ -9,8 +9,6 @@ mod hub;
 mod hub_bells;
 mod laws;
 mod questions;
-mod replies;
-mod requests;
 mod resuming_laws;
 mod wakers;
 
@@ -20,6 +18,4 @@ pub use held::Held;
 pub use hub::{Hub, HubSeat, Submitted};
 pub use laws::a_submit_is_one_event_of_the_agent;
 pub use questions::{AsksEnd, serve_asks};
-pub use replies::{OutEnd, serve_out};
-pub use requests::{InEnd, serve_in};
 pub use resuming_laws::a_login_goes_on_by_the_history_of_all;

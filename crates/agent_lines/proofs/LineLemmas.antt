@@ -22,7 +22,7 @@ use Rattle.agent_history.specs.Histories.{answer, has_stopped, is_reply}
 use Rattle.wire_base.specs.declared.bytes.NoMemory.{NoMemory as Short}
 use Rattle.agent_hub.specs.Submits.{HubSeat, IsSubmitted}
 use Rattle.agent_hub.specs.Entries.{Entered, entry}
-use Rattle.agent_hub.specs.Requesting.{Drawn, DrawsAll, Reads, frames_in, frames_of, most_frame, most_input, words_of}
+use Rattle.agent_hub.specs.Requesting.{Drawn, frames_in, frames_of, most_frame, words_of}
 use Rattle.agent_hub.specs.Exchanging.{Converses, EntersAll, IsCollected, IsExchanged, TakesEndSo, without_takes}
 use Rattle.agent_hub.specs.declared.exchange.Exchanged.{Exchanged}
 use Rattle.agent_hub.specs.declared.exchange.TakesEnd.{TakesEnd}
@@ -33,7 +33,7 @@ use Rattle.frame_batches.specs.Batches.{AreFrames, passed, with_more}
 use Rattle.frame_batches.proofs.BatchLemmas.{next_ones, their_frames}
 use Rattle.agent_lines.specs.declared.ends.LineEnd.{LineEnd}
 use Rattle.agent_lines.specs.declared.ends.LineEnd.TheVariants.{End, Torn, BadFrame, ReadFault, WordFault, Flood, NoMemory, Stopped, WriteFault}
-use Rattle.agent_lines.specs.Lining.{CausedBy, Ends, EndsBy, HandsAll, HandsSome, LineEndsSo, MissesBytes, Moment, Serves, TookAll, moment, most_batch}
+use Rattle.agent_lines.specs.Lining.{CausedBy, DrawsAll, Ends, EndsBy, HandsAll, HandsSome, LineEndsSo, MissesBytes, Moment, Reads, Serves, TookAll, moment, most_batch, most_input}
 use Rattle.agent_lines.specs.Turns.{BatchEndsSo, DrawsMore, Going, Halts, InputEndsBy, Sends, SettledBy, Settles, SettlesSo, TurnSo}
 
 -- ---- words and frames

@@ -1,8 +1,8 @@
 -- What a connection of an agent comes to, by the bytes that are read of it: the requests that are entered with their words, the
 -- hang behind them, and what is written, which is what the takes between them gave. Content is optional: what is said of
 -- bytes and words holds where they are told.
-use Rattle.std.specs.Prelude.{◌≡◌, ◌<◌, ◌≤◌, ℕ, List, [], ◌∷◌, ◌++◌, length, Option, Bool, true, false, ◌⊎◌}
-use Rattle.std.specs.Io.KnownBytes.{IsAtEnd}
+use Rattle.std.specs.Prelude.{◌≡◌, ◌<◌, ◌≤◌, ℕ, List, [], ◌∷◌, ◌++◌, length, Option, None, Some, ⊤, Bool, true, false, ◌⊎◌}
+use Rattle.std.specs.Io.KnownBytes.{Consumes, IsAtEnd}
 use Rattle.wire_streams.specs.Streams.{Gains}
 use Rattle.nine.specs.Streams.{end_of, HasBadSize, HasNoBadSize, IsFrames}
 use Rattle.turn_lock.specs.Fronts.{Front, events, made, own}
@@ -11,12 +11,28 @@ use Rattle.agent_history.specs.declared.event.Event.{Event}
 use Rattle.agent_history.specs.declared.event.Event.TheVariants.{Hang, Take}
 use Rattle.agent_history.specs.Histories.{answer, has_stopped, is_reply}
 use Rattle.agent_hub.specs.Submits.{HubSeat}
-use Rattle.agent_hub.specs.Entries.{Adds, Entered, events_in}
-use Rattle.agent_hub.specs.Replying.{text_of}
-use Rattle.agent_hub.specs.Requesting.{Drawn, DrawsAll, Reads, frames_in, frames_of, most_frame, requests, words_of}
+use Rattle.agent_hub.specs.Entries.{Adds, Entered, events_in, text_of}
+use Rattle.agent_hub.specs.Requesting.{Drawn, frames_in, frames_of, most_frame, requests, words_of}
 use Rattle.agent_hub.specs.Exchanging.{without_takes}
 use Rattle.agent_lines.specs.declared.ends.LineEnd.{LineEnd}
 use Rattle.agent_lines.specs.declared.ends.LineEnd.TheVariants.{End, Torn, BadFrame, ReadFault, WordFault, Flood, NoMemory, Stopped, WriteFault}
+
+-- how many bytes are taken of a connection: 2^40
+abbrev pub most_input : ℕ
+most_input = 1099511627776
+
+-- these words were drawn, the first of them first, where the words to come are told
+abbrev pub DrawsAll : Option (List (List ℕ)) → Option (List (List ℕ)) → List (List ℕ) → Type 0
+DrawsAll None later drawn = ⊤
+DrawsAll (Some words) None drawn = ⊥
+DrawsAll (Some words) (Some later) drawn = words ≡ drawn ++ later
+
+-- The bytes that were read: the input within the limit, and what was read behind it, which is something only where the
+-- input is as long as the limit.
+pub record Reads (old new : Option (List ℕ)) (input behind : List ℕ) : Type 0 where
+  pub taken : Consumes old new (input ++ behind)
+  pub bounded : length input ≤ most_input
+  pub full : 0 < length behind → length input ≡ most_input
 
 -- at one moment: the seat, the words to come, what the source has left, and what the sink holds
 pub record Moment : Type 0 where

@@ -6,14 +6,14 @@ use Rattle.nine.specs.Streams.{front as at_front, IsBad, IsShort}
 use Rattle.nine.specs.Framed.{Framing}
 use Rattle.nine.specs.Framing.{HasHandedOut}
 use Rattle.turn_lock.specs.Seats.{front}
-use Rattle.agent_hub.specs.Requesting.{DrawsAll, most_frame, most_input}
+use Rattle.agent_hub.specs.Requesting.{most_frame}
 use Rattle.agent_hub.specs.declared.exchange.Exchanged.{Exchanged}
 use Rattle.agent_hub.specs.declared.exchange.TakesEnd.{TakesEnd}
 use Rattle.agent_hub.specs.declared.exchange.TakesEnd.TheVariants as takes
 use Rattle.frame_batches.specs.Batches.{passed}
 use Rattle.agent_lines.specs.declared.ends.LineEnd.{LineEnd}
 use Rattle.agent_lines.specs.declared.ends.LineEnd.TheVariants.{End, Torn, BadFrame, ReadFault, WordFault, Flood, NoMemory, Stopped, WriteFault}
-use Rattle.agent_lines.specs.Lining.{Ends, Moment, Serves, TookAll, MissesBytes}
+use Rattle.agent_lines.specs.Lining.{DrawsAll, Ends, MissesBytes, Moment, Serves, TookAll, most_input}
 
 -- so many bytes were taken
 abbrev pub taken_by : Framing → ℕ

@@ -1,9 +1,8 @@
 // Words that are drawn for the frames of a batch.
 ghost use Rattle.std.specs.Prelude.{◌≡◌, ◌+◌, ◌<◌, ◌≤◌, ◌⊎◌, [], length, IfErr, OnErr, OnOk};
 ghost use Rattle.wire_streams.specs.Causes.{Rose};
-ghost use Rattle.agent_hub.specs.Requesting.{DrawsAll};
 ghost use Rattle.agent_lines.specs.Turns.{DrawsMore};
-ghost use Rattle.agent_lines.specs.Lining.{CausedBy};
+ghost use Rattle.agent_lines.specs.Lining.{CausedBy, DrawsAll};
 
 use crate::ends::LineEnd;
 use wire_streams::Words;

@@ -1,5 +1,5 @@
 // The hub on objects in memory and in threads.
-ghost use Rattle.std.specs.Prelude.{◌<◌, ◌≤◌, length, IfOk};
+ghost use Rattle.std.specs.Prelude.{IfOk};
 ghost use Rattle.nine.specs.Decoding.{IsFrame};
 ghost use Rattle.agent_core.specs.Events.{IsEvent};
 ghost use Rattle.agent_hub.specs.Submits.{IsSeatOf};
@@ -9,21 +9,15 @@ mod sessions;
 
 use agent_core::Agent;
 use agent_history::{Event, StepAnswer};
-use agent_hub::{
-    AsksEnd, Exchanged, Hub, HubSeat, InEnd, OutEnd, TakesEnd, serve_asks, serve_in, serve_out,
-};
+use agent_hub::{AsksEnd, Exchanged, Hub, HubSeat, TakesEnd, serve_asks};
 use sessions::{ADD_KEY, AGREED, BAD_SIZE, KEY_ADDED, KEYS_READ, LOG_IN, READ_KEYS, VERSION};
 use std::alloc::Global;
 use std::process::Abort;
 use std::sync::Wait;
-use std::sync::atomic::{AtomicU64, Ordering};
 use std::test::Fail;
-use std::thread::{Threads, join};
+use std::thread::join;
 use wire_base::{Bytes, get_u32};
-use wire_streams::{Made, MemDialer, MemSink, MemSource, MemWords, Put, Sink, SteadySink};
-
-/// As many words as these tests draw.
-const MANY: usize = 16;
+use wire_streams::{Made, MemDialer};
 
 // A hub without keys and connections.
 fn new_hub(alloc: Global) -> Result<(Hub, HubSeat), Fail>
@@ -291,185 +285,6 @@ fn batches_are_served_in_one_turn(rt: HostRuntime) -> Result<(), Fail> {
     let alloc = rt.alloc();
     let (hub, seat) = new_hub(alloc)?;
     serve_batches(&rt, alloc, &hub, seat)
-}
-
-/// The numbers of the calls that fail, counted from 1.
-#[derive(Clone, Copy)]
-struct Faults {
-    read: u64,
-    draw: u64,
-}
-
-/// No call fails.
-const NONE: Faults = Faults { read: 0, draw: 0 };
-
-// Serves an input, which ends so; then the connection is hung up.
-fn expect_end<R: Wait + Abort>(
-    rt: &R,
-    alloc: Global,
-    hub: &Hub,
-    seat: HubSeat,
-    conn: u64,
-    input: &[u8],
-    faults: Faults,
-    wanted: InEnd,
-) -> Result<HubSeat, Fail>
-    requires { IsSeatOf hub.now seat }
-    ensures { IfOk result (λ seat. IsSeatOf hub.now seat) }
-{
-    let mut source = MemSource::new(input.to_vec(alloc)?, [faults.read].to_vec(alloc)?);
-    let words = vec![in alloc; [7_u8; 8]; MANY]?;
-    let mut words = MemWords::new(words, [faults.draw].to_vec(alloc)?);
-    let (seat, end) = serve_in(rt, alloc, hub, seat, conn, &mut source, &mut words);
-    assert_eq!(rt; end, wanted);
-    submit(
-        rt,
-        alloc,
-        hub,
-        seat,
-        &Event::Take { conn },
-        StepAnswer::Gone,
-        b"",
-    )
-}
-
-// Inputs that end in each way; the key that was read before the first end stays.
-fn end_inputs<R: Wait + Abort>(rt: &R, alloc: Global, hub: &Hub, seat: HubSeat) -> Result<(), Fail>
-    requires { IsSeatOf hub.now seat }
-{
-    let seat = expect_end(rt, alloc, hub, seat, 0, ADD_KEY, NONE, InEnd::End)?;
-    let torn = InEnd::Torn { at: 85 };
-    let seat = expect_end(rt, alloc, hub, seat, 1, &ADD_KEY[..140], NONE, torn)?;
-    let bad = InEnd::BadFrame { at: 19, size: 4 };
-    let seat = expect_end(rt, alloc, hub, seat, 2, BAD_SIZE, NONE, bad)?;
-    let read = Faults { read: 2, draw: 0 };
-    let seat = expect_end(rt, alloc, hub, seat, 3, VERSION, read, InEnd::ReadFault)?;
-    let draw = Faults { read: 0, draw: 3 };
-    let seat = expect_end(rt, alloc, hub, seat, 4, ADD_KEY, draw, InEnd::WordFault)?;
-    let seat = ask_all(rt, alloc, hub, seat, 5, READ_KEYS)?;
-    let (_seat, replies) = take_all(rt, alloc, hub, seat, 5, 5)?;
-    expect(rt, &replies, KEYS_READ);
-    Ok(())
-}
-
-#[test]
-fn inputs_end_and_are_hung_up(rt: HostRuntime) -> Result<(), Fail> {
-    let alloc = rt.alloc();
-    let (hub, seat) = new_hub(alloc)?;
-    end_inputs(&rt, alloc, &hub, seat)
-}
-
-/// A sink that shows other threads how many bytes it took.
-#[derive(Drop)]
-struct Watched<'a> {
-    inner: SteadySink,
-    seen: &'a AtomicU64,
-}
-
-impl<'a> Sink for Watched<'a> {
-    ghost use Rattle.wire_streams.specs.Steady.{held_bytes};
-    ghost use Rattle.wire_streams.specs.Causes.{CountsOutcome};
-    ghost use Rattle.wire_streams.specs.Streams.{Writes, write_failed};
-
-    ghost holds = { λ sink. held_bytes sink.inner };
-
-    ghost faults = { λ _. 0 };
-
-    fn write(&mut self, piece: &[u8]) -> Put
-        requires { 0 < length piece.now }
-        ensures bytes { Writes (held_bytes self.old.inner) (held_bytes self.new.inner) result
-            piece.now }
-        ensures counted { 0 ≤ 0 }
-        ensures exact { CountsOutcome 0 0 (write_failed result) }
-    {
-        let put = self.inner.write(piece);
-        self.seen.fetch_add(piece.len() as u64, Ordering::SeqCst);
-        self.seen.wake_all();
-        put
-    }
-}
-
-// Waits until so many bytes were seen.
-fn wait_for<R: Wait>(rt: &R, seen: &AtomicU64, count: u64) {
-    for _ in rt.forever() {
-        let now = seen.load(Ordering::SeqCst);
-        if now >= count {
-            return;
-        }
-        seen.park(rt, (now % (1 << 32)) as u32);
-    }
-    unreachable!()
-}
-
-// Writes the replies of a connection into memory.
-fn write_out<R: Wait>(
-    rt: &R,
-    alloc: Global,
-    hub: &Hub,
-    seat: HubSeat,
-    seen: &AtomicU64,
-) -> (OutEnd, SteadySink)
-    requires { IsSeatOf hub.now seat }
-{
-    let mut sink = Watched {
-        inner: SteadySink::new(alloc),
-        seen,
-    };
-    let (_, end) = serve_out(rt, alloc, hub, seat, 1, &mut sink);
-    (end, sink.inner)
-}
-
-// Asks on connection 1 until its replies were written, and once more; then the agent stops.
-fn ask_and_stop<R: Wait + Abort>(
-    rt: &R,
-    alloc: Global,
-    hub: &Hub,
-    seat: HubSeat,
-    seen: &AtomicU64,
-) -> Result<(), Fail>
-    requires { IsSeatOf hub.now seat }
-{
-    let seat = ask_all(rt, alloc, hub, seat, 1, ADD_KEY)?;
-    wait_for(rt, seen, 109);
-    let seat = ask_all(rt, alloc, hub, seat, 1, VERSION)?;
-    wait_for(rt, seen, 128);
-    submit(rt, alloc, hub, seat, &Event::Stop, StepAnswer::Done, b"")?;
-    Ok(())
-}
-
-// The replies were written whole until the agent stopped.
-fn expect_replies(rt: &impl Abort, end: OutEnd, sink: &SteadySink) -> Result<(), Fail> {
-    assert_eq!(rt; end, OutEnd::Gone);
-    let replies = sink.content().ok_or("untold")?;
-    assert!(rt; replies.starts_with(KEY_ADDED));
-    assert!(rt; replies.ends_with(AGREED));
-    Ok(())
-}
-
-#[test]
-fn requests_and_a_stop_wake_the_replies(rt: HostRuntime) -> Result<(), Fail> {
-    let alloc = rt.alloc();
-    let (hub, seat) = new_hub(alloc)?;
-    let (one, other) = hub.split(seat);
-    let seen = AtomicU64::new(0);
-    let ((end, sink), asked) = join(
-        &rt,
-        || write_out(&rt, alloc, &hub, one, &seen),
-        || ask_and_stop(&rt, alloc, &hub, other, &seen),
-    );
-    asked?;
-    expect_replies(&rt, end, &sink)
-}
-
-#[test]
-fn a_sink_that_fails_ends_the_replies(rt: HostRuntime) -> Result<(), Fail> {
-    let alloc = rt.alloc();
-    let (hub, seat) = new_hub(alloc)?;
-    let seat = ask_all(&rt, alloc, &hub, seat, 0, VERSION)?;
-    let mut sink = MemSink::new(Vec::new(alloc), [1_u64].to_vec(alloc)?);
-    let (_, end) = serve_out(&rt, alloc, &hub, seat, 0, &mut sink);
-    assert_eq!(rt; end, OutEnd::WriteFault);
-    Ok(())
 }
 
 // Serves the questions of a hub by a dialer that answers this.

@@ -3,7 +3,7 @@ ghost use Rattle.std.specs.Prelude.{◌≡◌, ◌<◌, ◌≤◌, None, length,
 ghost use Rattle.agent_hub.specs.Submits.{IsSeatOf};
 
 use super::sessions::{ADD_KEY, AGREED, BAD_SIZE, KEY_ADDED, KEYS_READ, READ_KEYS, VERSION};
-use super::{MANY, new_hub, submit};
+use super::{new_hub, submit};
 use agent_history::{Event, StepAnswer};
 use agent_hub::{Hub, HubSeat};
 use agent_lines::{LineEnd, serve_line};
@@ -13,6 +13,9 @@ use std::process::Abort;
 use std::sync::Wait;
 use std::test::Fail;
 use wire_streams::{Got, MemSink, MemSource, MemWords, Put, Sink, Source, WordFault, Words};
+
+/// As many words as a connection draws here.
+const MANY: usize = 16;
 
 /// The numbers of the calls that fail, counted from 1.
 #[derive(Clone, Copy)]

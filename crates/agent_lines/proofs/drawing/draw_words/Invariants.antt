@@ -1,5 +1,5 @@
 use Rattle.std.proofs.Common.{◌≡◌, ◌≤◌, length}
-use Rattle.agent_hub.specs.Requesting.{DrawsAll}
+use Rattle.agent_lines.specs.Lining.{DrawsAll}
 use Rattle.agent_lines.proofs.drawing.draw_words.Given as goal
 
 abbrev pub invariant-loop : goal.invariant-loop
