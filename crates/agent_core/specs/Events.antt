@@ -1,12 +1,13 @@
 -- What an event does to what is kept of the connections, and to what they share.
-use Rattle.std.specs.Prelude.{◌≡◌, ℕ, ◌≤◌, ◌<◌, ◌+◌, ◌*◌, List, [], ◌∷◌, ◌++◌, length, Bool, true, false, not, ◌&&◌, Option, Some, None}
+use Rattle.std.specs.Prelude.{◌≡◌, ℕ, ◌≤◌, ◌<◌, ◌+◌, ◌*◌, List, [], ◌∷◌, ◌++◌, length, Bool, true, false, not, ◌&&◌, Option, Some, None, Result, Ok}
 use Rattle.std.specs.Ordering.{nat_cmp}
 use Rattle.std.specs.BTreeMap.{get}
 use Rattle.wire_base.specs.Spans.{has_number}
+use Rattle.wire_base.specs.declared.bytes.NoMemory.{NoMemory}
 use Rattle.nine.specs.Decoding.{IsFrame}
 use Rattle.agent_history.specs.declared.event.Event.{Event}
 use Rattle.agent_history.specs.declared.event.Event.TheVariants.{Request, Hang, Answer, NoAnswer, NoRoom, Take, TakeAsk, Stop}
-use Rattle.agent_history.specs.declared.event.StepAnswer.TheVariants.{Ask, DropCall}
+use Rattle.agent_history.specs.declared.event.StepAnswer.TheVariants.{Ask, Done, DropCall}
 use Rattle.agent_history.specs.declared.event.StepAnswer.{StepAnswer}
 use Rattle.agent_history.specs.Deeds.{Deed, was_opened, was_hung, msize_of, fid_of, held_by, text_of, is_halted}
 use Rattle.agent_history.specs.Histories.{History, deeds, does, answer_after}
@@ -172,6 +173,12 @@ TakesNoneOf (Take conn) at s = FindsNone (at conn) (replies_at s.mailboxes conn)
 TakesNoneOf (Answer call bytes) at s = is_asked call (questions s) ≡ false
 TakesNoneOf TakeAsk at s = unasked s ≡ 0
 TakesNoneOf event at s = Unit {0}
+
+-- a hang and a stop are done, whatever there is of memory
+abbrev pub AlwaysDone : Event → Result StepAnswer NoMemory → Type 0
+AlwaysDone (Hang conn) reply = reply ≡ Ok Done
+AlwaysDone Stop reply = reply ≡ Ok Done
+AlwaysDone event reply = Unit {0}
 
 -- a take of the connection finds a reply: it isn't hung up, and one is left
 abbrev pub is_some_left : List (List ℕ) → Bool

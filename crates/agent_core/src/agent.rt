@@ -69,7 +69,7 @@ impl Running {
     ghost use Rattle.agent_history.specs.Histories.{History, most_events};
     ghost use Rattle.agent_history.specs.declared.event.Event.TheVariants as events;
     ghost use Rattle.nine.specs.Decoding.{IsFrame};
-    ghost use Rattle.agent_core.specs.Events.{Answers, AsksFewer, GivesUp, IsEvent, LeavesOneLess, TakesNoneOf, gives_to};
+    ghost use Rattle.agent_core.specs.Events.{AlwaysDone, Answers, AsksFewer, GivesUp, IsEvent, LeavesOneLess, TakesNoneOf, gives_to};
     ghost use Rattle.agent_core.specs.Agents.{GoesOn, RunsAfter, SameRunning, connection_at};
 
     // Carries out an event that isn't the last, in place.
@@ -86,6 +86,7 @@ impl Running {
         ensures err_out { OnErr result (out.new ≡ out.old) }
         ensures takes_none { TakesNoneOf event.now (connection_at self.old) self.old.shared
             → IsOk result }
+        ensures done { AlwaysDone event.now result }
         ensures fewer { IfOk result (λ a. is_reply a ≡ true
             → LeavesOneLess event.now self.old.shared self.new.shared) }
         ensures gives { IfOk result (λ a. is_reply a
@@ -132,7 +133,7 @@ impl Agent {
     ghost use Rattle.std.specs.Prelude.{◌≡◌, ◌<◌, ◌∷◌, ◌++◌, ◌+◌, [], ℕ, IfOk, IsOk, OnOk, OnErr, List, false, true, option_copied};
     ghost use Rattle.agent_history.specs.Histories.{History, answer, deeds};
     ghost use Rattle.agent_history.specs.declared.event.Event.TheVariants as events;
-    ghost use Rattle.agent_core.specs.Events.{Answers, IsEvent};
+    ghost use Rattle.agent_core.specs.Events.{AlwaysDone, Answers, IsEvent};
     ghost use Rattle.nine.specs.Decoding.{IsFrame};
     ghost use Rattle.agent_core.specs.Serves.{EndsSo, TookSo};
     ghost use Rattle.agent_core.specs.Agents.{StandsFor, StandsBy, SameAgent, SameState, TakesOne, TakesOneIn, TakesNone, TakesNoneIn, AsksFewerIn, EndsIn, GivesUpIn, GoesOnIn, HasMore, gives_in, kept_replies};
@@ -179,6 +180,7 @@ impl Agent {
             → StandsBy H self.new.state) }
         ensures err_out { OnErr result (out.new ≡ out.old) }
         ensures takes_none { TakesNoneIn event.now (State.Runs running) → IsOk result }
+        ensures done { AlwaysDone event.now result }
         ensures fewer { IfOk result (λ a. is_reply a ≡ true
             → TakesOneIn event.now (State.Runs running) self.new.state) }
         ensures gives { IfOk result (λ a. is_reply a ≡ gives_in event.now (State.Runs running)) }
@@ -236,7 +238,8 @@ impl Agent {
         ensures asks { IfOk result (λ a.
             AsksFewerIn event.now a self.old.state self.new.state) }
 
-        // A hang and a stop give up what was kept.
+        // A hang and a stop are done, whatever there is of memory, and give up what was kept.
+        ensures done { AlwaysDone event.now result }
         ensures gives_up { OnOk result (GivesUpIn event.now self.old.state self.new.state) }
     {
         if self.ends_with(event) {

@@ -10,7 +10,7 @@ ghost use Rattle.agent_talks.specs.Kept.{question_of};
 ghost use Rattle.mailboxes.specs.Deliveries.{replies_at};
 ghost use Rattle.agent_requests.specs.Sharing.{SameShared, Shares};
 ghost use Rattle.agent_requests.specs.Connections.{SameKept};
-ghost use Rattle.agent_core.specs.Events.{AnswersAfter, FindsNone, AnswersFor, AsksFewer, GivesUp, HangsUp, IsEvent, IsPut, LeavesOneLess, LivesOn, SameEach, Serves, TakesNoneOf, gives_reply, gives_to, is_some_left, is_stop, known, unasked};
+ghost use Rattle.agent_core.specs.Events.{AlwaysDone, AnswersAfter, FindsNone, AnswersFor, AsksFewer, GivesUp, HangsUp, IsEvent, IsPut, LeavesOneLess, LivesOn, SameEach, Serves, TakesNoneOf, gives_reply, gives_to, is_some_left, is_stop, known, unasked};
 
 use crate::connections::Connections;
 use agent_history::{Event, StepAnswer};
@@ -261,6 +261,7 @@ pub(crate) fn act(
         → LeavesOneLess event.now shared.old shared.new) }
     ensures asks { IfOk result (λ a. AsksFewer event.now a shared.old shared.new) }
     ensures takes_none { TakesNoneOf event.now (known connections.old) shared.old → IsOk result }
+    ensures done { AlwaysDone event.now result }
     ensures gives { IfOk result (λ a. is_reply a
         ≡ gives_to event.now (known connections.old) shared.old) }
     ensures gives_up { OnOk result (GivesUp event.now (known connections.old)
