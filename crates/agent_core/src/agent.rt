@@ -1,8 +1,8 @@
 // The agent, and its one step.
-ghost use Rattle.std.specs.Prelude.{◌≡◌, ◌<◌, ◌≤◌, ◌*◌, ◌^◌, [], List, true, false};
+ghost use Rattle.std.specs.Prelude.{◌≡◌, ◌<◌, ◌≤◌, ◌*◌, ◌^◌, [], List, Ok, true, false};
 ghost use Rattle.agent_history.specs.Deeds.{Deed, is_halted};
 ghost use Rattle.agent_history.specs.Histories.{answer_after, is_reply};
-ghost use Rattle.agent_core.specs.Events.{NoneAsked};
+ghost use Rattle.agent_core.specs.Events.{AlwaysDone, NoneAsked};
 
 use crate::connections::Connections;
 use crate::events::{Stepped, act, has_reply, is_stop, request_at};
@@ -51,6 +51,7 @@ fn after_stop(event: &Event) -> StepAnswer
         → answer_after done event.now ≡ (result, []) }
     ensures none { is_reply result ≡ false }
     ensures unasked { NoneAsked result }
+    ensures done { AlwaysDone event.now (Ok result) }
 {
     match event {
         Event::Take { .. } => StepAnswer::Gone,
@@ -69,7 +70,7 @@ impl Running {
     ghost use Rattle.agent_history.specs.Histories.{History, most_events};
     ghost use Rattle.agent_history.specs.declared.event.Event.TheVariants as events;
     ghost use Rattle.nine.specs.Decoding.{IsFrame};
-    ghost use Rattle.agent_core.specs.Events.{AlwaysDone, Answers, AsksFewer, GivesUp, IsEvent, LeavesOneLess, TakesNoneOf, gives_to};
+    ghost use Rattle.agent_core.specs.Events.{Answers, AsksFewer, GivesUp, IsEvent, LeavesOneLess, TakesNoneOf, gives_to};
     ghost use Rattle.agent_core.specs.Agents.{GoesOn, RunsAfter, SameRunning, connection_at};
 
     // Carries out an event that isn't the last, in place.
@@ -133,7 +134,7 @@ impl Agent {
     ghost use Rattle.std.specs.Prelude.{◌≡◌, ◌<◌, ◌∷◌, ◌++◌, ◌+◌, [], ℕ, IfOk, IsOk, OnOk, OnErr, List, false, true, option_copied};
     ghost use Rattle.agent_history.specs.Histories.{History, answer, deeds};
     ghost use Rattle.agent_history.specs.declared.event.Event.TheVariants as events;
-    ghost use Rattle.agent_core.specs.Events.{AlwaysDone, Answers, IsEvent};
+    ghost use Rattle.agent_core.specs.Events.{Answers, IsEvent};
     ghost use Rattle.nine.specs.Decoding.{IsFrame};
     ghost use Rattle.agent_core.specs.Serves.{EndsSo, TookSo};
     ghost use Rattle.agent_core.specs.Agents.{StandsFor, StandsBy, SameAgent, SameState, TakesOne, TakesOneIn, TakesNone, TakesNoneIn, AsksFewerIn, EndsIn, GivesUpIn, GoesOnIn, HasMore, gives_in, kept_replies};
