@@ -153,7 +153,7 @@ let_in_without limits history few =
 
 -- ---- who is remembered
 
-came_leaves : (b : Option Address) (seen : Seen) (test : Bool) → (if test then with_inside (seen.inside ++ b ∷ []) seen else seen).guessers ≡ seen.guessers
+pub came_leaves : (b : Option Address) (seen : Seen) (test : Bool) → (if test then with_inside (seen.inside ++ b ∷ []) seen else seen).guessers ≡ seen.guessers
 came_leaves b seen true = refl
 came_leaves b seen false = refl
 

@@ -93,7 +93,7 @@ remembered_by a b other now g rest true f recent more =
 remembered_by a b other now g rest false f recent more =
     skip a b now g rest (is_kept b now g) f (more (later_by now a g rest recent f))
 
-still : (a b : Address) → a.bits ≢ b.bits → (now : ℕ) (guessers : List Guesser) → is_recent now (times_of a guessers) ≡ true
+pub still : (a b : Address) → a.bits ≢ b.bits → (now : ℕ) (guessers : List Guesser) → is_recent now (times_of a guessers) ≡ true
     → times_of a (remembered b now guessers) ≡ times_of a guessers
 still a b other now [] recent = refl
 still a b other now (g ∷ rest) recent = remembered_by a b other now g rest (g.address.bits == a.bits) refl recent (still a b other now rest)
@@ -102,7 +102,7 @@ few_by : (test : Bool) (g : Guesser) (kept : List Guesser) (n : ℕ) → length 
 few_by true g kept n e = omega (arith, e)
 few_by false g kept n e = omega (arith, e)
 
-no_more : (b : Address) (now : ℕ) (guessers : List Guesser) → length (remembered b now guessers) ≤ length guessers
+pub no_more : (b : Address) (now : ℕ) (guessers : List Guesser) → length (remembered b now guessers) ≤ length guessers
 no_more b now [] = omega arith
 no_more b now (g ∷ rest) = few_by (is_kept b now g) g (remembered b now rest) (length rest) (no_more b now rest)
 

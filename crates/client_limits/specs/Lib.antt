@@ -2,3 +2,4 @@ pub mod Addresses
 pub mod Inside
 pub mod Wrongs
 pub mod Histories
+pub mod Minutes

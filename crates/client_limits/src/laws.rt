@@ -5,7 +5,8 @@ ghost use Rattle.client_limits.specs.declared.limits.Limits.{Limits};
 ghost use Rattle.client_limits.specs.declared.wrongs.Guesser.{Guesser};
 ghost use Rattle.client_limits.specs.declared.wrongs.TheConstants.{MOST_ADDRESSES};
 ghost use Rattle.client_limits.specs.Inside.{count_of};
-ghost use Rattle.client_limits.specs.Wrongs.{after_wrong, is_recent, times_of};
+ghost use Rattle.client_limits.specs.Wrongs.{after_wrong, is_recent, rest_of, times_of, wait_of};
+ghost use Rattle.client_limits.specs.Minutes.{IsTimely, last_time, wrongs_of};
 ghost use Rattle.client_limits.specs.Histories.{Entry, Seen, came, is_let_in, left, seen_of};
 
 /// Whatever happened, no more are inside than the limits say, in all and of each address; and no more addresses are
@@ -41,4 +42,13 @@ pub fn others_do_not_count()
     ensures wronged { (guessers : List Guesser) (a b : Address) (now : ℕ) → a.bits ≢ b.bits
         → is_recent now (times_of a guessers) ≡ true → length guessers < MOST_ADDRESSES
         → times_of a (after_wrong b now guessers) ≡ times_of a guessers }
+{}
+
+/// As long as the clock doesn't fall and fewer than 4,096 addresses are remembered, an address waits by all the wrong answers
+/// that it ever gave: until a minute has gone by since the 20th last of them.
+pub fn waits_are_by_all_that_happened()
+    ensures { (limits : Limits) (history : List Entry) (a : Address) (now : ℕ)
+        → IsTimely limits history → last_time history ≤ now
+        → wait_of (Some a) now (seen_of limits history).guessers
+        ≡ rest_of (wrongs_of a history) now }
 {}

@@ -8,6 +8,9 @@ mod limits;
 mod wrongs;
 
 pub use address::{Address, HasAddress};
-pub use laws::{no_more_are_inside, others_do_not_count, who_is_under_the_limits_is_let_in};
+pub use laws::{
+    no_more_are_inside, others_do_not_count, waits_are_by_all_that_happened,
+    who_is_under_the_limits_is_let_in,
+};
 pub use limits::{ClientLimits, Limits};
 pub use wrongs::{MINUTE, MOST_ADDRESSES, MOST_TIMES};
