@@ -1,0 +1,5 @@
+pub mod Addresses
+pub mod Inside
+pub mod Wrongs
+pub mod Histories
+pub mod Minutes
