@@ -5,6 +5,7 @@ ghost use Rattle.sockets.specs.Addresses.{is_path, is_unix};
 use crate::connection::{SocketSink, SocketSource, ends_of};
 use crate::listening_socket::Socket;
 use crate::unix::{OpenFault, listen_at};
+use client_limits::Address;
 use std::alloc::Global;
 use std::fs::Files;
 use std::io::{self, ErrorKind};
@@ -33,6 +34,7 @@ pub struct SocketListener<R: Net> {
     alloc: Global,
     opened: Opened<R::Listener>,
     patience: Option<Duration>,
+    idle: Option<Duration>,
     faults: u64,
 }
 
@@ -103,23 +105,47 @@ impl<R: Net<Stream = TcpStream> + Files + Clock + Drop> SocketListener<R> {
             alloc,
             opened,
             patience,
+            idle: None,
             faults: 0,
         })
     }
 
-    // Waits for the next connection.
-    fn accept_socket(&self) -> io::Result<Socket> {
+    /// Has each connection from now on fail on which nothing is sent to us, or taken of us, for so long while that is awaited.
+    /// It takes the place of `patience`.
+    pub fn with_idle(self, idle: Duration) -> SocketListener<R>
+        ensures form { is_unix result.opened ≡ is_unix self.opened }
+        ensures faults { result.faults ≡ self.faults }
+    {
+        SocketListener {
+            idle: Some(idle),
+            ..self
+        }
+    }
+
+    // Waits for the next connection, and says whose it is.
+    fn accept_socket(&self) -> io::Result<(Socket, Option<Address>)> {
         match &self.opened {
-            Opened::Tcp(listener) => Ok(Socket::Tcp(listener.accept()?.0)),
-            Opened::Unix(listener) => Ok(Socket::Unix(listener.accept()?.0)),
+            Opened::Tcp(listener) => {
+                let (stream, from) = listener.accept()?;
+                Ok((Socket::Tcp(stream), Some(Address::new(from.ip()))))
+            }
+            Opened::Unix(listener) => Ok((Socket::Unix(listener.accept()?.0), None)),
+        }
+    }
+
+    // Sets how long is waited on a connection.
+    fn set_limits(&self, socket: &Socket) -> io::Result<()> {
+        match self.idle {
+            Some(_) => socket.set_idle(self.idle),
+            None => socket.set_patience(self.patience),
         }
     }
 
     // Waits for the next connection, and makes its two ends.
     fn accept_once(&self) -> io::Result<(SocketSource, SocketSink)> {
-        let socket = self.accept_socket()?;
-        socket.set_patience(self.patience)?;
-        match ends_of(self.alloc, socket) {
+        let (socket, address) = self.accept_socket()?;
+        self.set_limits(&socket)?;
+        match ends_of(self.alloc, socket, address, self.idle.is_some()) {
             Ok(ends) => Ok(ends),
             Err(NoMemory) => Err(ErrorKind::OutOfMemory.into()),
         }

@@ -1,8 +1,8 @@
 // The two ends of a connection, over one socket.
-ghost use Rattle.std.specs.Prelude.{◌≡◌, ◌<◌, ◌≤◌, None, length};
-ghost use Rattle.readiness.specs.Offers.{OffersSo};
+ghost use Rattle.std.specs.Prelude.{◌≡◌, ◌<◌, ◌≤◌, IfOk, length};
 
 use crate::listening_socket::Socket;
+use client_limits::{Address, HasAddress};
 use readiness::{Offer, Offers, Watched};
 use std::alloc::Global;
 use std::io::{self, ErrorKind, Read, Write};
@@ -55,6 +55,7 @@ impl Write for Shared {
 pub struct SocketSource {
     inner: ReadSource<Shared>,
     descriptor: RawFd,
+    address: Option<Address>,
 }
 
 /// What is sent to the peer of a connection. It tells no content. Each write that fails, or takes nothing, is counted, up to
@@ -62,13 +63,17 @@ pub struct SocketSource {
 #[derive(Drop)]
 pub struct SocketSink {
     socket: Shared,
+    gives_up: bool,
     faults: u64,
 }
 
-/// The two ends of a connection, which share its one descriptor.
+/// The two ends of a connection, which share its one descriptor. A write that finds no room in time fails where it gives up, and
+/// is made again elsewhere.
 pub(crate) fn ends_of(
     alloc: Global,
     socket: Socket,
+    address: Option<Address>,
+    gives_up: bool,
 ) -> Result<(SocketSource, SocketSink), NoMemory> {
     let descriptor = socket.descriptor();
     let Ok(socket) = Arc::new(alloc, socket) else {
@@ -80,9 +85,11 @@ pub(crate) fn ends_of(
     let source = SocketSource {
         inner: ReadSource::new(Shared(socket)),
         descriptor,
+        address,
     };
     let sink = SocketSink {
         socket: Shared(other),
+        gives_up,
         faults: 0,
     };
     Ok((source, sink))
@@ -107,20 +114,49 @@ impl Watched for SocketSource {
     }
 }
 
+impl HasAddress for SocketSource {
+    ghost address_of = { λ source. source.address };
+
+    fn address(&self) -> Option<Address> {
+        self.address
+    }
+}
+
+/// Why a write took nothing.
+#[derive(Clone, Copy, Debug, PartialEq, Eq)]
+enum Stop {
+    /// A signal came.
+    Interrupted,
+    /// There was no room in time.
+    Full,
+    /// It failed.
+    Failed,
+}
+
 impl SocketSink {
-    // One write. It is full where there is no room in time, or a signal came.
-    fn write_once(&mut self, piece: &[u8]) -> Offer
+    // One write, and how much it took.
+    fn write_once(&mut self, piece: &[u8]) -> Result<usize, Stop>
         requires { 0 < length piece.now }
-        ensures bytes { OffersSo None None result piece.now }
+        ensures took { IfOk result (λ count. (0 < count) × (count ≤ length piece.now)) }
         ensures faults { self.new.faults ≡ self.old.faults }
     {
         match self.socket.write(piece) {
-            Ok(0) => Offer::Failed,
-            Ok(count) => Offer::Took(count),
+            Ok(0) => Err(Stop::Failed),
+            Ok(count) => Ok(count),
             Err(error) => match error.kind() {
-                ErrorKind::WouldBlock | ErrorKind::TimedOut | ErrorKind::Interrupted => Offer::Full,
-                _ => Offer::Failed,
+                ErrorKind::WouldBlock | ErrorKind::TimedOut => Err(Stop::Full),
+                ErrorKind::Interrupted => Err(Stop::Interrupted),
+                _ => Err(Stop::Failed),
             },
+        }
+    }
+
+    // Whether a write that was stopped so is made again.
+    fn goes_on(&self, stop: Stop) -> bool {
+        match stop {
+            Stop::Interrupted => true,
+            Stop::Full => !self.gives_up,
+            Stop::Failed => false,
         }
     }
 }
@@ -132,15 +168,16 @@ impl Sink for SocketSink {
 
     ghost faults = { λ sink. sink.faults };
 
-    // It waits for room as long as it takes.
+    // It waits for room as long as it takes, unless it gives up.
     fn write(&mut self, piece: &[u8]) -> Put {
         for _ in 0..u64::MAX {
             match self.write_once(piece) {
-                Offer::Took(count) => return Put::Took(count),
-                Offer::Full => {}
-                Offer::Failed => {
-                    self.faults = self.faults.saturating_add(1);
-                    return Put::Failed;
+                Ok(count) => return Put::Took(count),
+                Err(stop) => {
+                    if !self.goes_on(stop) {
+                        self.faults = self.faults.saturating_add(1);
+                        return Put::Failed;
+                    }
                 }
             }
         }
@@ -151,10 +188,13 @@ impl Sink for SocketSink {
 
 impl Offers for SocketSink {
     fn offer(&mut self, piece: &[u8]) -> Offer {
-        let offer = self.write_once(piece);
-        if offer == Offer::Failed {
-            self.faults = self.faults.saturating_add(1);
+        match self.write_once(piece) {
+            Ok(count) => Offer::Took(count),
+            Err(Stop::Interrupted | Stop::Full) => Offer::Full,
+            Err(Stop::Failed) => {
+                self.faults = self.faults.saturating_add(1);
+                Offer::Failed
+            }
         }
-        offer
     }
 }

@@ -21,6 +21,20 @@ impl Socket {
         }
     }
 
+    /// Has a read or a write fail with which nothing is done for so long; without an end where none is given.
+    pub(crate) fn set_idle(&self, idle: Option<Duration>) -> io::Result<()> {
+        match self {
+            Socket::Tcp(stream) => {
+                stream.set_read_timeout(idle)?;
+                stream.set_write_timeout(idle)
+            }
+            Socket::Unix(stream) => {
+                stream.set_read_timeout(idle)?;
+                stream.set_write_timeout(idle)
+            }
+        }
+    }
+
     /// The number of its descriptor.
     pub(crate) fn descriptor(&self) -> RawFd {
         match self {

@@ -1,0 +1,4 @@
+pub mod FirstLemmas
+pub mod WrongLemmas
+pub mod CountLaws
+pub mod OtherLaws
