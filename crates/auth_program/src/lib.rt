@@ -15,7 +15,7 @@ mod tables;
 mod task;
 mod words;
 
-pub use authd_words::{AuthdWords, read_authd_words};
+pub use authd_words::{AuthdNumbers, AuthdWords, read_authd_words};
 pub use authsrv::{serve, status_of_end};
 pub use cause::ScriptCause;
 pub use ending::Ending;

@@ -8,11 +8,11 @@ ghost use Rattle.auth_program.specs.Statuses.{is_printable};
 ghost use Rattle.auth_program.specs.Endings.{is_told};
 
 use auth_program::{
-    AuthdWords, AuthsrvWords, ClientSpawner, Ending, Random, Status, read_authd_words, read_core,
+    AuthdNumbers, AuthdWords, AuthsrvWords, ClientSpawner, Ending, Random, Status,
+    read_authd_words, read_core,
 };
 use auth_server::{AuthCore, accept_clients};
 use client_doors::{LimitedListener, SharedLimits};
-use client_limits::Limits;
 use sockets::{SocketListener, ThreadSpawner, Unstarted};
 use std::alloc::Global;
 use std::env;
@@ -20,6 +20,7 @@ use std::fs::File;
 use std::io::{self, ErrorKind, Read};
 use std::process::ExitCode;
 use std::sync::Arc;
+use std::time::Duration;
 use wire_base::{Bytes, NoMemory, Text, TextList};
 use wire_streams::{ReadSource, WriteSink, write_all};
 
@@ -113,20 +114,24 @@ fn open_core(rt: &HostRuntime, given: AuthsrvWords) -> Result<Arc<AuthCore, Glob
     }
 }
 
-// The address at which the words have it listen, and what it knows.
-fn begin(rt: &HostRuntime) -> Result<(Text, Arc<AuthCore, Global>), Status>
+// The address at which the words have it listen, how many it serves, and what it knows.
+fn begin(rt: &HostRuntime) -> Result<(Text, AuthdNumbers, Arc<AuthCore, Global>), Status>
     ensures { IfErr result (λ status. is_printable status ≡ true) }
 {
     let words = match command_words(rt) {
         Ok(words) => words,
         Err(status) => return Err(status),
     };
-    let AuthdWords { listen, given } = match read_authd_words(rt.alloc(), words.as_slice()) {
+    let AuthdWords {
+        listen,
+        numbers,
+        given,
+    } = match read_authd_words(rt.alloc(), words.as_slice()) {
         Ok(words) => words,
         Err(status) => return Err(status),
     };
     match open_core(rt, given) {
-        Ok(core) => Ok((listen, core)),
+        Ok(core) => Ok((listen, numbers, core)),
         Err(status) => Err(status),
     }
 }
@@ -135,21 +140,20 @@ fn begin(rt: &HostRuntime) -> Result<(Text, Arc<AuthCore, Global>), Status>
 type Limited = LimitedListener<HostRuntime, SocketListener<HostRuntime>, SharedLimits<HostRuntime>>;
 
 // Listens at an address, within limits.
-fn listen_within(rt: &HostRuntime, address: &Text) -> Result<Limited, Ending>
+fn listen_within(rt: &HostRuntime, address: &Text, numbers: AuthdNumbers) -> Result<Limited, Ending>
     ensures { IfErr result (λ ending. is_told ending ≡ true) }
 {
-    let limits = Limits {
-        clients: 256,
-        per_address: 16,
-    };
-    let Some(door) = SharedLimits::new(*rt, rt.alloc(), limits) else {
+    let Some(door) = SharedLimits::new(*rt, rt.alloc(), numbers.limits) else {
         return Err(Ending::Status(Status::NoMemory));
     };
     let Ok(name) = String::from_str(rt.alloc(), "authd") else {
         return Err(Ending::Status(Status::NoMemory));
     };
     match listen(rt, address) {
-        Some(listener) => Ok(LimitedListener::new(*rt, rt.alloc(), name, listener, door)),
+        Some(listener) => {
+            let listener = listener.with_idle(Duration::from_secs(u64::from(numbers.idle)));
+            Ok(LimitedListener::new(*rt, rt.alloc(), name, listener, door))
+        }
         None => Err(Ending::ListenFault),
     }
 }
@@ -169,7 +173,8 @@ fn listen(rt: &HostRuntime, address: &Text) -> Option<SocketListener<HostRuntime
 }
 
 /// The options, which stand behind the line of a faulty command line.
-const OPTIONS: &[u8] = b"    authd --listen ADDR --dom D --keys PATH --speaks PATH\n";
+const OPTIONS: &[u8] =
+    b"    authd --listen ADDR --dom D --keys PATH --speaks PATH [--idle S] [--clients N] [--per-address N]\n";
 
 // Writes the line of an ending to standard error, and behind that of a faulty command line the options.
 fn tell(rt: &HostRuntime, ending: Ending)
@@ -187,11 +192,11 @@ fn tell(rt: &HostRuntime, ending: Ending)
 
 fn main(rt: HostRuntime) -> ExitCode {
     let ending = match begin(&rt) {
-        Ok((address, core)) => match (
+        Ok((address, numbers, core)) => match (
             open_random(&rt),
             ThreadSpawner::new(rt, rt.alloc(), "authd", Unstarted::Dropped),
         ) {
-            (Ok(random), Ok(threads)) => match listen_within(&rt, &address) {
+            (Ok(random), Ok(threads)) => match listen_within(&rt, &address, numbers) {
                 Ok(mut listener) => {
                     let mut spawner = ClientSpawner::new(threads, random);
                     Ending::from(accept_clients(&rt, &core, &mut listener, &mut spawner))

@@ -26,9 +26,12 @@ impl<S, P> Admitted<S, P> {
         Admitted { source, place }
     }
 
-    /// The client's place.
-    pub fn place(&self) -> &P {
-        &self.place
+    /// What the client sends, and its place.
+    pub fn into_parts(self) -> (S, P)
+        ensures { result.0 ≡ self }
+    {
+        let Admitted { source, place } = self;
+        (source, place)
     }
 }
 

@@ -1,3 +1,4 @@
+pub mod Addresses
 pub mod Inside
 pub mod Wrongs
 pub mod Histories

@@ -13,12 +13,8 @@ pub struct Address {
 }
 
 impl Address {
-    /// The address of these bits.
-    pub fn from_bits(bits: u128) -> Address
-        ensures { result.bits ≡ bits }
-    {
-        Address { bits }
-    }
+    ghost use Rattle.std.specs.Prelude.{◌≡◌};
+    ghost use Rattle.client_limits.specs.Addresses.{bits_of};
 
     /// Its bits.
     pub fn bits(self) -> u128
@@ -28,12 +24,16 @@ impl Address {
     }
 
     /// The address of a socket. One of IPv4 is the same whether it is mapped or not.
-    pub fn new(ip: IpAddr) -> Address {
-        let bits = match ip {
-            IpAddr::V4(ip) => ip.to_ipv6_mapped().to_bits(),
-            IpAddr::V6(ip) => ip.to_bits(),
-        };
-        Address { bits }
+    #[tactic(auto, unfolding(std::specs::Net::Addr::ipv6_bits))]
+    pub fn new(ip: IpAddr) -> Address
+        ensures { result.bits ≡ bits_of ip }
+    {
+        match ip {
+            IpAddr::V4(ip) => Address {
+                bits: ip.to_ipv6_mapped().to_bits(),
+            },
+            IpAddr::V6(ip) => Address { bits: ip.to_bits() },
+        }
     }
 
     /// The address as std writes it: one of IPv4 as such.

@@ -3,7 +3,9 @@ use crate::came::Came;
 use crate::stage::words_of;
 use crate::texts::argument;
 use anyhow::bail;
-use auth_program::{AuthdWords, AuthsrvWords, Status, read_authd_words, read_authsrv_words};
+use auth_program::{
+    AuthdNumbers, AuthdWords, AuthsrvWords, Status, read_authd_words, read_authsrv_words,
+};
 use factotum_program::{GenWords, is_world, read_gen_words};
 use row_files::{Report, Row};
 use std::alloc::Global;
@@ -33,6 +35,12 @@ fn put_authd(words: &AuthdWords, came: &mut Came) -> anyhow::Result<()> {
     put_authsrv(&words.given, came)
 }
 
+fn put_numbers(numbers: AuthdNumbers, came: &mut Came) -> anyhow::Result<()> {
+    came.put_number(u64::from(numbers.idle))?;
+    came.put_number(u64::from(numbers.limits.clients))?;
+    came.put_number(u64::from(numbers.limits.per_address))
+}
+
 // Puts what is read of the words of a command.
 fn put_words(alloc: Global, command: &[u8], words: &[Text], came: &mut Came) -> anyhow::Result<()> {
     match command {
@@ -46,6 +54,10 @@ fn put_words(alloc: Global, command: &[u8], words: &[Text], came: &mut Came) -> 
         },
         b"authd" => match read_authd_words(alloc, words) {
             Ok(words) => put_authd(&words, came),
+            Err(status) => put_refusal(status, came),
+        },
+        b"authd-numbers" => match read_authd_words(alloc, words) {
+            Ok(words) => put_numbers(words.numbers, came),
             Err(status) => put_refusal(status, came),
         },
         b"world" => came.put_yes(is_world(words)),

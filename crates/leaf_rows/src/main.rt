@@ -9,6 +9,7 @@ mod counted_ring;
 mod fids;
 mod fields;
 mod framing;
+mod limits;
 mod lines;
 mod messages;
 mod nodes;
@@ -28,10 +29,11 @@ use std::alloc::Global;
 use std::fs;
 use std::process::ExitCode;
 
-static FILES: [&str; 25] = [
+static FILES: [&str; 26] = [
     "basics.rows",
     "words.rows",
     "streams.rows",
+    "limits.rows",
     "trees.rows",
     "tuples.rows",
     "requests.rows",
@@ -74,6 +76,7 @@ fn play(alloc: Global, file: &str, rows: &[Row], report: &mut Report) -> anyhow:
         "framing.rows" => framing::play(alloc, file, rows, report),
         "lines.rows" | "shown.rows" => lines::play(alloc, file, rows, report),
         "basics.rows" | "words.rows" => basics::play(alloc, file, rows, report),
+        "limits.rows" => limits::play(alloc, file, rows, report),
         "streams.rows" => streams::play(alloc, file, rows, report),
         "trees.rows" => trees::play(alloc, file, rows, report),
         _ => bail!("{file} has no player"),

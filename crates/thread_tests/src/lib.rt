@@ -25,6 +25,8 @@ mod jobs;
 #[cfg(test)]
 mod lengths;
 #[cfg(test)]
+mod limited;
+#[cfg(test)]
 mod listened;
 #[cfg(test)]
 mod noted;
