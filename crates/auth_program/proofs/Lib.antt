@@ -3,3 +3,4 @@ pub mod WordLemmas
 pub mod FileLemmas
 pub mod ServeLemmas
 pub mod TextLemmas
+pub mod LogLaws

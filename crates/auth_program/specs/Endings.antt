@@ -2,7 +2,8 @@
 use Rattle.std.specs.Prelude.{ℕ, List, [], ◌∷◌, ◌++◌, Bool, true, codes}
 use Rattle.auth_server.specs.declared.listen.ListenEnd.{ListenEnd}
 use Rattle.auth_server.specs.declared.listen.ListenEnd.TheVariants as ends
-use Rattle.auth_program.specs.Statuses.{is_printable, status_number, status_text}
+use Rattle.auth_program.specs.Statuses.{is_printable, status_number}
+use Rattle.auth_program.specs.Log.{fault_line}
 use Rattle.auth_program.specs.declared.status.Status.TheVariants as statuses
 use Rattle.auth_program.specs.declared.ending.Ending.{Ending}
 use Rattle.auth_program.specs.declared.ending.Ending.TheVariants.{Status, NoThread, ListenFault}
@@ -25,6 +26,6 @@ is_told NoThread = true
 is_told ListenFault = true
 
 abbrev pub ending_text : Ending → List ℕ
-ending_text (Status status) = status_text status
-ending_text NoThread = codes "factotum: no thread" ++ 10 ∷ []
-ending_text ListenFault = codes "factotum: listen fault" ++ 10 ∷ []
+ending_text (Status status) = fault_line status
+ending_text NoThread = codes "authd: no thread" ++ 10 ∷ []
+ending_text ListenFault = codes "authd: listen fault" ++ 10 ∷ []

@@ -5,5 +5,6 @@ pub mod Serving
 pub mod Cores
 pub mod Tabling
 pub mod Reading
+pub mod Log
 pub mod Endings
 pub mod AuthdWords

@@ -3,7 +3,8 @@ ghost use Rattle.std.specs.Prelude.{◌≡◌, ◌++◌, OnOk, OnErr, true};
 ghost use Rattle.auth_program.specs.Statuses.{is_printable};
 ghost use Rattle.auth_program.specs.Endings.{ending_number, ending_text, is_told, of_listening};
 
-use crate::status::{Status, print_status};
+use crate::log::print_fault;
+use crate::status::Status;
 use auth_server::ListenEnd;
 use std::alloc::Global;
 use wire_base::{Bytes, NoMemory};
@@ -53,16 +54,16 @@ impl Ending {
         }
     }
 
-    /// Appends its line for standard error.
+    /// Appends its line for standard error: nothing where it is fine.
     pub fn print(&self, alloc: Global, out: &mut Bytes) -> Result<(), NoMemory>
         requires { is_told self.now ≡ true }
         ensures ok { OnOk result (out.new ≡ out.old ++ ending_text self.now) }
         ensures err { OnErr result (out.new ≡ out.old) }
     {
         match self {
-            Ending::Status(status) => print_status(alloc, status, out),
-            Ending::NoThread => out.append(b"factotum: no thread\n"),
-            Ending::ListenFault => out.append(b"factotum: listen fault\n"),
+            Ending::Status(status) => print_fault(alloc, status, out),
+            Ending::NoThread => out.append(b"authd: no thread\n"),
+            Ending::ListenFault => out.append(b"authd: listen fault\n"),
         }
     }
 }

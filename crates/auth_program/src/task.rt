@@ -3,23 +3,30 @@ ghost use Rattle.std.specs.Prelude.{◌≡◌, true};
 ghost use Rattle.auth_program.specs.Statuses.{is_printable};
 
 use crate::authsrv::status_of_end;
-use crate::status::{Status, print_status};
-use auth_server::AuthJob;
+use crate::log::{print_client_end, print_notice};
+use crate::random::{Random, RandomWords};
+use crate::status::Status;
+use auth_server::{AuthEnd, AuthJob, Log, Notice, Outcome, serve_auth_noting};
+use client_doors::{Admitted, Place};
+use client_limits::{Address, HasAddress};
 use sockets::Job;
 use std::alloc::Global;
-use std::fs::{File, Files};
-use std::io::{self, Eprint, ErrorKind, Read};
+use std::io::Eprint;
 use std::marker::Model;
-use wire_base::Bytes;
-use wire_streams::{NoStart, ReadSource, ReadWords, Sink, Source, Spawner};
+use std::sync::Wait;
+use std::thread;
+use std::time::{Clock, Duration};
+use wire_base::{Bytes, Name, NoMemory};
+use wire_streams::{NoStart, Sink, Source, Spawner};
 
-/// Where words are drawn from.
-const RANDOM: &str = "/dev/urandom";
+/// How many seconds the answer to a client waits behind a wrong one.
+const PAUSE: u64 = 1;
 
-/// A client whose end is told on standard error, but for one that is fine.
+/// A client of whose requests, and of whose end, unless that is fine, standard error is told.
 #[derive(Drop)]
 pub struct ClientTask<I, O> {
     job: AuthJob<I, O>,
+    random: Option<Random>,
 }
 
 impl<I, O> Model for ClientTask<I, O> {
@@ -30,48 +37,127 @@ impl<I, O> Model for ClientTask<I, O> {
     ghost view = { λ task. task.job };
 }
 
-/// A file; each read of one that couldn't be opened fails.
-#[derive(Drop)]
-enum Opened<F> {
-    File(F),
-    Shut,
+impl<R, I, O> Job<R> for ClientTask<Admitted<I, Place<R>>, O>
+where
+    R: Wait + Clock + Eprint + AllocGlobal + Drop,
+    I: Source + HasAddress + Drop,
+    O: Sink + Drop,
+{
+    fn run(self, rt: &R) {
+        let ClientTask { job, random } = self;
+        let (core, source, mut sink) = job.into_parts();
+        let (mut source, place) = source.into_parts();
+        let alloc = rt.alloc();
+        let address = address_text(alloc, source.address());
+        let mut log = ClientLog {
+            rt,
+            place: &place,
+            address: &address,
+            was_wrong: false,
+        };
+        let end = match words_of(alloc, random) {
+            Ok(mut words) => serve_auth_noting(
+                alloc,
+                &core,
+                &mut source,
+                &mut sink,
+                &mut words,
+                &mut log,
+            ),
+            Err(NoMemory) => AuthEnd::NoMemory,
+        };
+        tell_end(rt, alloc, &address, &status_of_end(end));
+    }
 }
 
-impl<F: Read> Read for Opened<F> {
-    fn read(&mut self, buf: &mut [u8]) -> io::Result<usize> {
-        match self {
-            Opened::File(file) => file.read(buf),
-            Opened::Shut => Err(ErrorKind::NotFound.into()),
+// The words that a client's answers are made with.
+fn words_of(alloc: Global, random: Option<Random>) -> Result<RandomWords, NoMemory> {
+    match random {
+        Some(random) => random.words(alloc),
+        None => Err(NoMemory),
+    }
+}
+
+// An address as a line shows it: `unix` where there is none, and `?` where there is no memory for its text.
+fn address_text(alloc: Global, address: Option<Address>) -> Name<48> {
+    let text = match address {
+        Some(address) => match format!(in alloc; "{}", address.ip()) {
+            Ok(text) => Name::from_text(text.as_bytes()),
+            Err(_) => None,
+        },
+        None => Name::from_text(b"unix"),
+    };
+    match text {
+        Some(text) => text,
+        None => unknown(),
+    }
+}
+
+// An address that isn't known.
+fn unknown() -> Name<48> {
+    let Some(name) = Name::from_text(b"?") else {
+        unreachable!();
+    };
+    name
+}
+
+/// Tells standard error what came of each request, and has a client that guesses wait.
+#[derive(Drop)]
+struct ClientLog<'a, R: Wait + Drop> {
+    rt: &'a R,
+    place: &'a Place<R>,
+    address: &'a Name<48>,
+    was_wrong: bool,
+}
+
+impl<R: Wait + Clock + Eprint + AllocGlobal + Drop> ClientLog<'_, R> {
+    // How long the answer to a client waits that has answered a challenge: for as long as its address does, and behind a wrong
+    // answer for a second at least. A wrong one is remembered.
+    fn pause(&mut self, is_wrong: bool) -> Duration {
+        let others = self.place.wait();
+        if is_wrong {
+            self.place.note_wrong();
+        }
+        let own = Duration::from_secs(if self.was_wrong { PAUSE } else { 0 });
+        self.was_wrong = is_wrong;
+        others.max(own)
+    }
+}
+
+impl<R: Wait + Clock + Eprint + AllocGlobal + Drop> Log for ClientLog<'_, R> {
+    ghost use Rattle.std.specs.Prelude.{None};
+
+    ghost noted = { λ _. None };
+
+    fn note(&mut self, notice: &Notice) {
+        let mut line = Bytes::new(self.rt.alloc());
+        if print_notice(self.address, notice, &mut line).is_ok() {
+            tell(self.rt, &line);
+        }
+        if let Notice::Judged {
+            outcome: outcome @ (Outcome::Vouched | Outcome::Wrong),
+            ..
+        } = notice
+        {
+            let pause = self.pause(*outcome == Outcome::Wrong);
+            thread::sleep(self.rt, pause);
         }
     }
 }
 
-impl<R, I, O> Job<R> for ClientTask<I, O>
-where
-    R: Files + Eprint + AllocGlobal,
-    I: Source + Drop,
-    O: Sink + Drop,
-{
-    fn run(self, rt: &R) {
-        let ClientTask { mut job } = self;
-        let random = match File::open(rt, RANDOM) {
-            Ok(file) => Opened::File(file),
-            Err(_) => Opened::Shut,
-        };
-        let mut words = ReadWords::new(ReadSource::new(random));
-        let end = job.serve(rt.alloc(), &mut words);
-        tell(rt, rt.alloc(), &status_of_end(end));
-    }
-}
-
-// Writes a status's line to standard error.
-fn tell<R: Eprint>(rt: &R, alloc: Global, status: &Status)
+// Writes the line of a client's end to standard error.
+fn tell_end<R: Eprint>(rt: &R, alloc: Global, address: &Name<48>, status: &Status)
     requires { is_printable status.now ≡ true }
 {
     let mut line = Bytes::new(alloc);
-    if print_status(alloc, status, &mut line).is_ok()
-        && let Ok(text) = std::str::from_utf8(line.as_slice())
-    {
+    if print_client_end(alloc, address, status, &mut line).is_ok() {
+        tell(rt, &line);
+    }
+}
+
+// Writes a line to standard error, by one write. Where that is closed, or fails, nothing is lost but the line.
+fn tell<R: Eprint>(rt: &R, line: &Bytes) {
+    if let Ok(text) = std::str::from_utf8(line.as_slice()) {
         let _ = rt.eprint(text);
     }
 }
@@ -80,14 +166,15 @@ fn tell<R: Eprint>(rt: &R, alloc: Global, status: &Status)
 #[derive(Drop)]
 pub struct ClientSpawner<P> {
     inner: P,
+    random: Random,
 }
 
 impl<P> ClientSpawner<P> {
-    /// A spawner that hands each client on as its task.
-    pub fn new(inner: P) -> ClientSpawner<P>
+    /// A spawner that hands each client on as its task. The words of all are drawn from one file.
+    pub fn new(inner: P, random: Random) -> ClientSpawner<P>
         ensures { result.inner ≡ inner }
     {
-        ClientSpawner { inner }
+        ClientSpawner { inner, random }
     }
 }
 
@@ -99,6 +186,7 @@ impl<I, O, P: Spawner<ClientTask<I, O>>> Spawner<AuthJob<I, O>> for ClientSpawne
     ghost faults = { λ spawner. P.faults spawner.inner };
 
     fn spawn(&mut self, job: AuthJob<I, O>) -> Result<(), NoStart> {
-        self.inner.spawn(ClientTask { job })
+        let random = self.random.share();
+        self.inner.spawn(ClientTask { job, random })
     }
 }

@@ -10,3 +10,4 @@ pub mod CompleteLaws
 pub mod SpentLaws
 pub mod GrantLaws
 mod ListenLemmas
+pub mod NoticeLaws

@@ -7,13 +7,19 @@ use Rattle.auth_server.specs.Requests.{Asked, Challenge, is_for, is_mail, is_ser
 use Rattle.auth_server.specs.Answers.{Knowledge}
 use Rattle.auth_server.specs.Standing.{Standing, StandsFor}
 use Rattle.auth_server.specs.Sessions.{bytes_of}
-use Rattle.auth_server.specs.Serving.{EndsWhole, Moment, most_input}
-use Rattle.auth_server.specs.Steps.{HasAnswered, Incoming, Received}
+use Rattle.auth_server.specs.Serving.{Moment, most_input}
+use Rattle.auth_server.specs.Notices.{EndsNoted, notices_of}
+use Rattle.auth_server.specs.Steps.{EndsBehind, HasAnswered, Incoming, Received}
+use Rattle.auth_server.specs.declared.serve.AuthEnd.{AuthEnd}
+use Rattle.auth_server.specs.declared.serve.AuthEnd.TheVariants as e
+use Rattle.auth_server.specs.declared.log.Notice.{Notice}
+use Rattle.wire_streams.specs.Spawning.{Gains as Tells}
+use Rattle.auth_server.proofs.ListenLemmas.{Gains-nil as Tells-nil}
 use Rattle.auth_server.proofs.DrawLemmas.{none_drawn}
 
 -- before the first request
-pub none_answered : (known : Knowledge) (now : Moment) (session : Standing) (incoming : Incoming) → StandsFor known [] session → incoming.at ≡ 0 → HasAnswered known now now incoming.at session
-none_answered known now session incoming stands first = record {
+pub none_answered : (known : Knowledge) (now : Moment) (log : Option (List Notice)) (session : Standing) (incoming : Incoming) → StandsFor known [] session → incoming.at ≡ 0 → HasAnswered known now now log log incoming.at session
+none_answered known now log session incoming stands first = record {
   requests = [];
   received = record {
     answers = record {
@@ -24,7 +30,12 @@ none_answered known now session incoming stands first = record {
     stands = stands;
     place = first;
   };
+  noted = Tells-nil log;
 }
+
+-- an end behind requests that were noted
+pub noted_behind : (known : Knowledge) (end : AuthEnd) (before now : Moment) (requests : List Asked) (log later : Option (List Notice)) → EndsBehind known end before now requests → Tells log later (notices_of known requests) → EndsNoted known end before now log later
+noted_behind known end before now requests log later e t = record { ends = e.ends; noted = subst (λ (judged : List Asked). Tells log later (notices_of known judged)) (sym e.judged) t }
 
 -- what is known of an incoming request is known of its parts
 pub at_parts : (known : Knowledge) (before now : Moment) (requests : List Asked) (session : Standing) (incoming : Incoming) (at : ℕ) (bytes : List ℕ) → incoming.at ≡ at → incoming.bytes ≡ bytes → Received known before now requests session incoming → Received known before now requests session (record { at = at; bytes = bytes })
@@ -36,10 +47,10 @@ at_parts known before now requests session incoming at bytes place is h = record
 }
 
 -- the input ended before another request
-pub ends_whole : (known : Knowledge) (before now : Moment) (requests : List Asked) (session : Standing) (incoming : Incoming) → Received known before now requests session incoming → incoming.bytes ≡ [] → IsAtEnd now.left → incoming.at + length incoming.bytes ≤ most_input → EndsWhole known before now
+pub ends_whole : (known : Knowledge) (before now : Moment) (requests : List Asked) (session : Standing) (incoming : Incoming) → Received known before now requests session incoming → incoming.bytes ≡ [] → IsAtEnd now.left → incoming.at + length incoming.bytes ≤ most_input → EndsBehind known e.End before now requests
 ends_whole known before now requests session incoming h none at_end few =
     let parts = at_parts known before now requests session incoming incoming.at [] refl none h in
-    record { requests = requests; answers = parts.answers; goes_on = parts.goes_on; at_end = at_end; few = omega (arith, few, parts.place) }
+    record { ends = record { requests = requests; answers = parts.answers; goes_on = parts.goes_on; at_end = at_end; few = omega (arith, few, parts.place) }; judged = refl }
 
 -- a request has some bytes
 some_needed : (served second : Bool) (n : ℕ) → cond served (Some (cond second 173 141)) None ≡ Some n → 0 < n

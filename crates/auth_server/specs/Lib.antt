@@ -5,3 +5,4 @@ pub mod Sessions
 pub mod Serving
 pub mod Steps
 pub mod Clients
+pub mod Notices

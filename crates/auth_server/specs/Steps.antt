@@ -13,7 +13,10 @@ use Rattle.auth_server.specs.Requests.{Asked, kind_of, needed}
 use Rattle.auth_server.specs.Answers.{Knowledge, held_after, held_mail, is_over, judged, wrong_by, wrong_mail}
 use Rattle.auth_server.specs.Standing.{Standing, StandsFor}
 use Rattle.auth_server.specs.Sessions.{IsUnfinished, bytes_of}
-use Rattle.auth_server.specs.Serving.{Moment, Answers}
+use Rattle.auth_server.specs.Serving.{Moment, Answers, EndsSo}
+use Rattle.auth_server.specs.Notices.{judged_by, notices_of}
+use Rattle.auth_server.specs.declared.log.Notice.{Notice}
+use Rattle.wire_streams.specs.Spawning.{Gains}
 
 -- what a request makes of a session, by what is read of it: what is held after it, and its wrong answers more
 pub record Moves (known : Knowledge) (asked : Asked) (old new : Standing) (read : Result TicketReq FieldFault) : Type 0 where
@@ -59,7 +62,13 @@ IsReadEnd end = (end ≡ e.WriteFault → ⊥) × (end ≡ e.WordFault → ⊥) 
 abbrev pub IsAnswerEnd : AuthEnd → Type 0
 IsAnswerEnd end = (end ≡ e.ReadFault → ⊥) × (end ≡ e.End → ⊥)
 
--- some requests were answered, and the next begins at a place
-pub record HasAnswered (known : Knowledge) (before now : Moment) (at : ℕ) (session : Standing) : Type 0 where
+-- a server ended so, and these are the requests that it judged
+pub record EndsBehind (known : Knowledge) (end : AuthEnd) (before now : Moment) (requests : List Asked) : Type 0 where
+  pub ends : EndsSo known end before now
+  pub judged : judged_by known end before now ends ≡ requests
+
+-- some requests were answered, what came of each was noted, and the next begins at a place
+pub record HasAnswered (known : Knowledge) (before now : Moment) (log later : Option (List Notice)) (at : ℕ) (session : Standing) : Type 0 where
   pub requests : List Asked
   pub received : Received known before now requests session (record { at = at; bytes = [] })
+  pub noted : Gains log later (notices_of known requests)

@@ -37,6 +37,14 @@ impl<I, O> AuthJob<I, O> {
     {
         AuthJob { core, source, sink }
     }
+
+    /// What the server knows, what the client sends, and what is sent to it.
+    pub fn into_parts(self) -> (Arc<AuthCore, Global>, I, O)
+        ensures { client (arc_value result.0) result.1 result.2 ≡ self }
+    {
+        let AuthJob { core, source, sink } = self;
+        (core, source, sink)
+    }
 }
 
 impl<I: Source, O: Sink> AuthJob<I, O> {

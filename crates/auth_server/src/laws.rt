@@ -5,6 +5,8 @@ ghost use Rattle.sealing.specs.Request.{request_of};
 ghost use Rattle.wire_base.specs.Kinds.{ticket_request};
 ghost use Rattle.auth_server.specs.Requests.{Asked};
 ghost use Rattle.auth_server.specs.Answers.{HasKeys, HasWords, IsGrant, Knowledge, answer};
+ghost use Rattle.auth_server.specs.Notices.{IsUnderKeys, LacksKeys, outcome_of_ticket};
+ghost use Rattle.auth_server.specs.declared.log.Outcome.TheVariants.{Granted, Refused};
 ghost use Rattle.auth_server.specs.Sessions.{GoesOnFrom, IsSession, bytes_of, words_of};
 
 /// A client's bytes and the words that are drawn make one session: of two that stand at the front of the same bytes and
@@ -24,4 +26,13 @@ pub fn every_ticket_request_gets_two_tickets()
         → HasKeys known → HasWords asked.words
         → request_of asked.request ≡ Ok r → r.kind ≡ ticket_request
         → IsGrant r asked.words (answer known before asked) }
+{}
+
+/// A ticket request that is noted as granted is answered by two tickets under keys of the table, for a host that may speak for
+/// the user. One that is noted as refused lacks something of that.
+pub fn what_is_noted_of_a_grant_is_so()
+    ensures granted { (known : Knowledge) (words : List (List ℕ)) (r : TicketReq)
+        → outcome_of_ticket known r ≡ Granted → IsUnderKeys known words r }
+    ensures refused { (known : Knowledge) (r : TicketReq)
+        → outcome_of_ticket known r ≡ Refused → LacksKeys known r }
 {}

@@ -7,11 +7,15 @@ ghost use Rattle.auth_server.specs.Requests.{Asked, asked_so, kind_of, needed};
 ghost use Rattle.auth_server.specs.Answers.{most_wrong};
 ghost use Rattle.auth_server.specs.Standing.{knowledge};
 ghost use Rattle.auth_server.specs.Sessions.{DrawsAll, DrawsFew, IsPart, IsUnfinished};
+ghost use Rattle.wire_streams.specs.Spawning.{Gains as Notes};
+ghost use Rattle.auth_server.specs.Notices.{EndsNoted, notices_of};
+ghost use Rattle.auth_server.specs.declared.log.Notice.{Notice};
 ghost use Rattle.auth_server.specs.Serving.{EndsSo, IsServable, IsSpent, Moment, moment, most_input};
-ghost use Rattle.auth_server.specs.Steps.{HasAnswered, IsAnswerEnd, IsReadEnd, Progressed, Received};
+ghost use Rattle.auth_server.specs.Steps.{EndsBehind, HasAnswered, IsAnswerEnd, IsReadEnd, Progressed, Received};
 ghost use Rattle.auth_server.specs.declared.serve.Progress.TheVariants.{Whole, Part, Ended};
 
 use crate::incoming::Incoming;
+use crate::log::{Log, NoLog};
 use crate::server::AuthCore;
 use crate::session::{AsStep, Session};
 use std::alloc::Global;
@@ -164,7 +168,8 @@ fn read_piece<R: Source>(
         (requests : List Asked)
         → Received (knowledge core.now) before (moment (R.left source.old) words holds)
         requests session.now incoming.old
-        → EndsSo (knowledge core.now) end before (moment (R.left source.new) words holds)) }
+        → EndsBehind (knowledge core.now) end before (moment (R.left source.new) words holds)
+        requests) }
     ensures cause { result ≡ Err AuthEnd.ReadFault
         → Rose (R.faults source.old) (R.faults source.new) }
     ensures others { IfErr result IsReadEnd }
@@ -207,7 +212,8 @@ fn read_request<R: Source>(
         (requests : List Asked)
         → Received (knowledge core.now) before (moment (R.left source.old) words holds)
         requests session.now incoming.old
-        → EndsSo (knowledge core.now) end before (moment (R.left source.new) words holds)) }
+        → EndsBehind (knowledge core.now) end before (moment (R.left source.new) words holds)
+        requests) }
     ensures cause { result ≡ Err AuthEnd.ReadFault
         → Rose (R.faults source.old) (R.faults source.new) }
     ensures others { IfErr result IsReadEnd }
@@ -238,32 +244,37 @@ fn draw_words<G: Words>(words: &mut G) -> Result<[[u8; 8]; 3], AuthEnd>
     Ok([first, second, third])
 }
 
-// Answers a request that is whole.
-fn answer_request<W: Sink, G: Words>(
+// Answers a request that is whole, and notes what came of it.
+fn answer_request<W: Sink, G: Words, L: Log>(
     core: &AuthCore,
     session: &mut Session,
     request: &[u8],
     words: &mut G,
     sink: &mut W,
+    log: &mut L,
     out: &mut Bytes,
 ) -> Result<(), AuthEnd>
     requires whole { needed session.old.held (kind_of request.now) ≡ Some (length request.now) }
     requires goes_on { session.old.wrong < most_wrong }
     ensures answered { OnOk result
         ((before : Moment) (left : Option (List ℕ)) (at : ℕ) (requests : List Asked)
+        (noted : Option (List Notice))
         → Received (knowledge core.now) before
         (moment left (G.to_come words.old) (W.holds sink.old)) requests session.old
         (record { at = at; bytes = request.now })
+        → Notes noted (L.noted log.old) (notices_of (knowledge core.now) requests)
         → HasAnswered (knowledge core.now) before
-        (moment left (G.to_come words.new) (W.holds sink.new)) (at
+        (moment left (G.to_come words.new) (W.holds sink.new)) noted (L.noted log.new) (at
         + length request.now) session.new) }
     ensures err { IfErr result
         (λ end. (before : Moment) (left : Option (List ℕ)) (at : ℕ) (requests : List Asked)
+        (noted : Option (List Notice))
         → Received (knowledge core.now) before
         (moment left (G.to_come words.old) (W.holds sink.old)) requests session.old
         (record { at = at; bytes = request.now })
-        → EndsSo (knowledge core.now) end before
-        (moment left (G.to_come words.new) (W.holds sink.new))) }
+        → Notes noted (L.noted log.old) (notices_of (knowledge core.now) requests)
+        → EndsNoted (knowledge core.now) end before
+        (moment left (G.to_come words.new) (W.holds sink.new)) noted (L.noted log.new)) }
     ensures others { IfErr result IsAnswerEnd }
     ensures write_fault { result ≡ Err AuthEnd.WriteFault
         → Rose (W.faults sink.old) (W.faults sink.new) }
@@ -273,8 +284,10 @@ fn answer_request<W: Sink, G: Words>(
     ensures counted_words { G.faults words.old ≤ G.faults words.new }
 {
     let drawn = draw_words(words)?;
+    let notice = core.notice(session, request);
     out.clear();
     let step = core.step(session, request, &drawn, out)?;
+    log.note(&notice);
     write_all(out.as_slice(), sink)?;
     match step {
         AsStep::Replied => Ok(()),
@@ -283,20 +296,23 @@ fn answer_request<W: Sink, G: Words>(
 }
 
 // Answers requests until the input ends.
-fn serve_requests<R: Source, W: Sink, G: Words>(
+fn serve_requests<R: Source, W: Sink, G: Words, L: Log>(
     alloc: Global,
     core: &AuthCore,
     source: &mut R,
     sink: &mut W,
     words: &mut G,
+    log: &mut L,
 ) -> Result<(), AuthEnd>
-    ensures end { OnOk result (EndsSo (knowledge core.now) AuthEnd.End
+    ensures end { OnOk result (EndsNoted (knowledge core.now) AuthEnd.End
         (moment (R.left source.old) (G.to_come words.old) (W.holds sink.old))
-        (moment (R.left source.new) (G.to_come words.new) (W.holds sink.new))) }
+        (moment (R.left source.new) (G.to_come words.new) (W.holds sink.new))
+        (L.noted log.old) (L.noted log.new)) }
     ensures err { IfErr result
-        (λ end. EndsSo (knowledge core.now) end
+        (λ end. EndsNoted (knowledge core.now) end
         (moment (R.left source.old) (G.to_come words.old) (W.holds sink.old))
-        (moment (R.left source.new) (G.to_come words.new) (W.holds sink.new))) }
+        (moment (R.left source.new) (G.to_come words.new) (W.holds sink.new))
+        (L.noted log.old) (L.noted log.new)) }
     ensures others { IfErr result (λ end. end ≡ AuthEnd.End → ⊥) }
     ensures read_fault { result ≡ Err AuthEnd.ReadFault
         → Rose (R.faults source.old) (R.faults source.new) }
@@ -318,6 +334,7 @@ fn serve_requests<R: Source, W: Sink, G: Words>(
             incoming.as_slice(),
             words,
             sink,
+            log,
             &mut out,
         )?;
         incoming.next();
@@ -325,17 +342,22 @@ fn serve_requests<R: Source, W: Sink, G: Words>(
     Ok(())
 }
 
-// One client; that what is servable is served to its end follows from these clauses.
-fn serve_client<R: Source, W: Sink, G: Words>(
+/// The same as `serve_auth`, and what came of each request is noted. That what is servable is served to its end follows from
+/// these clauses.
+pub fn serve_auth_noting<R: Source, W: Sink, G: Words, L: Log>(
     alloc: Global,
     core: &AuthCore,
     source: &mut R,
     sink: &mut W,
     words: &mut G,
+    log: &mut L,
 ) -> AuthEnd
-    ensures ends { EndsSo (knowledge core.now) result
+    ensures ends { EndsNoted (knowledge core.now) result
         (moment (R.left source.old) (G.to_come words.old) (W.holds sink.old))
-        (moment (R.left source.new) (G.to_come words.new) (W.holds sink.new)) }
+        (moment (R.left source.new) (G.to_come words.new) (W.holds sink.new))
+        (L.noted log.old) (L.noted log.new) }
+
+    // A fault comes only where the count of its object rose, and no count falls.
     ensures read_fault { result ≡ AuthEnd.ReadFault
         → Rose (R.faults source.old) (R.faults source.new) }
     ensures write_fault { result ≡ AuthEnd.WriteFault
@@ -346,7 +368,7 @@ fn serve_client<R: Source, W: Sink, G: Words>(
     ensures counted_writes { W.faults sink.old ≤ W.faults sink.new }
     ensures counted_words { G.faults words.old ≤ G.faults words.new }
 {
-    match serve_requests(alloc, core, source, sink, words) {
+    match serve_requests(alloc, core, source, sink, words, log) {
         Ok(()) => AuthEnd::End,
         Err(end) => end,
     }
@@ -392,5 +414,5 @@ pub fn serve_auth<R: Source, W: Sink, G: Words>(
         → (Rose (G.faults words.old) (G.faults words.new) → ⊥)
         → (result ≡ AuthEnd.TooManyWrong) ⊎ (result ≡ AuthEnd.NoMemory) }
 {
-    serve_client(alloc, core, source, sink, words)
+    serve_auth_noting(alloc, core, source, sink, words, &mut NoLog)
 }

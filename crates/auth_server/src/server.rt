@@ -1,4 +1,5 @@
 // The server as a function of a session's requests, without the outside.
+use crate::log::{Notice, Outcome};
 use crate::records::{
     give_challenge, refuse, word_key, write_challenge, write_tickets, write_vouch,
 };
@@ -41,6 +42,7 @@ impl AuthCore {
     ghost use Rattle.auth_server.specs.Requests.{Asked, asked_so, kind_of, needed};
     ghost use Rattle.auth_server.specs.Answers.{answer, answer_to, are_digits, grant, granted_key, is_over, judged, mail_answer, most_wrong, password_of, vouch};
     ghost use Rattle.sealing.specs.Request.{request_of};
+    ghost use Rattle.auth_server.specs.Notices.{is_granted, notice_of, outcome_of};
     ghost use Rattle.auth_server.specs.Standing.{StandsFor, knowledge};
     ghost use Rattle.auth_server.specs.Steps.{MailMoves, Moves};
 
@@ -63,6 +65,51 @@ impl AuthCore {
             AUTH_APOP | AUTH_CRAM => Some(REQUEST_BYTES),
             _ => None,
         }
+    }
+
+    /// What an observer is told of the next request of a session. It takes no memory.
+    pub fn notice(&self, session: &Session, request: &[u8]) -> Notice
+        requires { 0 < length request.now }
+        ensures { (words : List (List ℕ)) → result ≡ notice_of (knowledge self.now)
+            (asked_so request.now words) session.now.held (request_of request.now) }
+    {
+        match read_req(request) {
+            Ok(asked) => Notice::Judged {
+                asked,
+                outcome: self.outcome(session, &asked, request),
+            },
+            Err(_) => Notice::Bad { kind: request[0] },
+        }
+    }
+
+    // What comes of a request.
+    fn outcome(&self, session: &Session, asked: &TicketReq, request: &[u8]) -> Outcome
+        requires { 141 ≤ length request.now }
+        ensures { (words : List (List ℕ)) → result ≡ outcome_of (knowledge self.now)
+            (asked_so request.now words) session.now.held asked.now }
+    {
+        if asked.kind == AUTH_TREQ {
+            return if self.is_granted(asked) {
+                Outcome::Granted
+            } else {
+                Outcome::Refused
+            };
+        }
+        match self.judge(session, asked, request) {
+            Verdict::First => Outcome::Challenged,
+            Verdict::Right => Outcome::Vouched,
+            Verdict::Wrong => Outcome::Wrong,
+        }
+    }
+
+    // Whether no key of the tickets is made up.
+    fn is_granted(&self, asked: &TicketReq) -> bool
+        ensures { result ≡ is_granted (knowledge self.now) asked.now }
+    {
+        self.speaks
+            .speaks_for(asked.hostid.text(), asked.uid.text())
+            && self.keys.find(asked.hostid.text()).is_some()
+            && self.keys.find(asked.authid.text()).is_some()
     }
 
     /// Appends the answer to the next request of a session, for which three words were drawn. Where memory runs out,

@@ -8,8 +8,8 @@ ghost use Rattle.auth_program.specs.Statuses.{is_printable};
 ghost use Rattle.auth_program.specs.Endings.{is_told};
 
 use auth_program::{
-    AuthdNumbers, AuthdWords, AuthsrvWords, ClientSpawner, Ending, Status, read_authd_words,
-    read_core,
+    AuthdNumbers, AuthdWords, AuthsrvWords, ClientSpawner, Ending, Random, Status,
+    read_authd_words, read_core,
 };
 use auth_server::{AuthCore, accept_clients};
 use client_doors::{LimitedListener, SharedLimits};
@@ -21,8 +21,11 @@ use std::io::{self, ErrorKind, Read};
 use std::process::ExitCode;
 use std::sync::Arc;
 use std::time::Duration;
-use wire_base::{Bytes, Text, TextList};
+use wire_base::{Bytes, NoMemory, Text, TextList};
 use wire_streams::{ReadSource, WriteSink, write_all};
+
+/// Where words are drawn from.
+const RANDOM: &str = "/dev/urandom";
 
 /// A file; each read of one that couldn't be opened fails.
 #[derive(Drop)]
@@ -41,10 +44,10 @@ impl Read for Opened {
 }
 
 // Writes a line to standard error: what happened to a file or an address, and its name.
-fn tell_of(rt: &HostRuntime, what: &[u8], name: &Text) {
+fn tell_of(rt: &HostRuntime, what: &[u8], name: &[u8]) {
     let mut errors = WriteSink::new(rt.stderr());
     let _ = write_all(what, &mut errors);
-    let _ = write_all(name.as_slice(), &mut errors);
+    let _ = write_all(name, &mut errors);
     let _ = write_all(b"\n", &mut errors);
 }
 
@@ -55,8 +58,19 @@ fn open(rt: &HostRuntime, path: &Text) -> Opened {
             return Opened::File(file);
         }
     }
-    tell_of(rt, b"authd: can't open ", path);
+    tell_of(rt, b"authd: can't open ", path.as_slice());
     Opened::Shut
+}
+
+// Opens the file that the words of all clients are drawn from; where it can't be opened that is told on standard error.
+fn open_random(rt: &HostRuntime) -> Result<Random, NoMemory> {
+    match File::open(rt, RANDOM) {
+        Ok(file) => Random::new(rt.alloc(), Some(file)),
+        Err(_) => {
+            tell_of(rt, b"authd: can't open ", RANDOM.as_bytes());
+            Random::new(rt.alloc(), None)
+        }
+    }
 }
 
 // The words behind the program's name. Words that aren't text are a faulty command line.
@@ -148,11 +162,11 @@ fn listen_within(rt: &HostRuntime, address: &Text, numbers: AuthdNumbers) -> Res
 fn listen(rt: &HostRuntime, address: &Text) -> Option<SocketListener<HostRuntime>> {
     match SocketListener::open(*rt, rt.alloc(), address, None) {
         Ok(listener) => {
-            tell_of(rt, b"authd: listening on ", address);
+            tell_of(rt, b"authd: listening on ", address.as_slice());
             Some(listener)
         }
         Err(_) => {
-            tell_of(rt, b"authd: can't listen on ", address);
+            tell_of(rt, b"authd: can't listen on ", address.as_slice());
             None
         }
     }
@@ -178,20 +192,19 @@ fn tell(rt: &HostRuntime, ending: Ending)
 
 fn main(rt: HostRuntime) -> ExitCode {
     let ending = match begin(&rt) {
-        Ok((address, numbers, core)) => match ThreadSpawner::new(
-            rt,
-            rt.alloc(),
-            "authd",
-            Unstarted::Dropped,
+        Ok((address, numbers, core)) => match (
+            open_random(&rt),
+            ThreadSpawner::new(rt, rt.alloc(), "authd", Unstarted::Dropped),
         ) {
-            Ok(threads) => match listen_within(&rt, &address, numbers) {
+            (Ok(random), Ok(threads)) => match listen_within(&rt, &address, numbers) {
                 Ok(mut listener) => {
-                    let mut spawner = ClientSpawner::new(threads);
+                    let mut spawner = ClientSpawner::new(threads, random);
                     Ending::from(accept_clients(&rt, &core, &mut listener, &mut spawner))
                 }
                 Err(ending) => ending,
             },
-            Err(_) => Ending::NoThread,
+            (Err(_), Ok(_)) => Ending::Status(Status::NoMemory),
+            (_, Err(_)) => Ending::NoThread,
         },
         Err(status) => Ending::Status(status),
     };

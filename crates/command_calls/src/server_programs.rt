@@ -4,6 +4,7 @@ ghost use Rattle.attr_tuples.specs.Forms.{is_dom};
 ghost use Rattle.auth_program.specs.AuthdWords.{IsAuthd, IsUnreadAuthd};
 ghost use Rattle.auth_program.specs.Cores.{HasCore, StopsEarly};
 ghost use Rattle.auth_program.specs.Files.{ReadsFile, StopsSo};
+ghost use Rattle.auth_program.specs.Log.{IsLine, end_line, fault_line, notice_line};
 ghost use Rattle.auth_program.specs.Serving.{ServesSo, outside};
 ghost use Rattle.auth_program.specs.Statuses.{is_printable, status_number, status_text};
 ghost use Rattle.auth_program.specs.Words.{is_value, IsAuthsrv, IsUnreadAuthsrv};
@@ -13,9 +14,9 @@ ghost use Rattle.wire_streams.specs.Causes.{Rose};
 
 use attr_tuples::is_dom;
 use auth_program::{AuthdWords, AuthsrvWords, Status};
-use auth_server::AuthCore;
+use auth_server::{AuthCore, Notice};
 use std::alloc::Global;
-use wire_base::{Bytes, NoMemory, Text};
+use wire_base::{Bytes, Name, NoMemory, Text};
 use wire_streams::{Sink, Source, Words};
 
 /// As `read_authd_words`.
@@ -124,4 +125,40 @@ pub fn read_authsrv_words(alloc: Global, words: &[Text]) -> Result<AuthsrvWords,
     ensures printable { IfErr result (λ status. is_printable status ≡ true) }
 {
     auth_program::read_authsrv_words(alloc, words)
+}
+
+/// As `print_notice`.
+pub fn print_notice(
+    address: &Name<48>,
+    notice: &Notice,
+    out: &mut Bytes,
+) -> Result<(), NoMemory>
+    ensures ok { OnOk result (out.new ≡ out.old ++ notice_line address.now notice.now) }
+    ensures line { OnOk result (IsLine (notice_line address.now notice.now)) }
+    ensures err { OnErr result (out.new ≡ out.old) }
+{
+    auth_program::print_notice(address, notice, out)
+}
+
+/// As `print_fault`.
+pub fn print_fault(alloc: Global, status: &Status, out: &mut Bytes) -> Result<(), NoMemory>
+    requires { is_printable status.now ≡ true }
+    ensures ok { OnOk result (out.new ≡ out.old ++ fault_line status.now) }
+    ensures err { OnErr result (out.new ≡ out.old) }
+{
+    auth_program::print_fault(alloc, status, out)
+}
+
+/// As `print_client_end`.
+pub fn print_client_end(
+    alloc: Global,
+    address: &Name<48>,
+    status: &Status,
+    out: &mut Bytes,
+) -> Result<(), NoMemory>
+    requires { is_printable status.now ≡ true }
+    ensures ok { OnOk result (out.new ≡ out.old ++ end_line address.now status.now) }
+    ensures err { OnErr result (out.new ≡ out.old) }
+{
+    auth_program::print_client_end(alloc, address, status, out)
 }

@@ -1,5 +1,5 @@
 //! Tests of what needs threads, real sockets or jobs: the turn lock and its bells, the hub and its loops, the jobs of an
-//! agent that serves, an authentication server that holds its answer, the dialer and the listener over sockets.
+//! agent that serves, an authentication server that holds its answer or notes what it answers, the dialer and the listener over sockets.
 #![tactic(auto)]
 
 #[cfg(test)]
@@ -28,6 +28,8 @@ mod lengths;
 mod limited;
 #[cfg(test)]
 mod listened;
+#[cfg(test)]
+mod noted;
 #[cfg(test)]
 mod serve_tasks;
 #[cfg(test)]

@@ -5,10 +5,10 @@ use Rattle.auth_server.proofs.serve.serve_auth.Goals as goal
 
 pub returns-clause-complete : goal.returns-clause-complete
 returns-clause-complete g c = λ servable reads writes draws.
-    served_whole (knowledge c.args.core.now) _ _ servable c.serve_client.result c.serve_client.ensures.ends
-    (λ e. reads (c.serve_client.ensures.read_fault e)) (λ e. writes (c.serve_client.ensures.write_fault e)) (λ e. draws (c.serve_client.ensures.word_fault e))
+    served_whole (knowledge c.args.core.now) _ _ servable c.serve_auth_noting.result c.serve_auth_noting.ensures.ends.ends
+    (λ e. reads (c.serve_auth_noting.ensures.read_fault e)) (λ e. writes (c.serve_auth_noting.ensures.write_fault e)) (λ e. draws (c.serve_auth_noting.ensures.word_fault e))
 
 pub returns-clause-spent : goal.returns-clause-spent
 returns-clause-spent g c = λ spent reads writes draws.
-    served_spent (knowledge c.args.core.now) _ _ spent c.serve_client.result c.serve_client.ensures.ends
-    (λ e. reads (c.serve_client.ensures.read_fault e)) (λ e. writes (c.serve_client.ensures.write_fault e)) (λ e. draws (c.serve_client.ensures.word_fault e))
+    served_spent (knowledge c.args.core.now) _ _ spent c.serve_auth_noting.result c.serve_auth_noting.ensures.ends.ends
+    (λ e. reads (c.serve_auth_noting.ensures.read_fault e)) (λ e. writes (c.serve_auth_noting.ensures.write_fault e)) (λ e. draws (c.serve_auth_noting.ensures.word_fault e))

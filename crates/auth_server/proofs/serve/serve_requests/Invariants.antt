@@ -8,7 +8,7 @@ use Rattle.auth_server.proofs.serve.serve_requests.Given as goal
 abbrev pub invariant-requests : goal.invariant-requests
 invariant-requests g l = record {
   answered : HasAnswered (knowledge l.core) (moment (g.R.Source.left l.fn.source) (g.G.Words.to_come l.fn.words) (g.W.Sink.holds l.fn.sink))
-      (moment (g.R.Source.left l.source) (g.G.Words.to_come l.words) (g.W.Sink.holds l.sink)) l.incoming.at l.session;
+      (moment (g.R.Source.left l.source) (g.G.Words.to_come l.words) (g.W.Sink.holds l.sink)) (g.L.Log.noted l.fn.log) (g.L.Log.noted l.log) l.incoming.at l.session;
   new : l.incoming.bytes ≡ [];
   few : l.incoming.at ≤ most_input;
   reads : g.R.Source.faults l.fn.source ≤ g.R.Source.faults l.source;
