@@ -96,6 +96,7 @@ class Started:
         path = os.path.join(self.scratch, name)
         with open(path, "w", encoding="utf-8") as it:
             it.write(content)
+        os.chmod(path, 0o600)
         return path
 
     def end(self):

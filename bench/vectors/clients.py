@@ -56,6 +56,7 @@ def granted(host: bytes, user: bytes, answer: bytes) -> bytes:
 
 def start(words: list[str], folder: pathlib.Path) -> tuple[subprocess.Popen, int]:
     (folder / "keys").write_text(KEY_LINES)
+    (folder / "keys").chmod(0o600)
     (folder / "speaks").write_text(SPEAKS)
     with socket.create_server(("127.0.0.1", 0)) as free:
         port = free.getsockname()[1]

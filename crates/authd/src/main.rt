@@ -8,92 +8,40 @@ ghost use Rattle.auth_program.specs.Statuses.{is_printable};
 ghost use Rattle.auth_program.specs.Endings.{is_told};
 
 use auth_program::{
-    AuthdNumbers, AuthdWords, AuthsrvWords, ClientSpawner, Ending, Random, Status,
+    AuthdNumbers, AuthdWords, AuthsrvWords, ClientSpawner, Ending, Random, Status, as_str,
     read_authd_words, read_core,
 };
 use auth_server::{AuthCore, accept_clients};
 use client_doors::{LimitedListener, SharedLimits};
+use host_edge::{
+    Form, Guard, Opened, Opt, Program, Value, WordsFault, command_words, find_asked, hold_standard,
+    open, open_table, tell as tell_line, tell_asked, tell_usage, tell_why,
+};
 use sockets::{SocketListener, ThreadSpawner, Unstarted};
 use std::alloc::Global;
-use std::env;
-use std::fs::File;
-use std::io::{self, ErrorKind, Read};
 use std::process::ExitCode;
 use std::sync::Arc;
 use std::time::Duration;
-use wire_base::{Bytes, NoMemory, Text, TextList};
+use wire_base::{Bytes, NoMemory, Text};
 use wire_streams::{ReadSource, WriteSink, write_all};
+
+/// The program's name.
+const NAME: &str = "authd";
 
 /// Where words are drawn from.
 const RANDOM: &str = "/dev/urandom";
 
-/// A file; each read of one that couldn't be opened fails.
-#[derive(Drop)]
-enum Opened {
-    File(File),
-    Shut,
-}
+/// How many clients are served at once, and how many of one address, at most, and how many seconds of silence.
+const MOST_CLIENTS: u64 = 4096;
 
-impl Read for Opened {
-    fn read(&mut self, buf: &mut [u8]) -> io::Result<usize> {
-        match self {
-            Opened::File(file) => file.read(buf),
-            Opened::Shut => Err(ErrorKind::NotFound.into()),
-        }
-    }
-}
-
-// Writes a line to standard error: what happened to a file or an address, and its name.
-fn tell_of(rt: &HostRuntime, what: &[u8], name: &[u8]) {
-    let mut errors = WriteSink::new(rt.stderr());
-    let _ = write_all(what, &mut errors);
-    let _ = write_all(name, &mut errors);
-    let _ = write_all(b"\n", &mut errors);
-}
-
-// Opens a file; one that can't be opened is named on standard error.
-fn open(rt: &HostRuntime, path: &Text) -> Opened {
-    if let Ok(name) = std::str::from_utf8(path.as_slice()) {
-        if let Ok(file) = File::open(rt, name) {
-            return Opened::File(file);
-        }
-    }
-    tell_of(rt, b"authd: can't open ", path.as_slice());
-    Opened::Shut
-}
+const MOST_IDLE: u64 = 86_400;
 
 // Opens the file that the words of all clients are drawn from; where it can't be opened that is told on standard error.
 fn open_random(rt: &HostRuntime) -> Result<Random, NoMemory> {
-    match File::open(rt, RANDOM) {
-        Ok(file) => Random::new(rt.alloc(), Some(file)),
-        Err(_) => {
-            tell_of(rt, b"authd: can't open ", RANDOM.as_bytes());
-            Random::new(rt.alloc(), None)
-        }
+    match open(rt, NAME, RANDOM) {
+        Opened::File(file) => Random::new(rt.alloc(), Some(file)),
+        Opened::Shut => Random::new(rt.alloc(), None),
     }
-}
-
-// The words behind the program's name. Words that aren't text are a faulty command line.
-fn command_words(rt: &HostRuntime) -> Result<TextList, Status>
-    ensures { IfErr result (λ status. is_printable status ≡ true) }
-{
-    let alloc = rt.alloc();
-    let mut words = TextList::new(alloc);
-    let Ok(args) = env::args(rt) else {
-        return Err(Status::Usage);
-    };
-    for word in args.skip(1) {
-        match Text::from_slice(alloc, word.as_bytes()) {
-            Ok(Some(text)) => {
-                if words.push(text).is_err() {
-                    return Err(Status::NoMemory);
-                }
-            }
-            Ok(None) => return Err(Status::Usage),
-            Err(_) => return Err(Status::NoMemory),
-        }
-    }
-    Ok(words)
 }
 
 // What the server knows, by the files that its words name.
@@ -102,8 +50,8 @@ fn open_core(rt: &HostRuntime, given: AuthsrvWords) -> Result<Arc<AuthCore, Glob
     ensures { IfErr result (λ status. is_printable status ≡ true) }
 {
     let AuthsrvWords { dom, keys, speaks } = given;
-    let mut keys = ReadSource::new(open(rt, &keys));
-    let mut speaks = ReadSource::new(open(rt, &speaks));
+    let mut keys = ReadSource::new(open_table(rt, NAME, as_str(&keys), Guard::Secret));
+    let mut speaks = ReadSource::new(open_table(rt, NAME, as_str(&speaks), Guard::Unchanged));
     let core = match read_core(rt.alloc(), dom, &mut keys, &mut speaks) {
         Ok(core) => core,
         Err(status) => return Err(status),
@@ -114,19 +62,18 @@ fn open_core(rt: &HostRuntime, given: AuthsrvWords) -> Result<Arc<AuthCore, Glob
     }
 }
 
-// The address at which the words have it listen, how many it serves, and what it knows.
-fn begin(rt: &HostRuntime) -> Result<(Text, AuthdNumbers, Arc<AuthCore, Global>), Status>
+/// The address at which it listens, how many it serves, and what it knows.
+type Begun = (Text, AuthdNumbers, Arc<AuthCore, Global>);
+
+// What the words have it begin with.
+fn begin(rt: &HostRuntime, words: &[Text]) -> Result<Begun, Status>
     ensures { IfErr result (λ status. is_printable status ≡ true) }
 {
-    let words = match command_words(rt) {
-        Ok(words) => words,
-        Err(status) => return Err(status),
-    };
     let AuthdWords {
         listen,
         numbers,
         given,
-    } = match read_authd_words(rt.alloc(), words.as_slice()) {
+    } = match read_authd_words(rt.alloc(), words) {
         Ok(words) => words,
         Err(status) => return Err(status),
     };
@@ -146,7 +93,7 @@ fn listen_within(rt: &HostRuntime, address: &Text, numbers: AuthdNumbers) -> Res
     let Some(door) = SharedLimits::new(*rt, rt.alloc(), numbers.limits) else {
         return Err(Ending::Status(Status::NoMemory));
     };
-    let Ok(name) = String::from_str(rt.alloc(), "authd") else {
+    let Ok(name) = String::from_str(rt.alloc(), NAME) else {
         return Err(Ending::Status(Status::NoMemory));
     };
     match listen(rt, address) {
@@ -158,26 +105,89 @@ fn listen_within(rt: &HostRuntime, address: &Text, numbers: AuthdNumbers) -> Res
     }
 }
 
-// Listens at an address. Where nobody can, that is told on standard error.
+// Listens at an address. Where nobody can, that is told on standard error, with the reason.
 fn listen(rt: &HostRuntime, address: &Text) -> Option<SocketListener<HostRuntime>> {
     match SocketListener::open(*rt, rt.alloc(), address, None) {
         Ok(listener) => {
-            tell_of(rt, b"authd: listening on ", address.as_slice());
+            match listener.local_addr() {
+                Some(place) => tell_line(rt, NAME, "listening on", place),
+                None => tell_line(rt, NAME, "listening on", as_str(address)),
+            }
             Some(listener)
         }
-        Err(_) => {
-            tell_of(rt, b"authd: can't listen on ", address.as_slice());
+        Err(fault) => {
+            tell_why(rt, NAME, "can't listen on", as_str(address), fault);
             None
         }
     }
 }
 
 /// The options, which stand behind the line of a faulty command line.
-const OPTIONS: &[u8] =
-    b"    authd --listen ADDR --dom D --keys PATH --speaks PATH [--idle S] [--clients N] [--per-address N]\n";
+const OPTIONS: &str = "    authd --listen ADDR --dom D --keys PATH --speaks PATH [--idle S] [--clients N] [--per-address N]
+    authd --help | --version
+";
 
-// Writes the line of an ending to standard error, and behind that of a faulty command line the options.
-fn tell(rt: &HostRuntime, ending: Ending)
+/// The same as a form, by which the word is found that isn't taken.
+const FORMS: &[Form] = &[Form {
+    command: "",
+    options: &[
+        Opt {
+            name: "--listen",
+            value: Value::Any,
+            is_needed: true,
+        },
+        Opt {
+            name: "--dom",
+            value: Value::Dom,
+            is_needed: true,
+        },
+        Opt {
+            name: "--keys",
+            value: Value::Any,
+            is_needed: true,
+        },
+        Opt {
+            name: "--speaks",
+            value: Value::Any,
+            is_needed: true,
+        },
+        Opt {
+            name: "--idle",
+            value: Value::Number {
+                least: 1,
+                most: MOST_IDLE,
+            },
+            is_needed: false,
+        },
+        Opt {
+            name: "--clients",
+            value: Value::Number {
+                least: 1,
+                most: MOST_CLIENTS,
+            },
+            is_needed: false,
+        },
+        Opt {
+            name: "--per-address",
+            value: Value::Number {
+                least: 1,
+                most: MOST_CLIENTS,
+            },
+            is_needed: false,
+        },
+    ],
+}];
+
+/// What the program tells of itself.
+const PROGRAM: Program = Program {
+    name: NAME,
+    usage: OPTIONS,
+    forms: FORMS,
+};
+
+// Writes the line of an ending to standard error, and behind that of a faulty command line the word that isn't taken and the
+// options.
+fn tell(rt: &HostRuntime, ending: Ending, words: &[Text])
     requires { is_told ending ≡ true }
 {
     let mut line = Bytes::new(rt.alloc());
@@ -185,16 +195,46 @@ fn tell(rt: &HostRuntime, ending: Ending)
         let mut errors = WriteSink::new(rt.stderr());
         let _ = write_all(line.as_slice(), &mut errors);
         if matches!(ending, Ending::Status(Status::Usage)) {
-            let _ = write_all(OPTIONS, &mut errors);
+            tell_usage(rt, PROGRAM, words);
         }
     }
 }
 
+// What there is to do before clients are served: the program tells of itself, or reads its tables.
+fn prepare(rt: &HostRuntime, words: &[Text]) -> Result<Begun, Ending>
+    ensures { IfErr result (λ ending. is_told ending ≡ true) }
+{
+    if let Some(asked) = find_asked(words) {
+        return if tell_asked(rt, PROGRAM, asked) {
+            Err(Ending::Status(Status::Fine))
+        } else {
+            Err(Ending::Status(Status::WriteFault))
+        };
+    }
+    match begin(rt, words) {
+        Ok(begun) => Ok(begun),
+        Err(status) => Err(Ending::Status(status)),
+    }
+}
+
 fn main(rt: HostRuntime) -> ExitCode {
-    let ending = match begin(&rt) {
+    let _held = hold_standard(&rt);
+    let words = match command_words(&rt) {
+        Ok(words) => words,
+        Err(fault) => {
+            let ending = match fault {
+                WordsFault::NoText => Ending::Status(Status::Usage),
+                WordsFault::NoMemory => Ending::Status(Status::NoMemory),
+            };
+            tell(&rt, ending, &[]);
+            return ExitCode::from(ending.number());
+        }
+    };
+    let words = words.as_slice();
+    let ending = match prepare(&rt, words) {
         Ok((address, numbers, core)) => match (
             open_random(&rt),
-            ThreadSpawner::new(rt, rt.alloc(), "authd", Unstarted::Dropped),
+            ThreadSpawner::new(rt, rt.alloc(), NAME, Unstarted::Dropped),
         ) {
             (Ok(random), Ok(threads)) => match listen_within(&rt, &address, numbers) {
                 Ok(mut listener) => {
@@ -206,8 +246,8 @@ fn main(rt: HostRuntime) -> ExitCode {
             (Err(_), Ok(_)) => Ending::Status(Status::NoMemory),
             (_, Err(_)) => Ending::NoThread,
         },
-        Err(status) => Ending::Status(status),
+        Err(ending) => ending,
     };
-    tell(&rt, ending);
+    tell(&rt, ending, words);
     ExitCode::from(ending.number())
 }

@@ -2,14 +2,15 @@
 ghost use Rattle.std.specs.Prelude.{◌≡◌, ◌≤◌, ◌⊎◌, IfErr, IfOk, Err, true, false};
 ghost use Rattle.sockets.specs.Addresses.{is_path, is_unix};
 
+use crate::address::is_path;
 use crate::connection::{SocketSink, SocketSource, ends_of};
 use crate::listening_socket::Socket;
-use crate::unix::{OpenFault, listen_at};
+use crate::unix::{OpenFault, fault_of, listen_at};
 use client_limits::Address;
 use std::alloc::Global;
-use std::fs::Files;
+use std::fs::{File, Files};
 use std::io::{self, ErrorKind};
-use std::net::{Net, OpenListener, TcpListener, TcpStream};
+use std::net::{Net, OpenListener, SocketAddr, TcpListener, TcpStream};
 use std::os::unix::net::UnixListener;
 use std::thread;
 use std::time::{Clock, Duration};
@@ -56,34 +57,21 @@ fn as_str(address: &Text) -> Result<&str, OpenFault>
     std::str::from_utf8(address.as_slice()).map_err(|_| OpenFault::BadAddress)
 }
 
-// Whether an address is a path.
-fn is_path(address: &[u8]) -> bool
-    ensures { result ≡ is_path address.now }
-{
-    match address {
-        [first, ..] => *first == b'/',
-        [] => false,
-    }
-}
-
 // Listens at a host and a port.
 fn open_tcp<R: Net>(rt: &R, address: &str) -> Result<R::Listener, OpenFault>
     ensures { result ≡ Err OpenFault.NoSocket → ⊥ }
 {
     match TcpListener::bind(rt, address) {
         Ok(listener) => Ok(listener),
-        Err(error) => match error.kind() {
-            ErrorKind::InvalidInput => Err(OpenFault::BadAddress),
-            ErrorKind::AddrInUse => Err(OpenFault::InUse),
-            _ => Err(OpenFault::Refused),
-        },
+        Err(error) => Err(fault_of(error.kind())),
     }
 }
 
-impl<R: Net<Stream = TcpStream> + Files + Clock + Drop> SocketListener<R> {
+impl<R: Net<Stream = TcpStream> + Files<File = File> + Clock + Drop> SocketListener<R> {
     /// Listens at an address: the path of a Unix socket where it begins with `/`, else a host, `:` and a port. Such a socket
-    /// can be opened by its user alone. One that is there already, and on which nobody answers, is replaced. What is offered to
-    /// a connection's peer is given up for now where there is no room for it within `patience`; where that is None it waits.
+    /// can be opened by its user alone. One that is there already, and on which nobody answers, is replaced; of two that begin
+    /// there at once one alone listens. What is offered to a connection's peer is given up for now where there is no room for
+    /// it within `patience`; where that is None it waits.
     pub fn open(
         rt: R,
         alloc: Global,
@@ -108,6 +96,16 @@ impl<R: Net<Stream = TcpStream> + Files + Clock + Drop> SocketListener<R> {
             idle: None,
             faults: 0,
         })
+    }
+}
+
+impl<R: Net<Stream = TcpStream> + Files + Clock + Drop> SocketListener<R> {
+    /// The host's address and the port at which it listens. None at a Unix socket, and where the system doesn't tell it.
+    pub fn local_addr(&self) -> Option<SocketAddr> {
+        match &self.opened {
+            Opened::Tcp(listener) => listener.local_addr().ok(),
+            Opened::Unix(_) => None,
+        }
     }
 
     /// Has each connection from now on fail on which nothing is sent to us, or taken of us, for so long while that is awaited.

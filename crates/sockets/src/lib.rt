@@ -5,6 +5,7 @@
 #![tactic(auto)]
 
 mod accepting;
+mod address;
 mod connection;
 mod ending;
 mod hearing;
@@ -17,6 +18,7 @@ mod spawner;
 mod unix;
 
 pub use accepting::SocketListener;
+pub use address::{MOST_PATH, is_address};
 pub use connection::{SocketSink, SocketSource};
 pub use ending::answer_length;
 pub use hearing::read_answer;

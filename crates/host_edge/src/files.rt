@@ -1,0 +1,71 @@
+// Files that a program's words name.
+use crate::line::{tell, tell_why};
+use std::fs::{File, Files};
+use std::io::{self, Eprint, ErrorKind, Read};
+use std::os::unix::fs::MetadataExt;
+
+/// A file; each read of one that couldn't be opened fails.
+#[derive(Drop)]
+pub enum Opened {
+    File(File),
+    Shut,
+}
+
+impl Read for Opened {
+    fn read(&mut self, buf: &mut [u8]) -> io::Result<usize> {
+        match self {
+            Opened::File(file) => file.read(buf),
+            Opened::Shut => Err(ErrorKind::NotFound.into()),
+        }
+    }
+}
+
+/// Which of a table's bits of mode have to be clear.
+#[derive(Clone, Copy, Debug, PartialEq, Eq)]
+pub enum Guard {
+    /// It has secrets: others than its owner may do nothing with it.
+    Secret,
+    /// Others may read it. What is no regular file, as the null device, isn't looked at.
+    Unchanged,
+}
+
+/// Opens a file; one that can't be opened is named on standard error.
+pub fn open<R: Files<File = File> + Eprint>(rt: &R, program: &str, path: &str) -> Opened {
+    match File::open(rt, path) {
+        Ok(file) => Opened::File(file),
+        Err(_) => {
+            tell(rt, program, "can't open", path);
+            Opened::Shut
+        }
+    }
+}
+
+/// Opens a table; one that can't be opened, or with which others than its owner may do too much, is named on standard error,
+/// and isn't read.
+pub fn open_table<R: Files<File = File> + Eprint>(
+    rt: &R,
+    program: &str,
+    path: &str,
+    guard: Guard,
+) -> Opened {
+    let Opened::File(file) = open(rt, program, path) else {
+        return Opened::Shut;
+    };
+    let Ok(found) = file.metadata() else {
+        tell(rt, program, "can't open", path);
+        return Opened::Shut;
+    };
+    match guard {
+        Guard::Secret if found.mode() & 0o077 != 0 => {
+            let why = "its mode must be 0600";
+            tell_why(rt, program, "others may read or write", path, why);
+            Opened::Shut
+        }
+        Guard::Unchanged if found.is_file() && found.mode() & 0o022 != 0 => {
+            let why = "its mode must be 0644 or 0600";
+            tell_why(rt, program, "others may write", path, why);
+            Opened::Shut
+        }
+        Guard::Secret | Guard::Unchanged => Opened::File(file),
+    }
+}
