@@ -17,7 +17,8 @@ use auth_program::{Status, print_status};
 use factotum_program::{Task, read_words, run_command};
 use read_ahead::ReadAhead;
 use sockets::{
-    Line, LinesOf, OwnLines, SharedLines, SocketListener, TcpDialer, ThreadSpawner, Unstarted,
+    Failures, FailuresOf, Line, LinesOf, OwnLines, Servers, SharedFailures, SharedLines,
+    SocketListener, TcpDialer, ThreadSpawner, Unstarted,
 };
 use std::alloc::Global;
 use std::env;
@@ -37,7 +38,7 @@ const RANDOM: &str = "/dev/urandom";
 const MANY: usize = 512;
 
 /// The authentication server that is asked where the words name none.
-const AUTH_SERVER: &[u8] = b"127.0.0.1:5670";
+const AUTH_SERVER: &[u8] = b"127.0.0.1:567";
 
 /// How many seconds an exchange with it may take.
 const PATIENCE: u64 = 30;
@@ -130,16 +131,18 @@ fn command_words(rt: &HostRuntime) -> Result<TextList, Status>
     Ok(words)
 }
 
-// The address of the authentication server: the one that is given, if one is.
-fn address(rt: &HostRuntime, given: Option<Text>) -> Result<Text, Status>
+// The authentication servers: those that are given, if any are. Addresses at fault are a faulty command line.
+fn servers(rt: &HostRuntime, given: Option<&Text>) -> Result<Servers, Status>
     ensures { IfErr result (λ status. is_printable status ≡ true) }
 {
-    if let Some(address) = given {
-        return Ok(address);
-    }
-    match Text::from_slice(rt.alloc(), AUTH_SERVER) {
-        Ok(Some(address)) => Ok(address),
-        _ => Err(Status::NoMemory),
+    let addresses = match given {
+        Some(addresses) => addresses.as_slice(),
+        None => AUTH_SERVER,
+    };
+    match Servers::parse(rt.alloc(), addresses) {
+        Ok(Ok(servers)) => Ok(servers),
+        Ok(Err(_)) => Err(Status::Usage),
+        Err(_) => Err(Status::NoMemory),
     }
 }
 
@@ -164,8 +167,8 @@ fn run(rt: &HostRuntime, words: &[Text]) -> Status
             (Opened::Shut, Opened::Shut, Opened::Shut, None)
         }
     };
-    let address = match address(rt, auth) {
-        Ok(address) => address,
+    let servers = match servers(rt, auth.as_ref()) {
+        Ok(servers) => servers,
         Err(status) => return status,
     };
     let Ok(ahead) = ReadAhead::new(rt.alloc(), MANY, ReadSource::new(rand)) else {
@@ -180,18 +183,19 @@ fn run(rt: &HostRuntime, words: &[Text]) -> Status
         &mut ReadSource::new(keys),
         &mut ReadSource::new(speaks),
         &mut WriteSink::new(rt.stdout()),
-        &mut TcpDialer::new(*rt, rt.alloc(), address, limit, lines),
+        &mut TcpDialer::new(*rt, rt.alloc(), servers, limit, lines, Failures::new()),
         &mut ReadWords::new(ahead),
     )
 }
 
-// What the tools of each job of an agent at a socket are made from: the address of the authentication server and the
-// connections to it that all jobs keep, where all jobs draw words from and the words of this one, and how many questions are
+// What the tools of each job of an agent at a socket are made from: the authentication servers, what all jobs found of them
+// and the connections to them that all keep, where all jobs draw words from and the words of this one, and how many questions are
 // answered by yes for the user.
 #[derive(Drop)]
 struct HostTools {
     alloc: Global,
-    auth: Text,
+    servers: Servers,
+    failures: SharedFailures,
     lines: SharedLines<Line<TcpStream>>,
     random: Shared,
     words: HostWords<Shared>,
@@ -202,7 +206,8 @@ impl HostTools {
     // None where there is no memory.
     fn new(
         alloc: Global,
-        auth: Text,
+        servers: Servers,
+        failures: SharedFailures,
         lines: SharedLines<Line<TcpStream>>,
         random: Shared,
         consents: u32,
@@ -211,7 +216,8 @@ impl HostTools {
         let ahead = ReadAhead::new(alloc, MANY, ReadSource::new(theirs)).ok()?;
         Some(HostTools {
             alloc,
-            auth,
+            servers,
+            failures,
             lines,
             random,
             words: ReadWords::new(ahead),
@@ -222,27 +228,30 @@ impl HostTools {
 
 impl Again for HostTools {
     fn again(&self) -> Option<Self> {
-        let auth = self.auth.copy().ok()?;
+        let servers = self.servers.copy().ok()?;
         let random = Shared(Arc::try_clone(&self.random.0).ok()?);
+        let failures = self.failures.share()?;
         let lines = self.lines.share()?;
-        HostTools::new(self.alloc, auth, lines, random, self.consents)
+        HostTools::new(self.alloc, servers, failures, lines, random, self.consents)
     }
 }
 
 impl<R: Net<Stream = TcpStream> + Clock + Wait + AllocGlobal + Copy + Drop> Tools<R> for HostTools {
-    type Dial = TcpDialer<R, LinesOf<R, Line<TcpStream>>>;
+    type Dial = TcpDialer<R, LinesOf<R, Line<TcpStream>>, FailuresOf<R>>;
 
     type Rand = HostWords<Shared>;
 
     fn tools(self, rt: &R) -> (Self::Dial, Self::Rand) {
         let HostTools {
-            auth,
+            servers,
+            failures,
             lines,
             words,
             ..
         } = self;
         let limit = Duration::from_secs(PATIENCE);
-        let dialer = TcpDialer::new(*rt, rt.alloc(), auth, limit, lines.of(*rt));
+        let (lines, failures) = (lines.of(*rt), failures.of(*rt));
+        let dialer = TcpDialer::new(*rt, rt.alloc(), servers, limit, lines, failures);
         (dialer, words)
     }
 
@@ -281,29 +290,27 @@ fn new_hub(rt: &HostRuntime) -> Result<(Arc<Hub, Global>, HubSeat), ServeEnd>
     }
 }
 
-// The address of the authentication server among the words, or the usual one; None where there is no memory for it.
-fn server_address(rt: &HostRuntime, words: &[Text], place: Option<usize>) -> Option<Text>
-    requires { IsWithin place words.now }
-{
-    let address = match place {
-        Some(place) => words[place].copy(),
-        None => return address(rt, None).ok(),
-    };
-    address.ok()
-}
-
 // Where the jobs of an agent at a socket draw their words from. None where there is no memory for it.
 fn open_random(rt: &HostRuntime) -> Option<Shared> {
     Some(Shared(Arc::new(rt.alloc(), open(rt, RANDOM.as_bytes())).ok()?))
 }
 
 // The tools of all jobs, by what the words give. None where there is no memory for them.
-fn tools(rt: &HostRuntime, words: &[Text], given: ServeWords) -> Option<HostTools>
-    requires { IsWithin given.auth words.now }
-{
-    let auth = server_address(rt, words, given.auth)?;
+fn tools(rt: &HostRuntime, servers: Servers, consents: u32) -> Option<HostTools> {
+    let failures = SharedFailures::new(rt.alloc())?;
     let lines = SharedLines::new(rt.alloc())?;
-    HostTools::new(rt.alloc(), auth, lines, open_random(rt)?, given.consents)
+    HostTools::new(rt.alloc(), servers, failures, lines, open_random(rt)?, consents)
+}
+
+// The servers that the words of serving name, or the usual one.
+fn named_servers(rt: &HostRuntime, words: &[Text], given: ServeWords) -> Result<Servers, Status>
+    requires { IsWithin given.auth words.now }
+    ensures { IfErr result (λ status. is_printable status ≡ true) }
+{
+    match given.auth {
+        Some(place) => servers(rt, Some(&words[place])),
+        None => servers(rt, None),
+    }
 }
 
 // Writes the line of an end of serving to standard error.
@@ -335,7 +342,14 @@ fn main(rt: HostRuntime) -> ExitCode {
         && let Some(given) = read_serve_words(words.as_slice())
     {
         let words = words.as_slice();
-        let tools = tools(&rt, words, given);
+        let servers = match named_servers(&rt, words, given) {
+            Ok(servers) => servers,
+            Err(status) => {
+                tell(&rt, &status);
+                return ExitCode::from(status.number());
+            }
+        };
+        let tools = tools(&rt, servers, given.consents);
         let end = match (
             tools,
             new_hub(&rt),

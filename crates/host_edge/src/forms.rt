@@ -1,6 +1,6 @@
 // The forms of a program's command lines, as its own text tells them.
 use attr_tuples::is_dom;
-use sockets::is_address;
+use sockets::check_addresses;
 
 /// What the word behind an option has to be.
 #[derive(Clone, Copy, Debug, PartialEq, Eq)]
@@ -9,7 +9,7 @@ pub enum Value {
     Any,
     /// An authentication domain.
     Dom,
-    /// Addresses that can be dialed, with commas between them.
+    /// The addresses of servers, with commas between them.
     Addresses,
     /// A number from the least to the most, in decimal digits without zeros in front.
     Number { least: u64, most: u64 },
@@ -40,22 +40,12 @@ pub(crate) fn is_value(value: Value, word: &[u8]) -> bool {
         && match value {
             Value::Any => true,
             Value::Dom => is_dom(word),
-            Value::Addresses => are_addresses(word),
+            Value::Addresses => check_addresses(word).is_ok(),
             Value::Number { least, most } => match number_in(word) {
                 Some(number) => least <= number && number <= most,
                 None => false,
             },
         }
-}
-
-// Whether each part between commas is an address.
-fn are_addresses(word: &[u8]) -> bool {
-    for part in word.split(|byte| *byte == b',') {
-        if !is_address(part) {
-            return false;
-        }
-    }
-    true
 }
 
 // The number of decimal digits, without zeros in front.

@@ -12,6 +12,7 @@ pub mod printed;
 pub mod questions_and_lines;
 pub mod rpc_texts;
 pub mod seals_and_digests;
+pub mod servers_asked;
 pub mod streams;
 pub mod tree_and_fids;
 pub mod words_and_tuples;

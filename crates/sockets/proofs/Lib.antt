@@ -1,2 +1,5 @@
+mod AskingLemmas
 mod EndingLemmas
 mod NumberLemmas
+mod OrderLemmas
+mod ServerLemmas

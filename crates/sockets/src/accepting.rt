@@ -2,7 +2,6 @@
 ghost use Rattle.std.specs.Prelude.{◌≡◌, ◌≤◌, ◌⊎◌, IfErr, IfOk, Err, true, false};
 ghost use Rattle.sockets.specs.Addresses.{is_path, is_unix};
 
-use crate::address::is_path;
 use crate::connection::{SocketSink, SocketSource, ends_of};
 use crate::listening_socket::Socket;
 use crate::unix::{OpenFault, fault_of, listen_at};
@@ -55,6 +54,16 @@ fn as_str(address: &Text) -> Result<&str, OpenFault>
     ensures { IfErr result (λ fault. fault ≡ OpenFault.BadAddress) }
 {
     std::str::from_utf8(address.as_slice()).map_err(|_| OpenFault::BadAddress)
+}
+
+// Whether an address is a path.
+fn is_path(address: &[u8]) -> bool
+    ensures { result ≡ is_path address.now }
+{
+    match address {
+        [first, ..] => *first == b'/',
+        [] => false,
+    }
 }
 
 // Listens at a host and a port.

@@ -1,15 +1,16 @@
 // A connection to the server: the edge to the outside.
-ghost use Rattle.std.specs.Prelude.{◌≡◌, ◌<◌, ◌≤◌, IfSome, length, take};
-ghost use Rattle.sockets.specs.Endings.{answer_length};
+ghost use Rattle.std.specs.Prelude.{◌≡◌, IfSome, length};
+ghost use Rattle.sockets.specs.Hearing.{HoldsAnswer};
 
 use crate::hearing::read_answer;
+use crate::sending::send_request;
 use std::io::{self, ErrorKind, Read, Write};
-use std::net::{Net, OpenStream, TcpStream, ToSocketAddrs};
+use std::net::{IpAddr, Ipv4Addr, Net, OpenStream, SocketAddr, TcpStream, ToSocketAddrs};
 use std::os::unix::net::UnixStream;
 use std::thread;
 use std::time::{Clock, Duration, Instant};
-use wire_base::{Shape, Text};
-use wire_streams::{MOST_ANSWER, ReadSource, WriteSink, write_all};
+use wire_base::Shape;
+use wire_streams::{MOST_ANSWER, ReadSource, WriteSink};
 
 /// A connection over TCP, or over a Unix socket.
 #[derive(Drop)]
@@ -62,8 +63,8 @@ impl<C: Clock, S: Read + Write + OpenStream> Write for Timed<'_, C, S> {
     }
 }
 
-// How long it is to a moment; none at all is an error.
-fn time_left<C: Clock>(clock: &C, until: Instant) -> io::Result<Duration> {
+/// How long it is to a moment; none at all is an error.
+pub(crate) fn time_left<C: Clock>(clock: &C, until: Instant) -> io::Result<Duration> {
     let left = until.duration_since(Instant::now(clock)?);
     if left.is_zero() {
         return Err(ErrorKind::TimedOut.into());
@@ -98,24 +99,57 @@ fn open_unix<N: Net + Clock>(net: &N, path: &str, until: Instant) -> io::Result<
     Err(ErrorKind::TimedOut.into())
 }
 
-/// Connects to an address: the path of a Unix socket where it begins with `/`, else a host, `:` and a port. None where
-/// there is nobody up to a moment, or it isn't so. How long a host's name is looked up isn't bounded.
-pub(crate) fn open_line<N: Net + Clock>(
+/// Connects to a Unix socket. None where nobody takes the connection up to a moment.
+pub(crate) fn open_path<N: Net + Clock>(
     net: &N,
-    address: &Text,
+    path: &[u8],
     until: Instant,
 ) -> Option<Line<N::Stream>> {
-    let address = std::str::from_utf8(address.as_slice()).ok()?;
-    if address.starts_with('/') {
-        return Some(Line::Unix(open_unix(net, address, until).ok()?));
-    }
-    for place in address.to_socket_addrs(net).ok()? {
-        let left = time_left(net, until).ok()?;
-        if let Ok(stream) = TcpStream::connect_timeout(net, &place, left) {
-            return Some(Line::Tcp(stream));
+    let path = std::str::from_utf8(path).ok()?;
+    Some(Line::Unix(open_unix(net, path, until).ok()?))
+}
+
+/// Connects over TCP. None where nobody takes the connection up to a moment.
+pub(crate) fn open_place<N: Net + Clock>(
+    net: &N,
+    place: SocketAddr,
+    until: Instant,
+) -> Option<Line<N::Stream>> {
+    let left = time_left(net, until).ok()?;
+    let stream = TcpStream::connect_timeout(net, &place, left).ok()?;
+    Some(Line::Tcp(stream))
+}
+
+/// How many addresses of one name are tried.
+const MOST_PLACES: usize = 32;
+
+/// The addresses of a host and its port.
+#[derive(Clone, Copy)]
+pub(crate) struct Places {
+    found: [SocketAddr; MOST_PLACES],
+    count: usize,
+}
+
+impl Places {
+    /// Those of a host, `:` and a port. None where the name isn't known. How long a name is looked up isn't bounded.
+    pub(crate) fn find<N: Net>(net: &N, host: &[u8]) -> Option<Places> {
+        let host = std::str::from_utf8(host).ok()?;
+        let nowhere = SocketAddr::new(IpAddr::V4(Ipv4Addr::UNSPECIFIED), 0);
+        let mut found = [nowhere; MOST_PLACES];
+        let mut count = 0;
+        for place in host.to_socket_addrs(net).ok()? {
+            if count < MOST_PLACES {
+                found[count] = place;
+                count += 1;
+            }
         }
+        Some(Places { found, count })
     }
-    None
+
+    pub(crate) fn as_mut_slice(&mut self) -> &mut [SocketAddr] {
+        let count = self.count.min(MOST_PLACES);
+        &mut self.found[..count]
+    }
 }
 
 /// Sends a request over a connection and reads the answer into the front of `room`, up to a moment. None where a call
@@ -130,13 +164,10 @@ pub(crate) fn ask<C: Clock, S: Read + Write + OpenStream>(
 ) -> Option<usize>
     requires { length room.old ≡ MOST_ANSWER }
     ensures room { length room.new ≡ length room.old }
-    ensures ends { IfSome result (λ count.
-        length (take count room.new) ≤ answer_length shape (take count room.new)) }
-    ensures within { IfSome result (λ count. count ≤ length room.new) }
-    ensures some { IfSome result (λ count. 0 < count) }
+    ensures heard { IfSome result (HoldsAnswer shape room.new) }
 {
     let mut timed = Timed { clock, line, until };
-    if write_all(request, &mut WriteSink::new(&mut timed)).is_err() {
+    if send_request(request, &mut WriteSink::new(&mut timed)).is_err() {
         return None;
     }
     match read_answer(&mut ReadSource::new(&mut timed), shape, room) {

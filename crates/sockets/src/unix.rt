@@ -1,7 +1,7 @@
 // A Unix socket that only one user can open.
 ghost use Rattle.std.specs.Prelude.{◌≡◌};
 
-use crate::address::MOST_PATH;
+use crate::servers::MOST_PATH;
 use std::alloc::Global;
 use std::fs::{self, File, Files, Permissions, TryLockError};
 use std::io::{self, ErrorKind};

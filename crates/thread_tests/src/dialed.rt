@@ -1,13 +1,16 @@
 // The authentication server asked over sockets.
 use crate::expect::expect_at;
-use sockets::{OwnLines, SharedLines, TcpDialer};
+use sockets::{
+    AddressFault, Failures, FailuresOf, Line, LinesOf, OwnLines, Servers, SharedFailures,
+    SharedLines, TcpDialer, check_addresses,
+};
 use std::io::{self, ErrorKind, Read, Write};
 use std::net::{TcpListener, TcpStream};
 use std::os::unix::net::{UnixListener, UnixStream};
 use std::test::Fail;
 use std::time::{Duration, Instant};
 use std::{env, fs, process, thread};
-use wire_base::{Bytes, Shape, Text};
+use wire_base::{Bytes, Shape};
 use wire_streams::{Dial, Dialer};
 
 const CHALLENGE: &[u8] = b"\x0918   <0123456789@a.dom>";
@@ -43,18 +46,49 @@ fn serve_tcp(listener: &TcpListener) -> io::Result<()> {
     serve(&mut listener.accept()?.0, &[b""])
 }
 
-fn listen(rt: &HostRuntime) -> Result<(TcpListener, Text), Fail> {
+fn listen(rt: &HostRuntime) -> Result<(TcpListener, String), Fail> {
     let listener = TcpListener::bind(rt, "127.0.0.1:0")?;
     let address = format!(in rt.alloc(); "{}", listener.local_addr()?)?;
-    let text = Text::from_slice(rt.alloc(), address.as_bytes())?.ok_or("address")?;
-    Ok((listener, text))
+    Ok((listener, address))
+}
+
+// A dialer of the servers that a text names.
+fn dialer(
+    rt: &HostRuntime,
+    addresses: &str,
+    limit: Duration,
+) -> Result<TcpDialer<HostRuntime, OwnLines<Line<TcpStream>>, Failures>, Fail> {
+    let servers = Servers::parse(rt.alloc(), addresses.as_bytes())?.map_err(|_| "addresses")?;
+    let lines = OwnLines::new(rt.alloc());
+    Ok(TcpDialer::new(*rt, rt.alloc(), servers, limit, lines, Failures::new()))
+}
+
+// A dialer of one that shares what it keeps and finds with others.
+fn sharing(
+    rt: &HostRuntime,
+    addresses: &str,
+    lines: SharedLines<Line<TcpStream>>,
+    failures: SharedFailures,
+) -> Result<
+    TcpDialer<HostRuntime, LinesOf<HostRuntime, Line<TcpStream>>, FailuresOf<HostRuntime>>,
+    Fail,
+> {
+    let servers = Servers::parse(rt.alloc(), addresses.as_bytes())?.map_err(|_| "addresses")?;
+    Ok(TcpDialer::new(
+        *rt,
+        rt.alloc(),
+        servers,
+        short(),
+        lines.of(*rt),
+        failures.of(*rt),
+    ))
 }
 
 #[test]
 fn asks_a_server(rt: HostRuntime) -> Result<(), Fail> {
     let (listener, address) = listen(&rt)?;
     let server = thread::spawn(&rt, move || serve_tcp(&listener))?;
-    let mut dialer = TcpDialer::new(rt, rt.alloc(), address, long(), OwnLines::new(rt.alloc()));
+    let mut dialer = dialer(&rt, &address, long())?;
     let mut out = Bytes::new(rt.alloc());
     for (conv, shape, want, length) in [
         (7, Shape::Vouch, Dial::Failed, 0),
@@ -84,22 +118,8 @@ fn fails_where_nobody_answers(rt: HostRuntime) -> Result<(), Fail> {
     drop(gone);
     let (_silent, never) = listen(&rt)?;
     let mut out = Bytes::from_slice(rt.alloc(), b"-")?;
-    for address in [
-        nobody.as_slice(),
-        never.as_slice(),
-        b"127.0.0.1",
-        b"127.0.0.1:x",
-        b"/no/such/socket",
-        b"",
-    ] {
-        let text = Text::from_slice(rt.alloc(), address)?.ok_or("address")?;
-        let mut dialer = TcpDialer::new(
-            rt,
-            rt.alloc(),
-            text,
-            Duration::from_millis(50),
-            OwnLines::new(rt.alloc()),
-        );
+    for address in [nobody.as_str(), never.as_str(), "/no/such/socket"] {
+        let mut dialer = dialer(&rt, address, Duration::from_millis(50))?;
         for shape in [Shape::Tickets, Shape::Challenge, Shape::Vouch] {
             let dial = dialer.exchange(1, b"who", shape, &mut out);
             expect_at(&rt, &dial, &Dial::Failed, &address);
@@ -123,7 +143,7 @@ fn serve_slowly(rt: &HostRuntime, listener: &TcpListener) -> io::Result<()> {
 fn fails_where_the_whole_answer_is_too_late(rt: HostRuntime) -> Result<(), Fail> {
     let (listener, address) = listen(&rt)?;
     let server = thread::spawn(&rt, move || serve_slowly(&rt, &listener).is_err())?;
-    let mut dialer = TcpDialer::new(rt, rt.alloc(), address, short(), OwnLines::new(rt.alloc()));
+    let mut dialer = dialer(&rt, &address, short())?;
     let mut out = Bytes::from_slice(rt.alloc(), b"-")?;
     let dial = dialer.exchange(1, b"who", Shape::Tickets, &mut out);
     expect_at(&rt, &dial, &Dial::Failed, &"too late");
@@ -137,10 +157,9 @@ fn asks_over_a_unix_socket(rt: HostRuntime) -> Result<(), Fail> {
     let name = format!(in rt.alloc(); "socket-dialer-{}", process::id(rt.process()))?;
     let path = env::temp_dir(&rt)?.join(rt.alloc(), name.as_str())?;
     let address = path.to_str().ok_or("path")?;
-    let text = Text::from_slice(rt.alloc(), address.as_bytes())?.ok_or("address")?;
     let listener = UnixListener::bind(&rt, address)?;
     let server = thread::spawn(&rt, move || serve(&mut listener.accept()?.0, &[CHALLENGE]))?;
-    let mut dialer = TcpDialer::new(rt, rt.alloc(), text, long(), OwnLines::new(rt.alloc()));
+    let mut dialer = dialer(&rt, address, long())?;
     let mut out = Bytes::new(rt.alloc());
     let dial = dialer.exchange(3, b"who", Shape::Challenge, &mut out);
     fs::remove_file(&rt, address)?;
@@ -155,11 +174,14 @@ fn asks_over_a_unix_socket(rt: HostRuntime) -> Result<(), Fail> {
 fn finds_what_another_dialer_kept(rt: HostRuntime) -> Result<(), Fail> {
     let (listener, address) = listen(&rt)?;
     let server = thread::spawn(&rt, move || serve_tcp(&listener))?;
-    let other = address.copy()?;
     let lines = SharedLines::new(rt.alloc()).ok_or("memory")?;
-    let theirs = lines.share().ok_or("memory")?;
-    let mut one = TcpDialer::new(rt, rt.alloc(), address, long(), lines.of(rt));
-    let mut two = TcpDialer::new(rt, rt.alloc(), other, long(), theirs.of(rt));
+    let failures = SharedFailures::new(rt.alloc()).ok_or("memory")?;
+    let (theirs, found) = (
+        lines.share().ok_or("memory")?,
+        failures.share().ok_or("memory")?,
+    );
+    let mut one = sharing(&rt, &address, lines, failures)?;
+    let mut two = sharing(&rt, &address, theirs, found)?;
     let mut out = Bytes::new(rt.alloc());
     let dial = one.exchange(7, b"who", Shape::Challenge, &mut out);
     expect_at(&rt, &dial, &Dial::Heard, &"a challenge");
@@ -182,7 +204,6 @@ fn fails_where_a_queue_stays_full(rt: HostRuntime) -> Result<(), Fail> {
     let name = format!(in rt.alloc(); "socket-full-{}", process::id(rt.process()))?;
     let path = env::temp_dir(&rt)?.join(rt.alloc(), name.as_str())?;
     let address = path.to_str().ok_or("path")?;
-    let text = Text::from_slice(rt.alloc(), address.as_bytes())?.ok_or("address")?;
     let _listener = UnixListener::bind(&rt, address)?;
     let mut waiting: Vec<UnixStream> = Vec::new(rt.alloc());
     for _ in 0..10000 {
@@ -194,7 +215,7 @@ fn fails_where_a_queue_stays_full(rt: HostRuntime) -> Result<(), Fail> {
             }
         }
     }
-    let mut dialer = TcpDialer::new(rt, rt.alloc(), text, short(), OwnLines::new(rt.alloc()));
+    let mut dialer = dialer(&rt, address, short())?;
     let mut out = Bytes::from_slice(rt.alloc(), b"-")?;
     let begun = Instant::now(&rt)?;
     let dial = dialer.exchange(1, b"who", Shape::Tickets, &mut out);
@@ -202,5 +223,120 @@ fn fails_where_a_queue_stays_full(rt: HostRuntime) -> Result<(), Fail> {
     fs::remove_file(&rt, address)?;
     expect_at(&rt, &dial, &Dial::Failed, &"full");
     assert!(rt; took >= short() && took < long(), "{took:?}");
+    Ok(())
+}
+
+// A server that gives part of an answer, and then nothing until it is hung up.
+fn serve_half(listener: &TcpListener) -> io::Result<()> {
+    let (mut stream, _) = listener.accept()?;
+    stream.read_exact(&mut [0; 3])?;
+    stream.write_all(&[4; 40])?;
+    stream.read(&mut [0])?;
+    Ok(())
+}
+
+// Two servers, the first of which stops in the middle of its answer: nothing of that is heard, the second one is asked, and by
+// another dialer too, which waits for nothing.
+#[test]
+fn passes_over_a_server_that_stops(rt: HostRuntime) -> Result<(), Fail> {
+    let (first, one) = listen(&rt)?;
+    let (second, two) = listen(&rt)?;
+    let addresses = format!(in rt.alloc(); "{one},{two}")?;
+    let half = thread::spawn(&rt, move || serve_half(&first))?;
+    let whole = thread::spawn(&rt, move || serve_twice(&second))?;
+    let lines = SharedLines::new(rt.alloc()).ok_or("memory")?;
+    let failures = SharedFailures::new(rt.alloc()).ok_or("memory")?;
+    let (theirs, found) = (
+        lines.share().ok_or("memory")?,
+        failures.share().ok_or("memory")?,
+    );
+    let mut dialer = sharing(&rt, &addresses, lines, failures)?;
+    let mut other = sharing(&rt, &addresses, theirs, found)?;
+    let mut out = Bytes::new(rt.alloc());
+    let dial = dialer.exchange(1, b"who", Shape::Tickets, &mut out);
+    expect_at(&rt, &dial, &Dial::Heard, &"the second one");
+    expect_at(&rt, &out.as_slice(), &[5; 65].as_slice(), &"the second one");
+    half.join(&rt)?;
+    let begun = Instant::now(&rt)?;
+    let dial = other.exchange(2, b"who", Shape::Tickets, &mut out);
+    let took = Instant::now(&rt)?.duration_since(begun);
+    expect_at(&rt, &dial, &Dial::Heard, &"the second one at once");
+    assert!(rt; took < short(), "{took:?}");
+    whole.join(&rt)?;
+    Ok(())
+}
+
+// Two refusals, each on a connection of its own.
+fn serve_twice(listener: &TcpListener) -> io::Result<()> {
+    for _ in 0..2 {
+        serve(&mut listener.accept()?.0, &[[5; 65].as_slice()])?;
+    }
+    Ok(())
+}
+
+// What is no list of addresses, and why.
+static FAULTS: [(&[u8], AddressFault); 12] = [
+    (b"", AddressFault::Empty),
+    (b",a:567", AddressFault::Empty),
+    (b"a:567,", AddressFault::Empty),
+    (b"a:567,,/run/c", AddressFault::Empty),
+    (b"127.0.0.1", AddressFault::NoPort),
+    (b"a:", AddressFault::NoPort),
+    (b":567", AddressFault::NoPort),
+    (b"a:0", AddressFault::NoPort),
+    (b"a:65536", AddressFault::NoPort),
+    (b"a:567,b:5x", AddressFault::NoPort),
+    (
+        b"a:1,a:1,a:1,a:1,a:1,a:1,a:1,a:1,a:1,a:1,a:1,a:1,a:1,a:1,a:1,a:1,a:1",
+        AddressFault::TooMany,
+    ),
+    (&[b'/'; 108], AddressFault::LongPath),
+];
+
+// What is one.
+static ADDRESSES: [&[u8]; 5] = [
+    b"a:567,b:567,/run/c",
+    b"[::1]:65535",
+    b"/",
+    b"a:1,a:1,a:1,a:1,a:1,a:1,a:1,a:1,a:1,a:1,a:1,a:1,a:1,a:1,a:1,a:1",
+    &[b'/'; 107],
+];
+
+#[test]
+fn names_what_is_wrong_with_addresses(rt: HostRuntime) -> Result<(), Fail> {
+    for (text, fault) in &FAULTS {
+        expect_at(&rt, &check_addresses(text), &Err(*fault), text);
+    }
+    for text in &ADDRESSES {
+        expect_at(&rt, &check_addresses(text), &Ok(()), text);
+    }
+    Ok(())
+}
+
+// How many bytes the second question of a mail login has.
+const LONG: usize = 173;
+
+// A server that takes a whole long question and gives it back.
+fn give_back(listener: &TcpListener) -> io::Result<()> {
+    let (mut stream, _) = listener.accept()?;
+    let mut question = [0; LONG];
+    stream.read_exact(&mut question)?;
+    stream.write_all(&[5])?;
+    stream.write_all(&question[LONG - 64..])
+}
+
+#[test]
+fn sends_a_whole_long_question(rt: HostRuntime) -> Result<(), Fail> {
+    let (listener, address) = listen(&rt)?;
+    let server = thread::spawn(&rt, move || give_back(&listener))?;
+    let mut dialer = dialer(&rt, &address, long())?;
+    let mut question = [b'a'; LONG];
+    question[LONG - 1] = b'z';
+    let mut out = Bytes::new(rt.alloc());
+    let dial = dialer.exchange(1, &question, Shape::Tickets, &mut out);
+    expect_at(&rt, &dial, &Dial::Heard, &"all of it");
+    expect_at(&rt, &out.len(), &65, &"its end");
+    expect_at(&rt, &out.as_slice().last(), &Some(&b'z'), &"its last byte");
+    server.join(&rt)?;
     Ok(())
 }
