@@ -1,6 +1,6 @@
 # make alone lists what can be made.
 .POSIX:
-.PHONY: help build demo attacks test wakes prove bench soak install uninstall deb clean
+.PHONY: help build demo attacks test faults wakes prove bench soak install uninstall deb clean
 
 PREFIX = /usr/local
 VERSION = 0.1
@@ -11,6 +11,7 @@ help:
 	@echo 'make demo    runs logins between two agents and a conversation, without proofs, and shows each request and reply'
 	@echo 'make attacks plays the attacks of docs/WEAKNESSES.md, without proofs, and says what happened'
 	@echo 'make test    builds without proofs and runs every row, stored run and test: minutes'
+	@echo 'make faults  starts, floods, stops and cuts off the programs that are built, and says what was not as their pages say'
 	@echo 'make wakes   shows that no wake-up is lost, and finds wrong bodies that lose one: up to half an hour'
 	@echo 'make prove   runs the gate: every proof, wrong body, test and program: over an hour from nothing'
 	@echo 'make bench   measures it and its codec beside plain C programs, the server and the ciphers beside OpenSSL'
@@ -41,6 +42,10 @@ attacks:
 test:
 	@scripts/need rt python3
 	@scripts/try_all
+
+faults:
+	@scripts/need python3
+	@scripts/faults bin
 
 wakes:
 	@scripts/need rt python3

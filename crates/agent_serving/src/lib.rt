@@ -7,6 +7,7 @@
 mod accept;
 mod ending;
 mod job;
+mod keeping;
 mod prompts;
 mod spawner;
 mod task;

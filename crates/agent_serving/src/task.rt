@@ -1,11 +1,12 @@
 // Each job as a task of a thread.
 use crate::job::{Job, run_job};
+use crate::keeping::{answer_for_user, keep_asking};
 use crate::waits::LineWaits;
 use agent_hub::Hub;
-use attr_tuples::Tuple;
-use prompters::{Chain, Deny, Limited, Prompter};
+use prompters::Chain;
 use readiness::{Offers, Watched};
 use std::alloc::Global;
+use std::io::Eprint;
 use std::marker::Model;
 use std::net::Net;
 use std::sync::{Arc, Wait};
@@ -58,49 +59,41 @@ impl<I, O, T> Model for Task<I, O, T> {
 
 impl<R, I, O, T> sockets::Job<R> for Task<I, O, T>
 where
-    R: Wait + Net + Clock + AllocGlobal,
+    R: Wait + Net + Clock + Eprint + AllocGlobal,
     I: Source + Watched + Drop,
     O: Offers + Drop,
     T: Tools<R> + Drop,
 {
-    // The prompters of the job that answers for the user are one that says yes so often, if ever, and one that says no; where
-    // memory is short they are fewer than two, so that it is idle. All other jobs have none.
+    // The prompters of the job that answers for the user are one that says yes so often and one that says no. Those jobs that
+    // aren't one connection's go on where memory runs out.
     fn run(self, rt: &R) {
         let Task { hub, job, tools } = self;
         let alloc = rt.alloc();
-        let mut list: Vec<Box<dyn Prompter + Send>> = Vec::new(alloc);
-        if matches!(job, Job::Prompts { .. }) {
-            let left = tools.consents();
-            if left != 0 {
-                let template = Tuple::new(alloc);
-                if let Ok(limited) = Box::new(alloc, Limited { template, left }) {
-                    let _ = list.push(limited);
-                }
-            }
-            if let Ok(deny) = Box::new(alloc, Deny) {
-                let _ = list.push(deny);
-            }
-        }
-        let mut chain = Chain::new(list);
-        let mut waits = waits_of(rt, alloc, &hub, &job);
+        let consents = tools.consents();
         let (mut dial, mut rand) = tools.tools(rt);
-        let _ended = run_job(
-            rt, alloc, &hub, job, &mut dial, &mut rand, &mut chain, &mut waits,
-        );
-    }
-}
-
-// What the job of a connection waits by; other jobs don't wait for one.
-fn waits_of<'a, R: Wait, I: Watched, O>(
-    rt: &'a R,
-    alloc: Global,
-    hub: &'a Hub,
-    job: &Job<I, O>,
-) -> LineWaits<'a, R> {
-    match job {
-        Job::Line { conn, source, .. } => {
-            LineWaits::new(rt, alloc, hub, *conn, source.descriptor())
+        match job {
+            Job::Prompts { seat, conn } => answer_for_user(rt, alloc, &hub, seat, conn, consents),
+            Job::Asks { seat } => {
+                keep_asking(rt, alloc, &hub, seat, &mut dial);
+            }
+            Job::Line {
+                seat,
+                conn,
+                source,
+                sink,
+            } => {
+                let mut waits = LineWaits::new(rt, alloc, &hub, conn, source.descriptor());
+                let mut chain = Chain::new(Vec::new(alloc));
+                let job = Job::Line {
+                    seat,
+                    conn,
+                    source,
+                    sink,
+                };
+                let _ended = run_job(
+                    rt, alloc, &hub, job, &mut dial, &mut rand, &mut chain, &mut waits,
+                );
+            }
         }
-        Job::Asks { .. } | Job::Prompts { .. } => LineWaits::new(rt, alloc, hub, u64::MAX, None),
     }
 }

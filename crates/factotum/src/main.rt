@@ -13,22 +13,25 @@ use agent_serving::{
     Again, Agent, Hub, HubSeat, HubSpawner, ServeEnd, ServeWords, Task as JobTask, Tools,
     end_number, print_end, read_serve_words, serve,
 };
-use auth_program::{Status, print_status};
+use auth_program::{Status, as_str, print_status};
 use factotum_program::{Task, read_words, run_command};
+use host_edge::{
+    Asked, Form, Guard, Opened, Opt, Program, Value, WordsFault, command_words, find_asked,
+    find_untaken, hold_standard, open, open_table, tell as tell_line, tell_asked, tell_usage,
+    tell_why,
+};
 use read_ahead::ReadAhead;
 use sockets::{
     Failures, FailuresOf, Line, LinesOf, OwnLines, Servers, SharedFailures, SharedLines,
     SocketListener, TcpDialer, ThreadSpawner, Unstarted,
 };
 use std::alloc::Global;
-use std::env;
-use std::fs::File;
 use std::io::{self, ErrorKind, Read};
 use std::net::{Net, TcpStream};
 use std::process::ExitCode;
 use std::sync::{Arc, Wait};
 use std::time::{Clock, Duration};
-use wire_base::{Bytes, Text, TextList};
+use wire_base::{Bytes, Text};
 use wire_streams::{ReadSource, ReadWords, WriteSink, write_all};
 
 /// Where words are drawn from.
@@ -37,7 +40,8 @@ const RANDOM: &str = "/dev/urandom";
 /// How many bytes of it one read asks for: 64 words.
 const MANY: usize = 512;
 
-/// The authentication server that is asked where the words name none.
+/// The authentication server that is asked where the words name none: this machine's, at Plan 9's port of tickets, on which
+/// its units listen.
 const AUTH_SERVER: &[u8] = b"127.0.0.1:567";
 
 /// How many seconds an exchange with it may take.
@@ -46,33 +50,112 @@ const PATIENCE: u64 = 30;
 /// How many milliseconds replies wait for room at a client before something else is looked at.
 const ROOM: u64 = 1;
 
+/// The program's name.
+const NAME: &str = "factotum";
+
 /// The commands and their options, which stand behind the line of a faulty command line.
-const COMMANDS: &[u8] = b"    factotum pipe [--auth ADDR]
+const COMMANDS: &str = "    factotum pipe [--auth ADDR]
     factotum serve --listen ADDR [--auth ADDR] [--consent N] [--asks N]
     factotum authsrv --dom D --keys PATH --speaks PATH
     factotum world
     factotum gen --number N --rounds K
+    factotum --help | --version
 ";
 
-/// A file; each read of one that couldn't be opened fails.
-#[derive(Drop)]
-enum Opened<F> {
-    File(F),
-    Shut,
-}
+/// The option that names the authentication server.
+const AUTH: Opt = Opt {
+    name: "--auth",
+    value: Value::Addresses,
+    is_needed: false,
+};
 
-impl<F: Read> Read for Opened<F> {
-    fn read(&mut self, buf: &mut [u8]) -> io::Result<usize> {
-        match self {
-            Opened::File(file) => file.read(buf),
-            Opened::Shut => Err(ErrorKind::NotFound.into()),
-        }
-    }
-}
+/// The same as forms, by which the word is found that isn't taken.
+const FORMS: &[Form] = &[
+    Form {
+        command: "pipe",
+        options: &[AUTH],
+    },
+    Form {
+        command: "serve",
+        options: &[
+            Opt {
+                name: "--listen",
+                value: Value::Any,
+                is_needed: true,
+            },
+            AUTH,
+            Opt {
+                name: "--consent",
+                value: Value::Number {
+                    least: 0,
+                    most: 0xffff_ffff,
+                },
+                is_needed: false,
+            },
+            Opt {
+                name: "--asks",
+                value: Value::Number { least: 1, most: 64 },
+                is_needed: false,
+            },
+        ],
+    },
+    Form {
+        command: "authsrv",
+        options: &[
+            Opt {
+                name: "--dom",
+                value: Value::Dom,
+                is_needed: true,
+            },
+            Opt {
+                name: "--keys",
+                value: Value::Any,
+                is_needed: true,
+            },
+            Opt {
+                name: "--speaks",
+                value: Value::Any,
+                is_needed: true,
+            },
+        ],
+    },
+    Form {
+        command: "world",
+        options: &[],
+    },
+    Form {
+        command: "gen",
+        options: &[
+            Opt {
+                name: "--number",
+                value: Value::Number {
+                    least: 0,
+                    most: u64::MAX,
+                },
+                is_needed: true,
+            },
+            Opt {
+                name: "--rounds",
+                value: Value::Number {
+                    least: 1,
+                    most: 1000,
+                },
+                is_needed: true,
+            },
+        ],
+    },
+];
+
+/// What the program tells of itself.
+const PROGRAM: Program = Program {
+    name: NAME,
+    usage: COMMANDS,
+    forms: FORMS,
+};
 
 /// A file that many read from. It is opened once.
 #[derive(Drop)]
-struct Shared(Arc<Opened<File>, Global>);
+struct Shared(Arc<Opened, Global>);
 
 impl Read for Shared {
     fn read(&mut self, buf: &mut [u8]) -> io::Result<usize> {
@@ -88,48 +171,6 @@ impl Read for Shared {
 
 /// Words of a file, many of which are read at once.
 type HostWords<F> = ReadWords<ReadAhead<ReadSource<F>>>;
-
-// Writes a line to standard error: what became of a file or an address, and its name.
-fn tell_of(rt: &HostRuntime, what: &[u8], name: &[u8]) {
-    let mut errors = WriteSink::new(rt.stderr());
-    let _ = write_all(what, &mut errors);
-    let _ = write_all(name, &mut errors);
-    let _ = write_all(b"\n", &mut errors);
-}
-
-// Opens a file; one that can't be opened is named on standard error.
-fn open(rt: &HostRuntime, path: &[u8]) -> Opened<File> {
-    if let Ok(name) = std::str::from_utf8(path) {
-        if let Ok(file) = File::open(rt, name) {
-            return Opened::File(file);
-        }
-    }
-    tell_of(rt, b"factotum: can't open ", path);
-    Opened::Shut
-}
-
-// The words behind the program's name. Words that aren't text are a faulty command line.
-fn command_words(rt: &HostRuntime) -> Result<TextList, Status>
-    ensures { IfErr result (λ status. is_printable status ≡ true) }
-{
-    let alloc = rt.alloc();
-    let mut words = TextList::new(alloc);
-    let Ok(args) = env::args(rt) else {
-        return Err(Status::Usage);
-    };
-    for word in args.skip(1) {
-        match Text::from_slice(alloc, word.as_bytes()) {
-            Ok(Some(text)) => {
-                if words.push(text).is_err() {
-                    return Err(Status::NoMemory);
-                }
-            }
-            Ok(None) => return Err(Status::Usage),
-            Err(_) => return Err(Status::NoMemory),
-        }
-    }
-    Ok(words)
-}
 
 // The authentication servers: those that are given, if any are. Addresses at fault are a faulty command line.
 fn servers(rt: &HostRuntime, given: Option<&Text>) -> Result<Servers, Status>
@@ -152,17 +193,12 @@ fn run(rt: &HostRuntime, words: &[Text]) -> Status
 {
     let (keys, speaks, rand, auth) = match read_words(rt.alloc(), words) {
         Ok(Task::Authsrv(given)) => (
-            open(rt, given.keys.as_slice()),
-            open(rt, given.speaks.as_slice()),
-            open(rt, RANDOM.as_bytes()),
+            open_table(rt, NAME, as_str(&given.keys), Guard::Secret),
+            open_table(rt, NAME, as_str(&given.speaks), Guard::Unchanged),
+            open(rt, NAME, RANDOM),
             None,
         ),
-        Ok(Task::Pipe { auth }) => (
-            Opened::Shut,
-            Opened::Shut,
-            open(rt, RANDOM.as_bytes()),
-            auth,
-        ),
+        Ok(Task::Pipe { auth }) => (Opened::Shut, Opened::Shut, open(rt, NAME, RANDOM), auth),
         Ok(Task::World | Task::Gen(_)) | Err(_) => {
             (Opened::Shut, Opened::Shut, Opened::Shut, None)
         }
@@ -260,15 +296,18 @@ impl<R: Net<Stream = TcpStream> + Clock + Wait + AllocGlobal + Copy + Drop> Tool
     }
 }
 
-// Listens at an address. Where nobody can, that is told on standard error.
+// Listens at an address. Where nobody can, that is told on standard error, with the reason.
 fn listen(rt: &HostRuntime, address: &Text) -> Result<SocketListener<HostRuntime>, ServeEnd> {
     match SocketListener::open(*rt, rt.alloc(), address, Some(Duration::from_millis(ROOM))) {
         Ok(listener) => {
-            tell_of(rt, b"factotum: listening on ", address.as_slice());
+            match listener.local_addr() {
+                Some(place) => tell_line(rt, NAME, "listening on", place),
+                None => tell_line(rt, NAME, "listening on", as_str(address)),
+            }
             Ok(listener)
         }
-        Err(_) => {
-            tell_of(rt, b"factotum: can't listen on ", address.as_slice());
+        Err(fault) => {
+            tell_why(rt, NAME, "can't listen on", as_str(address), fault);
             Err(ServeEnd::ListenFault)
         }
     }
@@ -292,7 +331,7 @@ fn new_hub(rt: &HostRuntime) -> Result<(Arc<Hub, Global>, HubSeat), ServeEnd>
 
 // Where the jobs of an agent at a socket draw their words from. None where there is no memory for it.
 fn open_random(rt: &HostRuntime) -> Option<Shared> {
-    Some(Shared(Arc::new(rt.alloc(), open(rt, RANDOM.as_bytes())).ok()?))
+    Some(Shared(Arc::new(rt.alloc(), open(rt, NAME, RANDOM)).ok()?))
 }
 
 // The tools of all jobs, by what the words give. None where there is no memory for them.
@@ -322,8 +361,8 @@ fn tell_end(rt: &HostRuntime, end: ServeEnd) {
     }
 }
 
-// Writes a status's line to standard error, and behind that of a faulty command line the commands.
-fn tell(rt: &HostRuntime, status: &Status)
+// Writes a status's line to standard error, and behind that of a faulty command line the word that isn't taken and the commands.
+fn tell(rt: &HostRuntime, status: &Status, words: &[Text])
     requires { is_printable status.now ≡ true }
 {
     let mut line = Bytes::new(rt.alloc());
@@ -331,21 +370,56 @@ fn tell(rt: &HostRuntime, status: &Status)
         let mut errors = WriteSink::new(rt.stderr());
         let _ = write_all(line.as_slice(), &mut errors);
         if matches!(status, Status::Usage) {
-            let _ = write_all(COMMANDS, &mut errors);
+            tell_usage(rt, PROGRAM, words);
         }
     }
 }
 
+// Tells of the program what is asked for, and how that ended.
+fn run_asked(rt: &HostRuntime, asked: Asked) -> Status
+    ensures { is_printable result ≡ true }
+{
+    if tell_asked(rt, PROGRAM, asked) {
+        Status::Fine
+    } else {
+        Status::WriteFault
+    }
+}
+
+// Does what words say that aren't those of `serve`. No command takes an address that can't be dialed.
+fn run_words(rt: &HostRuntime, words: &[Text]) -> Status
+    ensures { is_printable result ≡ true }
+{
+    if let Some(asked) = find_asked(words) {
+        run_asked(rt, asked)
+    } else if find_untaken(words, FORMS).is_some() {
+        Status::Usage
+    } else {
+        run(rt, words)
+    }
+}
+
 fn main(rt: HostRuntime) -> ExitCode {
-    let words = command_words(&rt);
-    if let Ok(words) = &words
-        && let Some(given) = read_serve_words(words.as_slice())
+    let _held = hold_standard(&rt);
+    let words = match command_words(&rt) {
+        Ok(words) => words,
+        Err(fault) => {
+            let status = match fault {
+                WordsFault::NoText => Status::Usage,
+                WordsFault::NoMemory => Status::NoMemory,
+            };
+            tell(&rt, &status, &[]);
+            return ExitCode::from(status.number());
+        }
+    };
+    let words = words.as_slice();
+    if find_untaken(words, FORMS).is_none()
+        && let Some(given) = read_serve_words(words)
     {
-        let words = words.as_slice();
         let servers = match named_servers(&rt, words, given) {
             Ok(servers) => servers,
             Err(status) => {
-                tell(&rt, &status);
+                tell(&rt, &status, words);
                 return ExitCode::from(status.number());
             }
         };
@@ -353,7 +427,7 @@ fn main(rt: HostRuntime) -> ExitCode {
         let end = match (
             tools,
             new_hub(&rt),
-            ThreadSpawner::new(rt, rt.alloc(), "factotum", Unstarted::Told),
+            ThreadSpawner::new(rt, rt.alloc(), NAME, Unstarted::Told),
         ) {
             (Some(tools), Ok((hub, seat)), Ok(threads)) => match Arc::try_clone(&hub) {
                 Ok(shared) => match listen(&rt, &words[given.listen]) {
@@ -381,10 +455,7 @@ fn main(rt: HostRuntime) -> ExitCode {
         tell_end(&rt, end);
         return ExitCode::from(end_number(end));
     }
-    let status = match words {
-        Ok(words) => run(&rt, words.as_slice()),
-        Err(status) => status,
-    };
-    tell(&rt, &status);
+    let status = run_words(&rt, words);
+    tell(&rt, &status, words);
     ExitCode::from(status.number())
 }

@@ -7,10 +7,16 @@ use std::alloc::Global;
 use wire_base::{Bytes, NoMemory};
 
 /// As `put_line`.
-pub fn put_line(alloc: Global, at: u64, frame: &[u8], out: &mut Bytes) -> Result<(), NoMemory>
+pub fn put_line(
+    alloc: Global,
+    secrets: bool,
+    at: u64,
+    frame: &[u8],
+    out: &mut Bytes,
+) -> Result<(), NoMemory>
     requires { IsFrame frame.now }
-    ensures ok { OnOk result (out.new ≡ out.old ++ line_of at frame.now) }
+    ensures ok { OnOk result (out.new ≡ out.old ++ line_of secrets at frame.now) }
     ensures err { OnErr result (out.new ≡ out.old) }
 {
-    nine_print::put_line(alloc, at, frame, out)
+    nine_print::put_line(alloc, secrets, at, frame, out)
 }

@@ -47,7 +47,7 @@ fn step(alloc: Global, stream: &mut Bytes, row: &Row, came: &mut Came) -> anyhow
         }
         "line" => {
             let mut out = Bytes::from_slice(alloc, b"- ")?;
-            append_line(alloc, 1000, bytes_at(row, 1), &mut out)?;
+            append_line(alloc, true, 1000, bytes_at(row, 1), &mut out)?;
             Ok(came.bytes(out.as_slice())?)
         }
         "hidden" => hide(alloc, bytes_at(row, 1), came),
@@ -65,7 +65,7 @@ fn shown_of(
 ) -> anyhow::Result<(ShowEnd, Bytes)> {
     let mut input = MemSource::new(stream.to_vec(alloc)?, [reads].to_vec(alloc)?);
     let mut output = MemSink::new(Vec::new(alloc), [writes].to_vec(alloc)?);
-    let end = show(alloc, &mut input, &mut output);
+    let end = show(alloc, true, &mut input, &mut output);
     Ok((end, Bytes::from_slice(alloc, output.content())?))
 }
 
@@ -86,11 +86,17 @@ fn show_more(
     }
 }
 
-// Appends the line of a frame that begins at a place.
-fn append_line(alloc: Global, at: u64, frame: &[u8], out: &mut Bytes) -> anyhow::Result<()> {
+// Appends the line of a frame that begins at a place, with secrets or without.
+fn append_line(
+    alloc: Global,
+    secrets: bool,
+    at: u64,
+    frame: &[u8],
+    out: &mut Bytes,
+) -> anyhow::Result<()> {
     match u32_at(frame, 0) {
         Ok((size, 4)) if frame.len() >= 7 && size as usize == frame.len() => {
-            Ok(put_line(alloc, at, frame, out)?)
+            Ok(put_line(alloc, secrets, at, frame, out)?)
         }
         _ => bail!("no frame"),
     }
@@ -114,7 +120,7 @@ fn write_of(alloc: Global, content: &[u8]) -> anyhow::Result<Bytes> {
 fn hide(alloc: Global, content: &[u8], came: &mut Came) -> anyhow::Result<()> {
     let frame = write_of(alloc, content)?;
     let mut out = Bytes::new(alloc);
-    append_line(alloc, 0, frame.as_slice(), &mut out)?;
+    append_line(alloc, false, 0, frame.as_slice(), &mut out)?;
     came.flag(holds(out.as_slice(), b"hunter2"))?;
     came.flag(holds(out.as_slice(), b"68756e"))?;
     Ok(came.flag(holds(out.as_slice(), b".."))?)

@@ -1,5 +1,5 @@
--- The line of a message: its type, its tag, and each field by its name, in the order of the wire.
-use Rattle.std.specs.Prelude.{ℕ, List, [], ◌∷◌, ◌++◌, length, codes, ◌==◌, bit_and, unwrap_or, Result, Ok, Err, if◌then◌else◌}
+-- The line of a message: its type, its tag, and each field by its name, in the order of the wire; with secrets, or without.
+use Rattle.std.specs.Prelude.{ℕ, List, [], ◌∷◌, ◌++◌, length, Bool, codes, ◌==◌, bit_and, unwrap_or, Result, Ok, Err, if◌then◌else◌}
 use Rattle.std.specs.List.{flat_map}
 use Rattle.std.specs.Int.{w8, w16}
 use Rattle.wire_base.specs.Readers.{number, value_of}
@@ -37,23 +37,23 @@ t_word (t.Remove fid) = codes "Tremove"
 t_word (t.Stat fid) = codes "Tstat"
 t_word (t.Wstat fid stat) = codes "Twstat"
 
-abbrev pub t_shown : TBody → List ℕ
-t_shown (t.Version msize version) = number_text (codes " msize ") msize ++ string_text (codes " version ") version
-t_shown (t.Auth afid uname aname) = fid_text (codes " afid ") afid ++ string_text (codes " uname ") uname ++ string_text (codes " aname ") aname
-t_shown (t.Attach fid afid uname aname) = fid_text (codes " fid ") fid ++ fid_text (codes " afid ") afid ++ string_text (codes " uname ") uname ++ string_text (codes " aname ") aname
-t_shown (t.Flush oldtag) = number_text (codes " oldtag ") oldtag
-t_shown (t.Walk fid newfid wname) = fid_text (codes " fid ") fid ++ fid_text (codes " newfid ") newfid ++ names_text wname
-t_shown (t.Open fid mode) = fid_text (codes " fid ") fid ++ number_text (codes " mode ") mode
-t_shown (t.Create fid name perm mode) = fid_text (codes " fid ") fid ++ string_text (codes " name ") name ++ perm_text (codes " perm ") perm ++ number_text (codes " mode ") mode
-t_shown (t.Read fid offset count) = fid_text (codes " fid ") fid ++ number_text (codes " offset ") offset ++ number_text (codes " count ") count
-t_shown (t.Write fid offset content) = fid_text (codes " fid ") fid ++ number_text (codes " offset ") offset ++ content_text (codes " count ") content
-t_shown (t.Clunk fid) = fid_text (codes " fid ") fid
-t_shown (t.Remove fid) = fid_text (codes " fid ") fid
-t_shown (t.Stat fid) = fid_text (codes " fid ") fid
-t_shown (t.Wstat fid stat) = fid_text (codes " fid ") fid ++ content_text (codes " stat ") stat
+abbrev pub t_shown : Bool → TBody → List ℕ
+t_shown secrets (t.Version msize version) = number_text (codes " msize ") msize ++ string_text (codes " version ") version
+t_shown secrets (t.Auth afid uname aname) = fid_text (codes " afid ") afid ++ string_text (codes " uname ") uname ++ string_text (codes " aname ") aname
+t_shown secrets (t.Attach fid afid uname aname) = fid_text (codes " fid ") fid ++ fid_text (codes " afid ") afid ++ string_text (codes " uname ") uname ++ string_text (codes " aname ") aname
+t_shown secrets (t.Flush oldtag) = number_text (codes " oldtag ") oldtag
+t_shown secrets (t.Walk fid newfid wname) = fid_text (codes " fid ") fid ++ fid_text (codes " newfid ") newfid ++ names_text wname
+t_shown secrets (t.Open fid mode) = fid_text (codes " fid ") fid ++ number_text (codes " mode ") mode
+t_shown secrets (t.Create fid name perm mode) = fid_text (codes " fid ") fid ++ string_text (codes " name ") name ++ perm_text (codes " perm ") perm ++ number_text (codes " mode ") mode
+t_shown secrets (t.Read fid offset count) = fid_text (codes " fid ") fid ++ number_text (codes " offset ") offset ++ number_text (codes " count ") count
+t_shown secrets (t.Write fid offset content) = fid_text (codes " fid ") fid ++ number_text (codes " offset ") offset ++ content_text secrets (codes " count ") content
+t_shown secrets (t.Clunk fid) = fid_text (codes " fid ") fid
+t_shown secrets (t.Remove fid) = fid_text (codes " fid ") fid
+t_shown secrets (t.Stat fid) = fid_text (codes " fid ") fid
+t_shown secrets (t.Wstat fid stat) = fid_text (codes " fid ") fid ++ content_text secrets (codes " stat ") stat
 
-unfoldable pub t_line : TMsg → List ℕ
-t_line m = t_word m.body ++ tag_text m.tag ++ t_shown m.body ++ 10 ∷ []
+unfoldable pub t_line : Bool → TMsg → List ℕ
+t_line secrets m = t_word m.body ++ tag_text m.tag ++ t_shown secrets m.body ++ 10 ∷ []
 
 -- ---- replies
 
@@ -73,24 +73,24 @@ r_word r.Remove = codes "Rremove"
 r_word (r.Stat stat) = codes "Rstat"
 r_word r.Wstat = codes "Rwstat"
 
-abbrev pub r_shown : RBody → List ℕ
-r_shown (r.Version msize version) = number_text (codes " msize ") msize ++ string_text (codes " version ") version
-r_shown (r.Auth aqid) = qid_shown (codes " aqid ") aqid
-r_shown (r.Attach qid) = qid_shown (codes " qid ") qid
-r_shown (r.Error ename) = string_text (codes " ename ") ename
-r_shown r.Flush = []
-r_shown (r.Walk wqid) = qids_text wqid
-r_shown (r.Open qid iounit) = qid_shown (codes " qid ") qid ++ number_text (codes " iounit ") iounit
-r_shown (r.Create qid iounit) = qid_shown (codes " qid ") qid ++ number_text (codes " iounit ") iounit
-r_shown (r.Read content) = content_text (codes " count ") content
-r_shown (r.Write count) = number_text (codes " count ") count
-r_shown r.Clunk = []
-r_shown r.Remove = []
-r_shown (r.Stat stat) = content_text (codes " stat ") stat
-r_shown r.Wstat = []
+abbrev pub r_shown : Bool → RBody → List ℕ
+r_shown secrets (r.Version msize version) = number_text (codes " msize ") msize ++ string_text (codes " version ") version
+r_shown secrets (r.Auth aqid) = qid_shown (codes " aqid ") aqid
+r_shown secrets (r.Attach qid) = qid_shown (codes " qid ") qid
+r_shown secrets (r.Error ename) = string_text (codes " ename ") ename
+r_shown secrets r.Flush = []
+r_shown secrets (r.Walk wqid) = qids_text wqid
+r_shown secrets (r.Open qid iounit) = qid_shown (codes " qid ") qid ++ number_text (codes " iounit ") iounit
+r_shown secrets (r.Create qid iounit) = qid_shown (codes " qid ") qid ++ number_text (codes " iounit ") iounit
+r_shown secrets (r.Read content) = content_text secrets (codes " count ") content
+r_shown secrets (r.Write count) = number_text (codes " count ") count
+r_shown secrets r.Clunk = []
+r_shown secrets r.Remove = []
+r_shown secrets (r.Stat stat) = content_text secrets (codes " stat ") stat
+r_shown secrets r.Wstat = []
 
-unfoldable pub r_line : RMsg → List ℕ
-r_line m = r_word m.body ++ tag_text m.tag ++ r_shown m.body ++ 10 ∷ []
+unfoldable pub r_line : Bool → RMsg → List ℕ
+r_line secrets m = r_word m.body ++ tag_text m.tag ++ r_shown secrets m.body ++ 10 ∷ []
 
 -- ---- frames
 
@@ -109,17 +109,18 @@ bad_text at kind tag fault =
 abbrev pub bad_line : ℕ → List ℕ → ℕ → List ℕ
 bad_line at frame fault = bad_text at (type_of frame) (tag_of frame) fault
 
-abbrev pub t_line_of : ℕ → List ℕ → Result TMsg ℕ → List ℕ
-t_line_of at frame (Ok m) = t_line m
-t_line_of at frame (Err fault) = bad_line at frame fault
+abbrev pub t_line_of : Bool → ℕ → List ℕ → Result TMsg ℕ → List ℕ
+t_line_of secrets at frame (Ok m) = t_line secrets m
+t_line_of secrets at frame (Err fault) = bad_line at frame fault
 
-abbrev pub r_line_of : ℕ → List ℕ → Result RMsg ℕ → List ℕ
-r_line_of at frame (Ok m) = r_line m
-r_line_of at frame (Err fault) = bad_line at frame fault
+abbrev pub r_line_of : Bool → ℕ → List ℕ → Result RMsg ℕ → List ℕ
+r_line_of secrets at frame (Ok m) = r_line secrets m
+r_line_of secrets at frame (Err fault) = bad_line at frame fault
 
 -- the line of a frame that begins at this place of a stream: an even type byte is a request's, an odd one a reply's
-unfoldable pub line_of : ℕ → List ℕ → List ℕ
-line_of at frame = if bit_and (type_of frame) 1 == 0 then t_line_of at frame (t_reading frame) else r_line_of at frame (r_reading frame)
+unfoldable pub line_of : Bool → ℕ → List ℕ → List ℕ
+line_of secrets at frame =
+    if bit_and (type_of frame) 1 == 0 then t_line_of secrets at frame (t_reading frame) else r_line_of secrets at frame (r_reading frame)
 
 -- ---- what ends a stream
 

@@ -1,6 +1,7 @@
 -- The values of a message as text of one line, in the manner of Plan 9's fcall format (fcall(2)): numbers in decimal, a
 -- qid as path, version and type, bytes as text where all are printable, else as hexadecimal digits. All of it is
--- printable ASCII. Of a content nothing is shown behind the `=` of what may be a secret attribute.
+-- printable ASCII. Of a content nothing is shown behind the `=` of what may be a secret attribute, and unless secrets are
+-- asked for nothing where its front isn't text: it may be a ticket, or what `authinfo` gives.
 use Rattle.std.specs.Prelude.{ℕ, List, [], ◌∷◌, ◌++◌, length, take, Bool, false, not, ◌&&◌, ◌||◌, ◌==◌, nat_le, nat_lt, bit_and, codes, if◌then◌else◌}
 use Rattle.std.specs.List.{flat_map, list_all}
 use Rattle.std.specs.Int.{w32, w64, to_be_bytes}
@@ -63,12 +64,16 @@ abbrev pub is_in_line : ℕ → Bool
 is_in_line b = not (b == 10)
 
 -- of the first 64 bytes
-unfoldable pub shown_part : List ℕ → List ℕ
-shown_part content = open_part false (take 64 content)
+unfoldable pub open_front : List ℕ → List ℕ
+open_front content = open_part false (take 64 content)
 
 -- every byte is seen, a newline or a tab
 abbrev pub is_printable : List ℕ → Bool
 is_printable bytes = list_all (λ b. is_seen b || b == 10 || b == 9) bytes
+
+-- that front is shown where it is text, and any front where secrets are asked for
+abbrev pub shown_part : Bool → List ℕ → List ℕ
+shown_part secrets content = if secrets || is_printable (open_front content) then open_front content else []
 
 -- as text in quotes where every byte is printable, else in hexadecimal digits
 unfoldable pub piece_text : List ℕ → List ℕ
@@ -79,5 +84,5 @@ abbrev pub dots : List ℕ → List ℕ → List ℕ
 dots part whole = if nat_lt (length part) (length whole) then codes ".." else []
 
 -- how many bytes, and those that are shown
-unfoldable pub content_text : List ℕ → List ℕ → List ℕ
-content_text name content = number_text name (length content) ++ 32 ∷ piece_text (shown_part content) ++ dots (shown_part content) content
+unfoldable pub content_text : Bool → List ℕ → List ℕ → List ℕ
+content_text secrets name content = number_text name (length content) ++ 32 ∷ piece_text (shown_part secrets content) ++ dots (shown_part secrets content) content

@@ -48,13 +48,19 @@ fn put_bad(
     out.push(b'\n')
 }
 
-fn put_request_at(alloc: Global, at: u64, frame: &[u8], out: &mut Bytes) -> Result<(), NoMemory>
+fn put_request_at(
+    alloc: Global,
+    secrets: bool,
+    at: u64,
+    frame: &[u8],
+    out: &mut Bytes,
+) -> Result<(), NoMemory>
     requires { IsFrame frame.now }
-    ensures ok { OnOk result (out.new ≡ out.old ++ t_line_of at frame.now (t_reading frame.now)) }
+    ensures ok { OnOk result (out.new ≡ out.old ++ t_line_of secrets at frame.now (t_reading frame.now)) }
     ensures err { OnErr result (Extends out.old out.new) }
 {
     match decode_t(alloc, frame) {
-        Ok(message) => put_request(alloc, &message, out),
+        Ok(message) => put_request(alloc, secrets, &message, out),
         Err(DecodeFault::Bad { at: fault }) => put_bad(
             alloc,
             at,
@@ -67,13 +73,19 @@ fn put_request_at(alloc: Global, at: u64, frame: &[u8], out: &mut Bytes) -> Resu
     }
 }
 
-fn put_reply_at(alloc: Global, at: u64, frame: &[u8], out: &mut Bytes) -> Result<(), NoMemory>
+fn put_reply_at(
+    alloc: Global,
+    secrets: bool,
+    at: u64,
+    frame: &[u8],
+    out: &mut Bytes,
+) -> Result<(), NoMemory>
     requires { IsFrame frame.now }
-    ensures ok { OnOk result (out.new ≡ out.old ++ r_line_of at frame.now (r_reading frame.now)) }
+    ensures ok { OnOk result (out.new ≡ out.old ++ r_line_of secrets at frame.now (r_reading frame.now)) }
     ensures err { OnErr result (Extends out.old out.new) }
 {
     match decode_r(alloc, frame) {
-        Ok(message) => put_reply(alloc, &message, out),
+        Ok(message) => put_reply(alloc, secrets, &message, out),
         Err(DecodeFault::Bad { at: fault }) => put_bad(
             alloc,
             at,
@@ -87,28 +99,40 @@ fn put_reply_at(alloc: Global, at: u64, frame: &[u8], out: &mut Bytes) -> Result
 }
 
 #[tactic(auto, unfolding(crate::specs::Lines::line_of))]
-fn append_line(alloc: Global, at: u64, frame: &[u8], out: &mut Bytes) -> Result<(), NoMemory>
+fn append_line(
+    alloc: Global,
+    secrets: bool,
+    at: u64,
+    frame: &[u8],
+    out: &mut Bytes,
+) -> Result<(), NoMemory>
     requires { IsFrame frame.now }
-    ensures ok { OnOk result (out.new ≡ out.old ++ line_of at frame.now) }
+    ensures ok { OnOk result (out.new ≡ out.old ++ line_of secrets at frame.now) }
     ensures err { OnErr result (Extends out.old out.new) }
 {
     if type_of(frame) & 1 == 0 {
-        put_request_at(alloc, at, frame, out)
+        put_request_at(alloc, secrets, at, frame, out)
     } else {
-        put_reply_at(alloc, at, frame, out)
+        put_reply_at(alloc, secrets, at, frame, out)
     }
 }
 
-/// Appends the line of a whole frame that begins at this place of a stream.
+/// Appends the line of a whole frame that begins at this place of a stream, with secrets or without.
 ///
 /// It is the line of the message that the frame is, of the direction that its type byte tells, or tells the place of
 /// the first fault.
-pub fn put_line(alloc: Global, at: u64, frame: &[u8], out: &mut Bytes) -> Result<(), NoMemory>
+pub fn put_line(
+    alloc: Global,
+    secrets: bool,
+    at: u64,
+    frame: &[u8],
+    out: &mut Bytes,
+) -> Result<(), NoMemory>
     requires { IsFrame frame.now }
-    ensures ok { OnOk result (out.new ≡ out.old ++ line_of at frame.now) }
+    ensures ok { OnOk result (out.new ≡ out.old ++ line_of secrets at frame.now) }
     ensures err { OnErr result (out.new ≡ out.old) }
 {
     let before = out.len();
-    let done = append_line(alloc, at, frame, out);
+    let done = append_line(alloc, secrets, at, frame, out);
     out.undo_on_err(before, done)
 }

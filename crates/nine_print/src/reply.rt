@@ -61,8 +61,8 @@ fn word(body: &RBody) -> &'static [u8]
     }
 }
 
-fn put_fields(alloc: Global, body: &RBody, out: &mut Bytes) -> Result<(), NoMemory>
-    ensures ok { OnOk result (out.new ≡ out.old ++ r_shown body.now) }
+fn put_fields(alloc: Global, secrets: bool, body: &RBody, out: &mut Bytes) -> Result<(), NoMemory>
+    ensures ok { OnOk result (out.new ≡ out.old ++ r_shown secrets body.now) }
     ensures err { OnErr result (Extends out.old out.new) }
 {
     match body {
@@ -73,9 +73,9 @@ fn put_fields(alloc: Global, body: &RBody, out: &mut Bytes) -> Result<(), NoMemo
         RBody::Walk { wqid } => put_qids(alloc, wqid.as_slice(), out),
         RBody::Open { qid, iounit } => put_opened(alloc, qid, *iounit, out),
         RBody::Create { qid, iounit } => put_opened(alloc, qid, *iounit, out),
-        RBody::Read { content } => put_content(alloc, b" count ", content.as_slice(), out),
+        RBody::Read { content } => put_content(alloc, secrets, b" count ", content.as_slice(), out),
         RBody::Write { count } => put_number(alloc, b" count ", *count as u64, out),
-        RBody::Stat { stat } => put_content(alloc, b" stat ", stat.as_slice(), out),
+        RBody::Stat { stat } => put_content(alloc, secrets, b" stat ", stat.as_slice(), out),
         RBody::Flush => Ok(()),
         RBody::Clunk => Ok(()),
         RBody::Remove => Ok(()),
@@ -85,12 +85,17 @@ fn put_fields(alloc: Global, body: &RBody, out: &mut Bytes) -> Result<(), NoMemo
 
 /// Appends the line of a reply.
 #[tactic(auto, unfolding(crate::specs::Lines::r_line))]
-pub(crate) fn put_reply(alloc: Global, m: &RMsg, out: &mut Bytes) -> Result<(), NoMemory>
-    ensures ok { OnOk result (out.new ≡ out.old ++ r_line m.now) }
+pub(crate) fn put_reply(
+    alloc: Global,
+    secrets: bool,
+    m: &RMsg,
+    out: &mut Bytes,
+) -> Result<(), NoMemory>
+    ensures ok { OnOk result (out.new ≡ out.old ++ r_line secrets m.now) }
     ensures err { OnErr result (Extends out.old out.new) }
 {
     out.append(word(&m.body))?;
     put_tag(alloc, m.tag, out)?;
-    put_fields(alloc, &m.body, out)?;
+    put_fields(alloc, secrets, &m.body, out)?;
     out.push(b'\n')
 }

@@ -145,6 +145,7 @@ fn put_read(
 
 fn put_write(
     alloc: Global,
+    secrets: bool,
     fid: u32,
     offset: u64,
     content: &[u8],
@@ -152,21 +153,27 @@ fn put_write(
 ) -> Result<(), NoMemory>
     ensures ok { OnOk result (out.new
         ≡ out.old ++ (fid_text (codes " fid ") fid ++ number_text (codes " offset ") offset
-        ++ content_text (codes " count ") content.now)) }
+        ++ content_text secrets (codes " count ") content.now)) }
     ensures err { OnErr result (Extends out.old out.new) }
 {
     put_fid(alloc, b" fid ", fid, out)?;
     put_number(alloc, b" offset ", offset, out)?;
-    put_content(alloc, b" count ", content, out)
+    put_content(alloc, secrets, b" count ", content, out)
 }
 
-fn put_wstat(alloc: Global, fid: u32, stat: &[u8], out: &mut Bytes) -> Result<(), NoMemory>
+fn put_wstat(
+    alloc: Global,
+    secrets: bool,
+    fid: u32,
+    stat: &[u8],
+    out: &mut Bytes,
+) -> Result<(), NoMemory>
     ensures ok { OnOk result (out.new
-        ≡ out.old ++ (fid_text (codes " fid ") fid ++ content_text (codes " stat ") stat.now)) }
+        ≡ out.old ++ (fid_text (codes " fid ") fid ++ content_text secrets (codes " stat ") stat.now)) }
     ensures err { OnErr result (Extends out.old out.new) }
 {
     put_fid(alloc, b" fid ", fid, out)?;
-    put_content(alloc, b" stat ", stat, out)
+    put_content(alloc, secrets, b" stat ", stat, out)
 }
 
 fn word(body: &TBody) -> &'static [u8]
@@ -189,8 +196,8 @@ fn word(body: &TBody) -> &'static [u8]
     }
 }
 
-fn put_fields(alloc: Global, body: &TBody, out: &mut Bytes) -> Result<(), NoMemory>
-    ensures ok { OnOk result (out.new ≡ out.old ++ t_shown body.now) }
+fn put_fields(alloc: Global, secrets: bool, body: &TBody, out: &mut Bytes) -> Result<(), NoMemory>
+    ensures ok { OnOk result (out.new ≡ out.old ++ t_shown secrets body.now) }
     ensures err { OnErr result (Extends out.old out.new) }
 {
     match body {
@@ -220,22 +227,27 @@ fn put_fields(alloc: Global, body: &TBody, out: &mut Bytes) -> Result<(), NoMemo
             fid,
             offset,
             content,
-        } => put_write(alloc, *fid, *offset, content.as_slice(), out),
+        } => put_write(alloc, secrets, *fid, *offset, content.as_slice(), out),
         TBody::Clunk { fid } => put_fid(alloc, b" fid ", *fid, out),
         TBody::Remove { fid } => put_fid(alloc, b" fid ", *fid, out),
         TBody::Stat { fid } => put_fid(alloc, b" fid ", *fid, out),
-        TBody::Wstat { fid, stat } => put_wstat(alloc, *fid, stat.as_slice(), out),
+        TBody::Wstat { fid, stat } => put_wstat(alloc, secrets, *fid, stat.as_slice(), out),
     }
 }
 
 /// Appends the line of a request.
 #[tactic(auto, unfolding(crate::specs::Lines::t_line))]
-pub(crate) fn put_request(alloc: Global, m: &TMsg, out: &mut Bytes) -> Result<(), NoMemory>
-    ensures ok { OnOk result (out.new ≡ out.old ++ t_line m.now) }
+pub(crate) fn put_request(
+    alloc: Global,
+    secrets: bool,
+    m: &TMsg,
+    out: &mut Bytes,
+) -> Result<(), NoMemory>
+    ensures ok { OnOk result (out.new ≡ out.old ++ t_line secrets m.now) }
     ensures err { OnErr result (Extends out.old out.new) }
 {
     out.append(word(&m.body))?;
     put_tag(alloc, m.tag, out)?;
-    put_fields(alloc, &m.body, out)?;
+    put_fields(alloc, secrets, &m.body, out)?;
     out.push(b'\n')
 }

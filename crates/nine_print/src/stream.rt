@@ -1,6 +1,6 @@
 // A stream of frames of both directions, shown line by line: a piece of the input is read, the lines of the frames that
 // are whole with it are written, and then the next piece is read.
-ghost use Rattle.std.specs.Prelude.{◌≡◌, ◌++◌, ◌+◌, ◌<◌, ◌≤◌, [], List, ℕ, Option, Some, true, false, length, ◌⊎◌, OnOk, OnErr, IfOk, IfErr};
+ghost use Rattle.std.specs.Prelude.{◌≡◌, ◌++◌, ◌+◌, ◌<◌, ◌≤◌, [], Bool, List, ℕ, Option, Some, true, false, length, ◌⊎◌, OnOk, OnErr, IfOk, IfErr};
 ghost use Rattle.std.specs.Io.KnownBytes.{IsAtEnd};
 ghost use Rattle.wire_streams.specs.Causes.{Rose};
 ghost use Rattle.wire_streams.specs.Streams.{Gains};
@@ -119,17 +119,17 @@ fn taken_by(showing: &Showing) -> usize
 }
 
 // Appends the line of the next frame, where it is whole. Whether it is.
-fn show_frame(showing: &mut Showing) -> Result<bool, ShowEnd>
+fn show_frame(secrets: bool, showing: &mut Showing) -> Result<bool, ShowEnd>
     ensures more { OnOk result ((so_far stream : List ℕ) (handed : List (List ℕ))
-        → Handed so_far stream handed showing.old.framer showing.old.lines
-        → (all : List (List ℕ)) × Handed so_far stream all showing.new.framer showing.new.lines) }
+        → Handed secrets so_far stream handed showing.old.framer showing.old.lines
+        → (all : List (List ℕ)) × Handed secrets so_far stream all showing.new.framer showing.new.lines) }
     ensures all { IfOk result (λ more. more ≡ false
         → (so_far stream : List ℕ) (handed : List (List ℕ))
-        → Handed so_far stream handed showing.old.framer showing.old.lines
-        → AllHanded so_far stream showing.new.framer showing.new.lines) }
+        → Handed secrets so_far stream handed showing.old.framer showing.old.lines
+        → AllHanded secrets so_far stream showing.new.framer showing.new.lines) }
     ensures err { IfErr result (λ end. (so_far stream : List ℕ) (handed : List (List ℕ))
-        → Handed so_far stream handed showing.old.framer showing.old.lines
-        → StopsAt end stream (so_far ++ showing.new.lines)) }
+        → Handed secrets so_far stream handed showing.old.framer showing.old.lines
+        → StopsAt secrets end stream (so_far ++ showing.new.lines)) }
     ensures which { IfErr result
         (λ end. (end ≡ ShowEnd.ReadFault → ⊥) × (end ≡ ShowEnd.WriteFault → ⊥)) }
     ensures fed { OnOk result (taken_by showing.new ≡ taken_by showing.old) }
@@ -139,7 +139,13 @@ fn show_frame(showing: &mut Showing) -> Result<bool, ShowEnd>
     let at = showing.framer.place();
     match showing.framer.next()? {
         Next::Whole(frame) => {
-            put_line(showing.alloc, at, frame.as_slice(), &mut showing.lines)?;
+            put_line(
+                showing.alloc,
+                secrets,
+                at,
+                frame.as_slice(),
+                &mut showing.lines,
+            )?;
             Ok(true)
         }
         Next::NotYet => Ok(false),
@@ -151,36 +157,36 @@ fn show_frame(showing: &mut Showing) -> Result<bool, ShowEnd>
 }
 
 // Appends the lines of all frames that are whole.
-fn show_frames(showing: &mut Showing) -> Result<(), ShowEnd>
+fn show_frames(secrets: bool, showing: &mut Showing) -> Result<(), ShowEnd>
     ensures ok { OnOk result ((so_far stream : List ℕ) (handed : List (List ℕ))
-        → Handed so_far stream handed showing.old.framer showing.old.lines
-        → AllHanded so_far stream showing.new.framer showing.new.lines) }
+        → Handed secrets so_far stream handed showing.old.framer showing.old.lines
+        → AllHanded secrets so_far stream showing.new.framer showing.new.lines) }
     ensures err { IfErr result (λ end. (so_far stream : List ℕ) (handed : List (List ℕ))
-        → Handed so_far stream handed showing.old.framer showing.old.lines
-        → StopsAt end stream (so_far ++ showing.new.lines)) }
+        → Handed secrets so_far stream handed showing.old.framer showing.old.lines
+        → StopsAt secrets end stream (so_far ++ showing.new.lines)) }
     ensures which { IfErr result
         (λ end. (end ≡ ShowEnd.ReadFault → ⊥) × (end ≡ ShowEnd.WriteFault → ⊥)) }
     ensures fed { OnOk result (taken_by showing.new ≡ taken_by showing.old) }
 {
-    while show_frame(showing)? {}
+    while show_frame(secrets, showing)? {}
     Ok(())
 }
 
 // Appends the lines of the frames that are whole with the next piece of the input.
-fn show_piece(showing: &mut Showing, piece: &[u8]) -> Result<(), ShowEnd>
+fn show_piece(secrets: bool, showing: &mut Showing, piece: &[u8]) -> Result<(), ShowEnd>
     requires room { taken_by showing.old + length piece.now ≤ most_input }
     ensures ok { OnOk result ((so_far stream : List ℕ)
-        → AllHanded so_far stream showing.old.framer showing.old.lines
-        → AllHanded so_far (stream ++ piece.now) showing.new.framer showing.new.lines) }
+        → AllHanded secrets so_far stream showing.old.framer showing.old.lines
+        → AllHanded secrets so_far (stream ++ piece.now) showing.new.framer showing.new.lines) }
     ensures err { IfErr result (λ end. (so_far stream : List ℕ)
-        → AllHanded so_far stream showing.old.framer showing.old.lines
-        → StopsAt end (stream ++ piece.now) (so_far ++ showing.new.lines)) }
+        → AllHanded secrets so_far stream showing.old.framer showing.old.lines
+        → StopsAt secrets end (stream ++ piece.now) (so_far ++ showing.new.lines)) }
     ensures which { IfErr result
         (λ end. (end ≡ ShowEnd.ReadFault → ⊥) × (end ≡ ShowEnd.WriteFault → ⊥)) }
     ensures fed { OnOk result (taken_by showing.new ≡ taken_by showing.old + length piece.now) }
 {
     showing.framer.feed(piece)?;
-    show_frames(showing)
+    show_frames(secrets, showing)
 }
 
 // Writes the lines, and keeps their memory for the next.
@@ -203,28 +209,34 @@ fn write_lines<W: Sink>(lines: &mut Bytes, output: &mut W) -> Result<(), ShowEnd
 
 // Writes the lines of the frames that are whole with the next piece of the input, also where memory or a bad size ends
 // the stream.
-fn write_piece<W: Sink>(showing: &mut Showing, piece: &[u8], output: &mut W) -> Result<(), ShowEnd>
+fn write_piece<W: Sink>(
+    secrets: bool,
+    showing: &mut Showing,
+    piece: &[u8],
+    output: &mut W,
+) -> Result<(), ShowEnd>
     requires room { taken_by showing.old + length piece.now ≤ most_input }
     ensures ok { OnOk result ((origin : Option (List ℕ)) (stream : List ℕ)
-        → Told origin (W.holds output.old) stream showing.old.framer showing.old.lines
-        → Told origin (W.holds output.new)
+        → Told secrets origin (W.holds output.old) stream showing.old.framer showing.old.lines
+        → Told secrets origin (W.holds output.new)
         (stream ++ piece.now) showing.new.framer showing.new.lines) }
     ensures err { IfErr result (λ end. (left origin : Option (List ℕ)) (stream : List ℕ)
-        → Told origin (W.holds output.old) stream showing.old.framer showing.old.lines
-        → CutsAt end left origin (W.holds output.new) (stream ++ piece.now)) }
+        → Told secrets origin (W.holds output.old) stream showing.old.framer showing.old.lines
+        → CutsAt secrets end left origin (W.holds output.new) (stream ++ piece.now)) }
     ensures fed { OnOk result (taken_by showing.new ≡ taken_by showing.old + length piece.now) }
     ensures cause { IfErr result (λ end. end ≡ ShowEnd.WriteFault
         → Rose (W.faults output.old) (W.faults output.new)) }
     ensures which { IfErr result (λ end. end ≡ ShowEnd.ReadFault → ⊥) }
     ensures counted { W.faults output.old ≤ W.faults output.new }
 {
-    let shown = show_piece(showing, piece);
+    let shown = show_piece(secrets, showing, piece);
     write_lines(&mut showing.lines, output)?;
     shown
 }
 
 // Reads a piece of the input, and writes the lines of the frames that are whole with it. Whether the input may go on.
 fn show_next<R: Source, W: Sink>(
+    secrets: bool,
     showing: &mut Showing,
     piece: &mut [u8],
     input: &mut R,
@@ -233,12 +245,12 @@ fn show_next<R: Source, W: Sink>(
     requires room { 0 < length piece.old }
     requires few { taken_by showing.old ≤ most_input }
     ensures ok { OnOk result ((first origin : Option (List ℕ))
-        → Shown first (R.left input.old) origin (W.holds output.old) showing.old
-        → Shown first (R.left input.new) origin (W.holds output.new) showing.new) }
+        → Shown secrets first (R.left input.old) origin (W.holds output.old) showing.old
+        → Shown secrets first (R.left input.new) origin (W.holds output.new) showing.new) }
     ensures at_end { IfOk result (λ more. more ≡ false → IsAtEnd (R.left input.new)) }
     ensures err { IfErr result (λ end. (first origin : Option (List ℕ))
-        → Shown first (R.left input.old) origin (W.holds output.old) showing.old
-        → Shows end first (R.left input.new) origin (W.holds output.new)) }
+        → Shown secrets first (R.left input.old) origin (W.holds output.old) showing.old
+        → Shows secrets end first (R.left input.new) origin (W.holds output.new)) }
     ensures few { OnOk result (taken_by showing.new ≤ most_input) }
     ensures more { IfOk result (λ more. more ≡ true → taken_by showing.old < taken_by showing.new) }
     ensures read_fault { IfErr result (λ end. end ≡ ShowEnd.ReadFault
@@ -256,18 +268,18 @@ fn show_next<R: Source, W: Sink>(
     if count > MOST_INPUT - taken_by(showing) {
         return Err(ShowEnd::Flood);
     }
-    write_piece(showing, &piece[..count], output)?;
+    write_piece(secrets, showing, &piece[..count], output)?;
     Ok(true)
 }
 
 // The end of the input: where it is inside a frame, the line that tells so is written.
-fn end<W: Sink>(showing: &mut Showing, output: &mut W) -> Result<(), ShowEnd>
+fn end<W: Sink>(secrets: bool, showing: &mut Showing, output: &mut W) -> Result<(), ShowEnd>
     ensures ok { OnOk result ((first now origin : Option (List ℕ))
-        → Shown first now origin (W.holds output.old) showing.old → IsAtEnd now
-        → Shows ShowEnd.Fine first now origin (W.holds output.new)) }
+        → Shown secrets first now origin (W.holds output.old) showing.old → IsAtEnd now
+        → Shows secrets ShowEnd.Fine first now origin (W.holds output.new)) }
     ensures err { IfErr result (λ end. (first now origin : Option (List ℕ))
-        → Shown first now origin (W.holds output.old) showing.old → IsAtEnd now
-        → Shows end first now origin (W.holds output.new)) }
+        → Shown secrets first now origin (W.holds output.old) showing.old → IsAtEnd now
+        → Shows secrets end first now origin (W.holds output.new)) }
     ensures cause { IfErr result (λ end. end ≡ ShowEnd.WriteFault
         → Rose (W.faults output.old) (W.faults output.new)) }
     ensures which { IfErr result (λ end. end ≡ ShowEnd.ReadFault → ⊥) }
@@ -289,7 +301,7 @@ fn end<W: Sink>(showing: &mut Showing, output: &mut W) -> Result<(), ShowEnd>
 
 // Before the first read.
 fn begin(alloc: Global) -> Showing
-    ensures begun { (first origin : Option (List ℕ)) → Shown first first origin origin result }
+    ensures begun { (secrets : Bool) (first origin : Option (List ℕ)) → Shown secrets first first origin origin result }
     ensures none { taken_by result ≡ 0 }
 {
     Showing {
@@ -302,14 +314,15 @@ fn begin(alloc: Global) -> Showing
 // Shows the input to its end.
 fn show_input<R: Source, W: Sink>(
     alloc: Global,
+    secrets: bool,
     input: &mut R,
     output: &mut W,
 ) -> Result<(), ShowEnd>
     ensures ok { OnOk result
-        (Shows ShowEnd.Fine (R.left input.old) (R.left input.new) (W.holds output.old)
+        (Shows secrets ShowEnd.Fine (R.left input.old) (R.left input.new) (W.holds output.old)
         (W.holds output.new)) }
     ensures err { IfErr result
-        (λ end. Shows end (R.left input.old) (R.left input.new) (W.holds output.old)
+        (λ end. Shows secrets end (R.left input.old) (R.left input.new) (W.holds output.old)
         (W.holds output.new)) }
     ensures read_fault { IfErr result (λ end. end ≡ ShowEnd.ReadFault
         → Rose (R.faults input.old) (R.faults input.new)) }
@@ -320,16 +333,21 @@ fn show_input<R: Source, W: Sink>(
 {
     let mut showing = begin(alloc);
     let mut piece = [0u8; PIECE];
-    while show_next(&mut showing, &mut piece, input, output)? {}
-    end(&mut showing, output)
+    while show_next(secrets, &mut showing, &mut piece, input, output)? {}
+    end(secrets, &mut showing, output)
 }
 
-/// Reads a stream of frames to its end or to the first bad size, and writes the line of each.
+/// Reads a stream of frames to its end or to the first bad size, and writes the line of each, with secrets or without.
 ///
 /// Lines are written as soon as the piece that was read is shown.
-pub fn show<R: Source, W: Sink>(alloc: Global, input: &mut R, output: &mut W) -> ShowEnd
+pub fn show<R: Source, W: Sink>(
+    alloc: Global,
+    secrets: bool,
+    input: &mut R,
+    output: &mut W,
+) -> ShowEnd
     // The input that was read, and the lines of it that were written.
-    ensures ends { Shows result (R.left input.old) (R.left input.new) (W.holds output.old)
+    ensures ends { Shows secrets result (R.left input.old) (R.left input.new) (W.holds output.old)
         (W.holds output.new) }
 
     // A fault is told only where one was counted.
@@ -347,7 +365,7 @@ pub fn show<R: Source, W: Sink>(alloc: Global, input: &mut R, output: &mut W) ->
         → (Rose (W.faults output.old) (W.faults output.new) → ⊥)
         → (result ≡ ShowEnd.Fine) ⊎ (result ≡ ShowEnd.NoMemory) }
 {
-    match show_input(alloc, input, output) {
+    match show_input(alloc, secrets, input, output) {
         Ok(()) => ShowEnd::Fine,
         Err(end) => end,
     }

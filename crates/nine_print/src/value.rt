@@ -4,7 +4,7 @@ ghost use Rattle.nine.specs.Encoded.{Extends};
 ghost use Rattle.std.specs.List.{flat_map};
 ghost use Rattle.std.specs.Fmt.{decimal};
 ghost use Rattle.hex.specs.Hex.{encode_lower};
-ghost use Rattle.nine_print.specs.Values.{number_text, fid_text, tag_text, perm_text, is_seen, byte_text, string_text, letter_text, kind_text, qid_shown, open_part, shown_part, is_printable, piece_text, dots, content_text};
+ghost use Rattle.nine_print.specs.Values.{number_text, fid_text, tag_text, perm_text, is_seen, byte_text, string_text, letter_text, kind_text, qid_shown, open_part, open_front, shown_part, is_printable, piece_text, dots, content_text};
 
 use nine::Qid;
 use std::alloc::Global;
@@ -203,12 +203,24 @@ fn front_of(content: &[u8]) -> &[u8]
     }
 }
 
-// What of a content is shown.
-fn shown_of(content: &[u8]) -> &[u8]
-    ensures { result.now ≡ shown_part content.now }
+// What of the front of a content may be shown.
+fn open_front(content: &[u8]) -> &[u8]
+    ensures { result.now ≡ open_front content.now }
 {
     let front = front_of(content);
     front.split_at(open_len(false, front)).0
+}
+
+// What of a content is shown, with secrets or without.
+fn shown_of(secrets: bool, content: &[u8]) -> &[u8]
+    ensures { result.now ≡ shown_part secrets content.now }
+{
+    let front = open_front(content);
+    if secrets || check_printable(front) {
+        front
+    } else {
+        b""
+    }
 }
 
 fn check_printable(bytes: &[u8]) -> bool
@@ -244,14 +256,15 @@ fn put_dots(part: &[u8], whole: &[u8], out: &mut Bytes) -> Result<(), NoMemory>
 #[tactic(auto, unfolding(crate::specs::Values::content_text))]
 pub(crate) fn put_content(
     alloc: Global,
+    secrets: bool,
     name: &[u8],
     content: &[u8],
     out: &mut Bytes,
 ) -> Result<(), NoMemory>
-    ensures ok { OnOk result (out.new ≡ out.old ++ content_text name.now content.now) }
+    ensures ok { OnOk result (out.new ≡ out.old ++ content_text secrets name.now content.now) }
     ensures err { OnErr result (Extends out.old out.new) }
 {
-    let part = shown_of(content);
+    let part = shown_of(secrets, content);
     put_number(alloc, name, content.len() as u64, out)?;
     out.push(b' ')?;
     put_piece(alloc, part, out)?;

@@ -2,26 +2,27 @@
 //! here the table of keys is opened, and the new one made beside it and put in its place.
 #![tactic(auto)]
 
+use host_edge::{
+    Form, Guard, Opt, Program, Value, WordsFault, command_words, find_asked, hold_standard, open,
+    open_table, tell as tell_line, tell_asked, tell_usage,
+};
 use pass_program::{
     Event, Log, PassStatus, print_event, print_status, read_pass_words, run_pass_noting,
 };
 use std::fs::{self, File, OpenOptions, TryLockError};
 use std::io::{self, ErrorKind, Read, Write};
 use std::net::TcpStream;
-use std::os::fd::{AsFd, AsRawFd};
+use std::os::fd::AsFd;
 use std::os::unix::fs::OpenOptionsExt;
 use std::path::Path;
 use std::process::ExitCode;
+use std::thread;
 use std::time::{Duration, Instant};
-use std::{env, thread};
-use wire_base::{Bytes, Name, Text, TextList};
+use wire_base::{Bytes, Name, Text};
 use wire_streams::{ReadSource, ReadWords, WriteSink, write_all};
 
 /// Where words are drawn from.
 const RANDOM: &str = "/dev/urandom";
-
-/// What stands for a descriptor that is closed.
-const NOTHING: &str = "/dev/null";
 
 /// How many times the new table is tried to be made.
 const TRIES: u32 = 100;
@@ -32,8 +33,24 @@ const PAUSE: u64 = 100;
 /// How many seconds a client at a socket has for its whole session, so that one that says nothing holds up no other.
 const PATIENCE: u64 = 60;
 
-/// The option, which is told after the line of a faulty command line.
-const OPTIONS: &[u8] = b"    pass_change --keys PATH\n";
+/// The program's name.
+const NAME: &str = "pass_change";
+
+/// What the program tells of itself.
+const PROGRAM: Program = Program {
+    name: NAME,
+    usage: "    pass_change --keys PATH
+    pass_change --help | --version
+",
+    forms: &[Form {
+        command: "",
+        options: &[Opt {
+            name: "--keys",
+            value: Value::Any,
+            is_needed: true,
+        }],
+    }],
+};
 
 /// How the program ends.
 #[derive(Clone, Copy)]
@@ -107,22 +124,6 @@ impl Read for Client<'_> {
     }
 }
 
-/// A table that is read; each read of one that couldn't be opened fails.
-#[derive(Drop)]
-enum OldTable {
-    File(File),
-    Shut,
-}
-
-impl Read for OldTable {
-    fn read(&mut self, buf: &mut [u8]) -> io::Result<usize> {
-        match self {
-            OldTable::File(file) => file.read(buf),
-            OldTable::Shut => Err(ErrorKind::NotFound.into()),
-        }
-    }
-}
-
 /// A table that is written; each write to one that couldn't be made fails.
 #[derive(Drop)]
 enum NewTable<'a> {
@@ -168,43 +169,11 @@ fn tell(rt: &HostRuntime, text: &[u8]) {
     let _ = write_all(text, &mut WriteSink::new(rt.stderr()));
 }
 
-// Writes a line to standard error: what happened to a file, and its name.
-fn tell_of(rt: &HostRuntime, what: &[u8], name: &str) {
-    tell(rt, what);
-    tell(rt, name.as_bytes());
-    tell(rt, b"\n");
-}
-
 // Writes the line of an event to standard error.
 fn tell_event(rt: &HostRuntime, user: &Name<28>, event: Event) {
     let mut line = Bytes::new(rt.alloc());
     if print_event(user, event, &mut line).is_ok() {
         tell(rt, line.as_slice());
-    }
-}
-
-// Opens a file; one that can't be opened is named on standard error.
-fn open(rt: &HostRuntime, path: &str) -> OldTable {
-    match File::open(rt, path) {
-        Ok(file) => OldTable::File(file),
-        Err(_) => {
-            tell_of(rt, b"pass_change: can't open ", path);
-            OldTable::Shut
-        }
-    }
-}
-
-// A descriptor from 0 to 2 that is closed is given to what can't be used as it is, so that no file gets it: 0 can't be read,
-// and 1 and 2 can't be written.
-fn hold(rt: &HostRuntime, standard: i32) -> Option<File> {
-    let held = if standard == 0 {
-        OpenOptions::new().write(true).open(rt, NOTHING)
-    } else {
-        File::open(rt, NOTHING)
-    };
-    match held {
-        Ok(file) if file.as_raw_fd() == standard => Some(file),
-        _ => None,
     }
 }
 
@@ -226,7 +195,7 @@ fn make(rt: &HostRuntime, path: &str) -> Result<Option<File>, Ending> {
                 thread::sleep(rt, Duration::from_millis(PAUSE));
             }
             Err(_) => {
-                tell_of(rt, b"pass_change: can't make ", path);
+                tell_line(rt, NAME, "can't make", path);
                 return Ok(None);
             }
         }
@@ -277,10 +246,10 @@ fn serve(
         rt.alloc(),
         words,
         &mut ReadSource::new(Client::new(rt)),
-        &mut ReadSource::new(open(rt, path)),
+        &mut ReadSource::new(open_table(rt, NAME, path, Guard::Secret)),
         &mut WriteSink::new(rt.stdout()),
         &mut WriteSink::new(table),
-        &mut ReadWords::new(ReadSource::new(open(rt, RANDOM))),
+        &mut ReadWords::new(ReadSource::new(open(rt, NAME, RANDOM))),
         log,
     )
 }
@@ -316,44 +285,27 @@ fn change(rt: &HostRuntime, words: &[Text], path: &str) -> Ending {
     Ending::Status(status)
 }
 
-// The words behind the program's name. Words that aren't text are a faulty command line.
-fn command_words(rt: &HostRuntime) -> Result<TextList, PassStatus> {
-    let alloc = rt.alloc();
-    let mut words = TextList::new(alloc);
-    let Ok(args) = env::args(rt) else {
-        return Err(PassStatus::Usage);
-    };
-    for word in args.skip(1) {
-        match Text::from_slice(alloc, word.as_bytes()) {
-            Ok(Some(text)) => {
-                if words.push(text).is_err() {
-                    return Err(PassStatus::NoMemory);
-                }
-            }
-            Ok(None) => return Err(PassStatus::Usage),
-            Err(_) => return Err(PassStatus::NoMemory),
-        }
-    }
-    Ok(words)
-}
-
 // Does what the words say.
-fn run(rt: &HostRuntime) -> Ending {
-    let words = match command_words(rt) {
-        Ok(words) => words,
-        Err(status) => return Ending::Status(status),
-    };
-    let Some(path) = read_pass_words(words.as_slice()) else {
+fn run(rt: &HostRuntime, words: &[Text]) -> Ending {
+    if let Some(asked) = find_asked(words) {
+        return if tell_asked(rt, PROGRAM, asked) {
+            Ending::Status(PassStatus::Fine { changed: false })
+        } else {
+            Ending::Status(PassStatus::WriteFault)
+        };
+    }
+    let Some(path) = read_pass_words(words) else {
         return Ending::Status(PassStatus::Usage);
     };
     match std::str::from_utf8(path.as_slice()) {
-        Ok(path) => change(rt, words.as_slice(), path),
+        Ok(path) => change(rt, words, path),
         Err(_) => Ending::Status(PassStatus::Usage),
     }
 }
 
-// Writes the line of an ending to standard error.
-fn tell_ending(rt: &HostRuntime, ending: Ending) {
+// Writes the line of an ending to standard error, and behind that of a faulty command line the word that isn't taken and the
+// option.
+fn tell_ending(rt: &HostRuntime, ending: Ending, words: &[Text]) {
     match ending {
         Ending::Status(status) => {
             let mut line = Bytes::new(rt.alloc());
@@ -361,7 +313,7 @@ fn tell_ending(rt: &HostRuntime, ending: Ending) {
                 tell(rt, line.as_slice());
             }
             if status == PassStatus::Usage {
-                tell(rt, OPTIONS);
+                tell_usage(rt, PROGRAM, words);
             }
         }
         Ending::Held => tell(rt, b"pass_change: another change is under way\n"),
@@ -374,10 +326,19 @@ fn tell_ending(rt: &HostRuntime, ending: Ending) {
 }
 
 fn main(rt: HostRuntime) -> ExitCode {
-    let _input = hold(&rt, 0);
-    let _output = hold(&rt, 1);
-    let _errors = hold(&rt, 2);
-    let ending = run(&rt);
-    tell_ending(&rt, ending);
+    let _held = hold_standard(&rt);
+    let words = match command_words(&rt) {
+        Ok(words) => words,
+        Err(fault) => {
+            let ending = match fault {
+                WordsFault::NoText => Ending::Status(PassStatus::Usage),
+                WordsFault::NoMemory => Ending::Status(PassStatus::NoMemory),
+            };
+            tell_ending(&rt, ending, &[]);
+            return ExitCode::from(ending.number());
+        }
+    };
+    let ending = run(&rt, words.as_slice());
+    tell_ending(&rt, ending, words.as_slice());
     ExitCode::from(ending.number())
 }

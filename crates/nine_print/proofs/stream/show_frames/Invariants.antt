@@ -4,7 +4,7 @@ use Rattle.nine_print.proofs.stream.show_frames.Given as goal
 
 abbrev pub invariant-loop : goal.invariant-loop
 invariant-loop l = record {
-  handed : (so_far stream : List ℕ) (some : List (List ℕ)) → Handed so_far stream some l.fn.showing.framer l.fn.showing.lines → (all : List (List ℕ)) × Handed so_far stream all l.showing.framer l.showing.lines;
+  handed : (so_far stream : List ℕ) (some : List (List ℕ)) → Handed l.secrets so_far stream some l.fn.showing.framer l.fn.showing.lines → (all : List (List ℕ)) × Handed l.secrets so_far stream all l.showing.framer l.showing.lines;
   fed : taken_by l.showing ≡ taken_by l.fn.showing;
 }
 

@@ -5,7 +5,7 @@ use Rattle.nine_print.proofs.stream.show_input.Given as goal
 
 abbrev pub invariant-loop-showing : goal.invariant-loop-showing
 invariant-loop-showing g l = record {
-  shown : Shown (g.R.Source.left l.fn.input) (g.R.Source.left l.input) (g.W.Sink.holds l.fn.output) (g.W.Sink.holds l.output) l.showing;
+  shown : Shown l.secrets (g.R.Source.left l.fn.input) (g.R.Source.left l.input) (g.W.Sink.holds l.fn.output) (g.W.Sink.holds l.output) l.showing;
   few : taken_by l.showing ≤ most_input;
   room : length l.piece ≡ 8192;
   reads : g.R.Source.faults l.fn.input ≤ g.R.Source.faults l.input;

@@ -10,8 +10,8 @@ returns-then-count-taken_by-clause-err g c =
     let got = c.in-Bytes.ensures.bytes in
     let taken = take c.in-Bytes.count c.read.new.out in
     λ first origin s.
-    floods first _ _ origin _ c.args.showing.now taken s got.2
-    (omega (arith, length-append s.stream taken, length-take-le c.in-Bytes.count c.read.new.out got.1, taken_there first _ origin _ c.args.showing.now s, c.taken_by.ensures, c.if-count-taken_by.true))
+    floods c.args.secrets first _ _ origin _ c.args.showing.now taken s got.2
+    (omega (arith, length-append s.stream taken, length-take-le c.in-Bytes.count c.read.new.out got.1, taken_there c.args.secrets first _ origin _ c.args.showing.now s, c.taken_by.ensures, c.if-count-taken_by.true))
 
 pub returns-in_err-write_piece-clause-err : goal.returns-in_err-write_piece-clause-err
 returns-in_err-write_piece-clause-err g c =
@@ -19,6 +19,6 @@ returns-in_err-write_piece-clause-err g c =
     let got = c.in-Bytes.ensures.bytes in
     let taken = take c.in-Bytes.count c.read.new.out in
     rw (p.1, p.2) (λ first origin s.
-    cut_shows _ first _ origin _ (s.stream ++ taken) (Consumes-trans first _ _ s.stream taken s.read got.2)
-    (omega (arith, c.requires.few, length-append s.stream taken, length-take-le c.in-Bytes.count c.read.new.out got.1, taken_there first _ origin _ c.args.showing.now s, c.taken_by.ensures, c.if-count-taken_by.false))
+    cut_shows c.args.secrets _ first _ origin _ (s.stream ++ taken) (Consumes-trans first _ _ s.stream taken s.read got.2)
+    (omega (arith, c.requires.few, length-append s.stream taken, length-take-le c.in-Bytes.count c.read.new.out got.1, taken_there c.args.secrets first _ origin _ c.args.showing.now s, c.taken_by.ensures, c.if-count-taken_by.false))
     (c.in_err-write_piece.ensures.err _ origin s.stream s.told))
