@@ -1,21 +1,17 @@
-// The public calls of `agent_hub`, and the job of a connection over them.
+// The public calls of `agent_hub`.
 ghost use Rattle.std.specs.Prelude.{◌≤◌, ◌<◌};
 ghost use Rattle.agent_core.specs.Events.{IsEvent};
 ghost use Rattle.agent_hub.specs.Asking.{AsksEndSo};
 ghost use Rattle.agent_hub.specs.Exchanging.{IsCollected, IsExchanged};
 ghost use Rattle.agent_hub.specs.Requesting.{frames_in};
 ghost use Rattle.agent_hub.specs.Submits.{IsSeatOf, IsSubmitted, HubSeat};
-ghost use Rattle.agent_lines.specs.Lining.{CausedBy, LineEndsSo, moment};
-ghost use Rattle.wire_streams.specs.Causes.{Rose};
 
 use agent_history::Event;
 use agent_hub::{AsksEnd, Exchanged, Hub, HubSeat, Submitted, TakesEnd};
-use agent_lines::LineEnd;
-use readiness::{Awaits, Offers};
 use std::alloc::Global;
 use std::sync::Wait;
 use wire_base::Bytes;
-use wire_streams::{Dialer, Source, Words};
+use wire_streams::Dialer;
 
 /// As `Hub::submit`.
 pub fn hub_submit<R: Wait>(
@@ -83,32 +79,4 @@ pub fn serve_asks<R: Wait, D: Dialer>(
     ensures counted { D.faults dialer.old ≤ D.faults dialer.new }
 {
     agent_hub::serve_asks(rt, alloc, hub, seat, dialer)
-}
-
-/// As `serve_line`.
-pub fn serve_line<R: Wait, S: Source, W: Offers, G: Words, A: Awaits>(
-    rt: &R,
-    alloc: Global,
-    hub: &Hub,
-    seat: HubSeat,
-    conn: u64,
-    source: &mut S,
-    sink: &mut W,
-    words: &mut G,
-    awaits: &mut A,
-) -> (HubSeat, LineEnd)
-    requires { IsSeatOf hub.now seat }
-    ensures seat { IsSeatOf hub.now result.0 }
-    ensures served { LineEndsSo result.1 conn
-        (moment seat (G.to_come words.old) (S.left source.old) (W.holds sink.old))
-        (moment result.0 (G.to_come words.new) (S.left source.new) (W.holds sink.new)) }
-    ensures caused { CausedBy result.1
-        (Rose (S.faults source.old) (S.faults source.new))
-        (Rose (G.faults words.old) (G.faults words.new))
-        (Rose (W.faults sink.old) (W.faults sink.new)) }
-    ensures counted_reads { S.faults source.old ≤ S.faults source.new }
-    ensures counted_words { G.faults words.old ≤ G.faults words.new }
-    ensures counted_writes { W.faults sink.old ≤ W.faults sink.new }
-{
-    agent_lines::serve_line(rt, alloc, hub, seat, conn, source, sink, words, awaits)
 }
