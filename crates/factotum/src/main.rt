@@ -224,8 +224,8 @@ fn run(rt: &HostRuntime, words: &[Text]) -> Status
     )
 }
 
-// What the tools of each job of an agent at a socket are made from: the authentication servers, what all jobs found of them
-// and the connections to them that all keep, where all jobs draw words from and the words of this one, and how many questions are
+// What the tools of each job of an agent at a socket are made from: the authentication servers, what all jobs found of
+// them and the connections to them that all keep, where all jobs draw words from and the words of this one, and how many questions are
 // answered by yes for the user.
 #[derive(Drop)]
 struct HostTools {

@@ -1,8 +1,8 @@
 // The authentication server asked over sockets.
 use crate::expect::expect_at;
 use sockets::{
-    AddressFault, Failures, FailuresOf, Line, LinesOf, OwnLines, Servers, SharedFailures,
-    SharedLines, TcpDialer, check_addresses,
+    AddressFault, Failures, Line, OwnLines, Servers, SharedFailures, SharedLines, TcpDialer,
+    check_addresses,
 };
 use std::io::{self, ErrorKind, Read, Write};
 use std::net::{TcpListener, TcpStream};
@@ -52,36 +52,20 @@ fn listen(rt: &HostRuntime) -> Result<(TcpListener, String), Fail> {
     Ok((listener, address))
 }
 
+// The servers that a text names.
+fn servers(rt: &HostRuntime, addresses: &str) -> Result<Servers, Fail> {
+    Ok(Servers::parse(rt.alloc(), addresses.as_bytes())?.map_err(|_| "addresses")?)
+}
+
 // A dialer of the servers that a text names.
 fn dialer(
     rt: &HostRuntime,
     addresses: &str,
     limit: Duration,
 ) -> Result<TcpDialer<HostRuntime, OwnLines<Line<TcpStream>>, Failures>, Fail> {
-    let servers = Servers::parse(rt.alloc(), addresses.as_bytes())?.map_err(|_| "addresses")?;
+    let servers = servers(rt, addresses)?;
     let lines = OwnLines::new(rt.alloc());
     Ok(TcpDialer::new(*rt, rt.alloc(), servers, limit, lines, Failures::new()))
-}
-
-// A dialer of one that shares what it keeps and finds with others.
-fn sharing(
-    rt: &HostRuntime,
-    addresses: &str,
-    lines: SharedLines<Line<TcpStream>>,
-    failures: SharedFailures,
-) -> Result<
-    TcpDialer<HostRuntime, LinesOf<HostRuntime, Line<TcpStream>>, FailuresOf<HostRuntime>>,
-    Fail,
-> {
-    let servers = Servers::parse(rt.alloc(), addresses.as_bytes())?.map_err(|_| "addresses")?;
-    Ok(TcpDialer::new(
-        *rt,
-        rt.alloc(),
-        servers,
-        short(),
-        lines.of(*rt),
-        failures.of(*rt),
-    ))
 }
 
 #[test]
@@ -180,8 +164,17 @@ fn finds_what_another_dialer_kept(rt: HostRuntime) -> Result<(), Fail> {
         lines.share().ok_or("memory")?,
         failures.share().ok_or("memory")?,
     );
-    let mut one = sharing(&rt, &address, lines, failures)?;
-    let mut two = sharing(&rt, &address, theirs, found)?;
+    let named = servers(&rt, &address)?;
+    let mut one = TcpDialer::new(
+        rt,
+        rt.alloc(),
+        named,
+        short(),
+        lines.of(rt),
+        failures.of(rt),
+    );
+    let named = servers(&rt, &address)?;
+    let mut two = TcpDialer::new(rt, rt.alloc(), named, short(), theirs.of(rt), found.of(rt));
     let mut out = Bytes::new(rt.alloc());
     let dial = one.exchange(7, b"who", Shape::Challenge, &mut out);
     expect_at(&rt, &dial, &Dial::Heard, &"a challenge");
@@ -250,8 +243,17 @@ fn passes_over_a_server_that_stops(rt: HostRuntime) -> Result<(), Fail> {
         lines.share().ok_or("memory")?,
         failures.share().ok_or("memory")?,
     );
-    let mut dialer = sharing(&rt, &addresses, lines, failures)?;
-    let mut other = sharing(&rt, &addresses, theirs, found)?;
+    let named = servers(&rt, &addresses)?;
+    let mut dialer = TcpDialer::new(
+        rt,
+        rt.alloc(),
+        named,
+        short(),
+        lines.of(rt),
+        failures.of(rt),
+    );
+    let named = servers(&rt, &addresses)?;
+    let mut other = TcpDialer::new(rt, rt.alloc(), named, short(), theirs.of(rt), found.of(rt));
     let mut out = Bytes::new(rt.alloc());
     let dial = dialer.exchange(1, b"who", Shape::Tickets, &mut out);
     expect_at(&rt, &dial, &Dial::Heard, &"the second one");
