@@ -50,8 +50,7 @@ names_text host user = word_text (codes "host=") host ++ word_text (codes "user=
 
 -- the line of a request whose fields are well
 abbrev pub judged_line : List ℕ → ℕ → List ℕ → List ℕ → Outcome → List ℕ
-judged_line address kind host user outcome = head_text address
-    ++ (word_text (asked_word kind) [] ++ (names_text host user ++ (word_text (outcome_word outcome) [] ++ 10 ∷ [])))
+judged_line address kind host user outcome = head_text address ++ (word_text (asked_word kind) [] ++ (names_text host user ++ (word_text (outcome_word outcome) [] ++ 10 ∷ [])))
 
 -- the line of one with a bad field
 abbrev pub bad_line : List ℕ → ℕ → List ℕ

@@ -33,9 +33,7 @@ outcome_of_mail verdicts.Wrong = Wrong
 
 -- what came of a request whose fields are well, by the challenge that is held
 abbrev pub outcome_of : Knowledge → Asked → Option Challenge → TicketReq → Outcome
-outcome_of known asked held r = if r.kind == ticket_request
-    then outcome_of_ticket known r
-    else outcome_of_mail (judged known asked r held)
+outcome_of known asked held r = if r.kind == ticket_request then outcome_of_ticket known r else outcome_of_mail (judged known asked r held)
 
 -- what is noted of a request, by the challenge that is held
 abbrev pub notice_of : Knowledge → Asked → Option Challenge → Result TicketReq FieldFault → Notice
@@ -45,8 +43,7 @@ notice_of known asked held (Ok r) = Judged r (outcome_of known asked held r)
 -- what is noted of a session, the first request first
 abbrev pub notices_of : Knowledge → List Asked → List Notice
 notices_of known [] = []
-notices_of known (asked ∷ before) = notices_of known before
-    ++ notice_of known asked (held known before) (request_of asked.request) ∷ []
+notices_of known (asked ∷ before) = notices_of known before ++ notice_of known asked (held known before) (request_of asked.request) ∷ []
 
 -- ---- the ends
 
