@@ -1,7 +1,6 @@
 // The public calls of `sockets`.
 ghost use Rattle.std.specs.Option.{is_none};
 ghost use Rattle.std.specs.Prelude.{◌≡◌, ◌≤◌, IfSome, length, take};
-ghost use Rattle.sockets.specs.Addresses.{is_address};
 ghost use Rattle.sockets.specs.Endings.{answer_length};
 ghost use Rattle.sockets.specs.Hearing.{IsHeard};
 ghost use Rattle.wire_streams.specs.Causes.{CountsOutcome};
@@ -15,13 +14,6 @@ pub fn answer_length(shape: Shape, heard: &[u8]) -> usize
     ensures most { result ≤ MOST_ANSWER }
 {
     sockets::answer_length(shape, heard)
-}
-
-/// As `is_address`.
-pub fn is_address(address: &[u8]) -> bool
-    ensures { result ≡ is_address address.now }
-{
-    sockets::is_address(address)
 }
 
 /// As `read_answer`.
