@@ -123,7 +123,8 @@ fn listen(rt: &HostRuntime, address: &Text) -> Option<SocketListener<HostRuntime
 }
 
 /// The options, which stand behind the line of a faulty command line.
-const OPTIONS: &str = "    authd --listen ADDR --dom D --keys PATH --speaks PATH [--idle S] [--clients N] [--per-address N]
+const OPTIONS: &str =
+    "    authd --listen ADDR --dom D --keys PATH --speaks PATH [--idle S] [--clients N] [--per-address N]
     authd --help | --version
 ";
 

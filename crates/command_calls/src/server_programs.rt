@@ -128,11 +128,7 @@ pub fn read_authsrv_words(alloc: Global, words: &[Text]) -> Result<AuthsrvWords,
 }
 
 /// As `print_notice`.
-pub fn print_notice(
-    address: &Name<48>,
-    notice: &Notice,
-    out: &mut Bytes,
-) -> Result<(), NoMemory>
+pub fn print_notice(address: &Name<48>, notice: &Notice, out: &mut Bytes) -> Result<(), NoMemory>
     ensures ok { OnOk result (out.new ≡ out.old ++ notice_line address.now notice.now) }
     ensures line { OnOk result (IsLine (notice_line address.now notice.now)) }
     ensures err { OnErr result (out.new ≡ out.old) }

@@ -338,7 +338,14 @@ fn open_random(rt: &HostRuntime) -> Option<Shared> {
 fn tools(rt: &HostRuntime, servers: Servers, consents: u32) -> Option<HostTools> {
     let failures = SharedFailures::new(rt.alloc())?;
     let lines = SharedLines::new(rt.alloc())?;
-    HostTools::new(rt.alloc(), servers, failures, lines, open_random(rt)?, consents)
+    HostTools::new(
+        rt.alloc(),
+        servers,
+        failures,
+        lines,
+        open_random(rt)?,
+        consents,
+    )
 }
 
 // The servers that the words of serving name, or the usual one.
