@@ -5,3 +5,5 @@ pub mod FaultPlaces
 pub mod StreamLaws
 pub mod InputLaws
 pub mod FrameLemmas
+pub mod BatchLemmas
+pub mod BlockLemmas

@@ -1,7 +1,7 @@
 -- What is read as a reply is spelled so, and what is spelled so is read.
 use Rattle.std.proofs.Common.{◌≡◌, ℕ, ◌+◌, ◌<◌, ◌≤◌, ◌^◌, List, [], ◌++◌, length, drop, cond, eqb, Ok, refl, sym, ap, subst, ◌∙◌, append-nil, arith}
 use Rattle.std.specs.Int.{w8, w16, w32, w64, to_le_bytes}
-use Rattle.wire_base.specs.Readers.{Reader, ◌>>=◌, number, block, listed, both, converted, no_more, counted, spelled, listing, FitsList}
+use Rattle.wire_base.specs.Readers.{Reader, ◌>>=◌, number, block, listed, both, converted, no_more, counted, listing, FitsList}
 use Rattle.wire_base.proofs.ReaderLaws.{AreBytes, Taken, Spells, bind_ok, wide16, wide32, block_spells, string_spells, listed_spells, both_spells, converted_spells, nothing_spells, no_more_taken, no_more_again}
 use Rattle.nine.specs.declared.qid.Qid.{Qid}
 use Rattle.nine.specs.declared.message.RMsg.{RMsg}

@@ -2,12 +2,12 @@
 use Rattle.std.proofs.Common.{◌≡◌, ℕ, zero, suc, ◌+◌, ◌<◌, ◌≤◌, List, [], ◌∷◌, ◌++◌, length, take, drop, Bool, true, false, ltb, leb, ◌||◌, ◌⊎◌, Ok, Err, refl, sym, ap, subst, ◌∙◌, append_assoc, append-nil, length-append, length-drop, length-take, take-append-drop, arith, inl, inr}
 use Rattle.std.specs.List.{AllByRecursion, concat}
 use Rattle.std.specs.Int.{w32, from_le_bytes}
-use Rattle.std.proofs.lemmas.Bool.{cases_Bool, cases_lt, ltb-false, le-ltb, lt-ltb, leb-true, le-leb}
+use Rattle.std.proofs.lemmas.Bool.{cases_Bool, cases_lt, ltb-false, le-ltb, lt-ltb, leb-true, leb-false, le-leb}
 use Rattle.std.proofs.lemmas.List.{take-append-le, take_at, drop_at, drop-drop}
 use Rattle.std.proofs.lemmas.List.Folds.{concat-append}
 use Rattle.wire_base.specs.Readers.{number}
 use Rattle.nine.specs.Streams.{Front, IsWhole, IsBad, IsShort, is_bad, front, frames_up_to, frames, end_of, HasBadSize, IsFrames}
-use Rattle.nine.specs.Framed.{Framing}
+use Rattle.nine.specs.Framed.{Framing, passed, with_more}
 use Rattle.nine.specs.Framing.{IsWithin, HasHandedOut, HandsOut, Answers, Continues}
 use Rattle.nine.specs.declared.framer.Next.{Next}
 use Rattle.nine.specs.declared.framer.Next.TheVariants.{Whole, NotYet, BadSize}
@@ -282,6 +282,20 @@ no_bad_size limit size whole stream more is parts has =
 
 -- ---- one step of a framer
 
+-- a whole frame at the front is handed out
+pub taken_out : (f : Framing) (size : ℕ) (frame : List ℕ) → front f.limit f.held ≡ IsWhole size → frame ≡ take size f.held → Answers f (passed f size) (Whole frame)
+taken_out f size frame e is =
+    let s = sized_as f.limit f.held (IsWhole size) e in
+    let len : length frame ≡ size = omega (arith, ap length is, length-take size f.held, s.1) in (
+      e ∙ ap (λ (n : ℕ). IsWhole n) (sym len),
+      subst (IsWithin f.limit) (sym is) (front_within f.limit f.held size e),
+      record {
+        parts = sym (take-append-drop size f.held) ∙ ap (λ (g : List ℕ). g ++ drop size f.held) (sym is);
+        place = omega (arith, len);
+        limit = refl;
+      },
+    )
+
 -- what is taken off the front of what is held
 pub taken_off : (limit before at size : ℕ) (bytes frame : List ℕ) → front limit (drop at bytes) ≡ IsWhole size → frame ≡ take size (drop at bytes)
     → Answers (record { limit = limit; before = before; held = drop at bytes }) (record { limit = limit; before = before + size; held = drop (at + size) bytes }) (Whole frame)
@@ -298,6 +312,63 @@ taken_off limit before at size bytes frame e is =
         limit = refl;
       },
     )
+
+-- what is shown of it
+pub shows_whole : (f : Framing) (size : ℕ) (frame : List ℕ) → front f.limit f.held ≡ IsWhole size → frame ≡ take size f.held → (front f.limit f.held ≡ IsWhole (length frame)) × (frame ≡ take (length frame) f.held) × IsWithin f.limit frame
+shows_whole f size frame e is =
+    let s = sized_as f.limit f.held (IsWhole size) e in
+    let len : length frame ≡ size = omega (arith, ap length is, length-take size f.held, s.1) in
+    (e ∙ ap (λ (n : ℕ). IsWhole n) (sym len), is ∙ ap (λ (n : ℕ). take n f.held) (sym len), subst (IsWithin f.limit) (sym is) (front_within f.limit f.held size e))
+
+pub shows_next : (f : Framing) (size : ℕ) (frame : List ℕ) → front f.limit f.held ≡ IsWhole size → frame ≡ take size f.held → (stream : List ℕ) (handed : List (List ℕ)) → HasHandedOut f stream handed
+    → frames f.limit stream ≡ handed ++ frame ∷ frames f.limit (drop (length frame) f.held)
+shows_next f size frame e is stream handed has =
+    let w = shows_whole f size frame e is in
+    (continues f (passed f (length frame)) (Whole frame) (taken_out f (length frame) frame w.0 w.1) stream handed has).0
+
+pub shows_bad : (f : Framing) (size : ℕ) → front f.limit f.held ≡ IsBad size → (stream : List ℕ) (handed : List (List ℕ)) → HasHandedOut f stream handed → (frames f.limit stream ≡ handed) × (f.before ≡ length (concat handed))
+shows_bad f size e stream handed has = continues f f (BadSize f.before size) (e, refl, refl) stream handed has
+
+pub shows_none : (f : Framing) → front f.limit f.held ≡ IsShort → (stream : List ℕ) (handed : List (List ℕ)) → HasHandedOut f stream handed → frames f.limit stream ≡ handed
+shows_none f e stream handed has = continues f f NotYet (e, refl) stream handed has
+
+abbrev size_in : Front → ℕ
+size_in (IsWhole size) = size
+size_in (IsBad size) = 0
+size_in IsShort = 0
+
+pub same_size : (limit n size : ℕ) (held : List ℕ) → front limit held ≡ IsWhole n → front limit held ≡ IsWhole size → n ≡ size
+same_size limit n size held p q = ap size_in (sym p ∙ q)
+
+-- it is handed out
+pub dropped_one : (f new : Framing) (n size : ℕ) → front f.limit f.held ≡ IsWhole n → new ≡ passed f n → (stream : List ℕ) (handed : List (List ℕ)) → front f.limit f.held ≡ IsWhole size → HasHandedOut f stream handed
+    → HasHandedOut new stream (handed ++ take size f.held ∷ [])
+dropped_one f new n size e is stream handed also has =
+    let one = (continues f (passed f n) (Whole (take n f.held)) (taken_out f n (take n f.held) e refl) stream handed has).1 in
+    subst (λ (g : Framing). HasHandedOut g stream (handed ++ take size f.held ∷ [])) (sym is)
+    (subst (λ (k : ℕ). HasHandedOut (passed f n) stream (handed ++ take k f.held ∷ [])) (same_size f.limit n size f.held e also) one)
+
+-- the stream goes on by a piece
+pub fed_more : (f new : Framing) (stream piece : List ℕ) (handed : List (List ℕ)) → HasHandedOut f stream handed → new ≡ with_more f piece → HasHandedOut new (stream ++ piece) handed
+fed_more f new stream piece handed has is =
+    subst (λ (g : Framing). HasHandedOut g (stream ++ piece) handed) (sym is) (record {
+      parts = ap (λ (s : List ℕ). s ++ piece) has.parts ∙ append_assoc (concat handed) f.held piece;
+      place = has.place;
+      each = has.each;
+    })
+
+-- where no frame is whole and no size is bad, less is held than a frame may have
+pub short_there : (limit : ℕ) (held : List ℕ) → 7 ≤ limit → front limit held ≡ IsShort → length held < limit
+short_there limit held least e = elim (cases_lt (length held) 4) [
+  | inl lt ↦ omega (arith, lt, least)
+  | inr le ↦ let size = from_le_bytes w32 (take 4 held) in elim (cases_Bool (is_bad limit size)) [
+    | inl bad ↦ let is : IsBad size ≡ IsShort = sym (front_bad limit held size 4 (number_there held le) bad) ∙ e in absurd (cc)
+    | inr good ↦ elim (cases_Bool (leb size (length held))) [
+      | inl there ↦ let is : IsWhole size ≡ IsShort = sym (front_whole limit held size 4 (number_there held le) good there) ∙ e in absurd (cc)
+      | inr short ↦ let most = (good_size limit size good).1 in omega (arith, most, leb-false _ _ short)
+    ]
+  ]
+]
 
 pub whole_there : (limit : ℕ) (held : List ℕ) (size : ℕ) → front limit held ≡ IsWhole size → size ≤ length held
 whole_there limit held size e = (sized_as limit held (IsWhole size) e).1

@@ -4,5 +4,7 @@ pub mod Streams
 pub mod AtFronts
 pub mod Framed
 pub mod Framing
+pub mod Batches
+pub mod Blocks
 pub mod Decoded
 pub mod Encoded

@@ -1,8 +1,10 @@
 // Laws of the frames of a stream, each the contract of a function that does nothing.
-ghost use Rattle.std.specs.Prelude.{◌≡◌, ℕ, List, [], ◌++◌};
+ghost use Rattle.std.specs.Prelude.{◌≡◌, ℕ, List, [], ◌++◌, take};
 ghost use Rattle.std.specs.List.{AllByRecursion, concat};
-ghost use Rattle.nine.specs.Streams.{front, IsBad, frames};
-ghost use Rattle.nine.specs.Framing.{IsWithin};
+ghost use Rattle.nine.specs.Streams.{front, IsBad, IsFrames, frames};
+ghost use Rattle.nine.specs.Framed.{Framing, passed};
+ghost use Rattle.nine.specs.Framing.{HasHandedOut, IsWithin};
+ghost use Rattle.nine.specs.Batches.{AreFrames};
 
 /// The frames of a stream whose front was handed out are the rest of the frames; more of the stream changes none of
 /// those that are whole already; and a bad size stays one.
@@ -24,4 +26,16 @@ pub fn frames_are_all_of_the_front()
     ensures all { (limit : ℕ) (stream : List ℕ)
         → (rest : List ℕ) × (stream ≡ concat (frames limit stream) ++ rest)
         × (frames limit rest ≡ []) }
+{}
+
+/// The frames at the front of what a framer holds are the frames that their bytes have, and where all before were handed out of a stream,
+/// these are the next ones of it.
+pub fn a_batch_is_the_next_frames()
+    ensures whole { (limit : ℕ) (held : List ℕ) (count size : ℕ)
+        → (a : AreFrames limit held count size)
+        → IsFrames limit (take size held) × (frames limit (take size held) ≡ a.some) }
+    ensures next { (f : Framing) (stream : List ℕ) (handed : List (List ℕ)) (count size : ℕ)
+        → HasHandedOut f stream handed → AreFrames f.limit f.held count size
+        → HasHandedOut (passed f size) stream
+        (handed ++ frames f.limit (take size f.held)) }
 {}

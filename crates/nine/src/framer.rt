@@ -5,16 +5,12 @@
 //
 // When a piece comes, the bytes before the front are let go where they are at least half of all.
 ghost use Rattle.std.specs.Prelude.{◌≡◌, ◌≤◌, ◌<◌, ◌+◌, ◌-◌, ◌^◌, ℕ, List, [], ◌++◌, length, drop, IfOk, OnOk, OnErr};
-ghost use Rattle.nine.specs.Streams.{front};
-ghost use Rattle.nine.specs.AtFronts.{shown};
-ghost use Rattle.nine.specs.Framed.{Framing};
 ghost use Rattle.nine.specs.Framing.{HasHandedOut, Answers, Continues};
 
+use crate::front::{AtFront, at_front};
 use std::alloc::Global;
 use std::marker::Model;
-use wire_base::{Bytes, NoMemory, u32_at};
-
-const LEAST_SIZE: u32 = 7;
+use wire_base::{Bytes, NoMemory};
 
 /// What a framer answers when it is asked for the next frame.
 #[derive(Debug, Drop)]
@@ -25,29 +21,6 @@ pub enum Next {
     NotYet,
     /// The next four bytes give a size under 7 or over the limit; `at` is their offset in the stream.
     BadSize { at: u64, size: u32 },
-}
-
-// What stands at the front of the bytes held: a whole frame of so many bytes, a bad size, or neither.
-enum AtFront {
-    Frame(usize),
-    Bad(u32),
-    Part,
-}
-
-#[tactic(auto, using(crate::proofs::StreamLaws::front_none))]
-fn at_front(limit: u32, held: &[u8]) -> AtFront
-    ensures { shown result ≡ front limit held.now }
-{
-    let Ok((size, _)) = u32_at(held, 0) else {
-        return AtFront::Part;
-    };
-    if size < LEAST_SIZE || size > limit {
-        return AtFront::Bad(size);
-    }
-    if held.len() < size as usize {
-        return AtFront::Part;
-    }
-    AtFront::Frame(size as usize)
 }
 
 // Lets go of what was handed out where it is at least half of what is kept, so that it is less than half from then on.
