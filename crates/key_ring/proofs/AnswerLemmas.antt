@@ -1,8 +1,9 @@
 -- What adding and deleting answer.
-use Rattle.std.proofs.Common.{◌≡◌, ℕ, ◌+◌, List, [], ◌∷◌, ◌++◌, Bool, true, false, cond, not, Result, Ok, Err, Option, Some, None, refl, sym, ap, subst, ◌∙◌, inl, inr}
-use Rattle.std.specs.Prelude.{IfSome, IfErr, MatchOption}
+use Rattle.std.proofs.Common.{◌≡◌, ℕ, ◌+◌, ◌<◌, arith, List, [], ◌∷◌, ◌++◌, Bool, true, false, cond, not, Result, Ok, Err, Option, Some, None, refl, sym, ap, subst, ◌∙◌, inl, inr}
+use Rattle.std.specs.Prelude.{All, IfSome, IfErr, MatchOption}
 use Rattle.std.specs.List.{filter, list_any}
 use Rattle.std.proofs.lemmas.Bool.{cases_Bool, ne_eqb}
+use Rattle.std.proofs.lemmas.List.Elements.{All-filter}
 use Rattle.attr_tuples.specs.declared.attr.Attr.{Attr}
 use Rattle.attr_tuples.specs.Equality.{public_equal}
 use Rattle.attr_tuples.specs.Matching.{matches}
@@ -125,3 +126,10 @@ pub unchanged_without : (template : List Attr) (list : KeyList) (keys : List Key
 unchanged_without template list keys seen e same none =
     let make : List KeyEntry → KeyList = λ xs. record { keys = xs; ever_added = list.ever_added } in
     ap make e ∙ nothing_deleted template list (sym none) ∙ same
+
+-- the next key has a greater number than those that are kept
+pub newest : (key : List Attr) (list : KeyList) (kept : List KeyEntry) (new : KeyEntry) → IsRing list → kept ≡ filter (λ old. not (public_equal key old.tuple)) list.keys → new ≡ next_entry key list → All (λ old. old.serial < new.serial) kept
+newest key list kept new o is_kept is_new =
+    let number : new.serial ≡ list.ever_added + 1 = ap (λ (x : KeyEntry). x.serial) is_new in
+    subst (λ (xs : List KeyEntry). All (λ old. old.serial < new.serial) xs) (sym is_kept)
+    (All-filter (λ old. not (public_equal key old.tuple)) (λ (old : KeyEntry). old.serial < new.serial) list.keys (λ k d lt. omega (arith, (o.ordered.counted k d lt).1, number)))

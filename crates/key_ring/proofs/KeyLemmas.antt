@@ -18,7 +18,7 @@ use Rattle.attr_tuples.specs.Giving.{gives, gives_once, is_any}
 use Rattle.key_lists.specs.Digits.{digits_or_password}
 use Rattle.key_ring.specs.DesKeys.{hex_of, des_key}
 use Rattle.wire_base.specs.Rules.{Rule, first_told}
-use Rattle.key_lists.specs.KeyFaults.{key_rules, key_fault, is_p9sk1, is_bad_hex, has_bad_name, has_secret}
+use Rattle.key_lists.specs.KeyFaults.{key_rules, key_fault, is_p9sk1, is_protocol, is_bad_hex, has_bad_name, has_secret}
 
 -- ---- the value of a name
 
@@ -48,7 +48,7 @@ none_step : (named : Bool) (a : Attr) (rest : List Attr) (given later : Bool) �
 none_step true a rest given later h more = absurd (omega arith)
 none_step false a rest given later h more = more h
 
-none_given : (name : List ℕ) (test : List ℕ → Bool) (attrs : List Attr) → length (filter (is_named name) attrs) ≡ 0 → gives name test attrs ≡ false
+pub none_given : (name : List ℕ) (test : List ℕ → Bool) (attrs : List Attr) → length (filter (is_named name) attrs) ≡ 0 → gives name test attrs ≡ false
 none_given name test [] h = refl
 none_given name test (a ∷ attrs) h = none_step (is_named name a) a (filter (is_named name) attrs) (is_given test a.value) (gives name test attrs) h (none_given name test attrs)
 
@@ -102,6 +102,7 @@ all_kept (rule ∷ later) h = elim (cases_Bool rule.0) [
 
 -- what holds of a key
 pub record Holds (key : List Attr) : Type 0 where
+  pub proto : gives_once (codes "proto") is_protocol key ≡ true
   pub user : gives_once (codes "user") is_user key ≡ true
   pub dom_named : is_p9sk1 key ≡ true → has_name key (codes "dom") ≡ true
   pub dom : has_name key (codes "dom") ≡ true → gives_once (codes "dom") is_dom key ≡ true
@@ -122,12 +123,14 @@ unfolding key_fault
 key_holds key h =
     let kept = AllPass-from_list_all (λ (rule : Rule AddFault). not rule.0) (key_rules key) (all_kept (key_rules key) h) in
     let none : Rule AddFault = (false, AskInKey) in
+    let protocol : not (not (gives_once (codes "proto") is_protocol key)) ≡ true = kept 2 none (omega arith) in
     let lacks : not (is_p9sk1 key && not (has_name key (codes "dom"))) ≡ true = kept 4 none (omega arith) in
     let names : not (has_bad_name key) ≡ true = kept 5 none (omega arith) in
     let secret : not (not (has_secret key)) ≡ true = kept 6 none (omega arith) in
     let digits : not (is_p9sk1 key && is_bad_hex (find (is_named (codes "!hex")) key)) ≡ true = kept 7 none (omega arith) in
     let parts = or_parts (not (gives_once (codes "user") is_user key)) (has_name key (codes "dom") && not (gives_once (codes "dom") is_dom key)) (not-true _ names) in
     record {
+      proto = not-false _ (not-true _ protocol);
       user = not-false _ parts.0;
       dom_named = then_true (is_p9sk1 key) (has_name key (codes "dom")) (not-true _ lacks);
       dom = then_true (has_name key (codes "dom")) (gives_once (codes "dom") is_dom key) parts.1;

@@ -4,3 +4,9 @@ pub mod AnswerLemmas
 pub mod OfferLemmas
 pub mod SearchLemmas
 pub mod WriteLemmas
+pub mod NumberLemmas
+pub mod RankLemmas
+pub mod HeldLemmas
+pub mod AskedLemmas
+pub mod LookLemmas
+pub mod IndexLemmas

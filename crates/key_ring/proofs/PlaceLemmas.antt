@@ -12,14 +12,14 @@ use Rattle.attr_tuples.proofs.EqualityLemmas.{counts_from_equal, equal_from_coun
 use Rattle.key_lists.specs.Lists.{KeyEntry, is_full}
 
 -- a list whose elements all pass is kept
-kept_whole : {X : Type 0} (p : X → Bool) (xs : List X) → ((k : ℕ) (d : X) → k < length xs → p (get_or xs k d) ≡ true) → filter p xs ≡ xs
+pub kept_whole : {X : Type 0} (p : X → Bool) (xs : List X) → ((k : ℕ) (d : X) → k < length xs → p (get_or xs k d) ≡ true) → filter p xs ≡ xs
 kept_whole p [] h = refl
 kept_whole p (x ∷ xs) h =
     let first : p x ≡ true = h 0 x (omega arith) in
     rw first (ap (λ ys. x ∷ ys) (kept_whole p xs (λ k d lt. h (suc k) d (omega arith))))
 
 -- a list in which one element alone fails is kept without it
-kept_but_one : {X : Type 0} (p : X → Bool) (xs : List X) (at : ℕ) → at < length xs → ((k : ℕ) (d : X) → k < length xs → (k ≡ at → ⊥) → p (get_or xs k d) ≡ true) → ((d : X) → p (get_or xs at d) ≡ false) → filter p xs ≡ remove xs at
+pub kept_but_one : {X : Type 0} (p : X → Bool) (xs : List X) (at : ℕ) → at < length xs → ((k : ℕ) (d : X) → k < length xs → (k ≡ at → ⊥) → p (get_or xs k d) ≡ true) → ((d : X) → p (get_or xs at d) ≡ false) → filter p xs ≡ remove xs at
 kept_but_one p [] at lt others one = absurd (omega arith)
 kept_but_one p (x ∷ xs) zero lt others one =
     let first : p x ≡ false = one x in
@@ -56,7 +56,7 @@ same_dropped key keys at apart e =
     (λ d. ap not (position-Some (is_same key) keys at d e).1)
 
 -- where none passes none does at any place
-none_passes : (p : KeyEntry → Bool) (keys : List KeyEntry) → position p keys ≡ None → (k : ℕ) (d : KeyEntry) → k < length keys → p (get_or keys k d) ≡ false
+pub none_passes : (p : KeyEntry → Bool) (keys : List KeyEntry) → position p keys ≡ None → (k : ℕ) (d : KeyEntry) → k < length keys → p (get_or keys k d) ≡ false
 none_passes p keys e k d lt = elim (cases_lt (position_or_len p keys) (length keys)) [
   | inl at ↦ absurd (let s : Some (position_or_len p keys) ≡ None = rw lt-ltb at e in cc)
   | inr le ↦ fails_before_first p keys k d (omega arith)

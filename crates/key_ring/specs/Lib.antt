@@ -5,3 +5,7 @@ pub mod Parts
 pub mod Faults
 pub mod WriteSteps
 pub mod Switches
+pub mod Serials
+pub mod Ranks
+pub mod Wanting
+pub mod Indexed

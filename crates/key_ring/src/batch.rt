@@ -1,11 +1,11 @@
 // Several edits of the keys of a ring at once, in memory that was taken before.
-ghost use Rattle.std.specs.Prelude.{◌≡◌, ◌+◌, ◌<◌, ◌≤◌, ◌^◌, [], ◌∷◌, map, length, vec_len, vec_capacity, IfNone, IfSome};
+ghost use Rattle.std.specs.Prelude.{◌≡◌, ◌+◌, ◌<◌, ◌≤◌, ◌^◌, [], ◌∷◌, map, length, IfNone, IfSome};
 ghost use Rattle.key_lists.specs.Edits.{additions};
 ghost use Rattle.key_lists.specs.Batches.{after_edits, edit_fault, edit_of, edited, edits_fault};
 ghost use Rattle.key_ring.specs.Counts.{edits_taken};
 ghost use Rattle.key_ring.specs.Parts.{IsRing, list_of};
 
-use crate::key::Key;
+use crate::indexed_keys::IndexedKeys;
 use crate::ring::{add_key, delete_keys};
 use key_lists::{Edit, EditFault};
 
@@ -17,19 +17,18 @@ pub struct Batch {
 }
 
 // Carries one edit out, for whose key there is room, or answers why not.
-fn carry_out(keys: &mut Vec<Key>, ever_added: &mut u64, edit: Edit) -> Option<EditFault>
-    requires ring { IsRing (list_of keys.old.items ever_added.old) }
+fn carry_out(keys: &mut IndexedKeys, ever_added: &mut u64, edit: Edit) -> Option<EditFault>
+    requires ring { IsRing (list_of keys.old.keys ever_added.old) }
     requires count { ever_added.old + 1 < 2 ^ 64 }
-    requires room { vec_len keys.old + additions (edit_of edit ∷ []) ≤ vec_capacity keys.old }
-    ensures fault { result ≡ edit_fault (edit_of edit) (list_of keys.old.items ever_added.old) }
-    ensures edited { IfNone result (list_of keys.new.items ever_added.new
-        ≡ edited (edit_of edit) (list_of keys.old.items ever_added.old)) }
+    requires room { additions (edit_of edit ∷ []) ≤ keys.old.room }
+    ensures fault { result ≡ edit_fault (edit_of edit) (list_of keys.old.keys ever_added.old) }
+    ensures edited { IfNone result (list_of keys.new.keys ever_added.new
+        ≡ edited (edit_of edit) (list_of keys.old.keys ever_added.old)) }
     ensures unchanged { IfSome result
-        (λ _. list_of keys.new.items ever_added.new ≡ list_of keys.old.items ever_added.old) }
-    ensures ring { IsRing (list_of keys.new.items ever_added.new) }
+        (λ _. list_of keys.new.keys ever_added.new ≡ list_of keys.old.keys ever_added.old) }
+    ensures ring { IsRing (list_of keys.new.keys ever_added.new) }
     ensures few { ever_added.new ≤ ever_added.old + 1 }
-    ensures longer { vec_len keys.new ≤ vec_len keys.old + additions (edit_of edit ∷ []) }
-    ensures capacity { vec_capacity keys.old ≤ vec_capacity keys.new }
+    ensures room { keys.old.room ≤ keys.new.room + additions (edit_of edit ∷ []) }
 {
     match edit {
         Edit::Add(tuple) => match add_key(keys, *ever_added, tuple) {
@@ -47,18 +46,18 @@ fn carry_out(keys: &mut Vec<Key>, ever_added: &mut u64, edit: Edit) -> Option<Ed
 }
 
 /// Carries edits out, the oldest first, up to the first that is refused, whose fault is answered. It takes no memory.
-pub fn carry_all(keys: &mut Vec<Key>, ever_added: &mut u64, edits: Vec<Edit>) -> Batch
-    requires ring { IsRing (list_of keys.old.items ever_added.old) }
+pub fn carry_all(keys: &mut IndexedKeys, ever_added: &mut u64, edits: Vec<Edit>) -> Batch
+    requires ring { IsRing (list_of keys.old.keys ever_added.old) }
     requires count { ever_added.old + length edits.items < 2 ^ 64 }
-    requires room { vec_len keys.old + additions (map edit_of edits.items) ≤ vec_capacity keys.old }
+    requires room { additions (map edit_of edits.items) ≤ keys.old.room }
     ensures fault { result.refused
-        ≡ edits_fault (map edit_of edits.items) (list_of keys.old.items ever_added.old) }
+        ≡ edits_fault (map edit_of edits.items) (list_of keys.old.keys ever_added.old) }
     ensures count { result.count
-        ≡ edits_taken (map edit_of edits.items) (list_of keys.old.items ever_added.old) }
-    ensures ring { IsRing (list_of keys.new.items ever_added.new) }
+        ≡ edits_taken (map edit_of edits.items) (list_of keys.old.keys ever_added.old) }
+    ensures ring { IsRing (list_of keys.new.keys ever_added.new) }
     ensures few { ever_added.new ≤ ever_added.old + length edits.items }
-    ensures edited { list_of keys.new.items ever_added.new
-        ≡ after_edits (map edit_of edits.items) (list_of keys.old.items ever_added.old) }
+    ensures edited { list_of keys.new.keys ever_added.new
+        ≡ after_edits (map edit_of edits.items) (list_of keys.old.keys ever_added.old) }
 {
     let mut count = 0;
     let mut left = edits.into_iter();

@@ -7,12 +7,16 @@ mod batch;
 mod check;
 mod des;
 mod fault;
+mod index;
+mod indexed_keys;
 mod key;
 mod line;
 mod listed;
 mod offer;
+mod rank;
 mod ring;
 mod shared_text;
+mod wanted;
 mod write;
 
 pub use batch::Batch;

@@ -6,7 +6,7 @@ ghost use Rattle.key_lists.specs.Listing.{dom_of, doms_of, each_once, fitting, m
 ghost use Rattle.key_ring.specs.Steps.{offer_behind, is_this, unless_seen};
 
 use crate::key::Key;
-use crate::ring::check_serves;
+use crate::wanted::check_serves;
 use attr_tuples::Tuple;
 use wire_base::{Bytes, NoMemory, Text};
 

@@ -1,20 +1,19 @@
 // The ring: keys in the order in which they were added.
 ghost use Rattle.std.specs.Prelude.{◌≡◌, ◌+◌, ◌<◌, ◌≤◌, ◌^◌, ◌++◌, ◌==◌, ◌||◌, None, Ok, IfOk, IfSome, IsOk, MatchOption, codes, not, true, false, filter, find, position, take, length, vec_len, vec_capacity, Err, IfErr, OnErr, OnOk, AllPairs, option_copied, if◌then◌else◌};
-ghost use Rattle.std.specs.List.{after_first, flat_map};
-ghost use Rattle.std.specs.Str.{bytes_eq};
+ghost use Rattle.std.specs.List.{flat_map};
 ghost use Rattle.attr_tuples.specs.Equality.{public_equal};
-ghost use Rattle.attr_tuples.specs.Matching.{has_name, matches};
-ghost use Rattle.attr_tuples.specs.Giving.{gives};
-ghost use Rattle.key_lists.specs.Lists.{KeyEntry, is_full, serves, add_fault, added, delete_fault, deleted, matching};
+ghost use Rattle.key_lists.specs.KeyFaults.{key_fault};
+ghost use Rattle.key_lists.specs.Lists.{KeyEntry, is_full, add_fault, added, delete_fault, deleted, matching};
 ghost use Rattle.key_lists.specs.Edits.{IsOrdered};
 ghost use Rattle.key_ring.specs.Parts.{IsRing, list_of};
 ghost use Rattle.key_lists.specs.Listing.{key_text};
 
 use crate::batch::{Batch, carry_all};
 use crate::check::{check_tells_secret, find_fault};
+use crate::indexed_keys::IndexedKeys;
 use crate::key::Key;
 use crate::offer::append_offers;
-use attr_tuples::{Tuple, gives, has_name, matches, print_public, public_equal};
+use attr_tuples::{Tuple, print_public};
 use key_lists::{AddFault, DeleteFault, EditList};
 use std::alloc::Global;
 use std::marker::Model;
@@ -26,7 +25,7 @@ const MOST_KEYS: usize = 1024;
 /// same in public.
 #[derive(Drop)]
 pub struct KeyRing {
-    keys: Vec<Key>,
+    keys: IndexedKeys,
     ever_added: u64,
 }
 
@@ -36,25 +35,26 @@ impl Model for KeyRing {
 
     ghost Value = { KeyList };
 
-    ghost view = { λ r. record { keys = r.keys.items; ever_added = r.ever_added } };
+    ghost view = { λ r. record { keys = r.keys.keys; ever_added = r.ever_added } };
 
-    ghost invariant = { λ r. IsRing (record { keys = r.keys.items; ever_added = r.ever_added }) };
+    ghost invariant = { λ r. IsRing (record { keys = r.keys.keys; ever_added = r.ever_added }) };
 }
 
 impl KeyRing {
-    ghost use Rattle.std.specs.Prelude.{◌≡◌, ◌+◌, ◌<◌, ◌≤◌, ◌^◌, ◌++◌, IsOk, Some, None, Ok, Err, length, IfErr, IfOk, IfSome, OnErr, OnOk, MatchOption, option_copied};
+    ghost use Rattle.std.specs.Prelude.{◌≡◌, ◌+◌, ◌<◌, ◌≤◌, ◌^◌, ◌++◌, IsOk, Some, None, Ok, Err, length, IfErr, IfOk, IfSome, OnErr, OnOk, MatchOption, option_copied, option_map};
     ghost use Rattle.key_lists.specs.Lists.{no_keys, add_fault, added, delete_fault, deleted, matching, first_serving, most_keys, next_serving, serves};
     ghost use Rattle.key_lists.specs.Listing.{list_text, offers, offers_text};
     ghost use Rattle.key_lists.specs.Edits.{IsOrdered, additions};
     ghost use Rattle.key_lists.specs.Batches.{after_edits, edits_fault};
     ghost use Rattle.key_ring.specs.Counts.{edits_taken};
+    ghost use Rattle.key_ring.specs.Serials.{serials_of};
 
     /// No keys. It takes no memory.
     pub fn new(alloc: Global) -> KeyRing
         ensures { result ≡ no_keys }
     {
         KeyRing {
-            keys: Vec::new(alloc),
+            keys: IndexedKeys::new(alloc),
             ever_added: 0,
         }
     }
@@ -120,7 +120,7 @@ impl KeyRing {
         ensures serves { IfSome (option_copied result) (λ key.
             serves template.now role.now key ≡ true) }
     {
-        find_serving(&self.keys, template, role)
+        self.keys.find(template, role)
     }
 
     /// The first such key behind the key of a number; None too where the ring has no key of that number. It takes no
@@ -132,7 +132,16 @@ impl KeyRing {
             serves template.now role.now key ≡ true) }
         ensures greater { IfSome (option_copied result) (λ key. serial < key.serial) }
     {
-        find_serving(keys_after(&self.keys, serial), template, role)
+        self.keys.next_after(template, role, serial)
+    }
+
+    /// The numbers of the keys that hold `proto=proto` and, where a domain is given, `dom=dom`, in the order of the ring. It
+    /// takes no memory.
+    #[tactic(auto, unfolding(crate::specs::Serials::serials_of))]
+    pub fn serials_of(&self, proto: &[u8], dom: Option<&[u8]>) -> &[u64]
+        ensures { result.now ≡ serials_of proto.now (option_map (λ dom. dom.now) dom.entry) self.now }
+    {
+        self.keys.serials_of(proto, dom)
     }
 
     /// Appends a line for each key: `key `, its public text, and a newline. After want of memory `out` is as before.
@@ -142,7 +151,7 @@ impl KeyRing {
         ensures err { OnErr result (out.new ≡ out.old) }
     {
         let before = out.len();
-        let done = append_keys(&self.keys, out);
+        let done = append_keys(self.keys.as_slice(), out);
         out.undo_on_err(before, done)
     }
 
@@ -158,150 +167,85 @@ impl KeyRing {
         ensures err { OnErr result (out.new ≡ out.old) }
     {
         let before = out.len();
-        let done = append_offers(&self.keys, template, role, out);
+        let done = append_offers(self.keys.as_slice(), template, role, out);
         out.undo_on_err(before, done)
     }
 }
 
 /// Adds a key under the next number, so many having been added before. Where there is room for one more key, it takes no
 /// memory.
-pub fn add_key(keys: &mut Vec<Key>, ever_added: u64, tuple: Tuple) -> Result<u64, AddFault>
-    requires ring { IsRing (list_of keys.old.items ever_added) }
+pub fn add_key(keys: &mut IndexedKeys, ever_added: u64, tuple: Tuple) -> Result<u64, AddFault>
+    requires ring { IsRing (list_of keys.old.keys ever_added) }
     requires count { ever_added + 1 < 2 ^ 64 }
-    ensures refused { IfSome (add_fault tuple (list_of keys.old.items ever_added))
+    ensures refused { IfSome (add_fault tuple (list_of keys.old.keys ever_added))
         (λ fault. result ≡ Err fault) }
-    ensures taken { add_fault tuple (list_of keys.old.items ever_added) ≡ None
+    ensures taken { add_fault tuple (list_of keys.old.keys ever_added) ≡ None
         → IfErr result (λ fault. fault ≡ AddFault.NoMemory) }
-    ensures ample { add_fault tuple (list_of keys.old.items ever_added) ≡ None
-        → vec_len keys.old < vec_capacity keys.old → IsOk result }
-    ensures added { OnOk result (list_of keys.new.items (ever_added + 1)
-        ≡ added tuple (list_of keys.old.items ever_added)) }
+    ensures ample { add_fault tuple (list_of keys.old.keys ever_added) ≡ None
+        → 1 ≤ keys.old.room → IsOk result }
+    ensures added { OnOk result (list_of keys.new.keys (ever_added + 1)
+        ≡ added tuple (list_of keys.old.keys ever_added)) }
     ensures serial { IfOk result (λ serial. serial ≡ ever_added + 1) }
-    ensures unchanged { OnErr result (keys.new.items ≡ keys.old.items) }
-    ensures ring { OnOk result (IsRing (list_of keys.new.items (ever_added + 1))) }
-    ensures longer { vec_len keys.new ≤ vec_len keys.old + 1 }
-    ensures capacity { vec_capacity keys.old ≤ vec_capacity keys.new }
+    ensures unchanged { OnErr result (keys.new.keys ≡ keys.old.keys) }
+    ensures ring { OnOk result (IsRing (list_of keys.new.keys (ever_added + 1))) }
+    ensures room { keys.old.room ≤ keys.new.room + 1 }
 {
     if let Some(fault) = find_fault(&tuple) {
         return Err(fault);
     }
     make_room(keys, &tuple)?;
     let serial = ever_added + 1;
-    if keys.push(Key::new(tuple, serial)).is_err() {
-        unreachable!()
-    }
+    keys.push(Key::new(tuple, serial));
     Ok(serial)
 }
 
 // Drops the key that is the same in public, or else makes room for one more.
-fn make_room(keys: &mut Vec<Key>, tuple: &Tuple) -> Result<(), AddFault>
-    requires { AllPairs (λ (first second : KeyEntry). public_equal first.tuple second.tuple
-        ≡ false) keys.old.items }
-    ensures full { is_full tuple.now keys.old.items ≡ true → result ≡ Err AddFault.Full }
-    ensures taken { is_full tuple.now keys.old.items ≡ false
+fn make_room(keys: &mut IndexedKeys, tuple: &Tuple) -> Result<(), AddFault>
+    requires apart { AllPairs (λ (first second : KeyEntry). public_equal first.tuple second.tuple
+        ≡ false) keys.old.keys }
+    requires valid { key_fault tuple.now ≡ None }
+    ensures full { is_full tuple.now keys.old.keys ≡ true → result ≡ Err AddFault.Full }
+    ensures taken { is_full tuple.now keys.old.keys ≡ false
         → IfErr result (λ fault. fault ≡ AddFault.NoMemory) }
-    ensures dropped { OnOk result (keys.new.items
-        ≡ filter (λ old. not (public_equal tuple.now old.tuple)) keys.old.items) }
-    ensures room { OnOk result (vec_len keys.new + 1 ≤ vec_capacity keys.new) }
-    ensures unchanged { OnErr result (keys.new.items ≡ keys.old.items) }
-    ensures ample { vec_len keys.old < vec_capacity keys.old
-        → IfErr result (λ fault. fault ≡ AddFault.Full) }
-    ensures shorter { vec_len keys.new ≤ vec_len keys.old }
-    ensures capacity { vec_capacity keys.old ≤ vec_capacity keys.new }
+    ensures dropped { OnOk result (keys.new.keys
+        ≡ filter (λ old. not (public_equal tuple.now old.tuple)) keys.old.keys) }
+    ensures room { OnOk result (1 ≤ keys.new.room) }
+    ensures unchanged { OnErr result (keys.new.keys ≡ keys.old.keys) }
+    ensures ample { 1 ≤ keys.old.room → IfErr result (λ fault. fault ≡ AddFault.Full) }
+    ensures kept { keys.old.room ≤ keys.new.room }
 {
-    match find_equal(keys, tuple) {
-        Some(at) => {
-            keys.remove(at);
-        }
+    match keys.find_equal(tuple) {
+        Some(at) => keys.remove(at),
         None if keys.len() >= MOST_KEYS => return Err(AddFault::Full),
         None => keys.reserve(1)?,
     }
     Ok(())
 }
 
-fn find_equal(keys: &[Key], tuple: &Tuple) -> Option<usize>
-    ensures { result ≡ position (λ old. public_equal tuple.now old.tuple) keys.now }
-{
-    keys.iter().position(|key| public_equal(tuple, key.tuple()))
-}
-
 /// Deletes the keys that match a template, so many having been added before, and answers how many.
 pub fn delete_keys(
-    keys: &mut Vec<Key>,
+    keys: &mut IndexedKeys,
     ever_added: u64,
     template: &Tuple,
 ) -> Result<usize, DeleteFault>
-    requires { IsRing (list_of keys.old.items ever_added) }
-    ensures ring { IsRing (list_of keys.new.items ever_added) }
-    ensures answer { MatchOption (delete_fault template.now (list_of keys.old.items ever_added))
-        (result ≡ Ok (matching template.now (list_of keys.old.items ever_added)))
+    requires { IsRing (list_of keys.old.keys ever_added) }
+    ensures ring { IsRing (list_of keys.new.keys ever_added) }
+    ensures answer { MatchOption (delete_fault template.now (list_of keys.old.keys ever_added))
+        (result ≡ Ok (matching template.now (list_of keys.old.keys ever_added)))
         (λ fault. result ≡ Err fault) }
-    ensures deleted { OnOk result (list_of keys.new.items ever_added
-        ≡ deleted template.now (list_of keys.old.items ever_added)) }
-    ensures unchanged { OnErr result (keys.new.items ≡ keys.old.items) }
-    ensures shorter { vec_len keys.new ≤ vec_len keys.old }
-    ensures capacity { vec_capacity keys.new ≡ vec_capacity keys.old }
+    ensures deleted { OnOk result (list_of keys.new.keys ever_added
+        ≡ deleted template.now (list_of keys.old.keys ever_added)) }
+    ensures unchanged { OnErr result (keys.new.keys ≡ keys.old.keys) }
+    ensures room { keys.old.room ≤ keys.new.room }
 {
     if check_tells_secret(template.attrs()) {
         return Err(DeleteFault::SecretValue);
     }
-    let count = drop_matching(keys, template);
+    let count = keys.drop_matching(template);
     if count == 0 {
         return Err(DeleteFault::NoneMatched);
     }
     Ok(count)
-}
-
-// Drops all keys that match, and tells how many.
-fn drop_matching(keys: &mut Vec<Key>, template: &Tuple) -> usize
-    ensures dropped { keys.new.items
-        ≡ filter (λ key. not (matches template.now key.tuple)) keys.old.items }
-    ensures count { result
-        ≡ length (filter (λ key. matches template.now key.tuple) keys.old.items) }
-    ensures shorter { vec_len keys.new ≤ vec_len keys.old }
-    ensures capacity { vec_capacity keys.new ≡ vec_capacity keys.old }
-{
-    let before = keys.len();
-    keys.retain(|key| !matches(template, key.tuple()));
-    before - keys.len()
-}
-
-/// Whether a key matches the template and either names no role or has this one.
-pub fn check_serves(template: &Tuple, role: &[u8], key: &Key) -> bool
-    ensures { result ≡ serves template.now role.now key.now }
-{
-    matches(template, key.tuple()) && check_role(key.tuple(), role)
-}
-
-fn check_role(tuple: &Tuple, role: &[u8]) -> bool
-    ensures { result ≡ (not (has_name tuple.now (codes "role"))
-        || gives (codes "role") (λ text. bytes_eq text role.now) tuple.now) }
-{
-    let attrs = tuple.attrs();
-    let name = b"role".as_slice();
-    !has_name(attrs, name) || gives(attrs, name, role)
-}
-
-fn find_serving<'a>(keys: &'a [Key], template: &Tuple, role: &[u8]) -> Option<&'a Key>
-    ensures { option_copied result ≡ find (serves template.now role.now) keys.now }
-{
-    keys.iter().find(|key| check_serves(template, role, key))
-}
-
-// The keys behind the one of a number.
-fn keys_after(keys: &[Key], serial: u64) -> &[Key]
-    ensures { result.now ≡ after_first (λ key. key.serial == serial) keys.now }
-{
-    match find_number(keys, serial) {
-        Some(at) => keys.split_at(at + 1).1,
-        None => &[],
-    }
-}
-
-fn find_number(keys: &[Key], serial: u64) -> Option<usize>
-    ensures { result ≡ position (λ key. key.serial == serial) keys.now }
-{
-    keys.iter().position(|key| key.serial() == serial)
 }
 
 // What is appended before memory runs out stays, in this function and the next.

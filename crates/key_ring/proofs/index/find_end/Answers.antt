@@ -1,0 +1,8 @@
+use Rattle.std.proofs.Common.{rules}
+use Rattle.std.specs.Ordering.{is_le}
+use Rattle.std.proofs.lemmas.List.Sorted.{IsPartitionPoint-from_clause}
+use Rattle.key_ring.specs.Ranks.{numbered, stood}
+use Rattle.key_ring.proofs.index.find_end.Goals as goal
+
+pub returns-clause-parted : goal.returns-clause-parted
+returns-clause-parted c = λ parted. IsPartitionPoint-from_clause (λ serial. is_le (stood c.args.order c.args.rank.now (numbered c.args.keys.now serial))) _ _ c.partition_point.ensures.partitioned parted (λ a r q k. search rules)
