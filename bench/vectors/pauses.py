@@ -229,6 +229,7 @@ def withdrawn(s, pause, conn=1):
         refused(s, file, text, "unknown tag", conn)
     s.answer(call or 1, answer or ANSWER)
     s.step("f", 0, call or 1)
+    s.step("m", 0, call or 1)
     s.unasked()
     for tag, (file, _) in enumerate(REPLIES, 7):
         awaits(s, file, tag, conn)
@@ -255,7 +256,8 @@ def given_up(pause):
 
 def unserved(s, conn):
     """A number of which nothing is served any more."""
-    for request in [write(FILES[file], text) for file, text in REPLIES] + [write(1, "read"), read(1, 0, WIDE), version(), A[0]]:
+    replies = [write(FILES[file], text) for file, text in REPLIES]
+    for request in replies + [write(1, "read"), read(1, 0, WIDE), flush(101), clunk(1), version(), A[0]]:
         s.step("p", 0, conn, request)
         s.step("g", 0, conn)
 

@@ -1,5 +1,6 @@
 // The words of a command line.
 use std::env::{self, Env};
+use std::io::ErrorKind;
 use wire_base::{Text, TextList};
 
 /// Why there are no words.
@@ -15,8 +16,10 @@ pub enum WordsFault {
 pub fn command_words<R: Env + AllocGlobal>(rt: &R) -> Result<TextList, WordsFault> {
     let alloc = rt.alloc();
     let mut words = TextList::new(alloc);
-    let Ok(args) = env::args(rt) else {
-        return Err(WordsFault::NoText);
+    let args = match env::args(rt) {
+        Ok(args) => args,
+        Err(fault) if fault.kind() == ErrorKind::OutOfMemory => return Err(WordsFault::NoMemory),
+        Err(_) => return Err(WordsFault::NoText),
     };
     for word in args.skip(1) {
         match Text::from_slice(alloc, word.as_bytes()) {
