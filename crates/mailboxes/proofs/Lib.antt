@@ -1,2 +1,3 @@
 pub mod WaitLemmas
+pub mod RestLemmas
 pub mod DeliveryLemmas

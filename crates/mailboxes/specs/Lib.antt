@@ -1,3 +1,4 @@
 pub mod Mails
+pub mod Rests
 pub mod Kept
 pub mod Deliveries

@@ -1,4 +1,6 @@
 // The mailboxes of all connections, by their numbers.
+ghost use Rattle.mailboxes.specs.Rests.{Rests};
+
 use crate::mailbox::Mailbox;
 use crate::reply::Reply;
 use crate::settled_for::SettledFor;
@@ -16,7 +18,9 @@ const FID_GIVEN_UP: &[u8; 11] = b"unknown fid";
 pub struct Mailboxes {
     boxes: BTreeMap<u64, Mailbox>,
     settled: bool,
+    unswept: SettledFor,
     settled_for: SettledFor,
+    ghost rests: { Rests unswept boxes },
 }
 
 impl Mailboxes {
@@ -37,6 +41,7 @@ impl Mailboxes {
         Mailboxes {
             boxes: BTreeMap::new(alloc),
             settled: false,
+            unswept: SettledFor::Nobody,
             settled_for: SettledFor::Nobody,
         }
     }
@@ -222,6 +227,7 @@ impl Mailboxes {
         if let Some(mailbox) = self.boxes.get_mut(&conn) {
             let found = mailbox.settle(tag, reply);
             self.settled = found || self.settled;
+            self.unswept = self.unswept.and(found, conn);
             self.settled_for = self.settled_for.and(found, conn);
         }
     }
@@ -248,6 +254,7 @@ impl Mailboxes {
             let found = mailbox.has_fid(fid);
             mailbox.settle_fid(fid, FID_GIVEN_UP);
             self.settled = found || self.settled;
+            self.unswept = self.unswept.and(found, conn);
             self.settled_for = self.settled_for.and(found, conn);
         }
     }
@@ -316,7 +323,7 @@ impl Mailboxes {
         self.leave_at(conn);
     }
 
-    fn sweep_boxes(&mut self)
+    fn sweep_all(&mut self)
         ensures mails { (conn : ℕ) → mail_at self.new conn ≡ mails.swept (mail_at self.old conn) }
         ensures settled { self.new.settled ≡ self.old.settled }
         ensures none { StillNone self.old self.new }
@@ -325,6 +332,31 @@ impl Mailboxes {
             mailbox.sweep();
             true
         });
+        self.unswept = SettledFor::Nobody;
+    }
+
+    fn sweep_one(&mut self, conn: u64)
+        requires { self.old.unswept ≡ SettledFor.One conn }
+        ensures mails { (conn : ℕ) → mail_at self.new conn ≡ mails.swept (mail_at self.old conn) }
+        ensures settled { self.new.settled ≡ self.old.settled }
+        ensures none { StillNone self.old self.new }
+    {
+        self.unswept = SettledFor::Nobody;
+        let Some(mailbox) = self.boxes.get_mut(&conn) else {
+            return;
+        };
+        mailbox.sweep();
+    }
+
+    fn sweep_boxes(&mut self)
+        ensures mails { (conn : ℕ) → mail_at self.new conn ≡ mails.swept (mail_at self.old conn) }
+        ensures settled { self.new.settled ≡ self.old.settled }
+        ensures none { StillNone self.old self.new }
+    {
+        match self.unswept {
+            SettledFor::One(conn) => self.sweep_one(conn),
+            SettledFor::Nobody | SettledFor::Several => self.sweep_all(),
+        }
     }
 
     /// The last of an event: the replies to the reads that it settled stand behind the others of their connections, in the

@@ -1,4 +1,6 @@
-// Whose reads were settled. It carries no claim: by it the right ones of those who wait for a reply are woken.
+// Whose reads were settled.
+ghost use Rattle.std.specs.Prelude.{◌≡◌, true, false, ℕ};
+ghost use Rattle.mailboxes.specs.Rests.{covers};
 
 /// Whose reads that wait were given a reply, since somebody last asked.
 #[derive(Clone, Copy, Debug, PartialEq, Eq)]
@@ -13,7 +15,10 @@ pub enum SettledFor {
 
 impl SettledFor {
     /// With one connection more, if a read of it was found.
-    pub(crate) fn and(self, found: bool, conn: u64) -> SettledFor {
+    pub(crate) fn and(self, found: bool, conn: u64) -> SettledFor
+        ensures before { (other : ℕ) → covers result other ≡ false → covers self other ≡ false }
+        ensures found { found ≡ true → covers result conn ≡ true }
+    {
         if !found {
             return self;
         }
