@@ -5,6 +5,7 @@ ghost use Rattle.key_lists.specs.Edits.{IsOrdered};
 ghost use Rattle.key_lists.specs.Listing.{list_text, offers, offers_text};
 ghost use Rattle.key_lists.specs.Lists.{most_keys, delete_fault, deleted, matching, serves, first_serving, next_serving};
 ghost use Rattle.key_ring.specs.Faults.{line_text, has_no_tuple};
+ghost use Rattle.key_ring.specs.Serials.{serials_of};
 ghost use Rattle.key_ring.specs.Switches.{switches};
 
 use attr_tuples::Tuple;
@@ -73,6 +74,13 @@ pub fn ring_next_after<'x>(
     ensures greater { IfSome (option_copied result) (λ key. serial < key.serial) }
 {
     ring.next_after(template, role, serial)
+}
+
+/// As `KeyRing::serials_of`.
+pub fn ring_serials_of<'x>(ring: &'x KeyRing, proto: &[u8], dom: Option<&[u8]>) -> &'x [u64]
+    ensures { result.now ≡ serials_of proto.now (option_map (λ dom. dom.now) dom.entry) ring.now }
+{
+    ring.serials_of(proto, dom)
 }
 
 /// As `KeyRing::list_text`.

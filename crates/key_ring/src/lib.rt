@@ -1,6 +1,6 @@
-//! The ring of keys, as Plan 9's factotum keeps it: keys in order under numbers that rise, each with its DES key; a
-//! write of ctl, carried out on it line by line; and the ring with the text of its list, which is made once for all
-//! that read the same list.
+//! The ring of keys, as Plan 9's factotum keeps it: keys in order under numbers that rise, each with its DES key, and
+//! found by their protocols and domains; a write of ctl, carried out on it line by line; and the ring with the text of
+//! its list, which is made once for all that read the same list.
 #![tactic(auto)]
 
 mod batch;
