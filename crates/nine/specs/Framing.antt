@@ -1,11 +1,11 @@
 -- What a framer is to its callers, what it answers, and what that has to do with the stream that it was fed.
-use Rattle.std.specs.Prelude.{◌≡◌, ◌≤◌, ◌<◌, ℕ, ◌+◌, List, [], ◌∷◌, ◌++◌, length, take, drop, Option}
+use Rattle.std.specs.Prelude.{◌≡◌, ◌≤◌, ◌<◌, ℕ, ◌+◌, List, [], ◌∷◌, ◌++◌, length, take, drop, Option, Bool, true, false}
 use Rattle.std.specs.List.{AllByRecursion, concat}
 use Rattle.std.specs.Io.KnownBytes.{Consumes, IsAtEnd, Keeps}
 use Rattle.wire_streams.specs.declared.source.Got.{Got}
 use Rattle.wire_streams.specs.declared.source.Got.TheVariants.{Bytes, End, Failed}
 use Rattle.nine.specs.Decoding.{IsFrame}
-use Rattle.nine.specs.Streams.{front, IsWhole, IsBad, IsShort, frames}
+use Rattle.nine.specs.Streams.{Front, front, IsWhole, IsBad, IsShort, frames}
 use Rattle.nine.specs.Framed.{Framing, with_more}
 use Rattle.nine.specs.declared.framer.Next.{Next}
 use Rattle.nine.specs.declared.framer.Next.TheVariants.{Whole, NotYet, BadSize}
@@ -43,9 +43,15 @@ Continues old new (Whole frame) stream handed = (frames old.limit stream ≡ han
 Continues old new NotYet stream handed = frames old.limit stream ≡ handed
 Continues old new (BadSize at size) stream handed = (frames old.limit stream ≡ handed) × (at ≡ length (concat handed))
 
--- A whole frame stands at the front.
+-- whether that is a whole frame
+abbrev pub is_whole : Front → Bool
+is_whole (IsWhole size) = true
+is_whole (IsBad size) = false
+is_whole IsShort = false
+
+-- a whole frame stands at the front
 abbrev pub HasWhole : Framing → Type 0
-HasWhole f = (size : ℕ) × (front f.limit f.held ≡ IsWhole size)
+HasWhole f = is_whole (front f.limit f.held) ≡ true
 
 -- What is shown, by what stands at the front of what is held: a whole frame, neither that nor a bad size, or a bad size, with
 -- its place in the stream.
