@@ -280,8 +280,9 @@ impl Agent {
         Ok(())
     }
 
-    // A frame comes.
-    fn request(&mut self, conn: u64, frame: &[u8], word: [u8; 8]) -> Result<(), NoMemory>
+    /// Enters a frame of a connection as a request, which is the event `Request` with these bytes: it borrows them, so that
+    /// whoever has them need not copy them. The frame is whole and has at least 7 bytes.
+    pub fn request(&mut self, conn: u64, frame: &[u8], word: [u8; 8]) -> Result<(), NoMemory>
         requires { IsFrame frame.now }
         ensures stands { OnOk result ((H : History) → StandsFor H self.old
             → StandsFor (events.Request conn frame.now word ∷ H) self.new) }

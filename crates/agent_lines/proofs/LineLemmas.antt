@@ -10,7 +10,7 @@ use Rattle.wire_streams.specs.Causes.{Rose}
 use Rattle.wire_streams.specs.Streams.{Gains}
 use Rattle.wire_streams.proofs.StreamLemmas.{Gains-nil, Gains-trans}
 use Rattle.nine.specs.Streams.{IsBad, IsShort, Front, frames, front as at_front}
-use Rattle.nine.specs.Framed.{Framing}
+use Rattle.nine.specs.Framed.{Framing, passed, with_more}
 use Rattle.nine.specs.Framing.{HasHandedOut, IsWithin}
 use Rattle.nine.proofs.StreamLaws.{all_frames, behind_frames, frames_bad, frames_short, handed_then, length_fed}
 use Rattle.turn_lock.specs.Fronts.{among, events, made, own, Front as Seen}
@@ -29,8 +29,8 @@ use Rattle.agent_hub.specs.declared.exchange.TakesEnd.{TakesEnd}
 use Rattle.agent_hub.specs.declared.exchange.TakesEnd.TheVariants as ended
 use Rattle.agent_hub.proofs.EntryLemmas.{adds_none, adds_one, before_it}
 use Rattle.agent_hub.proofs.ExchangeLemmas.{collected_more, exchanged_more}
-use Rattle.frame_batches.specs.Batches.{AreFrames, passed, with_more}
-use Rattle.frame_batches.proofs.BatchLemmas.{next_ones, their_frames}
+use Rattle.nine.specs.Batches.{AreFrames}
+use Rattle.nine.proofs.BatchLemmas.{next_ones, their_frames}
 use Rattle.agent_lines.specs.declared.ends.LineEnd.{LineEnd}
 use Rattle.agent_lines.specs.declared.ends.LineEnd.TheVariants.{End, Torn, BadFrame, ReadFault, WordFault, Flood, NoMemory, Stopped, WriteFault}
 use Rattle.agent_lines.specs.Lining.{CausedBy, DrawsAll, Ends, EndsBy, HandsAll, HandsSome, LineEndsSo, MissesBytes, Moment, Reads, Serves, TookAll, moment, most_batch, most_input}
@@ -319,24 +319,6 @@ module _ (conn : ℕ) (first : Moment) (seat : HubSeat) (words : Option (List (L
         fails = tt;
       }
 
-  -- there was no memory for a read
-  pub read_short : (f : Framing) → Going conn first (moment seat words old output) f kept → new ≡ old → Halts conn NoMemory first (moment seat words new output) kept
-  read_short f before same =
-      let g = subst (λ (o : Option (List ℕ)). Going conn first (moment seat words o output) f kept) (sym same) before in
-      let each : AllByRecursion (IsWithin most_frame) g.some = subst (λ (l : ℕ). AllByRecursion (IsWithin l) g.some) g.limit g.cut.each in
-      record {
-        ends = record {
-          input = g.stream;
-          behind = [];
-          read = reads_all first.input new g.stream g.read g.few;
-          wanted = g.some;
-          spare = [];
-          why = (frames_in f.held, ap (frames most_frame) g.cut.parts ∙ handed_then most_frame g.some f.held each, omega arith);
-          serves = g.serves;
-        };
-        fails = tt;
-      }
-
   -- the input is at its end
   pub read_ended : (f : Framing) (end : LineEnd) → Going conn first (moment seat words old output) f kept → at_front most_frame f.held ≡ IsShort → Keeps old new → IsAtEnd new → InputEndsBy f end → Halts conn end first (moment seat words new output) kept
   read_ended f end before short same at_end (inl inside) =
@@ -409,6 +391,9 @@ no_size limit held count size a zero =
 -- what stands behind no frames stands at the front
 pub front_there : (f : Framing) (count size : ℕ) (is : Front) → f.limit ≡ most_frame → AreFrames f.limit f.held count size → count ≡ 0 → at_front f.limit (drop size f.held) ≡ is → at_front most_frame f.held ≡ is
 front_there f count size is limit a zero stands = ap (λ (l : ℕ). at_front l f.held) (sym limit) ∙ ap (λ (k : ℕ). at_front f.limit (drop k f.held)) (sym (no_size f.limit f.held count size a zero)) ∙ stands
+
+pub front_here : (f : Framing) (count size : ℕ) (is : Front) → AreFrames f.limit f.held count size → count ≡ 0 → at_front f.limit (drop size f.held) ≡ is → at_front f.limit f.held ≡ is
+front_here f count size is a zero stands = ap (λ (k : ℕ). at_front f.limit (drop k f.held)) (sym (no_size f.limit f.held count size a zero)) ∙ stands
 
 -- a bad size stands at the front
 pub bad_ends : (conn : ℕ) (first now : Moment) (f : Framing) (kept : List ℕ) (count size bad at : ℕ) → Going conn first now f kept → AreFrames f.limit f.held count size → count ≡ 0 → at_front f.limit (drop size f.held) ≡ IsBad bad → at ≡ f.before → Halts conn (BadFrame at bad) first now kept
@@ -504,6 +489,10 @@ begun conn m f kept is none = record {
   limit = ap (λ (h : Framing). h.limit) is;
   serves = subst (λ (l : List ℕ). Serves conn [] [] [] l m m) (sym none) (serves_none conn m);
 }
+
+-- there was no memory to begin
+pub begun_short : (conn : ℕ) (m : Moment) (kept : List ℕ) → kept ≡ [] → Halts conn NoMemory m m kept
+begun_short conn m kept none = let f : Framing = record { limit = most_frame; before = 0; held = [] } in short_there conn m f m kept (begun conn m f kept refl none)
 
 -- ---- what is left is taken and written
 

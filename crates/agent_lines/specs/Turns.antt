@@ -3,14 +3,13 @@ use Rattle.std.specs.Prelude.{◌≡◌, ◌<◌, ◌≤◌, ℕ, ◌+◌, List,
 use Rattle.std.specs.Io.KnownBytes.{Consumes}
 use Rattle.wire_streams.specs.Streams.{Gains}
 use Rattle.nine.specs.Streams.{front as at_front, IsBad, IsShort}
-use Rattle.nine.specs.Framed.{Framing}
+use Rattle.nine.specs.Framed.{Framing, passed}
 use Rattle.nine.specs.Framing.{HasHandedOut}
 use Rattle.turn_lock.specs.Seats.{front}
 use Rattle.agent_hub.specs.Requesting.{most_frame}
 use Rattle.agent_hub.specs.declared.exchange.Exchanged.{Exchanged}
 use Rattle.agent_hub.specs.declared.exchange.TakesEnd.{TakesEnd}
 use Rattle.agent_hub.specs.declared.exchange.TakesEnd.TheVariants as takes
-use Rattle.frame_batches.specs.Batches.{passed}
 use Rattle.agent_lines.specs.declared.ends.LineEnd.{LineEnd}
 use Rattle.agent_lines.specs.declared.ends.LineEnd.TheVariants.{End, Torn, BadFrame, ReadFault, WordFault, Flood, NoMemory, Stopped, WriteFault}
 use Rattle.agent_lines.specs.Lining.{DrawsAll, Ends, MissesBytes, Moment, Serves, TookAll, most_input}

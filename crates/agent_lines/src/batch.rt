@@ -2,7 +2,7 @@
 ghost use Rattle.std.specs.Prelude.{◌≡◌, ◌≤◌, ◌<◌, ◌+◌, ℕ, List, Option, IfErr, length};
 ghost use Rattle.wire_streams.specs.Causes.{Rose};
 ghost use Rattle.agent_hub.specs.Submits.{IsSeatOf};
-ghost use Rattle.frame_batches.specs.Batches.{AreFrames};
+ghost use Rattle.nine.specs.Batches.{AreFrames};
 ghost use Rattle.agent_lines.specs.Lining.{CausedBy, Moment, moment, most_batch};
 ghost use Rattle.agent_lines.specs.Turns.{BatchEndsSo, Going, TurnSo};
 
@@ -10,7 +10,7 @@ use crate::drawing::draw_words;
 use crate::ends::LineEnd;
 use crate::kept::Kept;
 use agent_hub::{Exchanged, Hub, HubSeat, TakesEnd};
-use frame_batches::{Batch, FrameQueue};
+use nine::{Batch, BlockFramer};
 use std::alloc::Global;
 use std::sync::Wait;
 use wire_streams::Words;
@@ -21,10 +21,10 @@ fn end_batch(
     came: Exchanged,
     words: usize,
     size: usize,
-    queue: &mut FrameQueue,
+    framer: &mut BlockFramer,
 ) -> Result<(), LineEnd>
-    requires { size ≤ length queue.old.held }
-    ensures { BatchEndsSo result drew came words size queue.old queue.new }
+    requires { size ≤ length framer.old.held }
+    ensures { BatchEndsSo result drew came words size framer.old framer.new }
 {
     if came.entered < words {
         return Err(LineEnd::NoMemory);
@@ -34,7 +34,7 @@ fn end_batch(
     }
     match drew {
         Ok(()) => {
-            queue.pass(size);
+            framer.pass(size);
             Ok(())
         }
         Err(end) => Err(end),
@@ -49,26 +49,26 @@ pub(crate) fn serve_batch<R: Wait, G: Words>(
     seat: HubSeat,
     conn: u64,
     batch: Batch,
-    queue: &mut FrameQueue,
+    framer: &mut BlockFramer,
     kept: &mut Kept,
     words: &mut G,
 ) -> (HubSeat, Result<(), LineEnd>)
     requires seat { IsSeatOf hub.now seat }
     requires few { batch.count ≤ most_batch }
-    requires frames { AreFrames queue.old.limit queue.old.held batch.count batch.size }
+    requires frames { AreFrames framer.old.limit framer.old.held batch.count batch.size }
     ensures seat { IsSeatOf hub.now result.0 }
     ensures told { (first : Moment) (left holds : Option (List ℕ))
-        → Going conn first (moment seat (G.to_come words.old) left holds) queue.old kept.old
+        → Going conn first (moment seat (G.to_come words.old) left holds) framer.old kept.old
         → TurnSo result.1 conn first (moment result.0 (G.to_come words.new) left holds)
-        queue.new kept.new }
+        framer.new kept.new }
     ensures caused { IfErr result.1 (λ end. CausedBy end ⊥
         (Rose (G.faults words.old) (G.faults words.new)) ⊥) }
     ensures counted { G.faults words.old ≤ G.faults words.new }
 {
     let mut drawn = Vec::new(alloc);
     let drew = draw_words(words, batch.count, &mut drawn);
-    let frames = queue.held().split_at(batch.size).0;
+    let frames = framer.rest().split_at(batch.size).0;
     let (seat, came) = kept.exchange(rt, hub, seat, conn, frames, drawn.as_slice());
-    let ended = end_batch(drew, came, drawn.len(), batch.size, queue);
+    let ended = end_batch(drew, came, drawn.len(), batch.size, framer);
     (seat, ended)
 }

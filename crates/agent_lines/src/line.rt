@@ -5,7 +5,7 @@ ghost use Rattle.nine.specs.Framed.{Framing};
 ghost use Rattle.nine.specs.Streams.{front, IsShort};
 ghost use Rattle.agent_hub.specs.Submits.{HubSeat, IsSeatOf};
 ghost use Rattle.agent_hub.specs.Requesting.{most_frame};
-ghost use Rattle.frame_batches.specs.Batches.{AreFrames};
+ghost use Rattle.nine.specs.Batches.{AreFrames};
 ghost use Rattle.agent_lines.specs.Lining.{CausedBy, Ends, LineEndsSo, Moment, moment, most_batch};
 ghost use Rattle.agent_lines.specs.Turns.{Going, Halts, Sends, SettledBy, Settles, SettlesSo, TurnSo};
 
@@ -15,15 +15,18 @@ use crate::input::read_more;
 use crate::kept::Kept;
 use agent_history::Event;
 use agent_hub::{Hub, HubSeat, TakesEnd};
-use frame_batches::{Batch, Behind, FrameQueue};
+use nine::{Batch, Behind, BlockFramer, Framer};
 use readiness::{Awaits, Offers, Ready, Wants};
 use std::alloc::Global;
 use std::sync::Wait;
-use wire_base::Bytes;
+use wire_base::{Bytes, NoMemory};
 use wire_streams::{Source, Words};
 
 /// The greatest size of a frame.
 const MOST_FRAME: u32 = 8216;
+
+/// How many bytes the block has that a connection is read into.
+const ROOM: u32 = 16384;
 
 /// How many frames are handed on in one turn, at most.
 const MOST_BATCH: usize = 32;
@@ -92,27 +95,27 @@ fn serve_frames<R: Wait, W: Offers, G: Words>(
     seat: HubSeat,
     conn: u64,
     batch: Batch,
-    queue: &mut FrameQueue,
+    framer: &mut BlockFramer,
     kept: &mut Kept,
     sink: &mut W,
     words: &mut G,
 ) -> (HubSeat, Result<(), LineEnd>)
     requires seat { IsSeatOf hub.now seat }
     requires few { batch.count ≤ most_batch }
-    requires frames { AreFrames queue.old.limit queue.old.held batch.count batch.size }
+    requires frames { AreFrames framer.old.limit framer.old.held batch.count batch.size }
     ensures seat { IsSeatOf hub.now result.0 }
     ensures told { (first : Moment) (left : Option (List ℕ))
         → Going conn first (moment seat (G.to_come words.old) left (W.holds sink.old))
-        queue.old kept.old
+        framer.old kept.old
         → TurnSo result.1 conn first
-        (moment result.0 (G.to_come words.new) left (W.holds sink.new)) queue.new kept.new }
+        (moment result.0 (G.to_come words.new) left (W.holds sink.new)) framer.new kept.new }
     ensures caused { IfErr result.1 (λ end. CausedBy end ⊥
         (Rose (G.faults words.old) (G.faults words.new))
         (Rose (W.faults sink.old) (W.faults sink.new))) }
     ensures counted_words { G.faults words.old ≤ G.faults words.new }
     ensures counted_writes { W.faults sink.old ≤ W.faults sink.new }
 {
-    let (seat, served) = serve_batch(rt, alloc, hub, seat, conn, batch, queue, kept, words);
+    let (seat, served) = serve_batch(rt, alloc, hub, seat, conn, batch, framer, kept, words);
     if let Err(end) = served {
         return (seat, Err(end));
     }
@@ -128,20 +131,21 @@ fn wait_or_read<R: Wait, S: Source, W: Offers, A: Awaits>(
     hub: &Hub,
     seat: HubSeat,
     conn: u64,
-    queue: &mut FrameQueue,
+    framer: &mut BlockFramer,
     kept: &mut Kept,
     source: &mut S,
     sink: &mut W,
     awaits: &mut A,
 ) -> (HubSeat, Result<(), LineEnd>)
-    requires { IsSeatOf hub.now seat }
+    requires seat { IsSeatOf hub.now seat }
+    requires short { front framer.old.limit framer.old.held ≡ IsShort }
     ensures seat { IsSeatOf hub.now result.0 }
     ensures told { (first : Moment) (words : Option (List (List ℕ)))
         → Going conn first (moment seat words (S.left source.old) (W.holds sink.old))
-        queue.old kept.old
-        → front most_frame queue.old.held ≡ IsShort
+        framer.old kept.old
+        → front most_frame framer.old.held ≡ IsShort
         → TurnSo result.1 conn first
-        (moment result.0 words (S.left source.new) (W.holds sink.new)) queue.new kept.new }
+        (moment result.0 words (S.left source.new) (W.holds sink.new)) framer.new kept.new }
     ensures caused { IfErr result.1 (λ end. CausedBy end
         (Rose (S.faults source.old) (S.faults source.new)) ⊥
         (Rose (W.faults sink.old) (W.faults sink.new))) }
@@ -154,7 +158,7 @@ fn wait_or_read<R: Wait, S: Source, W: Offers, A: Awaits>(
         replies: kept.is_owed(),
     };
     match awaits.await_one(wants) {
-        Ready::Bytes => (seat, read_more(queue, source)),
+        Ready::Bytes => (seat, read_more(framer, source)),
         Ready::Replies => collect(rt, hub, seat, conn, kept, sink),
         Ready::Room => (seat, offer(kept, sink)),
     }
@@ -167,7 +171,7 @@ fn go_on<R: Wait, S: Source, W: Offers, G: Words, A: Awaits>(
     hub: &Hub,
     seat: HubSeat,
     conn: u64,
-    queue: &mut FrameQueue,
+    framer: &mut BlockFramer,
     kept: &mut Kept,
     source: &mut S,
     sink: &mut W,
@@ -179,10 +183,10 @@ fn go_on<R: Wait, S: Source, W: Offers, G: Words, A: Awaits>(
     ensures told { (first : Moment)
         → Going conn first
         (moment seat (G.to_come words.old) (S.left source.old) (W.holds sink.old))
-        queue.old kept.old
+        framer.old kept.old
         → TurnSo result.1 conn first
         (moment result.0 (G.to_come words.new) (S.left source.new) (W.holds sink.new))
-        queue.new kept.new }
+        framer.new kept.new }
     ensures caused { IfErr result.1 (λ end. CausedBy end
         (Rose (S.faults source.old) (S.faults source.new))
         (Rose (G.faults words.old) (G.faults words.new))
@@ -198,16 +202,16 @@ fn go_on<R: Wait, S: Source, W: Offers, G: Words, A: Awaits>(
         let _room = awaits.await_one(ROOM_ALONE);
         return (seat, offer(kept, sink));
     }
-    let batch = queue.batch(MOST_BATCH);
+    let batch = framer.batch(MOST_BATCH);
     if batch.count > 0 {
-        return serve_frames(rt, alloc, hub, seat, conn, batch, queue, kept, sink, words);
+        return serve_frames(rt, alloc, hub, seat, conn, batch, framer, kept, sink, words);
     }
     match batch.behind {
         Behind::Bad(size) => {
-            let at = queue.place();
+            let at = framer.place();
             (seat, Err(LineEnd::BadFrame { at, size }))
         }
-        Behind::Short => wait_or_read(rt, hub, seat, conn, queue, kept, source, sink, awaits),
+        Behind::Short => wait_or_read(rt, hub, seat, conn, framer, kept, source, sink, awaits),
         Behind::More => unreachable!(),
     }
 }
@@ -239,10 +243,23 @@ fn converse<R: Wait, S: Source, W: Offers, G: Words, A: Awaits>(
     ensures counted_words { G.faults words.old ≤ G.faults words.new }
     ensures counted_writes { W.faults sink.old ≤ W.faults sink.new }
 {
-    let mut queue = FrameQueue::new(alloc, MOST_FRAME);
+    let mut framer = match Framer::with_room(alloc, MOST_FRAME, ROOM) {
+        Ok(framer) => framer,
+        Err(NoMemory) => return (seat, LineEnd::NoMemory),
+    };
     for _ in rt.forever() {
         let (next, went) = go_on(
-            rt, alloc, hub, seat, conn, &mut queue, kept, source, sink, words, awaits,
+            rt,
+            alloc,
+            hub,
+            seat,
+            conn,
+            &mut framer,
+            kept,
+            source,
+            sink,
+            words,
+            awaits,
         );
         seat = next;
         if let Err(end) = went {

@@ -1,15 +1,15 @@
 -- The frames of a stream, answered one by one, and what a pipe has written where it stops.
 use Rattle.std.proofs.Common.{◌≡◌, ℕ, ◌+◌, ◌<◌, ◌≤◌, List, [], ◌∷◌, ◌++◌, length, take, drop, take-append-drop, length-drop, Option, true, refl, sym, ap, subst, ◌∙◌, append_assoc, append-nil, length-append, inl, inr, arith}
 use Rattle.std.specs.Prelude.{Result, Ok, Err, OnOk, IfErr}
-use Rattle.std.specs.Io.KnownBytes.{Consumes, IsAtEnd}
-use Rattle.std.proofs.KnownBytes.{Consumes-nil, Consumes-trans}
+use Rattle.std.specs.Io.KnownBytes.{Consumes, IsAtEnd, Keeps}
+use Rattle.std.proofs.KnownBytes.{Consumes-kept, Consumes-nil, Consumes-trans}
 use Rattle.std.proofs.lemmas.List.{take-take, length-take-le}
 use Rattle.wire_streams.specs.Streams.{Gains}
-use Rattle.nine.specs.Streams.{front, IsBad, IsShort, frames}
-use Rattle.nine.specs.Framed.{Framing}
+use Rattle.nine.specs.Streams.{front, IsBad, IsShort, IsWhole, frames}
+use Rattle.nine.specs.Framed.{Framing, passed, with_more}
 use Rattle.nine.specs.Framing.{HasHandedOut, Answers as Gives}
 use Rattle.nine.specs.declared.framer.Next.TheVariants.{Whole, NotYet, BadSize}
-use Rattle.nine.proofs.StreamLaws.{continues, more_frames, front_none, handed_then, length_fed, no_frames, behind_frames, all_frames}
+use Rattle.nine.proofs.StreamLaws.{continues, fed_more, front_none, taken_out, whole_there, length_fed, no_frames, behind_frames, all_frames}
 use Rattle.auth_server.specs.Sessions.{DrawsAll}
 use Rattle.agent_history.specs.Histories.{History}
 use Rattle.agent_core.specs.declared.agent.Agent.{Agent}
@@ -22,7 +22,7 @@ use Rattle.factotum_program.specs.Sights.{GoesPart, Sight, sight}
 use Rattle.factotum_program.specs.Commands.{most_input, frames_in, Reads, Answers, EndsInside, Floods, GainsPart, EndsSo, Replies, RepliesPart}
 use Rattle.factotum_program.specs.Gathers.{Gathers, GathersPart}
 use Rattle.factotum_program.specs.Asks.{Turns, TurnsPart}
-use Rattle.factotum_program.specs.Sessions.{HasNoNext, Handed, AllHanded, StopsAt, IsCut, IsCutShort, MissesWord, Piped, Told, ToldPart}
+use Rattle.factotum_program.specs.Sessions.{IsReady, taken_by, Handed, AllHanded, StopsAt, IsCut, IsCutShort, MissesWord, Piped, Told, ToldPart}
 use Rattle.factotum_program.proofs.TurnLemmas.{after_one, all_met_one, frames_one, goes_none, goes_on, goes_one, goes_one_part, goes_part, goes_part_on, goes_still}
 use Rattle.factotum_program.proofs.PartLemmas.{gathers_none, gathers_gone, gathers_failed, all_written, part_memory, part_gone, part_failed, part_written}
 
@@ -31,6 +31,14 @@ abbrev holding : Sight → Option (List ℕ) → Sight
 holding now holds = sight now.words now.dialed holds
 
 -- ---- one frame more
+
+-- the frame that is shown is handed out
+pub gives_whole : (old new : Framing) (frame : List ℕ) → front old.limit old.held ≡ IsWhole (length frame) → frame ≡ take (length frame) old.held → new ≡ passed old (length frame) → Gives old new (Whole frame)
+gives_whole old new frame whole is dropped = subst (λ (f : Framing). Gives old f (Whole frame)) (sym dropped) (taken_out old (length frame) frame whole is)
+
+-- as many bytes as before were fed, and fewer are held
+pub still_fed : (old new : Framing) (size : ℕ) → front old.limit old.held ≡ IsWhole size → new ≡ passed old size → new.before + length new.held ≡ old.before + length old.held
+still_fed old new size whole is = subst (λ (f : Framing). f.before + length f.held ≡ old.before + length old.held) (sym is) (omega (arith, whole_there old.limit old.held size whole, length-drop size old.held))
 
 -- the frames of the stream are those that were answered, this one, and others
 frames_then : (origin now : Sight) (gathered stream : List ℕ) (turns : List Turn) (old new : Framing) (agent : Agent) (frame : List ℕ) → Handed origin now gathered stream turns old agent → Gives old new (Whole frame)
@@ -120,26 +128,17 @@ in_part frames origin now gathered t =
 all_told : (origin now : Sight) (gathered stream : List ℕ) (f : Framing) (agent : Agent) → AllHanded origin now gathered stream f agent → Told (frames_in stream) origin now gathered
 all_told origin now gathered stream f agent h = record { turns = h.turns; are = h.are; goes = h.handed.goes; met = h.handed.met; told = h.handed.told }
 
--- no next frame comes
-pub stops_between : (status : Status) (origin now : Sight) (gathered stream : List ℕ) (turns : List Turn) (f : Framing) (agent : Agent) → Handed origin now gathered stream turns f agent → HasNoNext f status → StopsAt origin now gathered stream status
-stops_between status origin now gathered stream turns f agent h (inl memory) =
-    let all : frames_in stream ≡ frames_of turns ++ frames most_frame f.held = ap (frames most_frame) h.cut.parts ∙ handed_then most_frame (frames_of turns) f.held (rw h.limit at h.cut.each) in
-    subst (StopsAt origin now gathered stream) (sym memory) (record {
-      front = frames_of turns;
-      others = frames most_frame f.held;
-      parts = all;
-      told = in_part (frames_of turns) origin now gathered (record { turns = turns; are = refl; goes = h.goes; met = h.met; told = h.told });
-    })
-stops_between status origin now gathered stream turns f agent h (inr bad) =
-    let a : Gives f f (BadSize f.before bad.0) = (bad.2, refl, refl) in
-    let c = continues f f (BadSize f.before bad.0) a stream (frames_of turns) h.cut in
+-- a bad size stands there
+pub stops_bad : (origin now : Sight) (gathered stream : List ℕ) (turns : List Turn) (f : Framing) (agent : Agent) (at size : ℕ) → Handed origin now gathered stream turns f agent → front f.limit f.held ≡ IsBad size → at ≡ f.before → StopsAt origin now gathered stream (BadFrame at size)
+stops_bad origin now gathered stream turns f agent at size h bad place =
+    let c = continues f f (BadSize at size) (bad, place, refl) stream (frames_of turns) h.cut in
     let all : frames_in stream ≡ frames_of turns = ap (λ (limit : ℕ). frames limit stream) (sym h.limit) ∙ c.0 in
     let cut : HasHandedOut f stream (frames_in stream) = subst (HasHandedOut f stream) (sym all) h.cut in
-    subst (StopsAt origin now gathered stream) (sym bad.1) (record {
-      place = cut.place;
-      bad = behind_frames most_frame f stream (IsBad bad.0) cut (ap (λ (limit : ℕ). front limit f.held) (sym h.limit) ∙ bad.2);
+    record {
+      place = place ∙ cut.place;
+      bad = behind_frames most_frame f stream (IsBad size) cut (ap (λ (limit : ℕ). front limit f.held) (sym h.limit) ∙ bad);
       told = record { turns = turns; are = sym all; goes = h.goes; met = h.met; told = h.told };
-    })
+    }
 
 -- ---- what was gathered is written
 
@@ -242,14 +241,9 @@ handed_left origin now left stream turns f agent none h = subst (λ (l : List �
 
 -- ---- a piece more
 
-pub stops_unfed : (origin now : Sight) (stream piece : List ℕ) (f : Framing) (agent : Agent) → AllHanded origin now [] stream f agent → StopsAt origin now [] (stream ++ piece) NoMemory
-stops_unfed origin now stream piece f agent h =
-    let more = more_frames most_frame stream piece in
-    record { front = frames_in stream; others = more.0; parts = more.1; told = in_part (frames_in stream) origin now [] (all_told origin now [] stream f agent h) }
-
-pub fed : (origin now : Sight) (stream piece : List ℕ) (old new : Framing) (agent : Agent) → (h : AllHanded origin now [] stream old agent) → new ≡ record { limit = old.limit; before = old.before; held = old.held ++ piece }
-    → HasHandedOut new (stream ++ piece) (frames_of h.turns) → Handed origin now [] (stream ++ piece) h.turns new agent
-fed origin now stream piece old new agent h is cut = record { cut = cut; limit = ap (λ (f : Framing). f.limit) is ∙ h.handed.limit; stands = h.handed.stands; goes = h.handed.goes; met = h.handed.met; told = h.handed.told }
+pub fed : (origin now : Sight) (stream piece : List ℕ) (old new : Framing) (agent : Agent) → (h : AllHanded origin now [] stream old agent) → new ≡ with_more old piece
+    → Handed origin now [] (stream ++ piece) h.turns new agent
+fed origin now stream piece old new agent h is = record { cut = fed_more old new stream piece (frames_of h.turns) h.handed.cut is; limit = ap (λ (f : Framing). f.limit) is ∙ h.handed.limit; stands = h.handed.stands; goes = h.handed.goes; met = h.handed.met; told = h.handed.told }
 
 -- ---- the end of the pipe
 
@@ -280,14 +274,6 @@ stop_ends (Flood limit) first next origin now input behind r s = absurd s
 -- nothing was read behind the input
 pub reads_all : (first now : Option (List ℕ)) (input : List ℕ) → Consumes first now input → length input ≤ most_input → Reads first now input []
 reads_all first now input taken few = record { taken = subst (Consumes first now) (sym (append-nil input)) taken; bounded = few; full = λ some. absurd (omega (arith, some)) }
-
--- the bytes of one read, of which so many fit
-pub reads_more : (first now next : Option (List ℕ)) (stream piece behind : List ℕ) → Consumes first now stream → Consumes now next (piece ++ behind) → length (stream ++ piece) ≤ most_input → (0 < length behind → length (stream ++ piece) ≡ most_input) → Reads first next (stream ++ piece) behind
-reads_more first now next stream piece behind taken more few full = record {
-  taken = subst (Consumes first next) (sym (append_assoc stream piece behind)) (Consumes-trans first now next stream (piece ++ behind) taken more);
-  bounded = few;
-  full = full;
-}
 
 pub taken_there : (first next : Option (List ℕ)) (origin now : Sight) (session : Session) → (p : Piped first next origin now session) → length p.stream ≡ session.framer.before + length session.framer.held
 taken_there first next origin now session p = length_fed session.framer p.stream (frames_of p.handed.turns) p.handed.handed.cut
@@ -357,37 +343,33 @@ pub cut_draws : (status : Status) → IsCut status → status ≡ WordFault → 
 cut_draws status (inl memory) drew = let e : NoMemory ≡ WordFault = sym memory ∙ drew in (cc)
 cut_draws status (inr write) drew = let e : WriteFault ≡ WordFault = sym write ∙ drew in (cc)
 
-pub next_reads : (f : Framing) (status : Status) → HasNoNext f status → status ≡ ReadFault → ⊥
-next_reads f status (inl memory) read = let e : NoMemory ≡ ReadFault = sym memory ∙ read in (cc)
-next_reads f status (inr bad) read = let e : BadFrame f.before bad.0 ≡ ReadFault = sym bad.1 ∙ read in (cc)
+-- ---- what one read gave
 
-pub next_draws : (f : Framing) (status : Status) → HasNoNext f status → status ≡ WordFault → ⊥
-next_draws f status (inl memory) drew = let e : NoMemory ≡ WordFault = sym memory ∙ drew in (cc)
-next_draws f status (inr bad) drew = let e : BadFrame f.before bad.0 ≡ WordFault = sym bad.1 ∙ drew in (cc)
+-- nothing, and all stays
+pub piped_still : (first next later : Option (List ℕ)) (origin now : Sight) (old new : Session) → Piped first next origin now old → Keeps next later → new.framer ≡ old.framer → new.agent ≡ old.agent → Piped first later origin now new
+piped_still first next later origin now old new p kept framer agent = record {
+  stream = p.stream;
+  read = Consumes-kept first next later p.stream p.read kept;
+  few = p.few;
+  handed = subst (λ (f : Framing). AllHanded origin now [] p.stream f new.agent) (sym framer) (subst (λ (a : Agent). AllHanded origin now [] p.stream old.framer a) (sym agent) p.handed);
+}
 
--- ---- what one read gave, of which so many bytes fit
-
-pub reads_part : (first now next : Option (List ℕ)) (stream chunk : List ℕ) (count fits : ℕ) → Consumes first now stream → Consumes now next (take count chunk) → fits ≤ count → count ≤ length chunk → length stream + fits ≤ most_input → (fits < count → length stream + fits ≡ most_input)
-    → Reads first next (stream ++ take fits chunk) (drop fits (take count chunk))
-reads_part first now next stream chunk count fits taken more few held within full =
-    let front : take fits (take count chunk) ≡ take fits chunk = take-take fits count chunk few in
-    let whole : take count chunk ≡ take fits chunk ++ drop fits (take count chunk) = sym (take-append-drop fits (take count chunk)) ∙ ap (λ (f : List ℕ). f ++ drop fits (take count chunk)) front in
-    let long : length (stream ++ take fits chunk) ≡ length stream + fits = omega (arith, length-append stream (take fits chunk), length-take-le fits chunk (omega (arith, few, held))) in
-    reads_more first now next stream (take fits chunk) (drop fits (take count chunk)) taken (subst (Consumes now next) whole more) (omega (arith, long, within))
-    (λ some. omega (arith, long, full (omega (arith, some, length-drop fits (take count chunk), length-take-le count chunk held))))
-
-pub behind_some : (chunk : List ℕ) (count fits : ℕ) → fits < count → count ≤ length chunk → 0 < length (drop fits (take count chunk))
-behind_some chunk count fits few held = omega (arith, few, length-drop fits (take count chunk), length-take-le count chunk held)
-
--- all that one read gave fits
-pub piped_more : (first next later : Option (List ℕ)) (origin before after : Sight) (old new : Session) (chunk : List ℕ) (count fits : ℕ) → (p : Piped first next origin before old) → Consumes next later (take count chunk) → fits ≡ count → count ≤ length chunk → length p.stream + fits ≤ most_input
-    → AllHanded origin after [] (p.stream ++ take fits chunk) new.framer new.agent → Piped first later origin after new
-piped_more first next later origin before after old new chunk count fits p more is held few h = record {
-  stream = p.stream ++ take fits chunk;
-  read = Consumes-trans first next later p.stream (take fits chunk) p.read (subst (λ (n : ℕ). Consumes next later (take n chunk)) (sym is) more);
-  few = omega (arith, few, length-append p.stream (take fits chunk), length-take-le fits chunk (omega (arith, is, held)));
+-- a piece, whose frames were answered
+pub piped_more : (first next later : Option (List ℕ)) (origin before after : Sight) (old new : Session) (piece : List ℕ) → (p : Piped first next origin before old) → Consumes next later piece → taken_by old + length piece ≤ most_input
+    → AllHanded origin after [] (p.stream ++ piece) new.framer new.agent → Piped first later origin after new
+piped_more first next later origin before after old new piece p more few h = record {
+  stream = p.stream ++ piece;
+  read = Consumes-trans first next later p.stream piece p.read more;
+  few = omega (arith, few, length-append p.stream piece, taken_there first next origin before old p);
   handed = h;
 }
+
+-- a piece, whose frames weren't all answered
+pub stops_more : (status : Status) (first next later : Option (List ℕ)) (origin before now : Sight) (session : Session) (piece : List ℕ) → (p : Piped first next origin before session) → Consumes next later piece → taken_by session + length piece ≤ most_input
+    → StopsAt origin now [] (p.stream ++ piece) status → EndsSo status first later origin now
+stops_more status first next later origin before now session piece p more few s =
+    stop_ends status first later origin now (p.stream ++ piece) []
+    (reads_all first later (p.stream ++ piece) (Consumes-trans first next later p.stream piece p.read more) (omega (arith, few, length-append p.stream piece, taken_there first next origin before session p))) s
 
 pub flooded : (first next : Option (List ℕ)) (origin now : Sight) (input behind : List ℕ) (f : Framing) (agent : Agent) → Reads first next input behind → 0 < length behind → AllHanded origin now [] input f agent → Floods first next origin now
 flooded first next origin now input behind f agent r some h = record {
@@ -398,6 +380,30 @@ flooded first next origin now input behind f agent r some h = record {
   short = behind_frames most_frame f input IsShort (all_cut origin now [] input f agent h) h.short;
   replies = all_replied origin now input f agent h;
 }
+
+-- more came than a pipe takes
+pub floods : (first next later : Option (List ℕ)) (origin now : Sight) (session : Session) (piece : List ℕ) → Piped first next origin now session → taken_by session ≡ most_input → Consumes next later piece → 0 < length piece → Floods first later origin now
+floods first next later origin now session piece p full more some =
+    let long : length p.stream ≡ most_input = taken_there first next origin now session p ∙ full in
+    flooded first later origin now p.stream piece session.framer session.agent
+    (record { taken = Consumes-trans first next later p.stream piece p.read more; bounded = p.few; full = λ _. long }) some p.handed
+
+-- ---- a session can read on
+
+pub ready_still : (old new : Session) → new.framer ≡ old.framer → IsReady old → IsReady new
+ready_still old new is r = record {
+  short = subst (λ (f : Framing). front f.limit f.held ≡ IsShort) (sym is) r.short;
+  few = subst (λ (f : Framing). f.before + length f.held ≤ most_input) (sym is) r.few;
+}
+
+pub begun_ready : (session : Session) → session.framer ≡ record { limit = most_frame; before = 0; held = [] } → IsReady session
+begun_ready session is = record {
+  short = subst (λ (f : Framing). front f.limit f.held ≡ IsShort) (sym is) (front_none most_frame [] 0 refl);
+  few = subst (λ (f : Framing). f.before + length f.held ≤ most_input) (sym is) (omega arith);
+}
+
+pub fed_length : (old new : Framing) (piece : List ℕ) → new ≡ with_more old piece → new.before + length new.held ≡ old.before + length old.held + length piece
+fed_length old new piece is = subst (λ (f : Framing). f.before + length f.held ≡ old.before + length old.held + length piece) (sym is) (omega (arith, length-append old.held piece))
 
 -- memory ran out before the first read
 pub memory_first : (first : Option (List ℕ)) (origin : Sight) → EndsSo NoMemory first first origin origin

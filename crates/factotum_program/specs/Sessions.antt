@@ -1,11 +1,9 @@
 -- Of the code alone: where a pipe stands between two reads, and what its parts tell each other.
-use Rattle.std.specs.Prelude.{◌≡◌, ◌<◌, ◌≤◌, ℕ, ◌+◌, List, [], ◌∷◌, ◌++◌, length, Option, Some, None, ◌⊎◌, true}
+use Rattle.std.specs.Prelude.{◌≡◌, ◌<◌, ◌≤◌, ℕ, ◌+◌, List, [], ◌∷◌, ◌++◌, length, Option, ◌⊎◌, true}
 use Rattle.std.specs.Io.KnownBytes.{Consumes}
-use Rattle.nine.specs.Streams.{front, IsBad, IsShort, end_of, HasBadSize}
+use Rattle.nine.specs.Streams.{front, IsShort, end_of, HasBadSize}
 use Rattle.nine.specs.Framed.{Framing}
 use Rattle.nine.specs.Framing.{HasHandedOut}
-use Rattle.nine.specs.declared.framer.Next.{Next}
-use Rattle.nine.specs.declared.framer.Next.TheVariants.{Whole, NotYet}
 use Rattle.agent_core.specs.declared.agent.Agent.{Agent}
 use Rattle.agent_core.specs.Agents.{StandsFor}
 use Rattle.auth_program.specs.declared.status.Status.{Status}
@@ -15,15 +13,6 @@ use Rattle.factotum_program.specs.Pipe.{Turn, after_turns, all_met, frames_of, m
 use Rattle.factotum_program.specs.Sights.{Goes, GoesPart, Sight}
 use Rattle.factotum_program.specs.Commands.{most_input, frames_in}
 use Rattle.factotum_program.specs.Gathers.{Gathers, GathersPart}
-
--- the frame that was found, or that there is none yet
-abbrev pub next_of : Option (List ℕ) → Next
-next_of (Some frame) = Whole frame
-next_of None = NotYet
-
--- why there is no next frame: memory, or a bad size at the front
-abbrev pub HasNoNext : Framing → Status → Type 0
-HasNoNext f status = (status ≡ NoMemory) ⊎ ((size : ℕ) × (status ≡ BadFrame f.before size) × (front f.limit f.held ≡ IsBad size))
 
 -- some frames of the stream were answered
 pub record Handed (origin now : Sight) (gathered stream : List ℕ) (turns : List Turn) (framer : Framing) (agent : Agent) : Type 0 where
@@ -88,6 +77,11 @@ StopsAt origin now gathered stream status = ⊥
 -- how many bytes a session has taken
 abbrev pub taken_by : Session → ℕ
 taken_by session = session.framer.before + length session.framer.held
+
+-- a session can read on: what it holds is no whole frame, and shows no bad size
+pub record IsReady (session : Session) : Type 0 where
+  pub short : front session.framer.limit session.framer.held ≡ IsShort
+  pub few : taken_by session ≤ most_input
 
 -- memory ran out, or a write failed
 abbrev pub IsCut : Status → Type 0

@@ -5,8 +5,8 @@ ghost use Rattle.std.specs.Prelude.{◌≡◌, ◌∷◌, ◌+◌, ◌<◌, ◌�
 ghost use Rattle.wire_streams.specs.Causes.{Rose};
 ghost use Rattle.wire_streams.specs.Streams.{Gains};
 ghost use Rattle.nine.specs.Decoding.{IsFrame};
-ghost use Rattle.nine.specs.Framing.{Answers};
-ghost use Rattle.agent_history.specs.declared.event.Event.TheVariants.{Request, Take};
+ghost use Rattle.nine.specs.Streams.{front, IsShort};
+ghost use Rattle.agent_history.specs.declared.event.Event.TheVariants.{Take};
 ghost use Rattle.agent_history.specs.Replies.{untaken};
 ghost use Rattle.agent_history.specs.Histories.{History, deeds};
 ghost use Rattle.agent_core.specs.Agents.{SameAgent, StandsFor, TakesOne, gives_in, kept_replies};
@@ -17,13 +17,13 @@ ghost use Rattle.factotum_program.specs.Sights.{Sight, sight};
 ghost use Rattle.factotum_program.specs.Asks.{Turns, TurnsPart};
 ghost use Rattle.factotum_program.specs.Gathers.{Gathers, GathersPart};
 ghost use Rattle.factotum_program.specs.declared.frames.TheConstants.{MOST_GATHERED};
-ghost use Rattle.factotum_program.specs.Sessions.{next_of, HasNoNext, Handed, AllHanded, StopsAt, IsCut};
+ghost use Rattle.factotum_program.specs.Sessions.{Handed, AllHanded, StopsAt, IsCut};
 
 use crate::asks::ask_all;
 use agent_core::Agent;
 use agent_history::Event;
 use auth_program::Status;
-use nine::{Framer, Next};
+use nine::{BlockFramer, Peek};
 use std::alloc::Global;
 use wire_base::{Bytes, NoMemory};
 use wire_streams::{Dialer, Sink, Words, write_all};
@@ -158,43 +158,24 @@ fn take_all<W: Sink>(agent: &mut Agent, replies: &mut Bytes, output: &mut W) -> 
     Ok(())
 }
 
-// Hands one frame to the agent, with its word.
-fn ask(agent: &mut Agent, frame: Bytes, word: [u8; 8], replies: &mut Bytes) -> Result<(), Status>
-    requires whole { IsFrame frame }
-    ensures stands { OnOk result ((H : History) → StandsFor H agent.old
-        → StandsFor (Request 0 frame word ∷ H) agent.new) }
-    ensures told { OnOk result ((H : History) → StandsFor H agent.old
-        → replies.new ≡ replies.old) }
-    ensures err { IfErr result (λ status. status ≡ Status.NoMemory) }
-    ensures err_replies { OnErr result (replies.new ≡ replies.old) }
-{
-    let request = Event::Request {
-        conn: CONNECTION,
-        frame,
-        word,
-    };
-    agent.step(&request, replies)?;
-    Ok(())
-}
-
 // Hands one frame to the agent, asks what that raises, and gathers the replies.
 fn answer_frame<W: Sink, D: Dialer>(
     alloc: Global,
     agent: &mut Agent,
-    frame: Bytes,
+    frame: &[u8],
     word: [u8; 8],
     replies: &mut Bytes,
     output: &mut W,
     dial: &mut D,
 ) -> Result<(), Status>
-    requires whole { IsFrame frame }
+    requires whole { IsFrame frame.now }
     ensures ok { OnOk result ((origin : Option (List ℕ)) (H : History) → StandsFor H agent.old
         → Gathers origin (W.holds output.old) replies.old (text_of H)
-        → Turns H frame word (D.told dial.old) (D.told dial.new)
+        → Turns H frame.now word (D.told dial.old) (D.told dial.new)
         origin (W.holds output.new) replies.new agent.new) }
     ensures part { IfErr result (λ status. (origin : Option (List ℕ)) (H : History)
         → StandsFor H agent.old → Gathers origin (W.holds output.old) replies.old (text_of H)
-        → TurnsPart status H frame word (D.told dial.old) (D.told dial.new)
+        → TurnsPart status H frame.now word (D.told dial.old) (D.told dial.new)
         origin (W.holds output.new) replies.new) }
     ensures cut { IfErr result IsCut }
     ensures cause { IfErr result (λ status. status ≡ Status.WriteFault
@@ -202,21 +183,9 @@ fn answer_frame<W: Sink, D: Dialer>(
     ensures counted { W.faults output.old ≤ W.faults output.new }
     ensures counted_dials { D.faults dial.old ≤ D.faults dial.new }
 {
-    ask(agent, frame, word, replies)?;
+    agent.request(CONNECTION, frame, word)?;
     ask_all(alloc, agent, dial)?;
     take_all(agent, replies, output)
-}
-
-// The next frame, where it is whole.
-fn next_frame(framer: &mut Framer) -> Result<Option<Bytes>, Status>
-    ensures ok { IfOk result (λ frame. Answers framer.old framer.new (next_of frame)) }
-    ensures err { IfErr result (λ status. HasNoNext framer.old status) }
-{
-    match framer.next()? {
-        Next::Whole(frame) => Ok(Some(frame)),
-        Next::NotYet => Ok(None),
-        Next::BadSize { at, size } => Err(Status::BadFrame { at, size }),
-    }
 }
 
 // Draws a word for a frame.
@@ -238,7 +207,7 @@ fn draw<G: Words>(rand: &mut G) -> Result<[u8; 8], Status>
 fn gather_frames<W: Sink, D: Dialer, G: Words>(
     alloc: Global,
     agent: &mut Agent,
-    framer: &mut Framer,
+    framer: &mut BlockFramer,
     replies: &mut Bytes,
     output: &mut W,
     dial: &mut D,
@@ -256,6 +225,7 @@ fn gather_frames<W: Sink, D: Dialer, G: Words>(
         replies.new stream status) }
     ensures fed { OnOk result (framer.new.before + length framer.new.held
         ≡ framer.old.before + length framer.old.held) }
+    ensures short { OnOk result (front framer.new.limit framer.new.held ≡ IsShort) }
     ensures which { IfErr result (λ status. status ≡ Status.ReadFault → ⊥) }
     ensures cause { IfErr result (λ status. status ≡ Status.WriteFault
         → Rose (W.faults output.old) (W.faults output.new)) }
@@ -265,11 +235,16 @@ fn gather_frames<W: Sink, D: Dialer, G: Words>(
     ensures counted_dials { D.faults dial.old ≤ D.faults dial.new }
     ensures counted_words { G.faults rand.old ≤ G.faults rand.new }
 {
-    while let Some(frame) = next_frame(framer)? {
+    loop {
+        let frame = match framer.peek() {
+            Peek::Whole(frame) => frame,
+            Peek::NotYet => return Ok(()),
+            Peek::BadSize { at, size } => return Err(Status::BadFrame { at, size }),
+        };
         let word = draw(rand)?;
         answer_frame(alloc, agent, frame, word, replies, output, dial)?;
+        framer.drop_frame();
     }
-    Ok(())
 }
 
 /// Answers the frames that are whole, and writes what was gathered of their replies, whatever stopped the answers. Where
@@ -277,7 +252,7 @@ fn gather_frames<W: Sink, D: Dialer, G: Words>(
 pub(crate) fn answer_frames<W: Sink, D: Dialer, G: Words>(
     alloc: Global,
     agent: &mut Agent,
-    framer: &mut Framer,
+    framer: &mut BlockFramer,
     replies: &mut Bytes,
     output: &mut W,
     dial: &mut D,
@@ -295,6 +270,7 @@ pub(crate) fn answer_frames<W: Sink, D: Dialer, G: Words>(
         [] stream status) }
     ensures fed { OnOk result (framer.new.before + length framer.new.held
         ≡ framer.old.before + length framer.old.held) }
+    ensures short { OnOk result (front framer.new.limit framer.new.held ≡ IsShort) }
     ensures which { IfErr result (λ status. status ≡ Status.ReadFault → ⊥) }
     ensures cause { IfErr result (λ status. status ≡ Status.WriteFault
         → Rose (W.faults output.old) (W.faults output.new)) }

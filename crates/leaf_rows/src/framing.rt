@@ -1,10 +1,14 @@
 // Streams of 9P that come in pieces, and are cut into their frames.
+ghost use Rattle.std.specs.Prelude.{◌≡◌, ◌≤◌};
+ghost use Rattle.nine.specs.Streams.{front, IsShort};
+
 use crate::fields::{Came, bytes_at, verb_of, word_at};
 use anyhow::bail;
-use nine::{Framer, Next};
+use nine::{BlockFramer, Framer, Next, Peek};
 use row_files::{Report, Row};
 use std::alloc::Global;
 use wire_base::Bytes;
+use wire_streams::{Got, Source, SteadySource};
 
 pub(crate) fn play(
     alloc: Global,
@@ -26,6 +30,7 @@ fn answer(alloc: Global, row: &Row, came: &mut Came) -> anyhow::Result<()> {
     match verb_of(row) {
         "cut" => cut(alloc, limit, frames, came),
         "byte-by-byte" => in_bytes(alloc, limit, frames, true, came),
+        "block" => in_block(alloc, limit, frames, came),
         "late" => in_bytes(alloc, limit, frames, false, came),
         "size" => size(alloc, limit, bytes_at(row, 2), bytes_at(row, 3), came),
         _ => Ok(came.word("no such verb")?),
@@ -107,6 +112,107 @@ fn has_frames(
     take_all(&mut framer, &mut taken)?;
     let size = front.len().saturating_add(back.len());
     Ok(taken.as_slice() == wanted && framer.held() == 0 && framer.place() == size as u64)
+}
+
+// How long the stream is, and at how many places a first read of it can end, so that a block shows the same frames: one with
+// room for a frame alone, and one with room for more.
+fn in_block(alloc: Global, limit: u32, frames: &[Bytes], came: &mut Came) -> anyhow::Result<()> {
+    let stream = joined(alloc, frames, b"")?;
+    let wanted = joined(alloc, frames, b"|")?;
+    came.count(stream.len())?;
+    if !(7..=65_536).contains(&limit) {
+        bail!("no limit of a block");
+    }
+    for more in [0, 100] {
+        came.count(count_reads(
+            alloc,
+            limit,
+            limit + more,
+            stream.as_slice(),
+            wanted.as_slice(),
+        )?)?;
+    }
+    Ok(())
+}
+
+fn count_reads(
+    alloc: Global,
+    limit: u32,
+    room: u32,
+    stream: &[u8],
+    wanted: &[u8],
+) -> anyhow::Result<usize>
+    requires least { 7 ≤ limit }
+    requires enough { limit ≤ room }
+{
+    let mut count: usize = 0;
+    for first in 1..=stream.len() {
+        let mut framer = if room == limit {
+            Framer::with_block(alloc, limit)?
+        } else {
+            Framer::with_room(alloc, limit, room)?
+        };
+        if shows_frames(alloc, &mut framer, first, stream, wanted)? {
+            count = count.saturating_add(1);
+        }
+    }
+    Ok(count)
+}
+
+// Whether a framer shows these frames of a stream, of which it reads so many bytes first, and nothing is held behind them.
+fn shows_frames(
+    alloc: Global,
+    framer: &mut BlockFramer,
+    first: usize,
+    stream: &[u8],
+    wanted: &[u8],
+) -> anyhow::Result<bool> {
+    let mut bytes = Vec::new(alloc);
+    bytes.extend_from_slice(stream)?;
+    let mut source = SteadySource::new(bytes);
+    let mut taken = Bytes::new(alloc);
+    if !show_one(framer, first, &mut source, &mut taken)? {
+        return Ok(false);
+    }
+    for _ in 0..64 {
+        if !show_one(framer, 0, &mut source, &mut taken)? {
+            break;
+        }
+    }
+    Ok(taken.as_slice() == wanted && framer.held() == 0 && framer.taken() == stream.len() as u64)
+}
+
+// Takes the frame that is shown; where none is, reads at most so many bytes, or at 0 as many as have room. Whether there may
+// be more.
+fn show_one<R: Source>(
+    framer: &mut BlockFramer,
+    most: usize,
+    source: &mut R,
+    taken: &mut Bytes,
+) -> anyhow::Result<bool> {
+    match framer.peek() {
+        Peek::Whole(frame) => {
+            taken.push(b'|')?;
+            taken.append(frame)?;
+        }
+        Peek::NotYet => return read_on(framer, most, source),
+        Peek::BadSize { .. } => return Ok(false),
+    }
+    framer.drop_frame();
+    Ok(true)
+}
+
+// Reads on, until the source is at its end.
+fn read_on<R: Source>(framer: &mut BlockFramer, most: usize, source: &mut R) -> anyhow::Result<bool>
+    requires { front framer.old.limit framer.old.held ≡ IsShort }
+{
+    if framer.taken() >= 10_000 {
+        bail!("a long stream");
+    }
+    if most > 0 {
+        return Ok(framer.fill_within(most, source) != Got::End);
+    }
+    Ok(framer.fill(source) != Got::End)
 }
 
 // A stream comes byte by byte, and its frames are taken as soon as they are whole, or all in the end: how much is held

@@ -1,39 +1,40 @@
-use Rattle.std.proofs.Common.{◌++◌, take, drop, refl, arith}
+use Rattle.std.proofs.Common.{◌++◌, refl, arith}
 use Rattle.std.proofs.lemmas.Result.{err_from_is_err_and}
-use Rattle.factotum_program.proofs.PipeLemmas.{reads_part, behind_some, flooded, piped_more, stop_ends, taken_there}
+use Rattle.factotum_program.proofs.PipeLemmas.{fed, fed_length, piped_more, piped_still, read_so_far, ready_still, stops_more}
 use Rattle.factotum_program.proofs.pipe.answer_piece.Goals as goal
 
-pub returns-in_err-answer_bytes-clause-err : goal.returns-in_err-answer_bytes-clause-err
-returns-in_err-answer_bytes-clause-err g c =
+pub returns-in-End-clause-ok : goal.returns-in-End-clause-ok
+returns-in-End-clause-ok g c = let got = c.in-End.ensures.bytes in
+    λ first origin q. piped_still first _ _ origin _ c.args.session.now _ q got.1 got.2 refl
+
+pub returns-in-End-clause-ready : goal.returns-in-End-clause-ready
+returns-in-End-clause-ready g c = ready_still c.args.session.now _ c.in-End.ensures.bytes.2 c.requires
+
+pub returns-in-Failed-clause-err : goal.returns-in-Failed-clause-err
+returns-in-Failed-clause-err g c = let got = c.in-Failed.ensures.bytes in
+    λ first origin q. read_so_far first _ origin _ c.args.session.now (piped_still first _ _ origin _ c.args.session.now c.args.session.now q got.0 refl refl)
+
+pub returns-in_err-answer_frames-clause-err : goal.returns-in_err-answer_frames-clause-err
+returns-in_err-answer_frames-clause-err g c =
     let p = err_from_is_err_and c.from_residual.result c.from_residual.ensures.1 in
     let got = c.in-Bytes.ensures.bytes in
-    let fits = c.min-fits.result in
-    rw (p.1, p.2) (λ first origin q.
-    let there = taken_there first _ origin _ _ q in
-    stop_ends _ first _ origin _ (q.stream ++ take fits c.read.new.out) (drop fits (take c.in-Bytes.count c.read.new.out))
-    (reads_part first _ _ q.stream c.read.new.out c.in-Bytes.count fits q.read got.2 (omega (arith, c.min-fits.ensures)) got.1
-    (omega (arith, c.min-fits.ensures, c.taken_by.ensures, c.requires.few, there)) (λ less. omega (arith, less, c.min-fits.ensures, c.taken_by.ensures, c.requires.few, there)))
-    (c.in_err-answer_bytes.ensures.err origin q.stream q.handed))
-
-pub returns-then-fits-count-clause-err : goal.returns-then-fits-count-clause-err
-returns-then-fits-count-clause-err g c =
-    let got = c.in-Bytes.ensures.bytes in
-    let fits = c.min-fits.result in
-    λ first origin q.
-    let there = taken_there first _ origin _ _ q in (
-      refl,
-      flooded first _ origin _ (q.stream ++ take fits c.read.new.out) (drop fits (take c.in-Bytes.count c.read.new.out)) _ _
-          (reads_part first _ _ q.stream c.read.new.out c.in-Bytes.count fits q.read got.2 (omega (arith, c.min-fits.ensures)) got.1
-          (omega (arith, c.min-fits.ensures, c.taken_by.ensures, c.requires.few, there)) (λ less. omega (arith, less, c.min-fits.ensures, c.taken_by.ensures, c.requires.few, there)))
-          (behind_some c.read.new.out c.in-Bytes.count fits c.if-fits-count.true got.1)
-          (c.in_ok-answer_bytes.ensures.ok origin q.stream q.handed),
-    )
+    let few = omega (arith, got.0, got.1.2, c.taken.ensures, c.requires.few) in
+    rw (p.1, p.2) (λ first origin q. stops_more _ first _ _ origin _ _ c.args.session.now got.1.0 q got.1.3 few
+    (c.in_err-answer_frames.ensures.err origin (q.stream ++ got.1.0) q.handed.turns (fed origin _ q.stream got.1.0 c.args.session.now.framer c.fill_within.new.self c.args.session.now.agent q.handed got.1.4)))
 
 pub returns-clause-ok : goal.returns-clause-ok
 returns-clause-ok g c =
     let got = c.in-Bytes.ensures.bytes in
-    let fits = c.min-fits.result in
-    λ first origin q.
-    let there = taken_there first _ origin _ _ q in
-    piped_more first _ _ origin _ _ c.args.session.now c.answer_bytes.new.session c.read.new.out c.in-Bytes.count fits q got.2 (omega (arith, c.min-fits.ensures, c.if-fits-count.false)) got.1
-    (omega (arith, c.min-fits.ensures, c.taken_by.ensures, c.requires.few, there)) (c.in_ok-answer_bytes.ensures.ok origin q.stream q.handed)
+    let few = omega (arith, got.0, got.1.2, c.taken.ensures, c.requires.few) in
+    λ first origin q. piped_more first _ _ origin _ _ c.args.session.now _ got.1.0 q got.1.3 few
+    (c.in_ok-answer_frames.ensures.ok origin (q.stream ++ got.1.0) q.handed.turns (fed origin _ q.stream got.1.0 c.args.session.now.framer c.fill_within.new.self c.args.session.now.agent q.handed got.1.4))
+
+pub returns-clause-ready : goal.returns-clause-ready
+returns-clause-ready g c = let got = c.in-Bytes.ensures.bytes in record {
+  short = c.in_ok-answer_frames.ensures.short;
+  few = omega (arith, got.0, got.1.2, c.taken.ensures, c.requires.few, c.in_ok-answer_frames.ensures.fed, fed_length c.args.session.now.framer c.fill_within.new.self got.1.0 got.1.4);
+}
+
+pub returns-clause-more : goal.returns-clause-more
+returns-clause-more g c = let got = c.in-Bytes.ensures.bytes in
+    λ more. omega (arith, got.1.1, got.1.2, c.in_ok-answer_frames.ensures.fed, fed_length c.args.session.now.framer c.fill_within.new.self got.1.0 got.1.4)

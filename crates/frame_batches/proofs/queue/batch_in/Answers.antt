@@ -1,6 +1,0 @@
-use Rattle.std.proofs.Common.{drop, length-drop, sym, arith, ◌∙◌}
-use Rattle.nine.proofs.StreamLaws.{whole_there}
-use Rattle.frame_batches.proofs.queue.batch_in.Goals as goal
-
-pub overflow_add-size : goal.overflow_add-size
-overflow_add-size c = omega (arith, whole_there c.args.limit _ c.in-Frame.length (sym c.in-Frame.ensures), length-drop c.loop-count.size c.args.held.now, c.loop-count.invariant.within)
