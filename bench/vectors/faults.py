@@ -5,7 +5,8 @@ last, sessions.rows: usage faults.py [FOLDER].
 What is answered is the manual's (Plan 9: section 5, factotum(4), authsrv(6)), APOP's and CRAM-MD5's are of RFC 1939 and RFC 2195,
 and the records of scripts are worlds.py's. What a failed call leaves is counted here from these texts: a pipe and a script are
 read by 65,536 bytes, authsrv reads of a request what it lacks, a pipe writes its replies once it has 65,536 bytes of them or has
-no whole frame left, authsrv writes each answer, and a script each line of its record. Nothing of the project's own code is used.
+no whole frame left, authsrv writes each answer, and a script each line of its record. A frame that comes with a read of its own
+is answered with a write of its own. Nothing of the project's own code is used.
 """
 import pathlib
 import struct
@@ -38,6 +39,8 @@ HEAD = """\
 #                                 and the word that is drawn next, or `failed`, and the calls of the dialer: each is
 #                                 `SHAPE CONV REQUEST heard`, the same with `failed`, or `close CONV`; SHAPE says where the
 #                                 answer ends, and CONV is the number of the conversation that asks
+#     frames WORDS INPUT FAULT.. => STATUS LINE WRITTEN WORD CALL..
+#                                 the same, each frame of the input coming with a read of its own
 #
 # A field `$NAME` stands for a text that a row above gave this name, and `@FILE` for the bytes of a file that lies beside
 # this one:
@@ -109,6 +112,10 @@ class Texts:
     def case(self, words, given, faults, end, wrote, word, *calls):
         """A command, the word that is drawn next, and the calls of the dialer."""
         self.row("calls", words, given, faults, end, wrote, [show(word), *calls])
+
+    def one_by_one(self, given, faults, end, wrote, word, *calls):
+        """A pipe whose frames come one by one, the word that is drawn next, and the calls of the dialer."""
+        self.row("frames", "pipe", given, faults, end, wrote, [show(word), *calls])
 
     def left(self, words, given, faults, end, wrote, behind):
         """A command, and what the next read of its input gives."""
@@ -203,6 +210,21 @@ def frames_word(number):
     return b"frame%03d" % number
 
 
+def frame_faults(rows, given, wrote, calls_of):
+    """Each frame comes with a read of its own, and each reply goes with a write of its own."""
+    count = len(wrote) - 1
+    behind = frames_word(count + 1)
+    for fault in range(1, count + 2):
+        rows.one_by_one(given, [("read", fault)], READ_FAULT, wrote[fault - 1], frames_word(fault), *calls_of(fault - 1))
+    rows.one_by_one(given, [("read", count + 2)], FINE, wrote[-1], behind, *calls_of(count))
+    for fault in range(1, count + 1):
+        rows.one_by_one(given, [("write", fault)], WRITE_FAULT, wrote[fault - 1], frames_word(fault + 1), *calls_of(fault))
+    rows.one_by_one(given, [("write", count + 1)], FINE, wrote[-1], behind, *calls_of(count))
+    for fault in range(1, count + 1):
+        rows.one_by_one(given, [("word", fault)], WORD_FAULT, wrote[fault - 1], frames_word(fault), *calls_of(fault - 1))
+    rows.one_by_one(given, [("word", count + 1)], FINE, wrote[-1], b"failed", *calls_of(count))
+
+
 def server_faults(rows):
     rows.about("A server of APOP asks for a challenge and for a word on what it is given. Each frame has a word of its own.")
     pairs, first, second = server_session(2)
@@ -238,11 +260,14 @@ def server_faults(rows):
         lost = b"".join(reply for _, reply in server_session(heard)[0])
         rows.text("told_after_%d" % heard, lost)
         case([("dial", heard + 1)], FINE, lost, behind, calls)
+        rows.one_by_one("$server", [("dial", heard + 1)], FINE, lost, behind, *calls)
     case([("dial", 3)], FINE, told, behind, calls_of(len(pairs)))
+    rows.one_by_one("$server", [("dial", 3)], FINE, told, behind, *calls_of(len(pairs)))
+    frame_faults(rows, "$server", wrote, calls_of)
 
 
 def pipe_faults(rows, name, about, pairs):
-    """All frames come with one read, and all replies go with one write."""
+    """All frames come with one read, and all replies go with one write; and then one by one."""
     rows.about(about)
     asked, told = b"".join(ask for ask, _ in pairs), b"".join(reply for _, reply in pairs)
     assert len(asked) < CHUNK and len(told) < CHUNK
@@ -258,6 +283,7 @@ def pipe_faults(rows, name, about, pairs):
         rows.case("pipe", "$" + name, [("read", fault)], end, written, word)
     rows.case("pipe", "$" + name, [("write", 1)], WRITE_FAULT, b"", behind)
     rows.case("pipe", "$" + name, [("write", 2)], FINE, told, behind)
+    frame_faults(rows, "$" + name, wrote, lambda _: [])
 
 
 def written_together(replies):

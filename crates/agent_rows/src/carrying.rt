@@ -6,7 +6,7 @@ ghost use Rattle.agent_core.specs.Agents.{StandsFor};
 ghost use Rattle.agent_core.specs.Events.{Answers, IsEvent};
 
 use crate::unlike::Unlike;
-use agent_core::{Agent, TakeEnd};
+use agent_core::{Agent, Served, TakeEnd};
 use agent_history::{Event, StepAnswer};
 use std::alloc::Global;
 use wire_base::{Bytes, NoMemory, Shape, get_u32};
@@ -25,12 +25,29 @@ pub(crate) struct Asked {
     pub(crate) question: Bytes,
 }
 
+// Enters an event, and once more where memory ran out for it: that left agent and `out` as they were.
+fn enter(agent: &mut Agent, event: &Event, out: &mut Bytes) -> Result<StepAnswer, Unlike>
+    requires { IsEvent event.now }
+    ensures answer { IfOk result (λ a. (H : History) → StandsFor H agent.old
+        → Answers H event.now a out.old out.new) }
+    ensures stands { OnOk result ((H : History) → StandsFor H agent.old
+        → StandsFor (event.now ∷ H) agent.new) }
+{
+    match agent.step(event, out) {
+        Ok(answer) => Ok(answer),
+        Err(NoMemory) => match agent.step(event, out) {
+            Ok(answer) => Ok(answer),
+            Err(NoMemory) => Err(Unlike::Twice),
+        },
+    }
+}
+
 // Carries out one event: what is answered, and the bytes that are put out.
 pub(crate) fn carry_out(
     alloc: Global,
     agent: &mut Agent,
     event: &Event,
-) -> Result<(StepAnswer, Bytes), NoMemory>
+) -> Result<(StepAnswer, Bytes), Unlike>
     requires { IsEvent event.now }
     ensures answer { IfOk result (λ said. (H : History) → StandsFor H agent.old
         → Answers H event.now said.0 [] said.1) }
@@ -38,7 +55,7 @@ pub(crate) fn carry_out(
         → StandsFor (event.now ∷ H) agent.new) }
 {
     let mut out = Bytes::new(alloc);
-    let answer = agent.step(event, &mut out)?;
+    let answer = enter(agent, event, &mut out)?;
     Ok((answer, out))
 }
 
@@ -106,6 +123,46 @@ pub(crate) fn take(alloc: Global, agent: &mut Agent, conn: u64) -> Result<Bytes,
     Ok(out)
 }
 
+// Serves a frame, and once more where memory ran out for it.
+fn serve(
+    agent: &mut Agent,
+    conn: u64,
+    frame: &[u8],
+    word: [u8; 8],
+    out: &mut Bytes,
+) -> Result<Served, Unlike>
+    requires { IsFrame frame.now }
+{
+    match agent.serve(conn, frame, word, out) {
+        Ok(served) => Ok(served),
+        Err(NoMemory) => match agent.serve(conn, frame, word, out) {
+            Ok(served) => Ok(served),
+            Err(NoMemory) => Err(Unlike::Twice),
+        },
+    }
+}
+
+// Serves a frame, and takes the replies that were left for want of memory.
+fn serve_all(
+    agent: &mut Agent,
+    conn: u64,
+    frame: &[u8],
+    word: [u8; 8],
+    out: &mut Bytes,
+) -> Result<Served, Unlike>
+    requires { IsFrame frame.now }
+{
+    let served = serve(agent, conn, frame, word, out)?;
+    if served.end != TakeEnd::NoRoom {
+        return Ok(served);
+    }
+    let more = agent.take_all(conn, out);
+    Ok(Served {
+        taken: served.taken.saturating_add(more.taken),
+        end: more.end,
+    })
+}
+
 // Serves a frame, which has one reply, if any.
 pub(crate) fn converse(
     alloc: Global,
@@ -116,7 +173,7 @@ pub(crate) fn converse(
 ) -> Result<Bytes, Unlike> {
     let frame = whole(alloc, request)?;
     let mut out = Bytes::new(alloc);
-    let served = agent.serve(conn, frame.as_slice(), word, &mut out)?;
+    let served = serve_all(agent, conn, frame.as_slice(), word, &mut out)?;
     if served.end != TakeEnd::NoneLeft || served.taken > 1 {
         return Err(Unlike::Event);
     }

@@ -1,5 +1,6 @@
 //! agent_rows: sessions with two agents, played from files of rows, which say what has to come of each. It writes the rows
 //! that weren't as wanted, how many cases each file has, and how many there are in all; it ends with 1 where a row wasn't.
+//! Its words name files that it plays in place of these. An event for which memory ran out is entered once more.
 #![tactic(auto)]
 
 mod asks;
@@ -18,6 +19,7 @@ mod verbs;
 
 use plays::play;
 use row_files::{Report, read_rows};
+use std::env::{self, Args};
 use std::fs;
 use std::process::ExitCode;
 use std::str::from_utf8;
@@ -63,15 +65,49 @@ fn tell(rt: &HostRuntime, file: &str, report: &Report) -> anyhow::Result<()> {
     Ok(())
 }
 
-fn main(rt: HostRuntime) -> anyhow::Result<ExitCode> {
-    let mut cases: u64 = 0;
-    let mut unlike: u64 = 0;
-    for file in &FILES {
-        let report = play_file(&rt, file)?;
-        tell(&rt, file, &report)?;
-        cases = cases.saturating_add(report.cases());
-        unlike = unlike.saturating_add(report.unlike());
+// What came of files that were played.
+#[derive(Clone, Copy)]
+struct Counts {
+    cases: u64,
+    unlike: u64,
+}
+
+impl Counts {
+    // Plays one file more.
+    fn play(self, rt: &HostRuntime, file: &str) -> anyhow::Result<Counts> {
+        let report = play_file(rt, file)?;
+        tell(rt, file, &report)?;
+        Ok(Counts {
+            cases: self.cases.saturating_add(report.cases()),
+            unlike: self.unlike.saturating_add(report.unlike()),
+        })
     }
+}
+
+// Plays these files, or all where none is named.
+fn play_files(rt: &HostRuntime, named: Args) -> anyhow::Result<Counts> {
+    let mut counts = Counts {
+        cases: 0,
+        unlike: 0,
+    };
+    let mut is_named = false;
+    for file in named {
+        counts = counts.play(rt, file.as_str())?;
+        is_named = true;
+    }
+    if is_named {
+        return Ok(counts);
+    }
+    for file in &FILES {
+        counts = counts.play(rt, file)?;
+    }
+    Ok(counts)
+}
+
+fn main(rt: HostRuntime) -> anyhow::Result<ExitCode> {
+    let mut words = env::args(&rt)?;
+    let _program = words.next();
+    let Counts { cases, unlike } = play_files(&rt, words)?;
     println!(rt; "in all: {cases} cases")?;
     Ok(ExitCode::from(u8::from(unlike != 0)))
 }

@@ -1,14 +1,15 @@
 // The authentication server of the logins: its tables, and the connection over which a login's questions come.
-ghost use Rattle.std.specs.Prelude.{◌<◌};
+ghost use Rattle.std.specs.Prelude.{◌≡◌, ◌<◌, IfOk, Some, length};
 ghost use Rattle.auth_server.specs.Answers.{most_wrong};
+ghost use Rattle.auth_server.specs.Requests.{kind_of, needed};
 
 use crate::unlike::Unlike;
 use anyhow::bail;
 use attr_tuples::is_dom;
 use auth_server::{AsStep, AuthCore, Session};
-use auth_tables::{KeyTable, SpeaksTable, parse_keys, parse_speaks};
+use auth_tables::{KeyTable, SpeaksTable, TableFault, parse_keys, parse_speaks};
 use std::alloc::Global;
-use wire_base::{Bytes, Text, get_u64};
+use wire_base::{Bytes, NoMemory, Text, get_u64};
 
 const KEYS: &[u8] = b"user=ann !password=annpass\nuser=srv !password=srvpass\n";
 
@@ -46,7 +47,8 @@ fn words_of(given: &[u8]) -> Result<[[u8; 8]; 3], Unlike> {
 fn keys(alloc: Global) -> anyhow::Result<KeyTable> {
     match parse_keys(alloc, KEYS) {
         Ok(keys) => Ok(keys),
-        Err(_) => bail!("no keys"),
+        Err(TableFault::NoMemory) => bail!("out of memory"),
+        Err(TableFault::Line { .. }) => bail!("no keys"),
     }
 }
 
@@ -54,7 +56,29 @@ fn keys(alloc: Global) -> anyhow::Result<KeyTable> {
 fn speaks(alloc: Global) -> anyhow::Result<SpeaksTable> {
     match parse_speaks(alloc, SPEAKS) {
         Ok(speaks) => Ok(speaks),
-        Err(_) => bail!("no speakers"),
+        Err(TableFault::NoMemory) => bail!("out of memory"),
+        Err(TableFault::Line { .. }) => bail!("no speakers"),
+    }
+}
+
+// The answer to the next request of a session, which is put once more where memory ran out for it.
+fn step(
+    core: &AuthCore,
+    session: &mut Session,
+    request: &[u8],
+    words: &[[u8; 8]; 3],
+    out: &mut Bytes,
+) -> Result<AsStep, Unlike>
+    requires whole { needed session.old.held (kind_of request.now) ≡ Some (length request.now) }
+    requires goes_on { session.old.wrong < most_wrong }
+    ensures { IfOk result (λ step. step ≡ AsStep.Replied → session.new.wrong < most_wrong) }
+{
+    match core.step(session, request, words, out) {
+        Ok(step) => Ok(step),
+        Err(NoMemory) => match core.step(session, request, words, out) {
+            Ok(step) => Ok(step),
+            Err(NoMemory) => Err(Unlike::Twice),
+        },
     }
 }
 
@@ -106,7 +130,7 @@ impl Server {
             _ => return Err(Unlike::Question),
         }
         let mut out = Bytes::new(alloc);
-        match self.core.step(&mut session, question, words, &mut out)? {
+        match step(&self.core, &mut session, question, words, &mut out)? {
             AsStep::Replied => self.line = Some(Line { session }),
             AsStep::TooManyWrong => {}
         }

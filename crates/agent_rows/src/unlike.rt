@@ -5,6 +5,8 @@ use wire_base::NoMemory;
 #[derive(Clone, Copy, Debug, PartialEq, Eq)]
 pub(crate) enum Unlike {
     NoMemory,
+    /// Memory ran out for an event or a question, and once more when it was put again.
+    Twice,
     /// No row has this verb.
     Verb,
     /// A field is missing, or isn't what stands at its place.
@@ -34,6 +36,7 @@ impl Unlike {
     pub(crate) fn text(self) -> &'static str {
         match self {
             Unlike::NoMemory => "out of memory",
+            Unlike::Twice => "out of memory twice",
             Unlike::Verb => "no such verb",
             Unlike::Field => "a field is missing, or isn't what stands there",
             Unlike::Name => "no such name",

@@ -1,6 +1,6 @@
 // Rows that carry out commands on objects in memory and on files.
 use crate::came::Came;
-use crate::memory::Memory;
+use crate::memory::{Around, Memory};
 use crate::stage::Stage;
 use crate::texts::argument;
 use crate::{hearing, pieces, real_files, rooms};
@@ -81,19 +81,19 @@ fn put_call(
     }
 }
 
-// Puts the word that is drawn next, and the calls of the dialer.
-fn put_calls_made(
+/// Puts the word that is drawn next, and the calls of the dialer.
+pub(crate) fn put_calls_made(
     rt: &HostRuntime,
     stage: &Stage,
     row: &Row,
-    memory: &mut Memory,
+    around: &mut Around,
     came: &mut Came,
 ) -> anyhow::Result<()> {
-    match memory.around.next_word() {
+    match around.next_word() {
         Some(word) => came.put(&word)?,
         None => came.put(b"failed")?,
     }
-    let Some(calls) = memory.around.calls() else {
+    let Some(calls) = around.calls() else {
         bail!("the dialer tells no calls");
     };
     for call in calls {
@@ -125,7 +125,7 @@ fn put_rest(
             stage
                 .texts
                 .put_came(rt, row, 2, memory.output.content(), came)?;
-            put_calls_made(rt, stage, row, memory, came)
+            put_calls_made(rt, stage, row, &mut memory.around, came)
         }
         b"last" => {
             put_last(row, memory.output.content(), came)?;
@@ -151,6 +151,7 @@ fn play_row(rt: &HostRuntime, stage: &mut Stage, row: &Row, came: &mut Came) -> 
         b"show" => real_files::show(rt, stage, row, came),
         b"room" => rooms::play(rt, stage, row, came),
         b"waits" => hearing::play(rt, stage, row, came),
+        b"frames" => pieces::play_frames(rt, stage, row, came),
         _ => play_memory(rt, stage, row, came),
     }
 }
