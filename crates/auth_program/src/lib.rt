@@ -20,7 +20,7 @@ pub use authsrv::{serve, status_of_end};
 pub use cause::ScriptCause;
 pub use ending::Ending;
 pub use files::read_file;
-pub use log::{print_client_end, print_fault, print_notice};
+pub use log::{append_shown, print_client_end, print_fault, print_notice};
 pub use options::{as_str, copy_value, required_option};
 pub use random::Random;
 pub use status::{Status, print_status};

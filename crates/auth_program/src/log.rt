@@ -23,8 +23,9 @@ fn shown_byte(byte: u8) -> u8
     }
 }
 
-// Appends a name as it is shown. What is appended before memory runs out stays, here and below.
-fn append_shown(name: &[u8], out: &mut Bytes) -> Result<(), NoMemory>
+/// Appends a name as a line of a log shows it: what isn't a visible sign of ASCII is `?`. What is appended before memory
+/// runs out stays, here and in the functions below.
+pub fn append_shown(name: &[u8], out: &mut Bytes) -> Result<(), NoMemory>
     ensures ok { OnOk result (out.new ≡ out.old ++ map shown_byte name.now) }
     ensures err { OnErr result (take (length out.old) out.new ≡ out.old) }
 {

@@ -1,8 +1,9 @@
 //! Where events are told, by those that were.
-ghost use Rattle.std.specs.Prelude.{◌≡◌, ◌++◌, OnErr, OnOk, length, map, take};
-ghost use Rattle.pass_program.specs.Notes.{event_text, event_words, shown_byte};
+ghost use Rattle.std.specs.Prelude.{◌≡◌, ◌++◌, OnErr, OnOk, length, take};
+ghost use Rattle.pass_program.specs.Notes.{event_text, event_words};
 
 use crate::refusal::{Event, Refusal};
+use auth_program::append_shown;
 use wire_base::{Bytes, Name, NoMemory};
 
 /// Where what becomes of users is told. It is given their names and nothing that they sent besides.
@@ -29,28 +30,6 @@ impl Log for NoLog {
     ghost noted = { λ _. None };
 
     fn note(&mut self, _: &Name<28>, _: Event) {}
-}
-
-// A byte of a name as it is shown on a line, which no name may end or change: one that isn't a visible sign of ASCII is `?`.
-fn shown_byte(byte: u8) -> u8
-    ensures { result ≡ shown_byte byte }
-{
-    if byte > b' ' && byte < 127 {
-        byte
-    } else {
-        b'?'
-    }
-}
-
-// Appends a name as it is shown. What is appended before memory runs out stays, here and below.
-fn append_shown(name: &[u8], out: &mut Bytes) -> Result<(), NoMemory>
-    ensures ok { OnOk result (out.new ≡ out.old ++ map shown_byte name.now) }
-    ensures err { OnErr result (take (length out.old) out.new ≡ out.old) }
-{
-    for byte in name {
-        out.push(shown_byte(*byte))?;
-    }
-    Ok(())
 }
 
 // What became of a user, in words.

@@ -1,6 +1,7 @@
 use Rattle.std.proofs.Common.{◌∙◌, ◌++◌, ℕ, List, ap, codes, map, [], ◌∷◌}
 use Rattle.std.proofs.lemmas.Result.{on_ok_weaker}
-use Rattle.pass_program.specs.Notes.{event_words, shown_byte}
+use Rattle.auth_program.specs.Log.{shown_byte}
+use Rattle.pass_program.specs.Notes.{event_words}
 use Rattle.pass_program.proofs.NoteLemmas.{line_made}
 use Rattle.pass_program.proofs.log.append_event.Goals as goal
 
