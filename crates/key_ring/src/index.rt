@@ -1,11 +1,10 @@
 // An index of a list of keys: the numbers of all of them, in the order of their ranks, and those of one rank in the
 // order of the keys. It takes no memory but for its own growth.
-ghost use Rattle.std.specs.Prelude.{◌≡◌, ◌+◌, ◌<◌, ◌≤◌, ◌++◌, ◌∷◌, [], ◌==◌, ℕ, List, Some, None, All, IfNone, IfSome, true, false, not, map, filter, find, get_or, length, position, option_copied, vec_len, vec_capacity};
+ghost use Rattle.std.specs.Prelude.{◌≡◌, ◌+◌, ◌<◌, ◌≤◌, ◌++◌, ◌∷◌, [], ◌==◌, ℕ, Some, None, All, true, false, not, map, filter, get_or, length, position, option_copied, vec_len, vec_capacity};
 ghost use Rattle.std.specs.Ordering.{is_lt, is_le};
 ghost use Rattle.std.specs.List.Sorted.{IsPartitionPoint, IsPartitionedBy};
 ghost use Rattle.attr_tuples.specs.Matching.{matches};
-ghost use Rattle.key_lists.specs.Lists.{KeyEntry};
-ghost use Rattle.key_ring.specs.Ranks.{IsIndex, IsRising, has_rank, matched, numbered, rank_of, stood};
+ghost use Rattle.key_ring.specs.Ranks.{IsIndex, IsRising, has_rank, matched, numbered, stood};
 
 use crate::key::Key;
 use crate::rank::{Order, Rank};

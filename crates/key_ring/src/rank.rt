@@ -1,5 +1,5 @@
 // Where a key stands in an index: by its protocol, and behind that by its domain.
-ghost use Rattle.std.specs.Prelude.{◌≡◌, option_map, codes};
+ghost use Rattle.std.specs.Prelude.{◌≡◌, option_map};
 ghost use Rattle.attr_tuples.specs.Matching.{value_of};
 ghost use Rattle.key_ring.specs.Ranks.{rank_cmp, rank_of, text_cmp};
 

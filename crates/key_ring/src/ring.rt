@@ -1,5 +1,5 @@
 // The ring: keys in the order in which they were added.
-ghost use Rattle.std.specs.Prelude.{◌≡◌, ◌+◌, ◌<◌, ◌≤◌, ◌^◌, ◌++◌, ◌==◌, ◌||◌, None, Ok, IfOk, IfSome, IsOk, MatchOption, codes, not, true, false, filter, find, position, take, length, vec_len, vec_capacity, Err, IfErr, OnErr, OnOk, AllPairs, option_copied, if◌then◌else◌};
+ghost use Rattle.std.specs.Prelude.{◌≡◌, ◌+◌, ◌<◌, ◌≤◌, ◌^◌, ◌++◌, None, Ok, IfOk, IfSome, IsOk, MatchOption, not, true, false, filter, find, take, length, Err, IfErr, OnErr, OnOk, AllPairs, option_copied};
 ghost use Rattle.std.specs.List.{flat_map};
 ghost use Rattle.attr_tuples.specs.Equality.{public_equal};
 ghost use Rattle.key_lists.specs.KeyFaults.{key_fault};
