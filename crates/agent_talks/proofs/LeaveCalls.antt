@@ -129,6 +129,19 @@ given_alike keep kept keeps stays alike (s ∷ xs) m =
     step k a true false e f = rw (e, ← f) refl
     step k a false c e f = rw e (and_off (not k))
 
+-- ---- of some among whom are all that leave
+
+left_filtered : (who : Leaving) (behind : ℕ) (xs : List HeldSpeaker) (c : Calls) → left who behind (filter (λ s. leaves who s) xs) c ≡ left who behind xs c
+left_filtered who behind [] c = refl
+left_filtered who behind (s ∷ xs) c = step (leaves who s) refl (λ d. left_filtered who behind xs d)
+  where
+    step : (b : Bool) → leaves who s ≡ b → ((d : Calls) → left who behind (filter (λ t. leaves who t) xs) d ≡ left who behind xs d) → left who behind (cond b (s ∷ filter (λ t. leaves who t) xs) (filter (λ t. leaves who t) xs)) c ≡ left who behind xs (ended_if b s.conv behind c)
+    step true is more = ap (λ (b : Bool). left who behind (filter (λ t. leaves who t) xs) (ended_if b s.conv behind c)) is ∙ more (ended s.conv behind c)
+    step false is more = more c
+
+pub left_alike : (who : Leaving) (behind : ℕ) (xs ys : List HeldSpeaker) (c : Calls) → filter (λ s. leaves who s) xs ≡ filter (λ s. leaves who s) ys → left who behind xs c ≡ left who behind ys c
+left_alike who behind xs ys c e = sym (left_filtered who behind xs c) ∙ (ap (λ (zs : List HeldSpeaker). left who behind zs c) e ∙ left_filtered who behind ys c)
+
 -- ---- what the deeds say
 
 -- what is left of those that a relation of deeds tells of

@@ -1,3 +1,4 @@
+pub mod PlaceLemmas
 pub mod LeaveLemmas
 pub mod StandLemmas
 pub mod SpeakLemmas

@@ -21,25 +21,26 @@ use Rattle.agent_talks.specs.declared.held.Talks.{Talks}
 use Rattle.agent_talks.specs.Kept.{kept_at, leaves, question_of, questions_in, speaker_of}
 use Rattle.agent_talks.specs.Speaks.{IsKept, OnServerNow, SameTalks, Speak, asks_for, is_among, stands}
 use Rattle.agent_talks.specs.Changes.{BothMet, IsNew, Leaves, Meets, Opens, leaving_at}
+use Rattle.agent_talks.proofs.LeaveLemmas.{all_stay_there}
 use Rattle.agent_talks.proofs.StandLemmas.{all_stay, among_last, are_numbered, filter_map_same, find_map, leaving, left_asks, left_gone, left_stays}
 
 -- ---- what stands
 
-pub counted : (done : List Deed) (t : Talks) → Speak done t → length t.speakers.items ≡ length (speakers done)
-counted done t h = sym (length-map t.speakers.items speaker_of) ∙ ap (λ (xs : List Speaker). length xs) h.speakers
+pub counted : (done : List Deed) (t : Talks) → Speak done t → length t.speakers ≡ length (speakers done)
+counted done t h = sym (length-map t.speakers speaker_of) ∙ ap (λ (xs : List Speaker). length xs) h.speakers
 
-pub found_at : (done : List Deed) (t : Talks) (conn fid : ℕ) → Speak done t → option_map (λ s. s.conv) (find (λ s. s.conn == conn && s.fid == fid) t.speakers.items) ≡ conv_of done conn fid
+pub found_at : (done : List Deed) (t : Talks) (conn fid : ℕ) → Speak done t → option_map (λ s. s.conv) (find (λ s. s.conn == conn && s.fid == fid) t.speakers) ≡ conv_of done conn fid
 found_at done t conn fid h =
-    sym (mapped (find (λ s. s.conn == conn && s.fid == fid) t.speakers.items))
-    ∙ (ap (option_map (λ (s : Speaker). s.conv)) (sym (find_map speaker_of (λ s. s.conn == conn && s.fid == fid) t.speakers.items))
+    sym (mapped (find (λ s. s.conn == conn && s.fid == fid) t.speakers))
+    ∙ (ap (option_map (λ (s : Speaker). s.conv)) (sym (find_map speaker_of (λ s. s.conn == conn && s.fid == fid) t.speakers))
     ∙ ap (λ (xs : List Speaker). option_map (λ (s : Speaker). s.conv) (find (λ s. s.conn == conn && s.fid == fid) xs)) h.speakers)
   where
     mapped : (o : Option HeldSpeaker) → option_map (λ (s : Speaker). s.conv) (option_map speaker_of o) ≡ option_map (λ (s : HeldSpeaker). s.conv) o
     mapped None = refl
     mapped (Some s) = refl
 
-pub found_speaker : (done : List Deed) (t : Talks) (conv : ℕ) → Speak done t → option_map speaker_of (find (λ s. s.conv == conv) t.speakers.items) ≡ told.speaker_of done conv
-found_speaker done t conv h = sym (find_map speaker_of (λ s. s.conv == conv) t.speakers.items) ∙ ap (λ (xs : List Speaker). find (λ (s : Speaker). s.conv == conv) xs) h.speakers
+pub found_speaker : (done : List Deed) (t : Talks) (conv : ℕ) → Speak done t → option_map speaker_of (find (λ s. s.conv == conv) t.speakers) ≡ told.speaker_of done conv
+found_speaker done t conv h = sym (find_map speaker_of (λ s. s.conv == conv) t.speakers) ∙ ap (λ (xs : List Speaker). find (λ (s : Speaker). s.conv == conv) xs) h.speakers
 
 -- ---- nothing has changed
 
@@ -113,7 +114,7 @@ left_kept keep done q o h = elim (cases_Bool (list_any (leaving keep q) (speaker
   | inr is ↦ rw (is, left_stays keep (speakers done) q is) h
 ]
 
-leaving_map : (who : Leaving) (keep : Speaker → Bool) → ((s : HeldSpeaker) → keep (speaker_of s) ≡ not (leaves who s)) → (xs : List HeldSpeaker) (q : ℕ) → list_any (leaving keep q) (map speaker_of xs) ≡ leaving_at who xs q
+pub leaving_map : (who : Leaving) (keep : Speaker → Bool) → ((s : HeldSpeaker) → keep (speaker_of s) ≡ not (leaves who s)) → (xs : List HeldSpeaker) (q : ℕ) → list_any (leaving keep q) (map speaker_of xs) ≡ leaving_at who xs q
 leaving_map who keep every [] q = refl
 leaving_map who keep every (s ∷ xs) q = step (leaves who s) (keep (speaker_of s)) (every s) (leaving_map who keep every xs q)
   where
@@ -125,7 +126,7 @@ leaving_map who keep every (s ∷ xs) q = step (leaves who s) (keep (speaker_of 
 
 ended_table : (done after : List Deed) (old new : Talks) (who : Leaving) (keep : Speaker → Bool) → ((s : HeldSpeaker) → keep (speaker_of s) ≡ not (leaves who s)) → Ends done after keep → Leaves old new who → Speak done old → (q : ℕ) → IsKept (stands after q) (talk after q) (kept_at new q)
 ended_table done after old new who keep every ends l h q =
-    let left : list_any (leaving keep q) (speakers done) ≡ leaving_at who old.speakers.items q = ap (λ (xs : List Speaker). list_any (leaving keep q) xs) (sym h.speakers) ∙ leaving_map who keep every old.speakers.items q in
+    let left : list_any (leaving keep q) (speakers done) ≡ leaving_at who old.speakers q = ap (λ (xs : List Speaker). list_any (leaving keep q) xs) (sym h.speakers) ∙ leaving_map who keep every old.speakers q in
     rw (l.table q, ← left, ends.talks q, ends.speakers) (left_kept keep done q (kept_at old q) (h.table q))
 
 pub ended_speak : (done after : List Deed) (old new : Talks) (who : Leaving) (keep : Speaker → Bool) → ((s : HeldSpeaker) → keep (speaker_of s) ≡ not (leaves who s)) → Ends done after keep → Leaves old new who → Speak done old → Speak after new
@@ -133,12 +134,19 @@ ended_speak done after old new who keep every ends l h =
     let table : (q : ℕ) → IsKept (stands after q) (talk after q) (kept_at new q) = ended_table done after old new who keep every ends l h in
     record {
       opened = l.opened ∙ (h.opened ∙ sym ends.opened);
-      speakers = ap (map speaker_of) l.speakers ∙ (filter_map_same speaker_of keep (λ s. not (leaves who s)) every old.speakers.items ∙ (ap (filter keep) h.speakers ∙ sym ends.speakers));
+      speakers = ap (map speaker_of) l.speakers ∙ (filter_map_same speaker_of keep (λ s. not (leaves who s)) every old.speakers ∙ (ap (filter keep) h.speakers ∙ sym ends.speakers));
       table = table;
       raised = l.raised ∙ (h.raised ∙ sym ends.raised);
-      questions = ap (map question_of) l.questions
-          ∙ (filter_map_same question_of (λ q. is_among (speakers after) q.conv) (λ q. is_some (kept_at new q.conv)) (λ q. sym (some_kept (stands after q.conv) (talk after q.conv) (kept_at new q.conv) (table q.conv))) old.questions.items
-          ∙ (ap (of_speakers (speakers after)) h.questions ∙ sym ends.questions));
+      questions = elim l.questions [
+        | inl none ↦
+            let staying : told.speakers after ≡ told.speakers done = ends.speakers ∙ (ap (filter keep) (sym h.speakers) ∙ (sym (filter_map_same speaker_of keep (λ s. not (leaves who s)) every old.speakers) ∙ (ap (map speaker_of) (all_stay_there who old.speakers none.0) ∙ h.speakers))) in
+            ap (map question_of) none.1
+            ∙ (h.questions ∙ (sym (all_stay (is_among (speakers done)) (questions done) (λ n e. (h.asked n e).stands)) ∙ (ap (λ ss. of_speakers ss (questions done)) (sym staying) ∙ sym ends.questions)))
+        | inr left ↦
+            ap (map question_of) left
+            ∙ (filter_map_same question_of (λ q. is_among (speakers after) q.conv) (λ q. is_some (kept_at new q.conv)) (λ q. sym (some_kept (stands after q.conv) (talk after q.conv) (kept_at new q.conv) (table q.conv))) old.questions.items
+            ∙ (ap (of_speakers (speakers after)) h.questions ∙ sym ends.questions))
+      ];
       fresh = λ q le. ends.talks q ∙ h.fresh q (subst (λ (n : ℕ). n ≤ q) ends.opened le);
       asked = λ q e.
           let were = left_asks (is_among (speakers after)) (questions done) q (ap (λ (qs : List Question). asks_for qs q) (sym ends.questions) ∙ e) in

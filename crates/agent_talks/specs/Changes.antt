@@ -1,5 +1,5 @@
 -- Of the code alone: what a method does to what is kept. No public contract cites these words.
-use Rattle.std.specs.Prelude.{◌≡◌, ℕ, ◌+◌, List, [], ◌∷◌, ◌++◌, filter, Bool, true, false, not, ◌&&◌, ◌==◌, Option, Some, None, is_some, if◌then◌else◌}
+use Rattle.std.specs.Prelude.{◌≡◌, ℕ, ◌+◌, List, [], ◌∷◌, ◌++◌, filter, Bool, true, false, not, ◌&&◌, ◌==◌, ◌⊎◌, Option, Some, None, is_some, if◌then◌else◌}
 use Rattle.std.specs.List.{list_any}
 use Rattle.key_lists.specs.Lists.{KeyList}
 use Rattle.talks.specs.Calls.{Call, Consented, KeyTold}
@@ -53,19 +53,23 @@ abbrev pub leaving_at : Leaving → List HeldSpeaker → ℕ → Bool
 leaving_at leaving speakers conv = list_any (λ s. leaves leaving s && s.conv == conv) speakers
 
 -- what is still kept for a number, if this was
-abbrev pub left_one : Leaving → HeldSpeaker → ℕ → Option Conversation → Option Conversation
+abbrev pub left_one : {X : Type 0} → Leaving → HeldSpeaker → ℕ → Option X → Option X
 left_one leaving s conv o = if leaves leaving s && s.conv == conv then None else o
 
-abbrev pub left_at : Leaving → List HeldSpeaker → ℕ → Option Conversation → Option Conversation
+abbrev pub left_at : {X : Type 0} → Leaving → List HeldSpeaker → ℕ → Option X → Option X
 left_at leaving speakers conv o = if leaving_at leaving speakers conv then None else o
+
+-- nobody leaves, and the questions are as before, or those of conversations that are kept are left
+abbrev pub QuestionsLeft : Talks → Talks → Leaving → Type 0
+QuestionsLeft old new leaving = ((filter (λ s. leaves leaving s) old.speakers ≡ []) × (new.questions.items ≡ old.questions.items)) ⊎ (new.questions.items ≡ filter (λ q. is_some (kept_at new q.conv)) old.questions.items)
 
 -- the conversations of those who leave are kept no more, nor are their questions
 pub record Leaves (old new : Talks) (leaving : Leaving) : Type 0 where
   pub opened : new.opened ≡ old.opened
-  pub speakers : new.speakers.items ≡ filter (λ s. not (leaves leaving s)) old.speakers.items
-  pub table : (conv : ℕ) → kept_at new conv ≡ left_at leaving old.speakers.items conv (kept_at old conv)
+  pub speakers : new.speakers ≡ filter (λ s. not (leaves leaving s)) old.speakers
+  pub table : (conv : ℕ) → kept_at new conv ≡ left_at leaving old.speakers conv (kept_at old conv)
   pub raised : new.raised ≡ old.raised
-  pub questions : new.questions.items ≡ filter (λ q. is_some (kept_at new q.conv)) old.questions.items
+  pub questions : QuestionsLeft old new leaving
 
 -- the first question that wasn't handed out is handed out, all else is as before
 pub record Hands (old new : Talks) : Type 0 where

@@ -23,7 +23,7 @@ abbrev pub question_of : HeldQuestion → Question
 question_of q = record { call = q.call; conv = q.conv; handed = q.handed }
 
 abbrev pub speakers_in : Talks → List Speaker
-speakers_in t = map speaker_of t.speakers.items
+speakers_in t = map speaker_of t.speakers
 
 abbrev pub questions_in : Talks → List Question
 questions_in t = map question_of t.questions.items

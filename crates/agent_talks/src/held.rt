@@ -12,7 +12,8 @@ ghost use Rattle.agent_talks.specs.Changes.{Leaves, Meets, Opens, left_at, left_
 ghost use Rattle.agent_talks.specs.Speaks.{IsKept, SameTalks, Speak, stands};
 
 use crate::question::Question;
-use crate::speaker::{Leaving, Speaker, find_conv, find_number, keep_others, leaves};
+use crate::speaker::{Leaving, Speaker, leaves};
+use crate::speakers::Speakers;
 use conversations::Conversation;
 use rpc_file::Request;
 use std::alloc::Global;
@@ -23,7 +24,7 @@ use wire_base::NoMemory;
 /// authentication server. It has no Debug, which would print secrets.
 #[derive(Drop)]
 pub struct Talks {
-    pub(crate) speakers: Vec<Speaker>,
+    pub(crate) speakers: Speakers,
     pub(crate) table: BTreeMap<u64, Conversation>,
     pub(crate) opened: u64,
     pub(crate) questions: Vec<Question>,
@@ -38,7 +39,7 @@ impl Talks {
         ensures { Speak [] result }
     {
         Talks {
-            speakers: Vec::new(alloc),
+            speakers: Speakers::new(alloc),
             table: BTreeMap::new(alloc),
             opened: 0,
             questions: Vec::new(alloc),
@@ -53,12 +54,12 @@ impl Talks {
         self.speakers.len()
     }
 
-    /// Who has them open, the oldest first. It takes no memory.
-    pub fn speakers(&self) -> &[Speaker]
-        ensures { (done : List Deed) → Speak done self.now
-            → map kept.speaker_of result.now ≡ speakers done }
+    /// Some of those who have one open, the oldest first, among whom are all whose conversations end. It takes no memory.
+    pub fn leavers(&self, leaving: Leaving) -> &[Speaker]
+        ensures { filter (λ s. kept.leaves leaving s) result.now
+            ≡ filter (λ s. kept.leaves leaving s) self.now.speakers }
     {
-        &self.speakers
+        self.speakers.leavers(leaving)
     }
 
     /// How many questions were ever raised. It takes no memory.
@@ -72,7 +73,7 @@ impl Talks {
     pub fn conv_at(&self, conn: u64, fid: u32) -> Option<u64>
         ensures { (done : List Deed) → Speak done self.now → result ≡ conv_of done conn fid }
     {
-        find_conv(&self.speakers, conn, fid)
+        self.speakers.conv_at(conn, fid)
     }
 
     /// Who has the conversation of a number open.
@@ -80,7 +81,7 @@ impl Talks {
         ensures { (done : List Deed) → Speak done self.now
             → option_map kept.speaker_of (option_copied result) ≡ speaker_of done conv }
     {
-        find_number(&self.speakers, conv)
+        self.speakers.speaker_of(conv)
     }
 
     /// The conversation of a number, where it stands.
@@ -103,11 +104,17 @@ impl Talks {
         let Some(opened) = conv.checked_add(1) else {
             return Err(NoMemory);
         };
-        self.speakers.reserve(1)?;
-        self.table.insert(conv, Conversation::new(alloc))?;
-        self.opened = opened;
-        self.speakers.push(Speaker { conv, conn, fid }).unwrap();
-        Ok(())
+        self.speakers.push(Speaker { conv, conn, fid })?;
+        match self.table.insert(conv, Conversation::new(alloc)) {
+            Ok(_) => {
+                self.opened = opened;
+                Ok(())
+            }
+            Err(_) => {
+                self.speakers.leave(Leaving::Fid(conn, fid));
+                Err(NoMemory)
+            }
+        }
     }
 
     /// A fid of a connection that names rpc was opened: it has a conversation from now on, under the next number.
@@ -125,8 +132,12 @@ impl Talks {
     fn leave(&mut self, leaving: Leaving)
         ensures { Leaves self.old self.new leaving }
     {
-        drop_left(&mut self.table, &self.speakers, leaving);
-        keep_others(&mut self.speakers, leaving);
+        let leavers = self.speakers.leavers(leaving);
+        if leavers.is_empty() {
+            return;
+        }
+        drop_left(&mut self.table, leavers, leaving);
+        self.speakers.leave(leaving);
         keep_questions(&mut self.questions, &self.table);
     }
 

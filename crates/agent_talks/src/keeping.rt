@@ -63,9 +63,10 @@ impl KeepingTalks {
         ensures { (done : List Deed) → Converses done self.old
             → Converses (OfFids conn (Clunked fid) ∷ done) self.new }
     {
+        let leaving = Leaving::Fid(conn, fid);
         let behind = self.talks.raised();
         self.calls
-            .leave(self.talks.speakers(), Leaving::Fid(conn, fid), behind);
+            .leave(self.talks.leavers(leaving), leaving, behind);
         self.talks.clunk(conn, fid);
     }
 
@@ -75,9 +76,10 @@ impl KeepingTalks {
         ensures { (done : List Deed) (msize : Option ℕ) → Converses done self.old
             → Converses (OfFids conn (Versioned msize) ∷ done) self.new }
     {
+        let leaving = Leaving::Connection(conn);
         let behind = self.talks.raised();
         self.calls
-            .leave(self.talks.speakers(), Leaving::Connection(conn), behind);
+            .leave(self.talks.leavers(leaving), leaving, behind);
         self.talks.version(conn);
     }
 
@@ -86,9 +88,10 @@ impl KeepingTalks {
         ensures { (done : List Deed) → Converses done self.old
             → Converses (OfConnection conn Hung ∷ done) self.new }
     {
+        let leaving = Leaving::Connection(conn);
         let behind = self.talks.raised();
         self.calls
-            .leave(self.talks.speakers(), Leaving::Connection(conn), behind);
+            .leave(self.talks.leavers(leaving), leaving, behind);
         self.talks.hang(conn);
     }
 }

@@ -11,6 +11,7 @@ mod kept;
 mod question;
 mod sights;
 mod speaker;
+mod speakers;
 mod tell;
 
 pub use due::Due;

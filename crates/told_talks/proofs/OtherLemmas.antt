@@ -1,6 +1,6 @@
 -- Deeds of other kinds leave the lines of ends as they are.
-use Rattle.std.proofs.Common.{◌≡◌, ◌≤◌, ℕ, List, [], ◌∷◌, ◌++◌, Bool, true, false, cond, eqb, ◌||◌, filter, Option, None, refl, sym, ap, subst, ◌∙◌, arith}
-use Rattle.std.specs.Prelude.{if◌then◌else◌}
+use Rattle.std.proofs.Common.{map, not, ◌≡◌, ◌≤◌, ℕ, List, [], ◌∷◌, ◌++◌, Bool, true, false, cond, eqb, ◌||◌, filter, Option, None, refl, sym, ap, subst, ◌∙◌, arith}
+use Rattle.std.specs.List.{list_any}
 use Rattle.std.proofs.lemmas.Bool.{eqb-true, false≢true}
 use Rattle.file_tree.specs.declared.tree.Node.TheVariants.{Rpc}
 use Rattle.side_files.specs.Calls as side
@@ -13,7 +13,13 @@ use Rattle.agent_history.specs.Conversations.{Speaker, all_withdrawn, fits, open
 use Rattle.agent_talks.specs.Speaks.{Speak, is_among, stands}
 use Rattle.agent_talks.specs.declared.tell.Told.{Told}
 use Rattle.agent_talks.specs.Tells.{TellsBy}
-use Rattle.agent_talks.proofs.StandLemmas.{among_last, left_among, or_cases}
+use Rattle.agent_talks.specs.declared.speaker.Speaker.{Speaker as HeldSpeaker}
+use Rattle.agent_talks.specs.declared.speaker.Leaving.{Leaving}
+use Rattle.agent_talks.specs.Kept.{leaves, speaker_of}
+use Rattle.agent_talks.specs.Changes.{left_at, leaving_at}
+use Rattle.agent_talks.proofs.LeaveLemmas.{left_same}
+use Rattle.agent_talks.proofs.SpeakLemmas.{leaving_map}
+use Rattle.agent_talks.proofs.StandLemmas.{among_last, are_numbered, leaving, left_among, left_gone, or_cases}
 use Rattle.told_talks.specs.declared.asking.AskingTalks.{AskingTalks}
 use Rattle.told_talks.specs.Asking.{Tells}
 use Rattle.told_talks.specs.declared.logged.LoggedTalks.{LoggedTalks}
@@ -64,16 +70,27 @@ left_stood keep xs q there = by_standing (is_among xs q) refl
     by_standing false e = absurd (false≢true (sym (left_among keep xs q e) ∙ there))
 
 -- the lines of those who stand are kept
-abbrev pub KeepsLines : List Deed → EndLines → EndLines → Type 0
-KeepsLines after old new = (q : ℕ) → line_in new q ≡ (if stands after q then line_in old q else None)
+pub left_lines : (done after : List Deed) (convs : List ℕ) (who : Leaving) (keep : Speaker → Bool) → ((s : HeldSpeaker) → keep (speaker_of s) ≡ not (leaves who s)) → (xs ys : List HeldSpeaker) → map speaker_of xs ≡ speakers done → filter (λ s. leaves who s) ys ≡ filter (λ s. leaves who s) xs
+    → speakers after ≡ filter keep (speakers (all_withdrawn convs done)) → (old new : EndLines) → ((q : ℕ) → line_in new q ≡ left_at who ys q (line_in old q)) → (q : ℕ) → stands after q ≡ true → line_in new q ≡ line_in old q
+left_lines done after convs who keep every xs ys e same left old new kept q there =
+    kept q ∙ (left_same who ys xs q (line_in old q) same ∙ by_leaving (leaving_at who xs q) refl)
+  where
+    left_now : is_among (filter keep (speakers done)) q ≡ true
+    left_now = ap (λ (ss : List Speaker). is_among (filter keep ss) q) (sym (withdrawn_speakers convs done)) ∙ (ap (λ (ss : List Speaker). is_among ss q) (sym left) ∙ there)
 
-pub left_have : (done after : List Deed) (convs : List ℕ) (keep : Speaker → Bool) (old new : LoggedTalks) → speakers after ≡ filter keep (speakers (all_withdrawn convs done)) → ((q : ℕ) → talk after q ≡ talk (all_withdrawn convs done) q) → KeepsLines after old.ends new.ends
+    all_leaving : list_any (leaving keep q) (speakers done) ≡ leaving_at who xs q
+    all_leaving = ap (λ (ss : List Speaker). list_any (leaving keep q) ss) (sym e) ∙ leaving_map who keep every xs q
+
+    by_leaving : (b : Bool) → leaving_at who xs q ≡ b → cond b None (line_in old q) ≡ line_in old q
+    by_leaving true is = absurd (false≢true (sym (left_gone keep (speakers done) q (are_numbered done).apart (all_leaving ∙ is)) ∙ left_now))
+    by_leaving false is = refl
+
+pub left_have : (done after : List Deed) (convs : List ℕ) (keep : Speaker → Bool) (old new : LoggedTalks) → speakers after ≡ filter keep (speakers (all_withdrawn convs done)) → ((q : ℕ) → talk after q ≡ talk (all_withdrawn convs done) q) → ((q : ℕ) → stands after q ≡ true → line_at new q ≡ line_at old q)
     → AllHaveLines done old → AllHaveLines after new
 left_have done after convs keep old new left talks kept ends =
     still_have done after old new
     (λ q there. ap (λ (xs : List Speaker). is_among xs q) (sym (withdrawn_speakers convs done)) ∙ left_stood keep (speakers (all_withdrawn convs done)) q (ap (λ (xs : List Speaker). is_among xs q) (sym left) ∙ there))
-    (λ q. talks q ∙ withdrawn_talks convs done q)
-    (λ q there. kept q ∙ ap (λ (b : Bool). if b then line_in old.ends q else None) there) ends
+    (λ q. talks q ∙ withdrawn_talks convs done q) kept ends
 
 -- ---- a conversation meets what begins nothing
 

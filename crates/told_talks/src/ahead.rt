@@ -17,13 +17,6 @@ use roles::Outcome;
 use std::alloc::Global;
 use wire_base::{Bytes, NoMemory};
 
-// Whether the conversation of a number stands. It takes no memory.
-pub(crate) fn stands(talks: &Talks, conv: u64) -> bool
-    ensures { (done : List Deed) → Speak done talks.now → result ≡ stands done conv }
-{
-    talks.conversation(conv).is_some()
-}
-
 // How a conversation that stands stands as to its end; None where it hasn't started. It takes no memory.
 pub(crate) fn outcome_at(talks: &Talks, conv: u64) -> Option<Outcome>
     ensures { ShowsOf talks.now conv outcome_of result }

@@ -17,11 +17,8 @@ impl AskingTalks {
         ensures { (done : List Deed) → Tells done self.old
             → Tells (ended (OfFids conn (Clunked fid)) done) self.new }
     {
-        withdraw_all(
-            &mut self.files,
-            self.talks.talks.speakers(),
-            Leaving::Fid(conn, fid),
-        );
+        let leaving = Leaving::Fid(conn, fid);
+        withdraw_all(&mut self.files, self.talks.talks.leavers(leaving), leaving);
         self.talks.clunk(conn, fid);
     }
 
@@ -31,11 +28,8 @@ impl AskingTalks {
         ensures { (done : List Deed) (msize : Option ℕ) → Tells done self.old
             → Tells (ended (OfFids conn (Versioned msize)) done) self.new }
     {
-        withdraw_all(
-            &mut self.files,
-            self.talks.talks.speakers(),
-            Leaving::Connection(conn),
-        );
+        let leaving = Leaving::Connection(conn);
+        withdraw_all(&mut self.files, self.talks.talks.leavers(leaving), leaving);
         self.talks.version(conn);
     }
 
@@ -45,11 +39,8 @@ impl AskingTalks {
         ensures { (done : List Deed) → Tells done self.old
             → Tells (ended (OfConnection conn Hung) done) self.new }
     {
-        withdraw_all(
-            &mut self.files,
-            self.talks.talks.speakers(),
-            Leaving::Connection(conn),
-        );
+        let leaving = Leaving::Connection(conn);
+        withdraw_all(&mut self.files, self.talks.talks.leavers(leaving), leaving);
         self.talks.hang(conn);
     }
 }

@@ -1,18 +1,16 @@
 // The lines of ends that are made ahead, by the numbers of the conversations.
-ghost use Rattle.std.specs.Prelude.{◌≡◌, List, ℕ, false, true, None, Some, OnErr, OnOk, if◌then◌else◌};
+ghost use Rattle.std.specs.Prelude.{◌≡◌, List, ℕ, false, true, Some, OnErr, OnOk};
 ghost use Rattle.std.specs.Option.{option_to_list};
 ghost use Rattle.attr_tuples.specs.declared.attr.Attr.{Attr};
 ghost use Rattle.talks.specs.Protocols.{is_over};
 ghost use Rattle.talks.specs.Lines.{end_line};
-ghost use Rattle.agent_history.specs.Deeds.{Deed};
-ghost use Rattle.agent_talks.specs.Speaks.{Speak, stands};
+ghost use Rattle.agent_talks.specs.Changes.{left_at, left_one};
 ghost use Rattle.told_talks.specs.Ends.{EndsFor};
 ghost use Rattle.told_talks.specs.Ahead.{IsMadeFor, SameLines, line_in};
 
-use crate::ahead::stands;
 use crate::end_line::EndLine;
 use crate::ready::ReadyLine;
-use agent_talks::Talks;
+use agent_talks::{Leaving, Speaker, leaves};
 use roles::Outcome;
 use std::collections::BTreeMap;
 use wire_base::{Bytes, NoMemory};
@@ -60,11 +58,22 @@ fn is_over(outcome: &Outcome) -> bool
     }
 }
 
-// The lines of conversations that don't stand any more are kept no longer. It takes no memory.
-pub(crate) fn drop_ended(ends: &mut EndLines, talks: &Talks)
-    ensures { (done : List Deed) → Speak done talks.now → (conv : ℕ)
-        → line_in ends.new conv
-        ≡ (if stands done conv then line_in ends.old conv else None) }
+// The lines of conversations that end are kept no longer. It takes no memory.
+pub(crate) fn drop_lines(ends: &mut EndLines, speakers: &[Speaker], leaving: Leaving)
+    ensures { (conv : ℕ) → line_in ends.new conv
+        ≡ left_at leaving speakers.now conv (line_in ends.old conv) }
 {
-    ends.retain(|conv, _| stands(talks, *conv));
+    for speaker in speakers {
+        drop_line(ends, leaving, speaker);
+    }
+}
+
+// The line of one is kept no longer, where it ends.
+fn drop_line(ends: &mut EndLines, leaving: Leaving, speaker: &Speaker)
+    ensures { (conv : ℕ) → line_in ends.new conv
+        ≡ left_one leaving speaker.now conv (line_in ends.old conv) }
+{
+    if leaves(leaving, speaker) {
+        ends.remove(&speaker.conv);
+    }
 }

@@ -16,8 +16,8 @@ ghost use Rattle.told_talks.specs.Asking.{is_asker};
 ghost use Rattle.told_talks.specs.Logging.{Logs, SameLogs, calls_in, talks_in};
 
 use crate::asking::AskingTalks;
-use crate::ends::{EndLines, drop_ended};
-use agent_talks::Told;
+use crate::ends::{EndLines, drop_lines};
+use agent_talks::{Leaving, Told};
 use file_tree::Node;
 use rpc_file::Request;
 use side_files::{PromptKind, TooSmall};
@@ -64,8 +64,10 @@ impl LoggedTalks {
             → Logs (OfFids conn (Clunked fid)
             ∷ all_withdrawn (ended_by (OfFids conn (Clunked fid)) done) done) self.new }
     {
+        let leaving = Leaving::Fid(conn, fid);
+        let leavers = self.asking.talks.talks.leavers(leaving);
+        drop_lines(&mut self.ends, leavers, leaving);
         self.asking.clunk(conn, fid);
-        drop_ended(&mut self.ends, &self.asking.talks.talks);
     }
 
     /// A version of a connection is answered: the questions of all its conversations are withdrawn, and they end. It takes
@@ -75,8 +77,10 @@ impl LoggedTalks {
             → Logs (OfFids conn (Versioned msize)
             ∷ all_withdrawn (ended_by (OfFids conn (Versioned msize)) done) done) self.new }
     {
+        let leaving = Leaving::Connection(conn);
+        let leavers = self.asking.talks.talks.leavers(leaving);
+        drop_lines(&mut self.ends, leavers, leaving);
         self.asking.version(conn);
-        drop_ended(&mut self.ends, &self.asking.talks.talks);
     }
 
     /// A connection is hung up: the questions of all its conversations are withdrawn, and they end. It takes no memory.
@@ -85,8 +89,10 @@ impl LoggedTalks {
             → Logs (OfConnection conn Hung
             ∷ all_withdrawn (ended_by (OfConnection conn Hung) done) done) self.new }
     {
+        let leaving = Leaving::Connection(conn);
+        let leavers = self.asking.talks.talks.leavers(leaving);
+        drop_lines(&mut self.ends, leavers, leaving);
         self.asking.hang(conn);
-        drop_ended(&mut self.ends, &self.asking.talks.talks);
     }
 }
 

@@ -3,4 +3,4 @@ use Rattle.agent_talks.proofs.SpeakLemmas.{counted}
 use Rattle.agent_talks.proofs.held.Talks.count.Goals as goal
 
 pub returns : goal.returns
-returns c = λ done h. c.len.ensures ∙ (c.args.self.now.speakers.ok.0 ∙ counted done c.args.self.now h)
+returns c = λ done h. c.len.ensures ∙ counted done c.args.self.now h

@@ -1,7 +1,9 @@
 use Rattle.std.proofs.Common.{List, ◌∷◌, ◌==◌, not, refl}
 use Rattle.agent_history.specs.Deeds.{Deed, OfConnection, Hung}
 use Rattle.agent_history.specs.Conversations.{all_withdrawn, ended_by}
-use Rattle.told_talks.proofs.OtherLemmas.{left_have}
+use Rattle.agent_talks.specs.declared.speaker.Leaving.TheVariants as l
+use Rattle.told_talks.specs.Logging.{talks_in}
+use Rattle.told_talks.proofs.OtherLemmas.{left_have, left_lines}
 use Rattle.told_talks.proofs.logged.LoggedTalks.hang.Goals as goal
 
 pub returns : goal.returns
@@ -11,5 +13,5 @@ returns c = λ done h.
     let after : List Deed = deed ∷ all_withdrawn (ended_by deed done) done in
     record {
       tells = now;
-      ends = left_have done after (ended_by deed done) (λ s. not (s.conn == c.args.conn)) c.args.self.now (record { asking = c.hang.new.self; ends = c.drop_ended.new.ends }) refl (λ q. refl) (c.drop_ended.ensures after now.talks.speak) h.ends;
+      ends = left_have done after (ended_by deed done) (λ s. not (s.conn == c.args.conn)) c.args.self.now (record { asking = c.hang.new.self; ends = c.drop_lines.new.ends }) refl (λ q. refl) (left_lines done after (ended_by deed done) (l.Connection c.args.conn) (λ s. not (s.conn == c.args.conn)) (λ s. refl) (talks_in c.args.self.now).speakers c.leavers-leavers.result.now h.tells.talks.speak.speakers c.leavers-leavers.ensures refl c.args.self.now.ends c.drop_lines.new.ends c.drop_lines.ensures) h.ends;
     }
