@@ -192,8 +192,8 @@ impl IndexedKeys {
         }
     }
 
-    /// The place of the key that is the same as a tuple in public, which is a key. It is looked for among the keys of the
-    /// same protocol and domain.
+    /// The place of the key that is the same as a tuple in public, which is a key. It is looked for among the keys of
+    /// the same protocol and domain.
     pub fn find_equal(&self, tuple: &Tuple) -> Option<usize>
         requires { key_fault tuple.now ≡ None }
         ensures { result ≡ position (λ old. public_equal tuple.now old.tuple) self.now.keys }

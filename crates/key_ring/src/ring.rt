@@ -135,8 +135,8 @@ impl KeyRing {
         self.keys.next_after(template, role, serial)
     }
 
-    /// The numbers of the keys that hold `proto=proto` and, where a domain is given, `dom=dom`, in the order of the ring. It
-    /// takes no memory.
+    /// The numbers of the keys that hold `proto=proto` and, where a domain is given, `dom=dom`, in the order of the ring.
+    /// It takes no memory.
     #[tactic(auto, unfolding(crate::specs::Serials::serials_of))]
     pub fn serials_of(&self, proto: &[u8], dom: Option<&[u8]>) -> &[u64]
         ensures { result.now ≡ serials_of proto.now (option_map (λ dom. dom.now) dom.entry) self.now }
