@@ -51,6 +51,13 @@ fn look(alloc: Global, ring: &KeyRing, row: &Row, came: &mut Came) -> anyhow::Re
             let template = tuple_of(alloc, bytes_at(row, 1))?;
             search(alloc, ring, &template, row, came)
         }
+        "serials" => {
+            let dom = match row.given.get(2) {
+                Some(dom) => Some(dom.as_slice()),
+                None => None,
+            };
+            number(ring.serials_of(bytes_at(row, 1), dom), came)
+        }
         "facts" => facts(ring, &tuple_of(alloc, bytes_at(row, 1))?, came),
         "des" => des(ring, &tuple_of(alloc, b"user?")?, came),
         _ => Ok(came.word("no such verb")?),
@@ -149,6 +156,15 @@ fn search(
         }
         verb => offer(alloc, ring, template, role, verb == "offers", came),
     }
+}
+
+// How many numbers there are, and each of them.
+fn number(serials: &[u64], came: &mut Came) -> anyhow::Result<()> {
+    came.count(serials.len())?;
+    for serial in serials {
+        came.number(*serial)?;
+    }
+    Ok(())
 }
 
 fn serial_of(key: Option<&Key>) -> Option<u64> {
