@@ -2,7 +2,7 @@ use Rattle.std.proofs.Common.{[], length, ◌∷◌, ◌++◌, refl, arith}
 use Rattle.std.proofs.lemmas.Result.{err_from_is_err_and}
 use Rattle.nine.specs.Framed.{passed}
 use Rattle.factotum_program.specs.Pipe.{after_turns, turn_of}
-use Rattle.factotum_program.proofs.PipeLemmas.{gives_whole, handed_more, handed_all, still_fed, stops_bad, stops_in_frame, stops_wordless}
+use Rattle.factotum_program.proofs.PipeLemmas.{fewer_held, gives_whole, handed_more, handed_all, still_fed, stops_bad, stops_in_frame, stops_wordless}
 use Rattle.factotum_program.proofs.frames.gather_frames.Goals as goal
 
 pub returns-in-NotYet-clause-ok : goal.returns-in-NotYet-clause-ok
@@ -53,3 +53,9 @@ returns-in_err-answer_frame-clause-err g c =
     let now = c.loop-frame.invariant.handed origin stream some h in
     stops_in_frame _ origin _ _ _ _ stream now.0 c.loop-frame.framer (passed c.loop-frame.framer (length frame)) c.loop-frame.agent frame c.in_ok-word.word now.1 a c.in_ok-word.ensures.ok c.in_err-answer_frame.ensures.cut
     (c.in_err-answer_frame.ensures.part origin.holds (after_turns [] now.0) now.1.stands now.1.told))
+
+pub loop-frame-smaller : goal.loop-frame-smaller
+loop-frame-smaller g c =
+    let frame = c.in-Whole.frame.now in
+    let shown = c.in-Whole.ensures.answer in
+    fewer_held c.loop-frame.framer c.drop_frame.new.self (length frame) shown.0 (omega (arith, shown.2.frame_is.header)) (c.drop_frame.ensures.dropped (length frame) shown.0)
