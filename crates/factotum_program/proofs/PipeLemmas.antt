@@ -40,6 +40,9 @@ gives_whole old new frame whole is dropped = subst (λ (f : Framing). Gives old 
 pub still_fed : (old new : Framing) (size : ℕ) → front old.limit old.held ≡ IsWhole size → new ≡ passed old size → new.before + length new.held ≡ old.before + length old.held
 still_fed old new size whole is = subst (λ (f : Framing). f.before + length f.held ≡ old.before + length old.held) (sym is) (omega (arith, whole_there old.limit old.held size whole, length-drop size old.held))
 
+pub fewer_held : (old new : Framing) (size : ℕ) → front old.limit old.held ≡ IsWhole size → 0 < size → new ≡ passed old size → length new.held < length old.held
+fewer_held old new size whole some is = subst (λ (f : Framing). length f.held < length old.held) (sym is) (omega (arith, some, whole_there old.limit old.held size whole, length-drop size old.held))
+
 -- the frames of the stream are those that were answered, this one, and others
 frames_then : (origin now : Sight) (gathered stream : List ℕ) (turns : List Turn) (old new : Framing) (agent : Agent) (frame : List ℕ) → Handed origin now gathered stream turns old agent → Gives old new (Whole frame)
     → (others : List (List ℕ)) × (frames_in stream ≡ frames_of turns ++ frame ∷ others)

@@ -12,7 +12,7 @@ loop-init g c = record {
 }
 
 pub returns-in-Err-clause-halts : goal.returns-in-Err-clause-halts
-returns-in-Err-clause-halts g c = rw c.in-Err.is at c.go_on-next.ensures.told _ c.loop.invariant.going
+returns-in-Err-clause-halts g c = begun_short c.args.conn _ c.args.kept.now c.requires.none
 
-pub returns-in-Err-2-clause-halts : goal.returns-in-Err-2-clause-halts
-returns-in-Err-2-clause-halts g c = begun_short c.args.conn _ c.args.kept.now c.requires.none
+pub returns-in-Err-went-clause-halts : goal.returns-in-Err-went-clause-halts
+returns-in-Err-went-clause-halts g c = rw c.in-Err-went.is at c.go_on-next.ensures.told _ c.loop.invariant.going

@@ -9,5 +9,5 @@ returns-in-Bad-clause-told g c = λ first going. bad_ends c.args.conn first _ c.
 pub returns-in-Short-clause-told : goal.returns-in-Short-clause-told
 returns-in-Short-clause-told g c = λ first going. c.wait_or_read.ensures.told first _ going (front_there c.args.framer.now c.batch-batch.result.count c.batch-batch.result.size IsShort going.limit c.batch-batch.ensures.frames (omega (arith, c.if-batch-gt0.false)) (rw c.in-Short.is at c.batch-batch.ensures.behind))
 
-pub wait_or_read-requires-in-Short-clause-short : goal.wait_or_read-requires-in-Short-clause-short
-wait_or_read-requires-in-Short-clause-short g c = front_here c.args.framer.now c.batch-batch.result.count c.batch-batch.result.size IsShort c.batch-batch.ensures.frames (omega (arith, c.if-batch-gt0.false)) (rw c.in-Short.is at c.batch-batch.ensures.behind)
+pub wait_or_read-requires-clause-short : goal.wait_or_read-requires-clause-short
+wait_or_read-requires-clause-short g c = front_here c.args.framer.now c.batch-batch.result.count c.batch-batch.result.size IsShort c.batch-batch.ensures.frames (omega (arith, c.if-batch-gt0.false)) (rw c.in-Short.is at c.batch-batch.ensures.behind)

@@ -1,5 +1,7 @@
-use Rattle.std.proofs.Common.{◌++◌, refl, arith}
+use Rattle.std.proofs.Common.{◌≤◌, ◌+◌, ◌++◌, length, refl, arith}
 use Rattle.std.proofs.lemmas.Result.{err_from_is_err_and}
+use Rattle.factotum_program.specs.Commands.{most_input}
+use Rattle.factotum_program.specs.Sessions.{taken_by}
 use Rattle.factotum_program.proofs.PipeLemmas.{fed, fed_length, piped_more, piped_still, read_so_far, ready_still, stops_more}
 use Rattle.factotum_program.proofs.pipe.answer_piece.Goals as goal
 
@@ -8,7 +10,7 @@ returns-in-End-clause-ok g c = let got = c.in-End.ensures.bytes in
     λ first origin q. piped_still first _ _ origin _ c.args.session.now _ q got.1 got.2 refl
 
 pub returns-in-End-clause-ready : goal.returns-in-End-clause-ready
-returns-in-End-clause-ready g c = ready_still c.args.session.now _ c.in-End.ensures.bytes.2 c.requires
+returns-in-End-clause-ready g c = ready_still c.args.session.now _ c.in-End.ensures.bytes.2 c.requires.ready
 
 pub returns-in-Failed-clause-err : goal.returns-in-Failed-clause-err
 returns-in-Failed-clause-err g c = let got = c.in-Failed.ensures.bytes in
@@ -18,21 +20,21 @@ pub returns-in_err-answer_frames-clause-err : goal.returns-in_err-answer_frames-
 returns-in_err-answer_frames-clause-err g c =
     let p = err_from_is_err_and c.from_residual.result c.from_residual.ensures.1 in
     let got = c.in-Bytes.ensures.bytes in
-    let few = omega (arith, got.0, got.1.2, c.taken.ensures, c.requires.few) in
+    let few : taken_by c.args.session.now + length got.1.0 ≤ most_input = omega (arith, got.0, got.1.2, c.taken-left.ensures, c.requires.ready.few) in
     rw (p.1, p.2) (λ first origin q. stops_more _ first _ _ origin _ _ c.args.session.now got.1.0 q got.1.3 few
     (c.in_err-answer_frames.ensures.err origin (q.stream ++ got.1.0) q.handed.turns (fed origin _ q.stream got.1.0 c.args.session.now.framer c.fill_within.new.self c.args.session.now.agent q.handed got.1.4)))
 
 pub returns-clause-ok : goal.returns-clause-ok
 returns-clause-ok g c =
     let got = c.in-Bytes.ensures.bytes in
-    let few = omega (arith, got.0, got.1.2, c.taken.ensures, c.requires.few) in
+    let few : taken_by c.args.session.now + length got.1.0 ≤ most_input = omega (arith, got.0, got.1.2, c.taken-left.ensures, c.requires.ready.few) in
     λ first origin q. piped_more first _ _ origin _ _ c.args.session.now _ got.1.0 q got.1.3 few
     (c.in_ok-answer_frames.ensures.ok origin (q.stream ++ got.1.0) q.handed.turns (fed origin _ q.stream got.1.0 c.args.session.now.framer c.fill_within.new.self c.args.session.now.agent q.handed got.1.4))
 
 pub returns-clause-ready : goal.returns-clause-ready
 returns-clause-ready g c = let got = c.in-Bytes.ensures.bytes in record {
   short = c.in_ok-answer_frames.ensures.short;
-  few = omega (arith, got.0, got.1.2, c.taken.ensures, c.requires.few, c.in_ok-answer_frames.ensures.fed, fed_length c.args.session.now.framer c.fill_within.new.self got.1.0 got.1.4);
+  few = omega (arith, got.0, got.1.2, c.taken-left.ensures, c.requires.ready.few, c.in_ok-answer_frames.ensures.fed, fed_length c.args.session.now.framer c.fill_within.new.self got.1.0 got.1.4);
 }
 
 pub returns-clause-more : goal.returns-clause-more

@@ -5,7 +5,7 @@ use Rattle.factotum_program.proofs.pipe.read_over.Goals as goal
 
 pub returns-in-Bytes-clause-err : goal.returns-in-Bytes-clause-err
 returns-in-Bytes-clause-err g c = let got = c.in-Bytes.ensures.bytes in
-    λ first origin now q. (refl, floods first _ _ origin now c.args.session.now _ q c.requires got.2 (omega (arith, got.0, length-take-le _ _ got.1)))
+    λ first origin now q. (refl, floods first _ _ origin now c.args.session.now _ q c.requires.full got.2 (omega (arith, got.0, length-take-le _ _ got.1)))
 
 pub returns-in-End-clause-ok : goal.returns-in-End-clause-ok
 returns-in-End-clause-ok g c = let got = c.in-End.ensures.bytes in
