@@ -199,6 +199,7 @@ fn run(rt: &HostRuntime, words: &[Text]) -> Status
             None,
         ),
         Ok(Task::Pipe { auth }) => (Opened::Shut, Opened::Shut, open(rt, NAME, RANDOM), auth),
+        Err(Status::NoMemory) => return Status::NoMemory,
         Ok(Task::World | Task::Gen(_)) | Err(_) => {
             (Opened::Shut, Opened::Shut, Opened::Shut, None)
         }
