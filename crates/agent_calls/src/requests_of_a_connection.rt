@@ -3,11 +3,10 @@ ghost use Rattle.std.specs.Prelude.{◌≡◌, List, ℕ, true, ◌<◌, ◌≤�
 ghost use Rattle.agent_history.specs.Deeds.{Deed};
 ghost use Rattle.agent_history.specs.Requests.{answered};
 ghost use Rattle.agent_requests.specs.Connections.{is_opened, Keeps, SameKept, asked};
-ghost use Rattle.agent_shared.specs.Sharing.{SameShared, Shares};
+ghost use Rattle.agent_requests.specs.Sharing.{SameShared, Shares};
 ghost use Rattle.nine.specs.Decoding.{IsFrame};
 
-use agent_requests::{Call, Connection};
-use agent_shared::Shared;
+use agent_requests::{Call, Connection, Shared};
 use wire_base::NoMemory;
 
 /// As `Connection::is_open`.

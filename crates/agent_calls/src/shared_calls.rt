@@ -1,20 +1,20 @@
-// The public calls of `agent_shared`.
+// The public calls of `agent_requests`.
 ghost use Rattle.std.specs.Prelude.{◌≡◌, List, false, ℕ, Option, true, OnErr, OnOk, ◌∷◌, Some, ◌≤◌, IsOk, is_some, IfSome};
 ghost use Rattle.agent_history.specs.Conversations.{given_up_by, stands, resumed, asker};
 ghost use Rattle.agent_history.specs.Deeds.{Deed, OfFids, Clunked, was_hung, Versioned, OfConnection, Hung, OfPrompts, Opened, fid_of, OfKeys, Switched};
 ghost use Rattle.agent_history.specs.Replies.{swept};
 ghost use Rattle.agent_history.specs.Requests.{carried, said_by};
 ghost use Rattle.agent_history.specs.SideFiles.{prompts_of};
-ghost use Rattle.agent_shared.specs.Sharing.{Shares, SameShared, GivesOne};
+ghost use Rattle.agent_requests.specs.Sharing.{Shares, SameShared, GivesOne};
 ghost use Rattle.file_tree.specs.Calls.{node_of};
 ghost use Rattle.mailboxes.specs.Deliveries.{SameRoom, KeepsNone, SamePlace};
 ghost use Rattle.side_files.specs.Calls as side;
 ghost use Rattle.side_files.specs.Questions.{asker_of};
 ghost use Rattle.talks.specs.Calls as c;
-ghost use Rattle.told_talks.specs.Kept.{is_asked, questions_in, unasked};
-ghost use Rattle.told_talks.specs.Logging.{talks_in};
+ghost use Rattle.agent_talks.specs.Kept.{is_asked, questions_in, unasked};
+ghost use Rattle.agent_talks.specs.Logging.{talks_in};
 
-use agent_shared::Shared;
+use agent_requests::Shared;
 use file_tree::Node;
 use side_files::PromptKind;
 use std::alloc::Global;

@@ -22,8 +22,8 @@ use Rattle.agent_requests.proofs.OwnRequests.{IsOwn, answered_own, entered_by}
 use Rattle.agent_requests.specs.LoggedTalks.{LoggedTalks}
 use Rattle.agent_requests.specs.Logging.{Logs}
 use Rattle.agent_requests.proofs.DeedLemmas.{replies_logs}
-use Rattle.agent_requests.specs.Shared.{Shared}
-use Rattle.agent_requests.specs.Holders.{Holders}
+use Rattle.agent_requests.specs.declared.shared.Shared.{Shared}
+use Rattle.agent_requests.specs.declared.holders.Holders.{Holders}
 use Rattle.agent_requests.specs.Sharing.{Holds, Shares}
 use Rattle.agent_requests.proofs.OwnDeeds.{OfAll, closed_all, ended_all, resumed_all, swept_by}
 use Rattle.agent_requests.proofs.ShareLemmas.{with_talks}

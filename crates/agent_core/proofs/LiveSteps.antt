@@ -6,7 +6,7 @@ use Rattle.agent_history.specs.declared.event.Event.{Event}
 use Rattle.agent_history.specs.Deeds.{Deed}
 use Rattle.agent_history.specs.Histories.{does}
 use Rattle.agent_requests.specs.declared.connection.Connection.{Connection}
-use Rattle.agent_requests.specs.Shared.{Shared}
+use Rattle.agent_requests.specs.declared.shared.Shared.{Shared}
 use Rattle.agent_core.specs.Events.{Known, Live, Lives, Serves, Stands, known_by}
 use Rattle.agent_core.proofs.EventSteps.{all_stand}
 use Rattle.agent_core.proofs.KnownSteps.{live_known, written}

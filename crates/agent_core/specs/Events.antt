@@ -22,7 +22,7 @@ use Rattle.agent_talks.specs.Kept as kept
 use Rattle.agent_requests.specs.declared.connection.Connection.{Connection}
 use Rattle.agent_requests.specs.Connections.{Keeps, SameKept, IsFresh, is_opened}
 use Rattle.agent_core.specs.declared.connections.Connections.{Connections}
-use Rattle.agent_requests.specs.Shared.{Shared}
+use Rattle.agent_requests.specs.declared.shared.Shared.{Shared}
 use Rattle.agent_requests.specs.Sharing.{Shares}
 use Rattle.agent_requests.specs.Logging.{calls_in, talks_in}
 

@@ -35,10 +35,10 @@ use Rattle.talks.specs.Numbers.{told_length}
 use Rattle.talks.specs.Starts as mail
 use Rattle.talks.specs.Starts.{proto_of, side_of}
 use Rattle.talks.specs.Protocols.{protocol_of}
-use Rattle.rpc_file.specs.Answers.{answer_text}
-use Rattle.rpc_file.specs.declared.answer.RpcAnswer.TheVariants as a
-use Rattle.rpc_file.specs.Requests as rpc
-use Rattle.rpc_file.specs.Requests.{starts, reads, writes}
+use Rattle.talks.specs.RpcAnswers.{answer_text}
+use Rattle.talks.specs.declared.answer.RpcAnswer.TheVariants as a
+use Rattle.talks.specs.Requests as rpc
+use Rattle.talks.specs.Requests.{starts, reads, writes}
 use Rattle.roles.specs.declared.answer.Cause.TheVariants.{NotOffered}
 use Rattle.side_files.specs.declared.line.PromptKind.TheVariants as k
 use Rattle.side_files.specs.Calls.{Asked, Pushed}

@@ -29,7 +29,7 @@ use Rattle.sealing.specs.Request as tickets
 use Rattle.sealing.specs.Request.{request_text, request_fields}
 use Rattle.roles.specs.Starts.{role_of, start_fault}
 use Rattle.roles.specs.Templates.{asked, given_as, shown_text}
-use Rattle.rpc_file.specs.Answers.{answer_text}
+use Rattle.talks.specs.RpcAnswers.{answer_text}
 use Rattle.talks.specs.Protocols.{protocol_of}
 use Rattle.side_files.specs.declared.line.PromptKind.TheVariants as k
 use Rattle.side_files.specs.Calls.{Asked, Read, Replied, Withdrawn, Pushed}

@@ -32,9 +32,9 @@ use Rattle.roles.specs.declared.answer.Cause.TheVariants.{NoServer, NoRoom, Serv
 use Rattle.roles.specs.declared.need.Outcome.TheVariants.{Broken, Running}
 use Rattle.roles.specs.Starts.{role_of, start_fault}
 use Rattle.roles.specs.Templates.{asked, given_as, shown_text}
-use Rattle.rpc_file.specs.Answers.{answer_text}
-use Rattle.rpc_file.specs.Requests as rpc
-use Rattle.rpc_file.specs.Requests.{starts, reads, writes}
+use Rattle.talks.specs.RpcAnswers.{answer_text}
+use Rattle.talks.specs.Requests as rpc
+use Rattle.talks.specs.Requests.{starts, reads, writes}
 use Rattle.talks.specs.Protocols.{protocol_of}
 use Rattle.talks.specs.Calls.{Stored, CarriedOut, Sought, Chosen, NoneServes, Heard, Unheard, Roomless, Took}
 use Rattle.side_files.specs.declared.line.PromptKind.TheVariants as k

@@ -23,10 +23,10 @@ use Rattle.file_tree.specs.Calls.{fid_fault, attach_fault, walk_fault, open_faul
 use Rattle.key_lists.specs.Listing.{list_text}
 use Rattle.key_lists.specs.CtlLines.{CtlLine, OnKeys, Debug, lines_of, carried_out, lines_fault}
 use Rattle.agent_history.specs.Deeds.{Deed, KeyDeed, OfFids, OfKeys, OfReplies, OfTalk, OfPrompts, Versioned, Attached, Walked, Opened, Listed, Browsed, Clunked, Edited, Switched, Answered, Awaited, Flushed, msize_of, fid_of, held_by, next_of, holder_of, keys_of, text_of}
-use Rattle.rpc_file.specs.Requests.{RpcRequest}
-use Rattle.rpc_file.specs.Requests as rpc
-use Rattle.rpc_file.specs.declared.request.RpcFault.{RpcFault}
-use Rattle.rpc_file.specs.declared.request.RpcFault.TheVariants as fault
+use Rattle.talks.specs.Requests.{RpcRequest}
+use Rattle.talks.specs.Requests as rpc
+use Rattle.talks.specs.declared.request.RpcFault.{RpcFault}
+use Rattle.talks.specs.declared.request.RpcFault.TheVariants as fault
 use Rattle.side_files.specs.declared.line.PromptKind.{PromptKind}
 use Rattle.side_files.specs.declared.line.PromptKind.TheVariants as k
 use Rattle.side_files.specs.declared.reply.Reply.{Reply}

@@ -25,8 +25,8 @@ use Rattle.roles.specs.Tickets.{proof_under, rest_part, ticket_part, ticket_unde
 use Rattle.roles.specs.Clients.{is_refusal}
 use Rattle.roles.specs.Courses as sk
 use Rattle.roles.specs.Courses.{accepted, answer_of, need_unless, outcome_unless, then_course, unless_broken}
-use Rattle.rpc_file.specs.Answers.{title_of}
-use Rattle.rpc_file.specs.declared.answer.RpcAnswer.TheVariants as a
+use Rattle.talks.specs.RpcAnswers.{title_of}
+use Rattle.talks.specs.declared.answer.RpcAnswer.TheVariants as a
 use Rattle.talks.specs.Answers.{move_answer}
 use Rattle.conv_p9any.specs.Talks.{Standing, choosing, within}
 use Rattle.conv_p9any.specs.Courses as choice

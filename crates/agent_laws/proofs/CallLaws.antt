@@ -24,10 +24,10 @@ use Rattle.roles.specs.Answers.{IsExchange, is_sought}
 use Rattle.roles.specs.Talks.{found, get, give, heard, roomless, unheard, Call as Move}
 use Rattle.talks.specs.Protocols.{answers, ends, is_over, needs, puts, refuses}
 use Rattle.talks.proofs.Laws.{heard_needs, roomless_needs, unheard_needs}
-use Rattle.rpc_file.specs.Answers.{title_of}
-use Rattle.rpc_file.specs.Requests.{RpcRequest, starts, reads, writes, asks_info, asks_attributes}
-use Rattle.rpc_file.specs.declared.answer.RpcAnswer.{RpcAnswer}
-use Rattle.rpc_file.specs.declared.answer.RpcAnswer.TheVariants as a
+use Rattle.talks.specs.RpcAnswers.{title_of}
+use Rattle.talks.specs.Requests.{RpcRequest, starts, reads, writes, asks_info, asks_attributes}
+use Rattle.talks.specs.declared.answer.RpcAnswer.{RpcAnswer}
+use Rattle.talks.specs.declared.answer.RpcAnswer.TheVariants as a
 use Rattle.talks.specs.declared.said.Said.{Said}
 use Rattle.talks.specs.declared.said.Asking.{Asking}
 use Rattle.talks.specs.Answers.{move_answer, text_or_none}

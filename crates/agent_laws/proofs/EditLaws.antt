@@ -16,7 +16,7 @@ use Rattle.file_tree.specs.Tree.{lead_to}
 use Rattle.file_tree.specs.Directories.{dir_end}
 use Rattle.file_tree.specs.Calls.{node_of}
 use Rattle.key_lists.specs.CtlLines.{lines_of}
-use Rattle.rpc_file.specs.Requests.{request_of}
+use Rattle.talks.specs.Requests.{request_of}
 use Rattle.talks.specs.Calls as calls
 use Rattle.talks.specs.Calls.{Found}
 use Rattle.talks.specs.Standings.{finds}

@@ -26,8 +26,8 @@ use Rattle.file_tree.specs.Stats.{record_of}
 use Rattle.file_tree.specs.Directories.{size_of, behind, fitting, records, dir_bytes}
 use Rattle.file_tree.proofs.RecordLaws.{size_small}
 use Rattle.file_tree.proofs.WalkLaws.{at_most}
-use Rattle.rpc_file.specs.Answers.{answer_text}
-use Rattle.rpc_file.specs.declared.answer.RpcAnswer.{RpcAnswer}
+use Rattle.talks.specs.RpcAnswers.{answer_text}
+use Rattle.talks.specs.declared.answer.RpcAnswer.{RpcAnswer}
 use Rattle.talks.specs.Standings.{Phase, Resting, Waiting as IsStored, Seeking, OnConfirm, OnNeedkey, OnServer, Kept}
 use Rattle.agent_history.specs.declared.event.Event.{Event}
 use Rattle.agent_history.specs.declared.event.Event.TheVariants.{Request, Hang, Answer, NoAnswer, NoRoom, Take, TakeAsk, Stop}

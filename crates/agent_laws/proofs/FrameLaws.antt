@@ -13,8 +13,8 @@ use Rattle.file_tree.specs.Tree.{lead_to}
 use Rattle.file_tree.specs.Directories.{dir_end}
 use Rattle.file_tree.specs.Calls.{node_of}
 use Rattle.key_lists.specs.CtlLines.{carried_out, lines_of}
-use Rattle.rpc_file.specs.Requests.{RpcRequest}
-use Rattle.rpc_file.specs.Requests as rpc
+use Rattle.talks.specs.Requests.{RpcRequest}
+use Rattle.talks.specs.Requests as rpc
 use Rattle.side_files.specs.Lines.{Nothing, TooLong, First, Found as LineFound, found as line_for}
 use Rattle.side_files.specs.Replies as prompt
 use Rattle.agent_history.specs.Deeds.{Deed, OfFids, OfConnection, Versioned, Attached, Walked, Opened, Listed, Browsed, Clunked, Hung, fid_of, held_by, holder_of, keys_of, msize_of}

@@ -9,9 +9,9 @@ use Rattle.key_lists.specs.CtlLines.{few_of}
 use Rattle.roles.specs.declared.answer.StartFault.{StartFault}
 use Rattle.roles.specs.Talks.{get, give}
 use Rattle.talks.specs.Protocols.{answers, needs, puts, refuses}
-use Rattle.rpc_file.specs.Requests.{RpcRequest, starts, reads, writes, asks_info, asks_attributes}
-use Rattle.rpc_file.specs.declared.answer.RpcAnswer.TheVariants as a
-use Rattle.rpc_file.specs.declared.request.RpcFault.{RpcFault}
+use Rattle.talks.specs.Requests.{RpcRequest, starts, reads, writes, asks_info, asks_attributes}
+use Rattle.talks.specs.declared.answer.RpcAnswer.TheVariants as a
+use Rattle.talks.specs.declared.request.RpcFault.{RpcFault}
 use Rattle.side_files.specs.declared.line.PromptKind.{PromptKind}
 use Rattle.side_files.specs.declared.line.PromptKind.TheVariants as k
 use Rattle.side_files.specs.declared.reply.Reply.{Reply}

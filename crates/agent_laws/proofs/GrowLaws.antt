@@ -27,7 +27,7 @@ use Rattle.side_files.specs.Calls as side
 use Rattle.side_files.specs.Lines.{found}
 use Rattle.side_files.specs.Questions.{asker_of}
 use Rattle.side_files.specs.Replies as prompt
-use Rattle.rpc_file.specs.Requests as rpc
+use Rattle.talks.specs.Requests as rpc
 use Rattle.talks.specs.Calls as calls
 use Rattle.talks.specs.Standings.{Phase, Resting, Waiting, Seeking, OnConfirm, OnNeedkey, OnServer, Kept, Standing, standing, then_stands}
 use Rattle.agent_history.specs.Deeds.{Deed, OfFids, OfKeys, OfReplies, OfConnection, OfTalk, Raised, HandedOut, OfPrompts, OfLog, DropTaken, Swept, Halted, next_of, Versioned, Attached, Walked, Opened, Listed, Browsed, Clunked, Answered, Flushed, Taken, Entered, Hung, fid_of, holder_of, msize_of, is_halted, was_hung, was_opened}

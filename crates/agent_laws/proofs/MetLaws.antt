@@ -25,9 +25,9 @@ use Rattle.side_files.specs.declared.reply.Reply.{Reply}
 use Rattle.side_files.specs.Calls as side
 use Rattle.side_files.specs.Lines.{Found, Nothing, TooLong, First, found}
 use Rattle.side_files.specs.Questions.{asker_of}
-use Rattle.rpc_file.specs.Requests.{RpcRequest}
-use Rattle.rpc_file.specs.declared.answer.RpcAnswer.{RpcAnswer}
-use Rattle.rpc_file.specs.declared.request.RpcFault.{RpcFault}
+use Rattle.talks.specs.Requests.{RpcRequest}
+use Rattle.talks.specs.declared.answer.RpcAnswer.{RpcAnswer}
+use Rattle.talks.specs.declared.request.RpcFault.{RpcFault}
 use Rattle.talks.specs.Calls as calls
 use Rattle.talks.specs.declared.said.Said.{Said}
 use Rattle.talks.specs.declared.said.Asking.{Asking}

@@ -5,8 +5,8 @@ use Rattle.roles.specs.declared.need.Need.{Need}
 use Rattle.roles.specs.declared.need.Need.TheVariants.{Nothing, Exchange}
 use Rattle.roles.specs.Answers.{is_sought}
 use Rattle.roles.specs.Talks.{get, give, Call as Move}
-use Rattle.rpc_file.specs.Requests.{RpcRequest, starts, reads, writes, asks_info, asks_attributes}
-use Rattle.rpc_file.specs.declared.answer.RpcAnswer.TheVariants as a
+use Rattle.talks.specs.Requests.{RpcRequest, starts, reads, writes, asks_info, asks_attributes}
+use Rattle.talks.specs.declared.answer.RpcAnswer.TheVariants as a
 use Rattle.talks.specs.Protocols.{ends, is_over, puts}
 use Rattle.talks.proofs.EndLaws.{none_at_the_end, stays_at_the_end}
 use Rattle.talks.specs.Answers.{attributes}

@@ -14,10 +14,10 @@ use Rattle.roles.specs.declared.need.Need.{Need}
 use Rattle.roles.specs.declared.need.Need.TheVariants.{Nothing}
 use Rattle.roles.specs.Answers.{IsExchange}
 use Rattle.roles.specs.Talks.{Call as Move, heard, unheard, roomless}
-use Rattle.rpc_file.specs.Requests.{RpcRequest}
-use Rattle.rpc_file.specs.Requests as rpc
-use Rattle.rpc_file.specs.declared.answer.RpcAnswer.{RpcAnswer}
-use Rattle.rpc_file.specs.declared.request.RpcFault.{RpcFault}
+use Rattle.talks.specs.Requests.{RpcRequest}
+use Rattle.talks.specs.Requests as rpc
+use Rattle.talks.specs.declared.answer.RpcAnswer.{RpcAnswer}
+use Rattle.talks.specs.declared.request.RpcFault.{RpcFault}
 use Rattle.talks.specs.Protocols.{needs}
 use Rattle.talks.proofs.Laws.{heard_needs, roomless_needs, unheard_needs}
 use Rattle.talks.specs.Calls as calls

@@ -13,9 +13,9 @@ use Rattle.file_tree.specs.declared.tree.Node.{Node}
 use Rattle.file_tree.specs.Calls.{is_open, mode_of, node_of}
 use Rattle.side_files.specs.Lines.{found as line_for}
 use Rattle.key_lists.specs.CtlLines.{CtlLine, OnKeys, Debug, carried_out, lines_of}
-use Rattle.rpc_file.specs.Requests.{RpcRequest}
-use Rattle.rpc_file.specs.Requests as rpc
-use Rattle.rpc_file.specs.declared.request.RpcFault.{RpcFault}
+use Rattle.talks.specs.Requests.{RpcRequest}
+use Rattle.talks.specs.Requests as rpc
+use Rattle.talks.specs.declared.request.RpcFault.{RpcFault}
 use Rattle.side_files.specs.Replies as prompt
 use Rattle.talks.specs.Calls as calls
 use Rattle.talks.specs.Standings.{Phase, Resting, Waiting, Seeking, OnConfirm, OnNeedkey, OnServer, Kept, standing}

@@ -8,8 +8,8 @@ use Rattle.roles.specs.declared.need.Need.{Need}
 use Rattle.roles.specs.declared.need.Need.TheVariants as n
 use Rattle.roles.specs.Talks.{heard, offered, picked, roomless, unheard, Call as Move}
 use Rattle.talks.specs.Protocols.{answers, needs}
-use Rattle.rpc_file.specs.declared.answer.RpcAnswer.{RpcAnswer}
-use Rattle.rpc_file.specs.declared.answer.RpcAnswer.TheVariants as a
+use Rattle.talks.specs.declared.answer.RpcAnswer.{RpcAnswer}
+use Rattle.talks.specs.declared.answer.RpcAnswer.TheVariants as a
 use Rattle.side_files.specs.Calls as side
 use Rattle.side_files.specs.Lines.{Nothing, TooLong, First, Found as LineFound, found as line_for}
 use Rattle.talks.specs.declared.said.Said.{Said}

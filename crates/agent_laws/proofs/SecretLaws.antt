@@ -23,7 +23,7 @@ use Rattle.wire_base.specs.Rules.{first_told}
 use Rattle.key_lists.specs.Lists.{KeyList, added, deleted, delete_fault, tells_secret, matching}
 use Rattle.key_lists.specs.Edits.{Add, Delete}
 use Rattle.key_lists.specs.CtlLines.{CtlLine, OnKeys, Debug, carried_out, delete_text, keys_with, line_fault, line_over, lines_fault, lines_of, read_line}
-use Rattle.rpc_file.specs.Requests.{request_of as request_in}
+use Rattle.talks.specs.Requests.{request_of as request_in}
 use Rattle.talks.specs.Calls as calls
 use Rattle.talks.specs.Standings.{standing}
 use Rattle.agent_history.specs.Deeds.{Deed, OfFids, OfKeys, OfReplies, OfConnection, OfTalk, Raised, HandedOut, OfPrompts, OfLog, DropTaken, Swept, Halted, Versioned, Attached, Walked, Opened, Listed, Browsed, Clunked, Edited, Switched, Flushed, fid_of, keys_of, msize_of, Awaited}

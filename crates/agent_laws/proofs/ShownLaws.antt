@@ -12,8 +12,8 @@ use Rattle.roles.specs.declared.need.Outcome.TheVariants.{Running, Accepted, Fin
 use Rattle.roles.specs.Answers.{is_sought}
 use Rattle.roles.specs.Talks.{found, offered, picked, undone, Call as Move}
 use Rattle.talks.specs.Protocols.{answers, ends, needs}
-use Rattle.rpc_file.specs.declared.answer.RpcAnswer.{RpcAnswer}
-use Rattle.rpc_file.specs.declared.answer.RpcAnswer.TheVariants as a
+use Rattle.talks.specs.declared.answer.RpcAnswer.{RpcAnswer}
+use Rattle.talks.specs.declared.answer.RpcAnswer.TheVariants as a
 use Rattle.talks.specs.declared.said.Said.{Said}
 use Rattle.talks.specs.Answers.{move_answer, told_key}
 use Rattle.talks.specs.Calls as calls

@@ -5,7 +5,7 @@ use Rattle.std.specs.Prelude.{find, option_map, is_some}
 use Rattle.std.specs.List.{list_any, list_all}
 use Rattle.std.proofs.lemmas.Bool.{and_parts, not-true}
 use Rattle.nine.specs.declared.message.RBody.TheVariants as r
-use Rattle.rpc_file.specs.declared.answer.RpcAnswer.{RpcAnswer}
+use Rattle.talks.specs.declared.answer.RpcAnswer.{RpcAnswer}
 use Rattle.talks.specs.Calls as calls
 use Rattle.talks.specs.Standings.{Phase, Standing, Resting, Waiting, Seeking, OnConfirm, OnNeedkey, OnServer, Kept, standing, then_stands}
 use Rattle.side_files.specs.declared.line.PromptKind.{PromptKind}

@@ -20,7 +20,7 @@ use Rattle.file_tree.specs.Tree.{qid_of, visited}
 use Rattle.file_tree.specs.Calls.{node_of}
 use Rattle.file_tree.proofs.RecordLaws.{size_small}
 use Rattle.file_tree.proofs.WalkLaws.{at_most}
-use Rattle.rpc_file.specs.declared.answer.RpcAnswer.{RpcAnswer}
+use Rattle.talks.specs.declared.answer.RpcAnswer.{RpcAnswer}
 use Rattle.agent_history.specs.Deeds.{Deed, fid_of, msize_of, OfFids, OfKeys, OfReplies, OfConnection, OfTalk, OfPrompts, OfLog, Raised, HandedOut, DropTaken, Swept, Halted, Versioned, Answered, Awaited, Settled, Flushed, Taken}
 use Rattle.agent_history.specs.Conversations.{fits, told}
 use Rattle.agent_history.specs.Requests.{Call, after, after_frame, after_granted, body_for, body_to, call_of, effective, granted, is_known, most_msize, reply_of, tag_of, written, agreed}

@@ -12,9 +12,9 @@ use Rattle.file_tree.specs.declared.tree.Node.TheVariants.{Root, Factotum, Rpc, 
 use Rattle.file_tree.specs.Tree.{lead_to}
 use Rattle.file_tree.specs.Calls.{node_of}
 use Rattle.key_lists.specs.Listing.{list_text}
-use Rattle.rpc_file.specs.Requests.{RpcRequest, request_of}
-use Rattle.rpc_file.specs.declared.answer.RpcAnswer.{RpcAnswer}
-use Rattle.rpc_file.specs.declared.request.RpcFault.{RpcFault}
+use Rattle.talks.specs.Requests.{RpcRequest, request_of}
+use Rattle.talks.specs.declared.answer.RpcAnswer.{RpcAnswer}
+use Rattle.talks.specs.declared.request.RpcFault.{RpcFault}
 use Rattle.talks.specs.Calls as calls
 use Rattle.talks.specs.Standings.{Phase, Resting, Waiting, Seeking, OnConfirm, OnNeedkey, OnServer, Kept}
 use Rattle.agent_history.specs.declared.event.Event.{Event}

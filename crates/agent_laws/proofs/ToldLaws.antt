@@ -27,7 +27,7 @@ use Rattle.key_lists.specs.Edits.{KeyEdit, Add, Delete}
 use Rattle.agent_history.specs.Deeds.{Deed, fid_of, next_of, holder_of}
 use Rattle.key_lists.specs.CtlLines.{CtlLine, OnKeys, Debug, add_text, delete_text, few_of, keys_with, line_with, line_fault, line_over, lines_fault, read_line}
 use Rattle.agent_history.specs.Requests.{Call, has_answer, is_resting, is_rpc, is_too_long, is_unknown, most_talks, phase_of, refusal, granted, lacks_version, repeats_tag, finds_none, finds_too_long, line_found, replier, is_elsewhere, lets_read, lets_write, waits_enough}
-use Rattle.rpc_file.specs.Requests as rpc
+use Rattle.talks.specs.Requests as rpc
 use Rattle.agent_history.specs.Replies.{waits_for}
 use Rattle.agent_history.specs.Conversations.{speakers}
 use Rattle.agent_laws.proofs.MetLaws.{said_over, unless_wrong}

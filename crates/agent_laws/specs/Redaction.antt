@@ -13,7 +13,7 @@ use Rattle.file_tree.specs.declared.tree.Node.{Node}
 use Rattle.file_tree.specs.Calls.{node_of}
 use Rattle.key_lists.specs.Edits.{Add, Delete}
 use Rattle.key_lists.specs.CtlLines.{CtlLine, OnKeys, Debug, carried_out, lines_fault, lines_of}
-use Rattle.rpc_file.specs.Requests as rpc
+use Rattle.talks.specs.Requests as rpc
 use Rattle.talks.specs.Calls.{Heard}
 use Rattle.talks.specs.Standings.{standing}
 use Rattle.agent_history.specs.declared.event.Event.{Event}

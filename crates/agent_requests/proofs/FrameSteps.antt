@@ -10,9 +10,9 @@ use Rattle.nine.specs.Decoding.{request_of}
 use Rattle.agent_history.specs.Deeds.{Deed, OfReplies, Answered, msize_of}
 use Rattle.agent_history.specs.Requests.{Call, refusal, granted, after_frame, answered, body_to, replied, is_over, comes_first, lacks_version, repeats_tag}
 use Rattle.agent_requests.specs.declared.connection.Connection.{Connection}
-use Rattle.agent_shared.specs.declared.shared.Shared.{Shared}
-use Rattle.agent_shared.specs.Sharing.{Shares}
-use Rattle.agent_shared.proofs.ShareLemmas as share
+use Rattle.agent_requests.specs.declared.shared.Shared.{Shared}
+use Rattle.agent_requests.specs.Sharing.{Shares}
+use Rattle.agent_requests.proofs.ShareLemmas as share
 use Rattle.mailboxes.specs.declared.reply.Reply.{Reply}
 use Rattle.mailboxes.specs.declared.mailboxes.Mailboxes.{Mailboxes}
 use Rattle.mailboxes.specs.Kept.{reply_bytes, error_frame}

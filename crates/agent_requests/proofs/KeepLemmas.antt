@@ -10,7 +10,7 @@ use Rattle.file_tree.specs.Held.{Table, fid_at, held_in}
 use Rattle.agent_requests.specs.Connections.{Keeps, SameKept, msize_in, text_in}
 use Rattle.agent_requests.specs.RpcRequests.{IsOpen}
 use Rattle.side_files.specs.declared.line.PromptKind.TheVariants as k
-use Rattle.agent_shared.proofs.OwnDeeds.{OfAll, closed_all, withdrawn_talks}
+use Rattle.agent_requests.proofs.OwnDeeds.{OfAll, closed_all, withdrawn_talks}
 
 pub keeps_all : (conn : ℕ) (c : Connection) → OfAll (λ done. Keeps done conn c)
 keeps_all conn c = record {

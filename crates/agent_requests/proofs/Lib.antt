@@ -1,7 +1,3 @@
-pub use Rattle.agent_shared.proofs.ShareLemmas
-pub use Rattle.agent_shared.proofs.OwnDeeds
-pub use Rattle.agent_shared.proofs.FidLemmas
-pub use Rattle.agent_shared.proofs.DeedLemmas
 pub mod OwnRequests
 pub mod KeepLemmas
 pub mod SwitchLemmas
@@ -10,3 +6,13 @@ pub mod RequestSteps
 pub mod RpcSteps
 pub mod LineSteps
 pub mod FrameSteps
+pub use Rattle.agent_talks.proofs.DeedLemmas
+pub mod OwnDeeds
+pub mod ShareLemmas
+pub mod FidLemmas
+pub mod LineLemmas
+pub mod ServeSteps
+pub mod DeliverSteps
+pub mod MeetSteps
+pub mod AskerLemmas
+pub mod EndSteps

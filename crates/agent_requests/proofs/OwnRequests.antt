@@ -9,9 +9,9 @@ use Rattle.file_tree.specs.declared.tree.Node.TheVariants as n
 use Rattle.file_tree.specs.Tree.{lead_to}
 use Rattle.file_tree.specs.Calls.{node_of}
 use Rattle.key_lists.specs.CtlLines.{CtlLine, lines_of, carried_out}
-use Rattle.rpc_file.specs.Requests.{RpcRequest}
-use Rattle.rpc_file.specs.Requests as rpc
-use Rattle.rpc_file.specs.declared.request.RpcFault.{RpcFault}
+use Rattle.talks.specs.Requests.{RpcRequest}
+use Rattle.talks.specs.Requests as rpc
+use Rattle.talks.specs.declared.request.RpcFault.{RpcFault}
 use Rattle.side_files.specs.Calls as side
 use Rattle.side_files.specs.declared.line.PromptKind.{PromptKind}
 use Rattle.side_files.specs.declared.reply.Reply.{Reply as Answer}
@@ -25,7 +25,7 @@ use Rattle.agent_history.specs.Conversations.{conv_of, standing_of}
 use Rattle.agent_history.specs.SideFiles.{is_line_file, kind_at, lines_in, prompts_of}
 use Rattle.agent_history.specs.Histories.{entered}
 use Rattle.agent_history.specs.Requests.{Call, after, after_frame, after_granted, agreed, answered, body_to, carried, effective, granted, is_rpc, line_deed, lines_done, reading, reading_answer, reading_file, reading_line, reading_talk, replied, replying, said_by, stored, walking, writing}
-use Rattle.agent_shared.proofs.OwnDeeds.{OfAll, OfTalks, carried_all, ended_all, read_talks, resumed_all, took_talks}
+use Rattle.agent_requests.proofs.OwnDeeds.{OfAll, OfTalks, carried_all, ended_all, read_talks, resumed_all, took_talks}
 
 -- ---- reads of rpc
 

@@ -29,20 +29,20 @@ use Rattle.side_files.specs.declared.line.PromptKind.{PromptKind}
 use Rattle.side_files.specs.Lines.{found}
 use Rattle.side_files.specs.Replies as prompt
 use Rattle.key_ring.specs.Switches.{switches}
-use Rattle.agent_shared.specs.Logging.{Logs}
+use Rattle.agent_requests.specs.Logging.{Logs}
 use Rattle.mailboxes.proofs.DeliveryLemmas.{keys_delivers}
 use Rattle.agent_history.specs.Requests.{Call, refusal, after, reply_of, agreed, effective, lets_read, line_found, nofid, lets_write, write_reply, written, line_deed, lines_done, is_known, is_rpc, most_msize, most_talks}
-use Rattle.rpc_file.specs.Requests as rpc
+use Rattle.talks.specs.Requests as rpc
 use Rattle.mailboxes.specs.declared.reply.Reply.{Reply}
 use Rattle.mailboxes.specs.declared.mailboxes.Mailboxes.{Mailboxes}
 use Rattle.mailboxes.specs.Kept.{reply_bytes}
 use Rattle.mailboxes.specs.Deliveries.{Delivers, under}
 use Rattle.agent_requests.specs.declared.connection.Connection.{Connection}
-use Rattle.agent_shared.specs.declared.holders.Holders.{Holders}
-use Rattle.agent_shared.specs.declared.shared.Shared.{Shared}
-use Rattle.agent_shared.specs.Sharing.{AreLive, Holds, HoldersLive, Shares}
-use Rattle.agent_shared.proofs.FidLemmas.{shares_attached, shares_browsed}
-use Rattle.agent_shared.proofs.ShareLemmas.{holds_keys}
+use Rattle.agent_requests.specs.declared.holders.Holders.{Holders}
+use Rattle.agent_requests.specs.declared.shared.Shared.{Shared}
+use Rattle.agent_requests.specs.Sharing.{AreLive, Holds, HoldersLive, Shares}
+use Rattle.agent_requests.proofs.FidLemmas.{shares_attached, shares_browsed}
+use Rattle.agent_requests.proofs.ShareLemmas.{holds_keys}
 use Rattle.agent_requests.specs.declared.refused.Refused.{Refused}
 use Rattle.agent_requests.specs.declared.refused.Refused.TheVariants as e
 use Rattle.agent_requests.specs.declared.refused.Refusal.TheVariants as f

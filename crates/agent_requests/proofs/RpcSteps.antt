@@ -4,9 +4,9 @@ use Rattle.std.specs.Prelude.{length}
 use Rattle.nine.specs.declared.message.RBody.{RBody}
 use Rattle.nine.specs.declared.message.RBody.TheVariants as r
 use Rattle.nine.specs.Messages.{r_frame}
-use Rattle.rpc_file.specs.Requests.{RpcRequest}
-use Rattle.rpc_file.specs.Requests as rpc
-use Rattle.rpc_file.specs.declared.request.RpcFault.TheVariants.{TooLong, UnknownVerb}
+use Rattle.talks.specs.Requests.{RpcRequest}
+use Rattle.talks.specs.Requests as rpc
+use Rattle.talks.specs.declared.request.RpcFault.TheVariants.{TooLong, UnknownVerb}
 use Rattle.talks.specs.Standings.{Phase, Resting, Waiting, Seeking, OnConfirm, OnNeedkey, OnServer, Kept}
 use Rattle.agent_history.specs.Deeds.{Deed, OfReplies, Awaited}
 use Rattle.agent_history.specs.Replies.{waits_for}
@@ -18,9 +18,9 @@ use Rattle.mailboxes.specs.declared.mailboxes.Mailboxes.{Mailboxes}
 use Rattle.mailboxes.specs.declared.reply.Reply.{Reply}
 use Rattle.mailboxes.specs.Kept.{reply_bytes}
 use Rattle.mailboxes.specs.Deliveries.{Delivers, under}
-use Rattle.agent_shared.specs.declared.shared.Shared.{Shared}
-use Rattle.agent_shared.specs.Sharing.{Shares}
-use Rattle.agent_shared.proofs.ShareLemmas.{replied_shares, with_mail}
+use Rattle.agent_requests.specs.declared.shared.Shared.{Shared}
+use Rattle.agent_requests.specs.Sharing.{Shares}
+use Rattle.agent_requests.proofs.ShareLemmas.{replied_shares, with_mail}
 use Rattle.agent_requests.specs.declared.refused.Refused.{Refused}
 use Rattle.agent_requests.specs.declared.refused.Refused.TheVariants as e
 use Rattle.agent_requests.specs.declared.refused.Refusal.{Refusal}

@@ -6,9 +6,9 @@ use Rattle.key_lists.specs.Edits.{KeyEdit}
 use Rattle.agent_history.specs.Deeds.{Deed, OfKeys, Edited, Switched}
 use Rattle.agent_history.specs.Requests.{lines_done}
 use Rattle.key_ring.specs.Switches.{switched}
-use Rattle.agent_shared.specs.LoggedTalks.{LoggedTalks}
-use Rattle.agent_shared.specs.Logging.{Logs}
-use Rattle.agent_shared.proofs.DeedLemmas.{edited_logs, swapped_logs, twice_logs}
+use Rattle.agent_requests.specs.LoggedTalks.{LoggedTalks}
+use Rattle.agent_requests.specs.Logging.{Logs}
+use Rattle.agent_requests.proofs.DeedLemmas.{edited_logs, swapped_logs, twice_logs}
 use Rattle.agent_requests.specs.LineRequests.{switching}
 
 -- an odd number of lines behind one more is an even number with it

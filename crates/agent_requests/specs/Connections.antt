@@ -19,8 +19,8 @@ use Rattle.key_ring.specs.Faults.{line_text}
 use Rattle.mailboxes.specs.declared.reply.Reply.{Reply}
 use Rattle.mailboxes.specs.Kept.{reply_bytes}
 use Rattle.mailboxes.specs.Deliveries.{has_room, under}
-use Rattle.agent_shared.specs.declared.shared.Shared.{Shared}
-use Rattle.agent_shared.specs.Sharing.{SameShared, Shares}
+use Rattle.agent_requests.specs.declared.shared.Shared.{Shared}
+use Rattle.agent_requests.specs.Sharing.{SameShared, Shares}
 use Rattle.agent_requests.specs.declared.call.Call.{Call}
 use Rattle.agent_requests.specs.declared.connection.Phase.{Phase}
 use Rattle.agent_requests.specs.declared.connection.Phase.TheVariants as p

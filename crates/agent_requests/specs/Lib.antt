@@ -1,8 +1,7 @@
-pub use Rattle.agent_shared.specs.Sharing
-pub use Rattle.agent_shared.specs.declared.shared.Shared
-pub use Rattle.agent_shared.specs.Logging
-pub use Rattle.agent_shared.specs.LoggedTalks
-pub use Rattle.agent_shared.specs.declared.holders.Holders
 pub mod Connections
 pub mod LineRequests
 pub mod RpcRequests
+pub use Rattle.agent_talks.specs.Logging
+pub use Rattle.agent_talks.specs.declared.logged.LoggedTalks
+pub mod Sharing
+pub mod Serving

@@ -10,8 +10,8 @@ use Rattle.side_files.specs.Replies as prompt
 use Rattle.agent_history.specs.Deeds.{Deed, OfKeys, Switched}
 use Rattle.agent_history.specs.Requests.{Call, finds_none, finds_too_long, line_read_reply, reading_line, replier, replying, waits_enough}
 use Rattle.mailboxes.specs.declared.reply.Reply.{Reply}
-use Rattle.agent_shared.specs.declared.shared.Shared.{Shared}
-use Rattle.agent_shared.specs.Sharing.{Shares}
+use Rattle.agent_requests.specs.declared.shared.Shared.{Shared}
+use Rattle.agent_requests.specs.Sharing.{Shares}
 use Rattle.agent_requests.specs.declared.refused.Refused.{Refused}
 use Rattle.agent_requests.specs.Connections.{Says, Told}
 

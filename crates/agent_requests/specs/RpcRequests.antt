@@ -2,9 +2,9 @@
 use Rattle.std.specs.Prelude.{◌≡◌, ℕ, List, [], ◌∷◌, length, true, not, ◌&&◌, ◌⊎◌, Option, Some, None, Result, Ok, Err, codes}
 use Rattle.wire_base.specs.Rules.{first_told}
 use Rattle.nine.specs.declared.message.RBody.TheVariants as r
-use Rattle.rpc_file.specs.Requests.{meant, request_of}
-use Rattle.rpc_file.specs.declared.request.Request.{Request}
-use Rattle.rpc_file.specs.declared.request.RpcFault.TheVariants.{TooLong, UnknownVerb}
+use Rattle.talks.specs.Requests.{meant, request_of}
+use Rattle.talks.specs.declared.request.Request.{Request}
+use Rattle.talks.specs.declared.request.RpcFault.TheVariants.{TooLong, UnknownVerb}
 use Rattle.agent_history.specs.Deeds.{Deed}
 use Rattle.agent_history.specs.Replies.{waits_for}
 use Rattle.agent_history.specs.Conversations.{conv_of, stands}
@@ -13,8 +13,8 @@ use Rattle.mailboxes.specs.declared.reply.Reply.{Reply}
 use Rattle.agent_requests.specs.declared.refused.Refused.{Refused}
 use Rattle.agent_requests.specs.declared.refused.Refused.TheVariants as e
 use Rattle.agent_requests.specs.declared.refused.Refusal.TheVariants as f
-use Rattle.agent_shared.specs.declared.shared.Shared.{Shared}
-use Rattle.agent_shared.specs.Sharing.{Shares}
+use Rattle.agent_requests.specs.declared.shared.Shared.{Shared}
+use Rattle.agent_requests.specs.Sharing.{Shares}
 use Rattle.agent_requests.specs.Connections.{Says, Told}
 
 -- ---- reads

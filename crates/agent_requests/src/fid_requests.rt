@@ -9,14 +9,14 @@ ghost use Rattle.agent_history.specs.Deeds.{Deed, OfFids, Attached, Clunked, Ope
 ghost use Rattle.agent_history.specs.Requests.{agreed, is_known, walking};
 ghost use Rattle.agent_history.specs.Conversations.{given_up_by};
 ghost use Rattle.mailboxes.specs.Deliveries.{SameRoom};
-ghost use Rattle.agent_shared.specs.Sharing.{Shares};
+ghost use Rattle.agent_requests.specs.Sharing.{Shares};
 ghost use Rattle.agent_requests.specs.Connections.{Keeps, SameKept, Tried, msize_in};
 
 use crate::call::Call;
 use crate::connection::{Connection, Phase};
 use crate::msize::{MOST_MSIZE, Msize};
 use crate::refused::{Refusal, Refused, Tried};
-use agent_shared::Shared;
+use crate::Shared;
 use file_tree::{Fids, Node, put_record, record_size};
 use mailboxes::Reply;
 use nine::{QidList, put_attach, put_clunk, put_flush, put_open, put_stat, put_version, put_walk};
@@ -136,7 +136,7 @@ impl Connection {
     }
 
     /// Walk: the new fid names the file to which the names lead, where all of them are there.
-    #[tactic(auto, unfolding(agent_history::specs::Requests::refusal, agent_history::specs::Requests::after, agent_history::specs::Requests::reply_of), using(agent_shared::proofs::FidLemmas::shares_walking))]
+    #[tactic(auto, unfolding(agent_history::specs::Requests::refusal, agent_history::specs::Requests::after, agent_history::specs::Requests::reply_of), using(crate::proofs::FidLemmas::shares_walking))]
     pub fn walk(&mut self, call: Call, fid: u32, newfid: u32, wname: &TextList) -> Tried
         requires { length wname.now ≤ 16 }
         ensures { (s : Shared)

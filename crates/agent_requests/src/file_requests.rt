@@ -13,7 +13,7 @@ ghost use Rattle.agent_history.specs.Requests.{ctl_text, effective, lets_read, l
 ghost use Rattle.mailboxes.specs.Kept.{reply_bytes};
 ghost use Rattle.mailboxes.specs.Deliveries.{under};
 ghost use Rattle.key_ring.specs.Switches.{switches};
-ghost use Rattle.agent_shared.specs.Logging.{Logs};
+ghost use Rattle.agent_requests.specs.Logging.{Logs};
 ghost use Rattle.agent_requests.specs.Connections.{Keeps, SameKept, Says, Told, Tried};
 ghost use Rattle.agent_requests.specs.LineRequests.{switching};
 
@@ -24,7 +24,7 @@ use crate::line_requests::{kind_at, read_line, write_answer};
 use crate::msize::Msize;
 use crate::refused::{Refusal, Refused, Tried};
 use crate::rpc_requests::{read_rpc, write_reply, write_rpc};
-use agent_shared::{LoggedTalks, Shared, is_rpc};
+use crate::{LoggedTalks, Shared, is_rpc};
 use file_tree::{Node, reads, writes};
 use mailboxes::Reply;
 use nine::put_read;
@@ -152,7 +152,7 @@ impl Connection {
     }
 
     /// Read: of a directory, of ctl, of the list of protocols, of rpc, or of a file of lines.
-    #[tactic(auto, unfolding(agent_history::specs::Requests::refusal, agent_history::specs::Requests::after, agent_history::specs::Requests::reply_of, file_tree::specs::Calls::fid_fault), using(agent_shared::proofs::FidLemmas::shares_listing))]
+    #[tactic(auto, unfolding(agent_history::specs::Requests::refusal, agent_history::specs::Requests::after, agent_history::specs::Requests::reply_of, file_tree::specs::Calls::fid_fault), using(crate::proofs::FidLemmas::shares_listing))]
     pub fn read(
         &mut self,
         call: Call,

@@ -5,14 +5,14 @@ ghost use Rattle.side_files.specs.Lines.{Nothing, found};
 ghost use Rattle.agent_history.specs.Deeds.{Deed, was_hung};
 ghost use Rattle.agent_history.specs.SideFiles.{kind_at, lines_in};
 ghost use Rattle.mailboxes.specs.Deliveries.{SameRoom};
-ghost use Rattle.agent_shared.specs.Sharing.{SameShared, Shares};
+ghost use Rattle.agent_requests.specs.Sharing.{SameShared, Shares};
 ghost use Rattle.agent_requests.specs.Connections.{asked};
 ghost use Rattle.agent_requests.specs.LineRequests.{LineTold, ReplyTold};
 
 use crate::call::Call;
 use crate::refused::{Refusal, Refused, Tried};
 use crate::rpc_requests::{waits_enough, write_reply};
-use agent_shared::Shared;
+use crate::Shared;
 use file_tree::Node;
 use mailboxes::{Read, Reply, ToldLine};
 use side_files::{PromptKind, TooSmall, parse_reply};

@@ -1,6 +1,6 @@
 // Reads and writes of rpc.
 ghost use Rattle.std.specs.Prelude.{◌≡◌, ◌≤◌, ◌&&◌, List, ℕ, Ok, true, false, length, not, OnErr, OnOk, IfOk};
-ghost use Rattle.rpc_file.specs.Requests.{meant};
+ghost use Rattle.talks.specs.Requests.{meant};
 ghost use Rattle.agent_history.specs.Deeds.{Deed, was_hung};
 ghost use Rattle.agent_history.specs.Requests.{has_answer, phase_of, stored, waits_enough};
 ghost use Rattle.agent_history.specs.Conversations.{stands};
@@ -8,17 +8,17 @@ ghost use Rattle.nine.specs.declared.message.RBody.TheVariants as r;
 ghost use Rattle.nine.specs.Messages.{r_frame};
 ghost use Rattle.mailboxes.specs.Deliveries.{Delivers, SameRoom, under};
 ghost use Rattle.mailboxes.specs.Kept.{reply_bytes};
-ghost use Rattle.agent_shared.specs.Sharing.{SameShared, Shares};
+ghost use Rattle.agent_requests.specs.Sharing.{SameShared, Shares};
 ghost use Rattle.agent_requests.specs.Connections.{asked};
 ghost use Rattle.agent_requests.specs.RpcRequests.{Answered, IsOpen, ReadTold, WriteTold, Requests};
 
 use crate::call::Call;
 use crate::fid_requests::USUAL_REPLY;
 use crate::refused::{Refusal, Refused, Tried};
-use agent_shared::{Shared, spell_told};
+use crate::{Shared, spell_told};
 use mailboxes::{Read, Reply};
 use nine::put_write;
-use rpc_file::{Request, RpcFault, parse_request};
+use talks::{Request, RpcFault, parse_request};
 use std::alloc::Global;
 use wire_base::{Bytes, NoMemory};
 

@@ -5,13 +5,13 @@ ghost use Rattle.nine.specs.Decoding.{IsFrame, request_of};
 ghost use Rattle.agent_history.specs.Deeds.{Deed, msize_of, was_hung};
 ghost use Rattle.agent_history.specs.Requests.{Call as HistoryCall, answered, comes_first, is_over, lacks_version, repeats_tag};
 ghost use Rattle.mailboxes.specs.Deliveries.{Delivers};
-ghost use Rattle.agent_shared.specs.Sharing.{SameShared, Shares};
+ghost use Rattle.agent_requests.specs.Sharing.{SameShared, Shares};
 ghost use Rattle.agent_requests.specs.Connections.{FrameAnswered, FrameTried, Keeps, SameKept, Tried, WritesAtMost, asked, msize_in};
 
 use crate::call::Call;
 use crate::connection::Connection;
 use crate::refused::{Refusal, Refused, Tried};
-use agent_shared::Shared;
+use crate::Shared;
 use mailboxes::Reply;
 use nine::{DecodeFault, TBody, TMsg, decode_t};
 use std::alloc::Global;

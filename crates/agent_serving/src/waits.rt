@@ -2,7 +2,7 @@
 use agent_hub::Hub;
 use mio::unix::SourceFd;
 use mio::{Events, Interest, Poll, Token, Waker};
-use readiness::{Awaits, Ready, Wants};
+use wire_streams::{Awaits, Ready, Wants};
 use std::alloc::Global;
 use std::net::Net;
 use std::os::fd::RawFd;

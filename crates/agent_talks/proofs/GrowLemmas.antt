@@ -1,7 +1,7 @@
 -- All that a conversation meets, and what is got for it then, adds deeds of three kinds alone: what these keep stays. And who
 -- is found stands.
 use Rattle.std.proofs.Common.{◌≡◌, ℕ, List, ◌∷◌, Bool, true, false, cond, ◌==◌, ◌&&◌, Option, Some, None, sym}
-use Rattle.rpc_file.specs.declared.answer.RpcAnswer.{RpcAnswer}
+use Rattle.talks.specs.declared.answer.RpcAnswer.{RpcAnswer}
 use Rattle.talks.specs.Calls as calls
 use Rattle.talks.specs.Calls.{Call}
 use Rattle.talks.specs.Standings.{Phase, Resting, Waiting, Seeking, OnConfirm, OnNeedkey, OnServer, Kept}

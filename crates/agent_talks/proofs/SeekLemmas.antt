@@ -11,9 +11,9 @@ use Rattle.roles.specs.declared.need.Need.{Need}
 use Rattle.roles.specs.declared.need.Need.TheVariants.{Nothing, Key, Offers, Pick, Exchange}
 use Rattle.roles.specs.Answers.{IsKey, is_sought}
 use Rattle.roles.specs.Talks.{get, give, Call as Move}
-use Rattle.rpc_file.specs.Requests.{RpcRequest, starts, reads, writes, asks_info, asks_attributes}
-use Rattle.rpc_file.specs.declared.answer.RpcAnswer.{RpcAnswer}
-use Rattle.rpc_file.specs.declared.answer.RpcAnswer.TheVariants as a
+use Rattle.talks.specs.Requests.{RpcRequest, starts, reads, writes, asks_info, asks_attributes}
+use Rattle.talks.specs.declared.answer.RpcAnswer.{RpcAnswer}
+use Rattle.talks.specs.declared.answer.RpcAnswer.TheVariants as a
 use Rattle.talks.specs.Protocols.{answers, ends, needs, puts, refuses}
 use Rattle.talks.proofs.EndLaws.{none_at_the_end}
 use Rattle.talks.specs.Answers.{attributes, move_answer}

@@ -4,7 +4,7 @@ use Rattle.std.specs.Prelude.{find, is_some, option_map}
 use Rattle.std.specs.List.{list_any}
 use Rattle.std.proofs.lemmas.Bool.{cases_Bool, eq-eqb, eqb-true, false≢true}
 use Rattle.std.proofs.lemmas.List.{length-map}
-use Rattle.rpc_file.specs.Requests.{RpcRequest}
+use Rattle.talks.specs.Requests.{RpcRequest}
 use Rattle.talks.specs.Calls as calls
 use Rattle.talks.specs.Calls.{Call}
 use Rattle.talks.specs.Standings.{OnServer, Phase, Standing, standing, then_stands}

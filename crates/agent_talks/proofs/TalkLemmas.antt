@@ -1,8 +1,8 @@
 -- A conversation that has come to its end, by what it met, gives up the connection that it keeps.
 use Rattle.std.proofs.Common.{◌≡◌, ℕ, List, [], ◌∷◌, ◌++◌, Bool, true, false, cond, eqb, not, ◌&&◌, Option, refl, sym, ap, subst, ◌∙◌}
 use Rattle.std.proofs.lemmas.Bool.{eqb-true, false≢true}
-use Rattle.rpc_file.specs.declared.answer.RpcAnswer.{RpcAnswer}
-use Rattle.rpc_file.specs.Requests.{RpcRequest}
+use Rattle.talks.specs.declared.answer.RpcAnswer.{RpcAnswer}
+use Rattle.talks.specs.Requests.{RpcRequest}
 use Rattle.roles.specs.Answers.{IsKey}
 use Rattle.talks.specs.Calls as calls
 use Rattle.talks.specs.Calls.{Call, Sought}

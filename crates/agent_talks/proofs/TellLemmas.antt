@@ -1,7 +1,7 @@
 -- From what is kept to what deeds say of an answer that is read.
 use Rattle.std.proofs.Common.{◌≡◌, ℕ, List, ◌∷◌, length, true, Option, Some, None, refl, ap, ◌∙◌}
 use Rattle.std.specs.Prelude.{option_map, IfSome}
-use Rattle.rpc_file.specs.declared.answer.RpcAnswer.{RpcAnswer}
+use Rattle.talks.specs.declared.answer.RpcAnswer.{RpcAnswer}
 use Rattle.talks.specs.Calls as calls
 use Rattle.talks.specs.Standings.{Phase, Resting, Waiting, Seeking, OnConfirm, OnNeedkey, OnServer, Kept}
 use Rattle.conversations.specs.Shown.{answer_in}
@@ -12,7 +12,7 @@ use Rattle.agent_talks.specs.declared.tell.Told.TheVariants as t
 use Rattle.agent_talks.specs.declared.held.Talks.{Talks}
 use Rattle.agent_talks.specs.Kept.{questions_in}
 use Rattle.agent_talks.specs.Speaks.{Speak, stands}
-use Rattle.rpc_file.specs.Answers.{answer_text}
+use Rattle.talks.specs.RpcAnswers.{answer_text}
 use Rattle.std.proofs.lemmas.Bool.{leb-true}
 use Rattle.agent_talks.specs.Tells.{IsShort, Tells, told_body}
 use Rattle.agent_talks.specs.Changes.{Meets}

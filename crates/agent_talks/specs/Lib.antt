@@ -5,3 +5,10 @@ pub mod Changes
 pub mod Tells
 pub mod Calls
 pub mod Keeps
+pub mod Files
+pub mod Rooms
+pub mod Ends
+pub mod Asked
+pub mod Asking
+pub mod Ahead
+pub mod Logging

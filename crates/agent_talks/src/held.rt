@@ -3,7 +3,7 @@ ghost use Rattle.std.specs.Prelude.{◌≡◌, [], ◌∷◌, List, ℕ, Option,
 ghost use Rattle.std.specs.BTreeMap.{get};
 ghost use Rattle.std.specs.Ordering.{nat_cmp};
 ghost use Rattle.file_tree.specs.declared.tree.Node.TheVariants.{Rpc};
-ghost use Rattle.rpc_file.specs.Requests.{meant};
+ghost use Rattle.talks.specs.Requests.{meant};
 ghost use Rattle.talks.specs.Calls as c;
 ghost use Rattle.agent_history.specs.Deeds.{Deed, OfConnection, OfFids, OfTalk, Clunked, Hung, Opened, Versioned, fid_of, names};
 ghost use Rattle.agent_history.specs.Conversations.{conv_of, raised, speaker_of, speakers, talk};
@@ -15,7 +15,7 @@ use crate::question::Question;
 use crate::speaker::{Leaving, Speaker, leaves};
 use crate::speakers::Speakers;
 use conversations::Conversation;
-use rpc_file::Request;
+use talks::Request;
 use std::alloc::Global;
 use std::collections::BTreeMap;
 use wire_base::NoMemory;

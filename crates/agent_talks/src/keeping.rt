@@ -1,7 +1,7 @@
 // Conversations and the connections that they keep.
 ghost use Rattle.std.specs.Prelude.{◌≡◌, ◌≤◌, ◌+◌, ◌-◌, ◌∷◌, [], List, ℕ, Option, false, true, length, drop, IsOk, IfSome, OnErr, OnOk};
 ghost use Rattle.file_tree.specs.declared.tree.Node.TheVariants.{Rpc};
-ghost use Rattle.rpc_file.specs.Requests.{meant};
+ghost use Rattle.talks.specs.Requests.{meant};
 ghost use Rattle.talks.specs.Calls as c;
 ghost use Rattle.talks.specs.Lines.{is_end};
 ghost use Rattle.talks.specs.Standings.{question_of};
@@ -21,9 +21,8 @@ use crate::tell::Told;
 use conversations::Asks;
 use key_ring::KeyRing;
 use roles::Outcome;
-use rpc_file::Request;
+use talks::{Asking, Request};
 use std::alloc::Global;
-use talks::Asking;
 use wire_base::{NoMemory, Shape};
 
 /// The conversations of an agent that stand, with their questions for the authentication server, and the connections to it

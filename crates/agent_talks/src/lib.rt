@@ -1,23 +1,40 @@
 //! The conversations of an agent that stand, who has them open, their questions for the authentication server, and
 //! the connections to it that they keep and give up: they are those that its deeds tell of.
+//!
+//! The conversations of an agent with the questions to its users and the log: the three files of lines, confirm,
+//! needkey and log, what is asked and answered there, and what becomes of a conversation in the log.
 #![tactic(auto)]
 
+mod ahead;
+mod asking;
+mod asking_ends;
 mod asks;
 mod carry;
 mod due;
+mod end_line;
+mod ends;
+mod files;
 mod held;
 mod keeping;
 mod kept;
+mod log;
+mod logged;
 mod question;
+mod ready;
+mod room;
 mod sights;
 mod speaker;
 mod speakers;
 mod tell;
 
+pub use asking::AskingTalks;
 pub use due::Due;
+pub use end_line::{EndLine, build_start};
+pub use files::LineFiles;
 pub use held::Talks;
 pub use keeping::KeepingTalks;
 pub use kept::{GivenUp, KeptCalls};
+pub use logged::LoggedTalks;
 pub use question::Question;
 pub use speaker::{Leaving, Speaker, leaves};
 pub use tell::Told;

@@ -9,7 +9,7 @@ ghost use Rattle.agent_talks.specs.declared.tell.Told.TheVariants as t;
 ghost use Rattle.agent_talks.specs.Tells.{IsShort, ShowsAnswer, Tells, answer_at};
 
 use crate::held::Talks;
-use rpc_file::{RpcAnswer, answer_fits};
+use talks::{RpcAnswer, answer_fits};
 
 /// What a read is told that may hold so many bytes: the answer, or that it may hold too few. It has no Debug, which
 /// would print secrets.

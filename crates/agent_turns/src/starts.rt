@@ -5,7 +5,7 @@ ghost use Rattle.world_history.specs.Talking.{protocol_named, role_named, start_
 
 use crate::steps::put;
 use attr_tuples::Tuple;
-use begun_talks::read_template;
+use conversations::read_template;
 use roles::says;
 use std::alloc::Global;
 use wire_base::{Bytes, NoMemory};

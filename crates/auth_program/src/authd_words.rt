@@ -7,7 +7,7 @@ ghost use Rattle.auth_program.specs.AuthdWords.{HasNumbers, IsAuthd, IsUnreadAut
 
 use crate::status::Status;
 use crate::words::{AuthsrvWords, is_value, read_authsrv_words};
-use client_limits::Limits;
+use client_doors::Limits;
 use std::alloc::Global;
 use wire_base::{NoMemory, Text, TextList};
 

@@ -1,6 +1,6 @@
 -- Agreement in clean histories, from agreement in their runs.
 use Rattle.std.proofs.Common.{◌≡◌, ℕ, List, [], ◌∷◌, ◌++◌, length, Contains, Some, sym, ap, subst, ◌∙◌}
-use Rattle.terms.specs.Trees.{long_key, password, digest, seal, ticket_key}
+use Rattle.symbolic_runs.specs.Trees.{long_key, password, digest, seal, ticket_key}
 use Rattle.symbolic_runs.specs.Forms.{for_client, ticket, tickets, client_message, mail_challenge}
 use Rattle.symbolic_runs.specs.Moves.{client, hears}
 use Rattle.symbolic_runs.specs.Sessions.{keys, key_and_password}

@@ -19,10 +19,10 @@ use Rattle.sealing.specs.declared.request.TicketReq.{TicketReq}
 use Rattle.sealing.proofs.FieldLaws.{behind_field, field_here, length-name_field}
 use Rattle.auth_tables.specs.Keys.{UserKey}
 use Rattle.auth_server.specs.Answers.{challenge_answer, challenge_at, grant, granted_key, shared_key, ticket as ticket_bytes, tickets as tickets_bytes, vouch as vouch_bytes, vouch_text, word}
-use Rattle.terms.specs.declared.kind.MacKind.{MacKind}
-use Rattle.terms.specs.declared.kind.MacKind.TheVariants.{Apop, Cram}
-use Rattle.terms.specs.Trees.{Tree, Trees, plain, challenge, long_key, ticket_key, junk_key, joined, seal, digest, none, piece}
-use Rattle.terms.specs.Spellings.{Atoms, Spelling, and_then, atom_bytes, digest_bytes, spelling}
+use Rattle.symbolic_runs.specs.declared.kind.MacKind.{MacKind}
+use Rattle.symbolic_runs.specs.declared.kind.MacKind.TheVariants.{Apop, Cram}
+use Rattle.symbolic_runs.specs.Trees.{Tree, Trees, plain, challenge, long_key, ticket_key, junk_key, joined, seal, digest, none, piece}
+use Rattle.symbolic_runs.specs.Spellings.{Atoms, Spelling, and_then, atom_bytes, digest_bytes, spelling}
 use Rattle.symbolic_runs.specs.Forms.{answer_ok, by_client, Fields, AreFields, authenticator, mail_challenge, pair, request, ticket}
 use Rattle.symbolic_runs.specs.Gifts.{part as piece_of}
 use Rattle.symbolic_runs.specs.Sessions.{client_key, server_key, ticket_for_client, ticket_for_server, tickets_given, vouch_given, vouched_proof, vouched_ticket}

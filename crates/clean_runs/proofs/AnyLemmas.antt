@@ -15,7 +15,7 @@ use Rattle.conv_p9any.specs.Inner.{inner_template, is_replaced, left_part}
 use Rattle.conv_p9any.specs.Offers.{consents}
 use Rattle.conv_p9any.specs.Texts.{text_with_nul}
 use Rattle.symbolic_runs.specs.Moves.{Own, Role}
-use Rattle.terms.specs.Trees.{Tree}
+use Rattle.symbolic_runs.specs.Trees.{Tree}
 use Rattle.wire_histories.specs.Histories.{Act}
 use Rattle.clean_runs.specs.Labels.{Labelled}
 use Rattle.clean_runs.specs.Runs.{acts_in, is_choosing, moves_by, moves_for}

@@ -1,7 +1,7 @@
 -- A p9any server's acts are talk that anybody may know, until the choice is made, and then the moves of a symbolic server.
 use Rattle.std.proofs.Common.{◌≡◌, ℕ, List, [], ◌∷◌, ◌++◌, true, false, inl, inr, refl, sym, ap, subst, ◌∙◌}
 use Rattle.std.specs.Prelude.{codes}
-use Rattle.terms.specs.Spellings.{Atoms}
+use Rattle.symbolic_runs.specs.Spellings.{Atoms}
 use Rattle.roles.specs.declared.stage.Role.TheVariants as sk_role
 use Rattle.roles.specs.Starts.{Start, role_of}
 use Rattle.roles.specs.Talks.{Call}

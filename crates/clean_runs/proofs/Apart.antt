@@ -2,7 +2,7 @@
 use Rattle.std.proofs.Common.{◌≡◌, ℕ, List, [], ◌∷◌, ◌++◌, append_assoc, length, length-append, Contains, Some, None, Bool, if◌then◌else◌, inl, inr, refl, sym, ap, subst, ◌∙◌, arith}
 use Rattle.std.proofs.lemmas.Bool.{cases_Bool}
 use Rattle.std.specs.Str.{bytes_eq}
-use Rattle.terms.specs.Trees.{long_key, password, digest, seal, ticket_key}
+use Rattle.symbolic_runs.specs.Trees.{long_key, password, digest, seal, ticket_key}
 use Rattle.wire_histories.specs.declared.step.Step.{Step}
 use Rattle.wire_histories.specs.declared.step.Step.TheVariants.{Out, Accept}
 use Rattle.symbolic_runs.specs.Forms.{for_client, ticket, tickets, client_message, mail_challenge}

@@ -22,10 +22,10 @@ use Rattle.sealing.specs.declared.request.TicketReq.{TicketReq}
 use Rattle.sealing.specs.declared.ticket.Ticket.{Ticket}
 use Rattle.sealing.proofs.FieldLaws.{behind_field, field_here, length-name_field}
 use Rattle.sealing.proofs.TicketLaws.{ticket_layout}
-use Rattle.terms.specs.declared.kind.MacKind.{MacKind}
-use Rattle.terms.specs.declared.kind.MacKind.TheVariants.{Apop, Cram}
-use Rattle.terms.specs.Trees.{Tree, Trees, plain, nonce, challenge, long_key, ticket_key, junk_key, password, joined, seal, digest, none, piece}
-use Rattle.terms.specs.Spellings.{Atoms, Spelling, and_then, atom_bytes, bytes_of, digest_bytes, spelling, spelling_all}
+use Rattle.symbolic_runs.specs.declared.kind.MacKind.{MacKind}
+use Rattle.symbolic_runs.specs.declared.kind.MacKind.TheVariants.{Apop, Cram}
+use Rattle.symbolic_runs.specs.Trees.{Tree, Trees, plain, nonce, challenge, long_key, ticket_key, junk_key, password, joined, seal, digest, none, piece}
+use Rattle.symbolic_runs.specs.Spellings.{Atoms, Spelling, and_then, atom_bytes, bytes_of, digest_bytes, spelling, spelling_all}
 use Rattle.symbolic_runs.specs.Forms.{Fields, authenticator, name_text, request, ticket}
 use Rattle.clean_runs.specs.Clean.{AllHoldBytes, GivesBytes, HoldsBytes}
 use Rattle.clean_runs.specs.Runs.{names_in}

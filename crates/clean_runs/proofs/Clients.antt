@@ -1,6 +1,6 @@
 -- A p9sk1 client's acceptance in a history is one in its run: a server answered it, and it is under a grant for its holder.
 use Rattle.std.proofs.Common.{◌≡◌, ℕ, List, [], ◌∷◌, ◌++◌, length, Some, refl, sym, ap, ◌∙◌}
-use Rattle.terms.specs.Trees.{long_key, nonce, seal, ticket_key}
+use Rattle.symbolic_runs.specs.Trees.{long_key, nonce, seal, ticket_key}
 use Rattle.wire_histories.specs.declared.step.Step.TheVariants.{Accept}
 use Rattle.symbolic_runs.specs.Forms.{for_client, pair, server_message, ticket, tickets}
 use Rattle.symbolic_runs.specs.Moves.{accepts, client, gives, hears, takes}

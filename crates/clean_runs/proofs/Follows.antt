@@ -1,9 +1,9 @@
 -- What an act of a conversation is in the run: a move that the table of its role allows, whose tree is spelled by the bytes that
 -- it gives. What is proved of one role at a time has this form.
 use Rattle.std.proofs.Common.{◌≡◌, ℕ, ◌<◌, List, [], ◌∷◌, ◌++◌, map, Some, Bool, true, false, Ok, refl, sym, ap, subst, ◌∙◌}
-use Rattle.terms.specs.Trees.{Tree, plain, nonce, long_key, password}
-use Rattle.terms.specs.Derivations.{Derives}
-use Rattle.terms.specs.Spellings.{Atoms, spelling}
+use Rattle.symbolic_runs.specs.Trees.{Tree, plain, nonce, long_key, password}
+use Rattle.symbolic_runs.specs.Derivations.{Derives}
+use Rattle.symbolic_runs.specs.Spellings.{Atoms, spelling}
 use Rattle.symbolic_runs.specs.Agreement.{is_server}
 use Rattle.symbolic_runs.specs.Forms.{name_text}
 use Rattle.symbolic_runs.specs.Moves.{Role, Move, takes, hears, gives, asks, accepts, fails, Own, Row, breaks}

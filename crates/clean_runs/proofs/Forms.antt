@@ -1,7 +1,7 @@
 -- What passed its tests in the login has the form of its move.
 use Rattle.std.proofs.Common.{◌≡◌, ℕ, List, [], Ok, length, refl, subst, Option}
-use Rattle.terms.specs.Trees.{nonce, ticket_key}
-use Rattle.terms.specs.Spellings.{spelling}
+use Rattle.symbolic_runs.specs.Trees.{nonce, ticket_key}
+use Rattle.symbolic_runs.specs.Spellings.{spelling}
 use Rattle.symbolic_runs.specs.Forms.{AreFields}
 use Rattle.symbolic_runs.specs.Moves.{AreNames}
 use Rattle.wire_histories.specs.Legal.{Spoken}

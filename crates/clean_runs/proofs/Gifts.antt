@@ -1,7 +1,7 @@
 -- A message that a conversation gives in a run stands in its history as a message of that conversation.
 use Rattle.std.proofs.Common.{◌≡◌, ℕ, List, [], ◌∷◌, ◌++◌, append_assoc, length, map, Some, Bool, refl, sym, ap, ◌∙◌}
-use Rattle.terms.specs.Trees.{Tree, plain}
-use Rattle.terms.specs.Spellings.{Atoms}
+use Rattle.symbolic_runs.specs.Trees.{Tree, plain}
+use Rattle.symbolic_runs.specs.Spellings.{Atoms}
 use Rattle.wire_histories.specs.declared.step.Step.{Step}
 use Rattle.wire_histories.specs.declared.step.Step.TheVariants.{Start, Out, In, Ask, Heard, Unheard, Accept, Fail, Reply, Refused, AsGot, AsGave, AsEnd}
 use Rattle.symbolic_runs.specs.Moves.{Role, Move, gives, Own}

@@ -5,9 +5,9 @@ use Rattle.sealing.specs.declared.request.TicketReq.{TicketReq}
 use Rattle.sealing.specs.Request.{request_of}
 use Rattle.auth_server.specs.Requests.{Asked, kind_of}
 use Rattle.auth_server.specs.Answers.{Knowledge}
-use Rattle.terms.specs.declared.kind.MacKind.{MacKind}
-use Rattle.terms.specs.declared.kind.MacKind.TheVariants.{Apop, Cram}
-use Rattle.terms.specs.Trees.{Tree}
+use Rattle.symbolic_runs.specs.declared.kind.MacKind.{MacKind}
+use Rattle.symbolic_runs.specs.declared.kind.MacKind.TheVariants.{Apop, Cram}
+use Rattle.symbolic_runs.specs.Trees.{Tree}
 use Rattle.wire_histories.specs.declared.step.Step.{Step}
 use Rattle.wire_histories.specs.declared.step.Step.TheVariants.{Start, Out, In, Ask, Heard, Unheard, Accept, Fail, Reply, Refused, AsGot, AsGave, AsEnd}
 use Rattle.symbolic_runs.specs.Moves.{Move}

@@ -5,8 +5,8 @@ use Rattle.std.proofs.lemmas.List.Elements.{All-take}
 use Rattle.std.proofs.lemmas.Slice.Eq.{bytes_eq-Decides}
 use Rattle.std.specs.Str.{bytes_eq}
 use Rattle.auth_tables.specs.Keys.{UserKey}
-use Rattle.terms.specs.Trees.{long_key}
-use Rattle.terms.specs.Spellings.{Atoms}
+use Rattle.symbolic_runs.specs.Trees.{long_key}
+use Rattle.symbolic_runs.specs.Spellings.{Atoms}
 use Rattle.roles.specs.Talks.{Call, found, give, get, heard, unheard, roomless, undone, offered, picked}
 use Rattle.symbolic_runs.specs.Moves.{Role, client, server, mail_client, mail_server}
 use Rattle.wire_histories.specs.Legal.{Spoken}

@@ -1,9 +1,9 @@
 -- A mail client's acts are the moves of a symbolic mail client: it takes a challenge and gives its digest.
 use Rattle.std.proofs.Common.{◌≡◌, ℕ, List, [], ◌∷◌, ◌++◌, Option, Some, unwrap_or, false, Ok, refl, sym, ap, subst, ◌∙◌}
-use Rattle.terms.specs.declared.kind.MacKind.{MacKind}
-use Rattle.terms.specs.declared.kind.MacKind.TheVariants as mac
-use Rattle.terms.specs.Trees.{Tree, digest, password}
-use Rattle.terms.specs.Spellings.{Atoms, and_then, atom_bytes, bytes_of, digest_bytes, spelling}
+use Rattle.symbolic_runs.specs.declared.kind.MacKind.{MacKind}
+use Rattle.symbolic_runs.specs.declared.kind.MacKind.TheVariants as mac
+use Rattle.symbolic_runs.specs.Trees.{Tree, digest, password}
+use Rattle.symbolic_runs.specs.Spellings.{Atoms, and_then, atom_bytes, bytes_of, digest_bytes, spelling}
 use Rattle.roles.specs.declared.key.SkKey.{SkKey}
 use Rattle.roles.specs.Starts.{Start, role_of}
 use Rattle.roles.specs.Talks.{Call, found}

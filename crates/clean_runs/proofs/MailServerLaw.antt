@@ -10,9 +10,9 @@ use Rattle.sealing.specs.Fitting.{FitsRequest}
 use Rattle.sealing.specs.Ticket.{ticket_of}
 use Rattle.sealing.specs.declared.request.TicketReq.{TicketReq}
 use Rattle.sealing.specs.declared.ticket.Ticket.{Ticket}
-use Rattle.terms.specs.declared.kind.MacKind.{MacKind}
-use Rattle.terms.specs.Trees.{Tree, same_tree, nonce, long_key, seal, none, piece, plain}
-use Rattle.terms.specs.Spellings.{Atoms, atom_bytes, bytes_of, spelling}
+use Rattle.symbolic_runs.specs.declared.kind.MacKind.{MacKind}
+use Rattle.symbolic_runs.specs.Trees.{Tree, same_tree, nonce, long_key, seal, none, piece, plain}
+use Rattle.symbolic_runs.specs.Spellings.{Atoms, atom_bytes, bytes_of, spelling}
 use Rattle.roles.specs.declared.key.SkKey.{SkKey}
 use Rattle.roles.specs.Starts.{Start, role_of}
 use Rattle.roles.specs.Talks.{Call, found}

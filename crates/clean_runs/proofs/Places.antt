@@ -3,7 +3,7 @@
 use Rattle.std.proofs.Common.{◌≡◌, ◌⊎◌, ℕ, ◌≤◌, List, [], ◌∷◌, ◌++◌, append_assoc, length, Some, Bool, true, if◌then◌else◌, inl, inr, refl, sym, ap, ◌∙◌, arith}
 use Rattle.std.proofs.lemmas.Bool.{cases_Bool}
 use Rattle.std.specs.Str.{bytes_eq}
-use Rattle.terms.specs.Trees.{nonce, long_key, password}
+use Rattle.symbolic_runs.specs.Trees.{nonce, long_key, password}
 use Rattle.wire_histories.specs.declared.step.Protocol.{Protocol}
 use Rattle.wire_histories.specs.declared.step.Role.{Role as Part}
 use Rattle.wire_histories.specs.declared.step.Step.{Step}

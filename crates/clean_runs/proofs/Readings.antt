@@ -5,9 +5,9 @@ use Rattle.std.proofs.lemmas.Bool.{and_parts, cases_Bool, ltb-true}
 use Rattle.std.proofs.lemmas.List.Elements.{All-cons, All-nil}
 use Rattle.std.specs.List.{list_all}
 use Rattle.std.specs.Prelude.{nat_lt}
-use Rattle.terms.specs.Trees.{Tree, same_tree}
-use Rattle.terms.specs.Spellings.{Atoms, bytes_of}
-use Rattle.terms.proofs.EqualityLaws.{equal_trees}
+use Rattle.symbolic_runs.specs.Trees.{Tree, same_tree}
+use Rattle.symbolic_runs.specs.Spellings.{Atoms, bytes_of}
+use Rattle.symbolic_runs.proofs.EqualityLaws.{equal_trees}
 use Rattle.clean_runs.specs.Clean.{AreApart}
 use Rattle.clean_runs.specs.ExampleStatements.{AreDifferent, IsNone}
 

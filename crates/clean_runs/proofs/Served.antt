@@ -6,8 +6,8 @@ use Rattle.std.specs.Str.{bytes_eq}
 use Rattle.sealing.specs.Request.{request_of}
 use Rattle.auth_server.specs.Requests.{kind_of}
 use Rattle.auth_server.specs.Standing.{Server}
-use Rattle.terms.specs.Trees.{Tree}
-use Rattle.terms.specs.declared.kind.MacKind.{MacKind}
+use Rattle.symbolic_runs.specs.Trees.{Tree}
+use Rattle.symbolic_runs.specs.declared.kind.MacKind.{MacKind}
 use Rattle.wire_histories.specs.declared.step.Step.{Step}
 use Rattle.wire_histories.specs.declared.step.Step.TheVariants.{AsGot}
 use Rattle.symbolic_runs.specs.Sessions.{Deed, got, gives_tickets, gives_challenge, held, refuses}

@@ -1,6 +1,6 @@
 -- A server's acceptance in a history is one in its run, by the same ticket and under the same grants.
 use Rattle.std.proofs.Common.{◌≡◌, ℕ, List, [], ◌∷◌, ◌++◌, false, refl, sym, ap, subst, ◌∙◌}
-use Rattle.terms.specs.Trees.{Tree}
+use Rattle.symbolic_runs.specs.Trees.{Tree}
 use Rattle.wire_histories.specs.declared.step.Step.TheVariants.{Accept}
 use Rattle.symbolic_runs.specs.Moves.{accepts}
 use Rattle.symbolic_runs.specs.Runs.{IsRun, moves, moves_of, own_of}

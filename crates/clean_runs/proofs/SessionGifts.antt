@@ -8,10 +8,10 @@ use Rattle.sealing.proofs.RequestLaws.{request_taken}
 use Rattle.auth_server.specs.Requests.{Asked, Challenge, is_for, kind_of, needed}
 use Rattle.auth_server.specs.Answers.{Knowledge, answer, held, word}
 use Rattle.auth_server.specs.Standing.{knowledge}
-use Rattle.terms.specs.declared.kind.MacKind.{MacKind}
-use Rattle.terms.specs.declared.kind.MacKind.TheVariants.{Apop, Cram}
-use Rattle.terms.specs.Trees.{Tree, plain, password, digest}
-use Rattle.terms.specs.Spellings.{Atoms, spelling}
+use Rattle.symbolic_runs.specs.declared.kind.MacKind.{MacKind}
+use Rattle.symbolic_runs.specs.declared.kind.MacKind.TheVariants.{Apop, Cram}
+use Rattle.symbolic_runs.specs.Trees.{Tree, plain, password, digest}
+use Rattle.symbolic_runs.specs.Spellings.{Atoms, spelling}
 use Rattle.symbolic_runs.specs.Forms.{ticket_request, mail_request, mail_challenge, pair, request}
 use Rattle.symbolic_runs.specs.Gifts.{part as piece_of}
 use Rattle.symbolic_runs.specs.Sessions.{Deed, Grant, MaySpeak, SessionRow, got, gives_tickets, gives_challenge, gives_vouch, keys, key_and_password, grants_tickets, challenges, vouches, refusal, deed_labels, tickets_given, vouch_given}

@@ -4,7 +4,7 @@ use Rattle.std.proofs.Common.{◌≡◌, ℕ, ◌≤◌, List, [], ◌∷◌, �
 use Rattle.sealing.specs.Request.{request_of}
 use Rattle.auth_server.specs.Requests.{Asked, is_served, kind_of}
 use Rattle.auth_server.specs.Answers.{Knowledge, answer}
-use Rattle.terms.specs.Spellings.{spelling}
+use Rattle.symbolic_runs.specs.Spellings.{spelling}
 use Rattle.wire_histories.specs.declared.step.Step.{Step}
 use Rattle.wire_histories.specs.declared.step.Step.TheVariants.{Start, Out, In, Ask, Heard, Unheard, Accept, Fail, Reply, Refused, AsGot, AsGave, AsEnd}
 use Rattle.symbolic_runs.specs.Sessions.{SessionRow, got, is_idle, comes as comes_row}

@@ -8,9 +8,9 @@ use Rattle.sealing.specs.declared.request.TicketReq.{TicketReq}
 use Rattle.sealing.proofs.RequestLaws.{request_taken}
 use Rattle.auth_server.specs.Requests.{Asked, Challenge, is_for, is_served, kind_of}
 use Rattle.auth_server.specs.Answers.{Knowledge, answer, answer_to, challenge_answer, challenge_text, grant, held, held_after, held_mail, is_over, is_right, judged, mail_answer, refusal, tickets, vouch, vouch_text}
-use Rattle.terms.specs.declared.kind.MacKind.{MacKind}
-use Rattle.terms.specs.declared.kind.MacKind.TheVariants.{Apop, Cram}
-use Rattle.terms.specs.Trees.{Tree, same_kind}
+use Rattle.symbolic_runs.specs.declared.kind.MacKind.{MacKind}
+use Rattle.symbolic_runs.specs.declared.kind.MacKind.TheVariants.{Apop, Cram}
+use Rattle.symbolic_runs.specs.Trees.{Tree, same_kind}
 use Rattle.symbolic_runs.specs.Sessions.{Deed, got, gives_tickets, gives_challenge, gives_vouch, refuses, is_idle, held as held_by}
 use Rattle.wire_histories.specs.Histories.{Deal, requested, replied, ended}
 use Rattle.wire_histories.specs.Sessions.{IsSession, MayCome, ends_by, has_ended, replies_to, session_deals}

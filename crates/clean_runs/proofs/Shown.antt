@@ -2,7 +2,7 @@
 use Rattle.symbolic_runs.proofs.SecrecyLaws.{secrecy}
 use Rattle.wire_histories.specs.Histories.{History}
 use Rattle.wire_histories.specs.Legal.{IsLegal, Setting}
-use Rattle.terms.specs.Spellings.{Atoms}
+use Rattle.symbolic_runs.specs.Spellings.{Atoms}
 use Rattle.clean_runs.specs.Clean.{IsClean}
 use Rattle.clean_runs.specs.Labels.{Labelling}
 use Rattle.clean_runs.specs.Runs.{run_of, setting_of}

@@ -16,8 +16,8 @@ use Rattle.sealing.specs.declared.request.TicketReq.{TicketReq}
 use Rattle.sealing.specs.declared.ticket.Ticket.{Ticket}
 use Rattle.sealing.proofs.FieldLaws.{behind_field, field_here}
 use Rattle.sealing.proofs.RequestLaws.{request_taken}
-use Rattle.terms.specs.Trees.{Tree, same_tree, nonce, long_key, seal, none, piece, plain}
-use Rattle.terms.specs.Spellings.{Atoms, atom_bytes, bytes_of, spelling}
+use Rattle.symbolic_runs.specs.Trees.{Tree, same_tree, nonce, long_key, seal, none, piece, plain}
+use Rattle.symbolic_runs.specs.Spellings.{Atoms, atom_bytes, bytes_of, spelling}
 use Rattle.roles.specs.declared.key.SkKey.{SkKey}
 use Rattle.roles.specs.declared.stage.Role.{Role as SkRole}
 use Rattle.roles.specs.Answers.{is_sought}

@@ -10,8 +10,8 @@ use Rattle.sealing.specs.Fitting.{FitsRequest}
 use Rattle.sealing.specs.Ticket.{ticket_of}
 use Rattle.sealing.specs.declared.request.TicketReq.{TicketReq}
 use Rattle.sealing.specs.declared.ticket.Ticket.{Ticket}
-use Rattle.terms.specs.Trees.{Tree, nonce, long_key, seal, none, piece}
-use Rattle.terms.specs.Spellings.{Atoms, Spelling, atom_bytes, bytes_of, spelling}
+use Rattle.symbolic_runs.specs.Trees.{Tree, nonce, long_key, seal, none, piece}
+use Rattle.symbolic_runs.specs.Spellings.{Atoms, Spelling, atom_bytes, bytes_of, spelling}
 use Rattle.roles.specs.declared.key.SkKey.{SkKey}
 use Rattle.roles.specs.declared.stage.Role.TheVariants as sk_role
 use Rattle.roles.specs.Answers.{is_sought}

@@ -2,9 +2,9 @@
 use Rattle.std.proofs.Common.{◌≡◌, ℕ, ◌≤◌, List, ◌++◌, length, nat_lt, not, ◌&&◌, ◌==◌, Bool, true, false, Ok, Err, if◌then◌else◌, refl, ap, ◌∙◌}
 use Rattle.std.proofs.lemmas.Bool.{eq-eqb, eqb-true, le-ltb, ltb-false}
 use Rattle.sealing.specs.Sealing.{sealed}
-use Rattle.terms.specs.declared.spelling.SpellFault.TheVariants.{BadSeal}
-use Rattle.terms.specs.Trees.{Tree, Trees, seal, piece}
-use Rattle.terms.specs.Spellings.{Atoms, Spelling, and_then, seal_bytes, spelling, spelling_all}
+use Rattle.symbolic_runs.specs.declared.spelling.SpellFault.TheVariants.{BadSeal}
+use Rattle.symbolic_runs.specs.Trees.{Tree, Trees, seal, piece}
+use Rattle.symbolic_runs.specs.Spellings.{Atoms, Spelling, and_then, seal_bytes, spelling, spelling_all}
 
 pub all_spell : (atoms : Atoms) (t : Tree) (ts : Trees) (b rest : List ℕ) → spelling atoms t ≡ Ok b → spelling_all atoms ts ≡ Ok rest → spelling_all atoms (piece t ts) ≡ Ok (b ++ rest)
 all_spell atoms t ts b rest here more = ap (λ r. and_then r (λ first. and_then (spelling_all atoms ts) (λ rest. Ok (first ++ rest)))) here ∙ ap (λ r. and_then r (λ rest. Ok (b ++ rest))) more

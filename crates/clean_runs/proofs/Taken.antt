@@ -6,7 +6,7 @@ use Rattle.wire_base.specs.Texts.{is_text}
 use Rattle.sealing.specs.Fields.{before_nul, name_in}
 use Rattle.sealing.specs.Request.{request_fields, request_of}
 use Rattle.auth_tables.specs.Speaks.{may_speak}
-use Rattle.terms.specs.Derivations.{by_knowing, in_public}
+use Rattle.symbolic_runs.specs.Derivations.{by_knowing, in_public}
 use Rattle.wire_histories.specs.Legal.{Spoken}
 use Rattle.clean_runs.specs.Clean.{AtEachPlace, LabelsStep}
 use Rattle.clean_runs.specs.Runs.{setting_of}

@@ -3,8 +3,8 @@ use Rattle.std.proofs.Common.{◌≡◌, ℕ, ◌<◌, ◌≤◌, List, [], ◌�
 use Rattle.std.proofs.lemmas.List.{take_at}
 use Rattle.sealing.specs.Sealing.{opened, sealed}
 use Rattle.sealing.proofs.SealLaws.{sealed_undone}
-use Rattle.terms.specs.Trees.{Tree, nonce, long_key, plain, seal, none, piece}
-use Rattle.terms.specs.Spellings.{Atoms, Spelling, atom_bytes, bytes_of, spelling}
+use Rattle.symbolic_runs.specs.Trees.{Tree, nonce, long_key, plain, seal, none, piece}
+use Rattle.symbolic_runs.specs.Spellings.{Atoms, Spelling, atom_bytes, bytes_of, spelling}
 use Rattle.wire_histories.specs.declared.step.Step.{Step}
 use Rattle.wire_histories.specs.declared.step.Step.TheVariants.{Accept}
 use Rattle.symbolic_runs.specs.Forms.{for_server, ticket}

@@ -1,8 +1,8 @@
 -- What the laws of agreement say of a labelled history of real bytes, each under a name.
 use Rattle.std.specs.Prelude.{◌≡◌, ℕ, List, Contains, false, Ok}
 use Rattle.symbolic_runs.specs.Forms.{name_text}
-use Rattle.terms.specs.Trees.{Tree, long_key}
-use Rattle.terms.specs.Spellings.{Atoms, bytes_of, spelling}
+use Rattle.symbolic_runs.specs.Trees.{Tree, long_key}
+use Rattle.symbolic_runs.specs.Spellings.{Atoms, bytes_of, spelling}
 use Rattle.symbolic_runs.specs.Secrets.{is_compromised, is_exposed}
 use Rattle.wire_histories.specs.Histories.{History}
 use Rattle.wire_histories.specs.Legal.{Setting}

@@ -5,9 +5,9 @@
 -- label of a message whose tests all passed has the form of its move.
 use Rattle.std.specs.Prelude.{◌≡◌, ℕ, ◌+◌, ◌*◌, ◌<◌, ◌^◌, List, [], ◌∷◌, ◌++◌, All, Bool, true, false, length, Option, Some, None, Ok, unwrap_or}
 use Rattle.hex.specs.Hex.{encode_lower}
-use Rattle.terms.specs.Trees.{Tree, Trees, plain, nonce, challenge, long_key, ticket_key, junk_key, password, joined, seal, digest, none, piece}
-use Rattle.terms.specs.Derivations.{Derives}
-use Rattle.terms.specs.Spellings.{Atoms, bytes_of, spelling}
+use Rattle.symbolic_runs.specs.Trees.{Tree, Trees, plain, nonce, challenge, long_key, ticket_key, junk_key, password, joined, seal, digest, none, piece}
+use Rattle.symbolic_runs.specs.Derivations.{Derives}
+use Rattle.symbolic_runs.specs.Spellings.{Atoms, bytes_of, spelling}
 use Rattle.auth_tables.specs.Keys.{UserKey}
 use Rattle.auth_server.specs.Answers.{word, word_key}
 use Rattle.roles.specs.declared.key.SkKey.{SkKey}

@@ -5,7 +5,7 @@ use Rattle.wire_histories.specs.declared.step.Step.TheVariants.{Start}
 use Rattle.wire_histories.specs.declared.step.Protocol.{Protocol}
 use Rattle.wire_histories.specs.declared.step.Role.{Role as Part}
 use Rattle.symbolic_runs.specs.Moves.{Role, client, server, mail_client, mail_server}
-use Rattle.terms.specs.Spellings.{Atoms}
+use Rattle.symbolic_runs.specs.Spellings.{Atoms}
 use Rattle.wire_histories.specs.Histories.{History}
 use Rattle.wire_histories.specs.Legal.{Setting, Spoken}
 use Rattle.clean_runs.specs.Labels.{Labelling}

@@ -2,9 +2,9 @@
 -- challenge that was compared the very tree (authsrv(6) of the Plan 9 manual). It is told by what a conversation did, the
 -- newest first, where something other than a failure follows on what came: only a move that passed is followed so.
 use Rattle.std.specs.Prelude.{◌≡◌, ℕ, List, [], ◌∷◌, length, Option, Ok}
-use Rattle.terms.specs.declared.kind.MacKind.{MacKind}
-use Rattle.terms.specs.Trees.{Tree, plain, seal, password, digest}
-use Rattle.terms.specs.Spellings.{Atoms, spelling}
+use Rattle.symbolic_runs.specs.declared.kind.MacKind.{MacKind}
+use Rattle.symbolic_runs.specs.Trees.{Tree, plain, seal, password, digest}
+use Rattle.symbolic_runs.specs.Spellings.{Atoms, spelling}
 use Rattle.symbolic_runs.specs.Forms.{ticket_request, for_server, for_client, by_client, mail_request, Fields, AreFields, pair, request, ticket, authenticator, tickets, server_message, vouch, mail_challenge}
 use Rattle.symbolic_runs.specs.Moves.{Role, client, server, mail_server, Move, takes, hears, gives, asks, AreNames, Own}
 use Rattle.symbolic_runs.specs.Sessions.{Deed, got, gives_tickets, gives_challenge, gives_vouch, key_and_password}

@@ -3,7 +3,7 @@
 -- the requests to the authentication server are numbered from 0.
 use Rattle.std.specs.Prelude.{ℕ, ◌+◌, List, [], ◌∷◌, ◌++◌, length, map, Option, Some, None, if◌then◌else◌}
 use Rattle.std.specs.Str.{bytes_eq}
-use Rattle.terms.specs.Trees.{Tree}
+use Rattle.symbolic_runs.specs.Trees.{Tree}
 use Rattle.wire_histories.specs.declared.step.Step.{Step}
 use Rattle.wire_histories.specs.declared.step.Step.TheVariants.{Start, Out, In, Ask, Heard, AsGot, AsGave}
 use Rattle.wire_histories.specs.Histories.{History, Act, Deal, act_in, deal_in}

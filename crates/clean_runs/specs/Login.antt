@@ -9,8 +9,8 @@ use Rattle.wire_base.specs.Names.{name_field}
 use Rattle.auth_server.specs.Standing.{Server}
 use Rattle.auth_tables.specs.Keys.{UserKey}
 use Rattle.roles.specs.Talks.{Call, found}
-use Rattle.terms.specs.Trees.{Tree, plain, nonce, challenge, long_key, ticket_key, junk_key, password, seal}
-use Rattle.terms.specs.Spellings.{Atoms}
+use Rattle.symbolic_runs.specs.Trees.{Tree, plain, nonce, challenge, long_key, ticket_key, junk_key, password, seal}
+use Rattle.symbolic_runs.specs.Spellings.{Atoms}
 use Rattle.symbolic_runs.specs.Forms.{Fields, client_message, for_client, for_server, request, server_message, ticket, ticket_request, tickets}
 use Rattle.wire_histories.specs.declared.step.Step.TheVariants.{Start, Out, In, Ask, Heard, Accept, AsGot, AsGave}
 use Rattle.wire_histories.specs.declared.step.Protocol.TheVariants.{P9any}

@@ -5,9 +5,9 @@
 use Rattle.std.specs.Prelude.{ℕ, ◌==◌, List, [], ◌∷◌, ◌++◌, Bool, true, false, length, take, map, filter, is_some, Option, Some, None, Result, Ok, Err, if◌then◌else◌}
 use Rattle.std.specs.List.{list_any}
 use Rattle.wire_base.specs.Names.{name_field}
-use Rattle.terms.specs.declared.kind.MacKind.{MacKind}
-use Rattle.terms.specs.declared.kind.MacKind.TheVariants as mac
-use Rattle.terms.specs.Trees.{Tree, plain}
+use Rattle.symbolic_runs.specs.declared.kind.MacKind.{MacKind}
+use Rattle.symbolic_runs.specs.declared.kind.MacKind.TheVariants as mac
+use Rattle.symbolic_runs.specs.Trees.{Tree, plain}
 use Rattle.sealing.specs.Fields.{field}
 use Rattle.sealing.specs.Request.{request_of}
 use Rattle.sealing.specs.declared.fault.FieldFault.{FieldFault}

@@ -1,8 +1,8 @@
 -- The bridge from bytes to trees: a clean legal history is a symbolic run, and each message that it gives is spelled by its
 -- label.
 use Rattle.std.specs.Prelude.{◌≡◌, ℕ, List, [], ◌∷◌, Option, Some, None, Ok}
-use Rattle.terms.specs.Trees.{Tree}
-use Rattle.terms.specs.Spellings.{Atoms, spelling}
+use Rattle.symbolic_runs.specs.Trees.{Tree}
+use Rattle.symbolic_runs.specs.Spellings.{Atoms, spelling}
 use Rattle.wire_histories.specs.declared.step.Step.{Step}
 use Rattle.symbolic_runs.specs.Runs.{Setting as Symbolic, IsSymbolicRun, given as labels_given}
 use Rattle.symbolic_runs.specs.Statements.{KeepsSecrets}

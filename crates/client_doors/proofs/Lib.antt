@@ -1,0 +1,5 @@
+pub mod FirstLemmas
+pub mod WrongLemmas
+pub mod CountLaws
+pub mod OtherLaws
+pub mod MinuteLaws

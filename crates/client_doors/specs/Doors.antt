@@ -2,8 +2,8 @@
 -- which connections come, is optional, since it need not be told. The definitions are the project's own.
 use Rattle.std.specs.Prelude.{◌≡◌, List, [], ◌∷◌, Bool, Option, None, Some, Result, Ok, Err, ⊤, if◌then◌else◌}
 use Rattle.wire_streams.specs.declared.listener.ListenFault.{ListenFault}
-use Rattle.client_limits.specs.declared.address.Address.{Address}
-use Rattle.client_limits.specs.Histories.{Seen, came, is_let_in}
+use Rattle.client_doors.specs.declared.address.Address.{Address}
+use Rattle.client_doors.specs.Histories.{Seen, came, is_let_in}
 
 -- A client came: whether it is inside is as who was inside before says, and so is who is inside now.
 abbrev pub Admits : Option Seen → Option Seen → Option Address → Bool → Type 0

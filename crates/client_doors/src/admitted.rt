@@ -1,7 +1,7 @@
 // What a client sends that was let in.
 ghost use Rattle.std.specs.Prelude.{◌≡◌};
 
-use client_limits::{Address, HasAddress};
+use crate::{Address, HasAddress};
 use std::marker::Model;
 use wire_streams::{Got, Source};
 

@@ -1,10 +1,10 @@
 // Who lets clients in.
-use client_limits::{Address, ClientLimits};
+use crate::{Address, ClientLimits};
 
 /// Who lets clients in.
 pub trait Door {
     ghost use Rattle.std.specs.Prelude.{Option, is_some};
-    ghost use Rattle.client_limits.specs.Histories.{Seen};
+    ghost use Rattle.client_doors.specs.Histories.{Seen};
     ghost use Rattle.client_doors.specs.Doors.{Admits};
 
     /// What a client holds as long as it is inside.

@@ -7,7 +7,7 @@ ghost use Rattle.client_doors.specs.Doors.{AcceptsOne, told};
 use crate::admitted::Admitted;
 use crate::door::Door;
 use crate::hung_up::HungUp;
-use client_limits::HasAddress;
+use crate::HasAddress;
 use std::alloc::Global;
 use std::io::Eprint;
 use std::sync::Wait;

@@ -1,6 +1,6 @@
 // Limits that many threads share.
 use crate::door::Door;
-use client_limits::{Address, ClientLimits, Limits};
+use crate::{Address, ClientLimits, Limits};
 use std::alloc::Global;
 use std::sync::{Arc, Mutex, Wait};
 use std::time::{Clock, Duration, Instant};

@@ -12,10 +12,10 @@ use Rattle.talks.specs.Standings.{Begun, found_for, need_in, role_name}
 use Rattle.talks.specs.declared.said.Said.{Said}
 use Rattle.talks.specs.declared.said.Asking.{Asking}
 use Rattle.talks.specs.Protocols.{needs}
-use Rattle.begun_talks.specs.declared.begun.Begun.{Begun as Held}
-use Rattle.begun_talks.specs.Begins.{IsBegun}
+use Rattle.conversations.specs.declared.begun.Begun.{Begun as Held}
+use Rattle.conversations.specs.Begins.{IsBegun}
 use Rattle.conversations.specs.Fits.{BothBegun}
-use Rattle.begun_talks.specs.Shown.{asked_in}
+use Rattle.conversations.specs.Shown.{asked_in}
 
 none_some : {template : List Attr} → Some template ≡ None → ⊥
 none_some e = cc

@@ -8,3 +8,7 @@ pub mod ServerLemmas
 pub mod OfferLaws
 pub mod ResumeLemmas
 pub mod ReadyLemmas
+pub mod RoleLaws
+pub mod NameLemmas
+pub mod TemplateLemmas
+pub mod MoveLemmas

@@ -8,21 +8,21 @@ use Rattle.roles.specs.declared.need.Need.{Need}
 use Rattle.roles.specs.declared.need.Need.TheVariants.{Nothing, Key, Offers, Pick, Exchange}
 use Rattle.roles.specs.Answers.{IsKey, IsOffers, IsPick, is_sought}
 use Rattle.roles.specs.Talks.{get, give, Call as Move}
-use Rattle.rpc_file.specs.Requests.{RpcRequest, starts, reads, writes, asks_info, asks_attributes}
-use Rattle.rpc_file.specs.declared.answer.RpcAnswer.{RpcAnswer}
-use Rattle.rpc_file.specs.declared.answer.RpcAnswer.TheVariants as a
+use Rattle.talks.specs.Requests.{RpcRequest, starts, reads, writes, asks_info, asks_attributes}
+use Rattle.talks.specs.declared.answer.RpcAnswer.{RpcAnswer}
+use Rattle.talks.specs.declared.answer.RpcAnswer.TheVariants as a
 use Rattle.talks.specs.Answers.{attributes, move_answer}
 use Rattle.talks.specs.Calls.{Call, CarriedOut}
 use Rattle.talks.specs.declared.said.Asking.{Asking}
 use Rattle.talks.specs.Protocols.{answers, needs, puts, refuses}
 use Rattle.talks.specs.Standings.{Begun, Phase, Waiting, Kept, Standing, begin, begin_once, carried_out, if_begun, make_move, moved, need_in, phase_after, standing, start_by, started, taken_back, then_stands, with_move}
 use Rattle.conversations.specs.declared.conversation.Conversation.{Conversation}
-use Rattle.begun_talks.specs.declared.phase.Phase.{Phase as HeldPhase}
-use Rattle.begun_talks.specs.declared.phase.Phase.TheVariants as held
-use Rattle.begun_talks.specs.declared.phase.Stored.{Stored}
+use Rattle.conversations.specs.declared.phase.Phase.{Phase as HeldPhase}
+use Rattle.conversations.specs.declared.phase.Phase.TheVariants as held
+use Rattle.conversations.specs.declared.phase.Stored.{Stored}
 use Rattle.conversations.specs.Fits.{BothBegun, Carries, Fits, Holds, IsIdle, Lacks, Meets, PutsBack, Shaken, searched, with_request, with_search}
-use Rattle.begun_talks.specs.Meanings.{phase_of}
-use Rattle.begun_talks.specs.Shown.{has_request, is_seeking}
+use Rattle.conversations.specs.Meanings.{phase_of}
+use Rattle.conversations.specs.Shown.{has_request, is_seeking}
 use Rattle.talks.proofs.Laws.{offers_stay, undone_needs}
 use Rattle.conversations.proofs.SearchLemmas.{standing_searched}
 use Rattle.conversations.proofs.WaitLaws.{waits_idle}

@@ -11,9 +11,9 @@ use Rattle.roles.specs.declared.need.Need.{Need}
 use Rattle.roles.specs.declared.need.Need.TheVariants.{Nothing, Key, Offers, Pick, Exchange}
 use Rattle.roles.specs.Answers.{IsKey, IsOffers, IsPick, is_sought}
 use Rattle.roles.specs.Templates.{shown_text}
-use Rattle.rpc_file.specs.Requests.{RpcRequest, starts, reads, writes, asks_info, asks_attributes}
-use Rattle.rpc_file.specs.declared.answer.RpcAnswer.{RpcAnswer}
-use Rattle.rpc_file.specs.declared.answer.RpcAnswer.TheVariants as a
+use Rattle.talks.specs.Requests.{RpcRequest, starts, reads, writes, asks_info, asks_attributes}
+use Rattle.talks.specs.declared.answer.RpcAnswer.{RpcAnswer}
+use Rattle.talks.specs.declared.answer.RpcAnswer.TheVariants as a
 use Rattle.talks.specs.Answers.{move_answer, told_key}
 use Rattle.talks.specs.Calls.{Call, Found, Chosen, AsksConsent, AsksKey, Denied, NoneServes, Offered, Picked, Consented, KeyTold}
 use Rattle.talks.specs.Searches.{found_by, offered_by, picked_by}
@@ -22,7 +22,7 @@ use Rattle.talks.specs.declared.said.Asking.{Asking}
 use Rattle.talks.specs.Protocols.{answers, needs, refuses}
 use Rattle.roles.specs.Talks.{get, give, offered, picked}
 use Rattle.talks.specs.Standings.{Begun, Phase, Resting, Waiting, Seeking, OnConfirm, OnNeedkey, OnServer, Kept, Standing, begin_once, carried_out, finds, found_for, if_begun, in_phase, is_for, made, make_move, need_in, phase_after, role_in, role_name, sought, standing, start_by, started, template_in, template_of, told_of_key, with_key}
-use Rattle.begun_talks.specs.Shown.{asks_for_key, is_seeking, serial_in}
+use Rattle.conversations.specs.Shown.{asks_for_key, is_seeking, serial_in}
 use Rattle.conversations.specs.declared.asks.Asks.{Asks}
 use Rattle.conversations.specs.declared.conversation.Conversation.{Conversation}
 use Rattle.conversations.specs.Asking.{IsMade, IsReady, ReadyIn, TurnsReady, asks_that}

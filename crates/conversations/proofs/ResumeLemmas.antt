@@ -9,8 +9,8 @@ use Rattle.roles.specs.declared.need.Need.{Need}
 use Rattle.roles.specs.declared.need.Need.TheVariants.{Nothing, Key, Offers, Pick, Exchange}
 use Rattle.roles.specs.Answers.{IsKey, IsOffers, is_sought}
 use Rattle.roles.specs.Talks.{found, offered}
-use Rattle.rpc_file.specs.declared.answer.RpcAnswer.{RpcAnswer}
-use Rattle.rpc_file.specs.declared.answer.RpcAnswer.TheVariants as a
+use Rattle.talks.specs.declared.answer.RpcAnswer.{RpcAnswer}
+use Rattle.talks.specs.declared.answer.RpcAnswer.TheVariants as a
 use Rattle.talks.specs.Answers.{move_answer, told_key}
 use Rattle.talks.specs.Calls.{Call, Found, Chosen, AsksConsent, AsksKey, Denied, NoneServes, Offered, Picked, Sought, Consented, KeyTold}
 use Rattle.talks.specs.Searches.{found_by, offered_by}
@@ -18,12 +18,12 @@ use Rattle.talks.specs.declared.said.Said.{Said}
 use Rattle.talks.specs.declared.said.Asking.{Asking}
 use Rattle.talks.specs.Protocols.{answers, needs, protocol_of, needs_by}
 use Rattle.talks.specs.Standings.{Begun, Phase, Resting, Waiting, Seeking, OnConfirm, OnNeedkey, OnServer, Kept, Standing, chosen_for, finds, found_for, in_phase, is_for, kept_key, made, need_in, phase_after, role_in, role_name, says_of, sought, sought_if, standing, template_in, template_of, then_stands, told_of, told_of_key, with_key, with_move}
-use Rattle.begun_talks.specs.declared.begun.Begun.{Begun as Held}
-use Rattle.begun_talks.specs.declared.phase.Phase.{Phase as HeldPhase}
-use Rattle.begun_talks.specs.declared.phase.Phase.TheVariants as held
-use Rattle.begun_talks.specs.Begins.{IsBegun}
-use Rattle.begun_talks.specs.Meanings.{phase_of}
-use Rattle.begun_talks.specs.Shown.{asks_for_key, asks_user, is_seeking, serial_in}
+use Rattle.conversations.specs.declared.begun.Begun.{Begun as Held}
+use Rattle.conversations.specs.declared.phase.Phase.{Phase as HeldPhase}
+use Rattle.conversations.specs.declared.phase.Phase.TheVariants as held
+use Rattle.conversations.specs.Begins.{IsBegun}
+use Rattle.conversations.specs.Meanings.{phase_of}
+use Rattle.conversations.specs.Shown.{asks_for_key, asks_user, is_seeking, serial_in}
 use Rattle.conversations.specs.declared.conversation.Conversation.{Conversation}
 use Rattle.conversations.specs.Fits.{BothBegun, Carries, Fits, Holds, IsAsked, UsesList, searched, searched_once, with_answer, with_search}
 use Rattle.conversations.proofs.OfferLaws.{Behind, behind, stands_again}

@@ -10,12 +10,12 @@ use Rattle.talks.specs.Searches.{first_left, found_at, found_by, is_among, is_de
 use Rattle.talks.specs.declared.said.Said.{Said}
 use Rattle.talks.specs.declared.said.Asking.{Asking}
 use Rattle.talks.specs.Standings.{Phase, Resting, Waiting, Seeking, OnConfirm, OnNeedkey, OnServer, Kept, Standing, finds, found_for, is_for, need_in, role_name, sought, sought_if, standing, then_stands}
-use Rattle.begun_talks.specs.declared.begun.Wanted.{Wanted}
-use Rattle.begun_talks.specs.declared.begun.Wanted.TheVariants as w
+use Rattle.conversations.specs.declared.begun.Wanted.{Wanted}
+use Rattle.conversations.specs.declared.begun.Wanted.TheVariants as w
 use Rattle.conversations.specs.declared.conversation.Conversation.{Conversation}
 use Rattle.conversations.specs.Fits.{Carries, Fits, Lacks, Turns, searched, searched_once, with_search, with_search_once}
-use Rattle.begun_talks.specs.Meanings.{phase_of}
-use Rattle.begun_talks.specs.Shown.{is_seeking, wanted_in}
+use Rattle.conversations.specs.Meanings.{phase_of}
+use Rattle.conversations.specs.Shown.{is_seeking, wanted_in}
 
 never : false ≡ true → ⊥
 never e = cc

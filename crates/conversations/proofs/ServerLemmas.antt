@@ -1,16 +1,16 @@
 -- A conversation whose authentication server wasn't reached, or whose answer found no memory.
 use Rattle.std.proofs.Common.{◌≡◌, List, ◌∷◌, true, false, Option, Some, None, refl, sym, ap, subst, ◌∙◌}
 use Rattle.roles.specs.Talks.{Call as Move}
-use Rattle.rpc_file.specs.declared.answer.RpcAnswer.{RpcAnswer}
+use Rattle.talks.specs.declared.answer.RpcAnswer.{RpcAnswer}
 use Rattle.talks.specs.Calls.{Call}
 use Rattle.talks.specs.Standings.{Begun, Phase, Resting, Waiting, Seeking, OnConfirm, OnNeedkey, OnServer, Kept, Standing, made, standing, then_stands, with_move}
-use Rattle.begun_talks.specs.declared.begun.Begun.{Begun as Held}
+use Rattle.conversations.specs.declared.begun.Begun.{Begun as Held}
 use Rattle.conversations.specs.declared.conversation.Conversation.{Conversation}
-use Rattle.begun_talks.specs.declared.phase.Phase.TheVariants as held
-use Rattle.begun_talks.specs.Begins.{IsBegun}
+use Rattle.conversations.specs.declared.phase.Phase.TheVariants as held
+use Rattle.conversations.specs.Begins.{IsBegun}
 use Rattle.conversations.specs.Fits.{BothBegun, Carries, Holds}
-use Rattle.begun_talks.specs.Meanings.{phase_of}
-use Rattle.begun_talks.specs.Shown.{waits_for_server}
+use Rattle.conversations.specs.Meanings.{phase_of}
+use Rattle.conversations.specs.Shown.{waits_for_server}
 
 -- ---- it is asked
 

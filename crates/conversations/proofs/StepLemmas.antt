@@ -6,21 +6,21 @@ use Rattle.roles.specs.declared.need.Need.{Need}
 use Rattle.roles.specs.declared.need.Need.TheVariants.{Nothing, Key, Offers, Pick, Exchange}
 use Rattle.roles.specs.Answers.{IsOffers, IsPick}
 use Rattle.roles.specs.Talks.{offered, picked}
-use Rattle.rpc_file.specs.declared.answer.RpcAnswer.{RpcAnswer}
-use Rattle.rpc_file.specs.declared.answer.RpcAnswer.TheVariants as a
+use Rattle.talks.specs.declared.answer.RpcAnswer.{RpcAnswer}
+use Rattle.talks.specs.declared.answer.RpcAnswer.TheVariants as a
 use Rattle.talks.specs.Answers.{move_answer}
 use Rattle.talks.specs.Calls.{Found, Offered, Picked}
 use Rattle.talks.specs.declared.said.Said.{Said}
 use Rattle.talks.specs.declared.said.Asking.{Asking}
 use Rattle.talks.specs.Protocols.{answers, needs}
 use Rattle.talks.specs.Standings.{Begun, Phase, Resting, Waiting, Seeking, OnConfirm, OnNeedkey, OnServer, Kept, Standing, chosen_for, finds, found_for, made, moved, need_in, phase_after, role_in, role_name, sought, told_of_key, with_key, with_move}
-use Rattle.begun_talks.specs.declared.begun.Begun.{Begun as Held}
+use Rattle.conversations.specs.declared.begun.Begun.{Begun as Held}
 use Rattle.conversations.specs.declared.conversation.Conversation.{Conversation}
-use Rattle.begun_talks.specs.declared.phase.Phase.{Phase as HeldPhase}
-use Rattle.begun_talks.specs.declared.phase.Phase.TheVariants as held
-use Rattle.begun_talks.specs.Begins.{Becomes, IsBegun, IsOfferedBy, IsPickedBy}
+use Rattle.conversations.specs.declared.phase.Phase.{Phase as HeldPhase}
+use Rattle.conversations.specs.declared.phase.Phase.TheVariants as held
+use Rattle.conversations.specs.Begins.{Becomes, IsBegun, IsOfferedBy, IsPickedBy}
 use Rattle.conversations.specs.Fits.{BothBegun, Carries, Fits, IsAsked}
-use Rattle.begun_talks.specs.Meanings.{phase_of}
+use Rattle.conversations.specs.Meanings.{phase_of}
 
 -- of a conversation whose begun part is this, in this phase
 abbrev pub after : Conversation → Held → HeldPhase → Conversation

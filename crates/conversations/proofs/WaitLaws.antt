@@ -15,15 +15,15 @@ use Rattle.roles.specs.declared.need.Need.TheVariants.{Nothing, Key, Offers, Pic
 use Rattle.roles.specs.Answers.{IsExchange, IsKey, IsOffers, IsPick, is_sought}
 use Rattle.roles.specs.Talks.{found, get, give, heard, offered, picked, roomless, undone, unheard, Call as Move}
 use Rattle.talks.proofs.Laws.{found_needs, heard_needs, offers_stay, picked_needs, roomless_needs, roomless_tells, undone_needs, unheard_needs, unheard_tells}
-use Rattle.rpc_file.specs.Requests.{RpcRequest, starts, reads, writes, asks_info, asks_attributes}
-use Rattle.rpc_file.specs.declared.answer.RpcAnswer.{RpcAnswer}
-use Rattle.rpc_file.specs.declared.answer.RpcAnswer.TheVariants as a
+use Rattle.talks.specs.Requests.{RpcRequest, starts, reads, writes, asks_info, asks_attributes}
+use Rattle.talks.specs.declared.answer.RpcAnswer.{RpcAnswer}
+use Rattle.talks.specs.declared.answer.RpcAnswer.TheVariants as a
 use Rattle.talks.specs.Answers.{attributes, cause_answer, move_answer, told_key}
 use Rattle.talks.specs.Calls.{Call, Found, Chosen, AsksConsent, AsksKey, Denied, NoneServes, Offered, Picked, Stored, CarriedOut, Sought, Consented, KeyTold, Shut, Heard, Unheard, Roomless, Took}
 use Rattle.talks.specs.Protocols.{answers, needs, puts, refuses}
 use Rattle.talks.specs.Standings.{Begun, Phase, Resting, Waiting, Seeking, OnConfirm, OnNeedkey, OnServer, Kept, Standing, begin, begin_once, carried_out, chosen_for, if_begun, is_for, made, make_move, need_in, phase_after, sought, sought_if, standing, start_by, started, taken_back, then_stands, told_of_key, with_key, with_move}
 use Rattle.conversations.specs.Fits.{IsIdle}
-use Rattle.begun_talks.specs.Shown.{asks_user}
+use Rattle.conversations.specs.Shown.{asks_user}
 
 -- while something is sought, or its user is asked, nothing is needed once the request is taken back; and he is asked
 -- where a key is needed

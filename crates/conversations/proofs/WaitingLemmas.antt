@@ -2,11 +2,11 @@
 use Rattle.std.proofs.Common.{◌≡◌, sym, ap, ◌∙◌}
 use Rattle.talks.specs.Standings.{Standing, Waiting}
 use Rattle.conversations.specs.declared.conversation.Conversation.{Conversation}
-use Rattle.begun_talks.specs.declared.phase.Phase.{Phase}
-use Rattle.begun_talks.specs.declared.phase.Phase.TheVariants as held
-use Rattle.begun_talks.specs.declared.phase.Stored.{Stored}
+use Rattle.conversations.specs.declared.phase.Phase.{Phase}
+use Rattle.conversations.specs.declared.phase.Phase.TheVariants as held
+use Rattle.conversations.specs.declared.phase.Stored.{Stored}
 use Rattle.conversations.specs.Fits.{Carries, Fits}
-use Rattle.begun_talks.specs.Meanings.{phase_of, request_of}
+use Rattle.conversations.specs.Meanings.{phase_of, request_of}
 
 -- of a conversation in another phase
 pub carries_so : (c : Conversation) (phase : Phase) (s : Standing) → Carries c s → Carries (record { begun = c.begun; phase = phase; starting = c.starting; said = c.said }) s

@@ -4,7 +4,7 @@ use Rattle.attr_tuples.specs.Printing.{public_text}
 use Rattle.key_lists.specs.Lists.{KeyEntry, KeyList}
 use Rattle.roles.specs.Templates.{shown_text}
 use Rattle.attr_tuples.specs.declared.attr.Attr.{Attr}
-use Rattle.rpc_file.specs.Requests.{RpcRequest, starts, reads, writes, asks_info, asks_attributes}
+use Rattle.talks.specs.Requests.{RpcRequest, starts, reads, writes, asks_info, asks_attributes}
 use Rattle.side_files.specs.declared.line.PromptKind.{PromptKind}
 use Rattle.side_files.specs.declared.line.PromptKind.TheVariants as k
 use Rattle.side_files.specs.Questions.{Questions, next_line}

@@ -6,17 +6,17 @@ use Rattle.key_lists.specs.Lists.{KeyList}
 use Rattle.roles.specs.declared.need.Need.TheVariants.{Nothing}
 use Rattle.roles.specs.Answers.{IsOffers, IsPick}
 use Rattle.roles.specs.Talks.{offered}
-use Rattle.rpc_file.specs.declared.answer.RpcAnswer.{RpcAnswer}
+use Rattle.talks.specs.declared.answer.RpcAnswer.{RpcAnswer}
 use Rattle.talks.specs.Calls.{Call, CarriedOut, Sought}
 use Rattle.talks.specs.declared.said.Asking.{Asking}
 use Rattle.talks.specs.Standings.{Begun, Standing, finds, made, need_in, question_of, standing, template_of, then_stands}
-use Rattle.begun_talks.specs.declared.begun.Begun.{Begun as Held}
+use Rattle.conversations.specs.declared.begun.Begun.{Begun as Held}
 use Rattle.conversations.specs.declared.conversation.Conversation.{Conversation}
-use Rattle.begun_talks.specs.declared.phase.Phase.{Phase}
-use Rattle.begun_talks.specs.declared.phase.Phase.TheVariants as held
-use Rattle.begun_talks.specs.Begins.{IsBegun}
-use Rattle.begun_talks.specs.Meanings.{phase_of}
-use Rattle.begun_talks.specs.Shown.{answer_in, asks_user, has_request, is_seeking}
+use Rattle.conversations.specs.declared.phase.Phase.{Phase}
+use Rattle.conversations.specs.declared.phase.Phase.TheVariants as held
+use Rattle.conversations.specs.Begins.{IsBegun}
+use Rattle.conversations.specs.Meanings.{phase_of}
+use Rattle.conversations.specs.Shown.{answer_in, asks_user, has_request, is_seeking}
 
 -- ---- what was begun
 

@@ -1,3 +1,5 @@
-pub use Rattle.begun_talks.specs.Shown
 pub mod Fits
 pub mod Asking
+pub mod Meanings
+pub mod Begins
+pub mod Shown

@@ -5,30 +5,29 @@ ghost use Rattle.roles.specs.declared.need.Need.TheVariants.{Nothing};
 ghost use Rattle.roles.specs.Answers.{IsKey, IsOffers, IsPick};
 ghost use Rattle.roles.specs.Starts.{fits_start};
 ghost use Rattle.roles.specs.Talks.{Call as Move};
-ghost use Rattle.rpc_file.specs.Requests.{RpcRequest, asks_attributes, asks_info, meant as request_meant, reads, writes};
+ghost use Rattle.talks.specs.Requests.{RpcRequest, asks_attributes, asks_info, meant as request_meant, reads, writes};
 ghost use Rattle.talks.specs.Calls as c;
 ghost use Rattle.talks.specs.Meanings.{meant};
 ghost use Rattle.talks.specs.Protocols.{needs, refuses};
 ghost use Rattle.talks.specs.Standings.{Begun as Beginning, Standing, Waiting, answered, begin_once, carried_out, finds, key_of, moved, nothing_said, outcome_of, found_for, need_in, question_of, refused, role_name, sought, start_by, started, taken_back, template_of, then_stands, with_key, with_move};
-ghost use Rattle.begun_talks.specs.Begins.{IsBegun};
+ghost use Rattle.conversations.specs.Begins.{IsBegun};
 ghost use Rattle.attr_tuples.specs.Printing.{public_text};
 ghost use Rattle.roles.specs.Templates.{shown_text};
 ghost use Rattle.conversations.specs.Asking.{FindsReady, IsMade, IsReady, MeetsReady, Readies, SameAsks, TurnsReady};
 ghost use Rattle.conversations.specs.Fits.{answer_held, BothBegun, Carries, Fits, Holds, IsIdle, Keeps, Lacks, Meets, Performs, PutsBack, Shaken, Shows, Stays, Turns, searched, searched_once, with_request};
-ghost use Rattle.begun_talks.specs.Meanings.{phase_of, request_of};
-ghost use Rattle.begun_talks.specs.Shown.{answer_in, asked_in, exchange_in, has_answer, has_request, is_resting, is_seeking, waits_for_server, wanted_in};
+ghost use Rattle.conversations.specs.Meanings.{phase_of, request_of};
+ghost use Rattle.conversations.specs.Shown.{answer_in, asked_in, exchange_in, has_answer, has_request, is_resting, is_seeking, waits_for_server, wanted_in};
 
 use crate::asks::Asks;
 use attr_tuples::Tuple;
-use begun_talks::{
+use crate::{
     Begun, Opening, Phase, Stored as Request, Wanted, open, phase, read_template, store_request,
 };
 use key_ring::{Key, KeyRing};
 use roles::Outcome;
-use rpc_file::{Request as Written, RpcAnswer};
+use talks::{Asking, Found, Request as Written, RpcAnswer, Said, search_keys};
 use std::alloc::Global;
 use std::mem;
-use talks::{Asking, Found, Said, search_keys};
 use wire_base::{List, NoMemory, Shape};
 
 /// A conversation of rpc. It has no Debug, which would print secrets.

@@ -9,7 +9,7 @@ ghost use Rattle.conversations.specs.Fits.{Carries, Fits, Resumes, UsesList, sea
 
 use crate::asks::Asks;
 use crate::conversation::Conversation;
-use begun_talks::{Phase, phase};
+use crate::{Phase, phase};
 use key_ring::KeyRing;
 use std::alloc::Global;
 use std::mem;

@@ -1,12 +1,12 @@
 // What is shown of a conversation to who asks its user, and writes the log.
 ghost use Rattle.std.specs.Prelude.{◌≡◌, option_map};
-ghost use Rattle.begun_talks.specs.Meanings.{phase_of};
+ghost use Rattle.conversations.specs.Meanings.{phase_of};
 ghost use Rattle.conversations.specs.Asking.{asked_kind, start_text, template_begun};
 ghost use Rattle.conversations.specs.Fits.{Shows};
 
 use crate::conversation::Conversation;
 use attr_tuples::Tuple;
-use begun_talks::{Phase, Stored};
+use crate::{Phase, Stored};
 use side_files::PromptKind;
 
 impl Conversation {

@@ -6,9 +6,9 @@ use Rattle.key_lists.specs.Lists.{KeyEntry}
 use Rattle.key_lists.specs.CtlLines.{few_of}
 use Rattle.roles.specs.declared.answer.StartFault.{StartFault}
 use Rattle.roles.specs.Talks.{Call as Move, get, give}
-use Rattle.rpc_file.specs.Requests.{RpcRequest, starts, reads, writes, asks_info, asks_attributes}
-use Rattle.rpc_file.specs.declared.answer.RpcAnswer.{RpcAnswer}
-use Rattle.rpc_file.specs.declared.answer.RpcAnswer.TheVariants as a
+use Rattle.talks.specs.Requests.{RpcRequest, starts, reads, writes, asks_info, asks_attributes}
+use Rattle.talks.specs.declared.answer.RpcAnswer.{RpcAnswer}
+use Rattle.talks.specs.declared.answer.RpcAnswer.TheVariants as a
 use Rattle.talks.specs.Protocols.{answers, puts, refuses}
 use Rattle.talks.specs.Answers.{attributes, move_answer, start_answer}
 use Rattle.talks.specs.Standings.{Begun, Standing, answered, begin, begin_once, carried_out, chosen_for, if_begun, info_of, made, make_move, moved, start_by, started, told_of_key, with_key, with_move}

@@ -9,9 +9,9 @@ use Rattle.nine.specs.Messages.{t_frame}
 use Rattle.nine.specs.Decoding.{request_of}
 use Rattle.file_tree.specs.Calls.{node_of}
 use Rattle.key_lists.specs.CtlLines.{CtlLine, carried_out, lines_of}
-use Rattle.rpc_file.specs.Requests.{RpcRequest}
-use Rattle.rpc_file.specs.Requests as rpc
-use Rattle.rpc_file.specs.declared.request.RpcFault.{RpcFault}
+use Rattle.talks.specs.Requests.{RpcRequest}
+use Rattle.talks.specs.Requests as rpc
+use Rattle.talks.specs.declared.request.RpcFault.{RpcFault}
 use Rattle.side_files.specs.declared.line.PromptKind.{PromptKind}
 use Rattle.side_files.specs.declared.line.PromptKind.TheVariants as k
 use Rattle.side_files.specs.Calls as side

@@ -2,7 +2,7 @@
 // spawner.
 ghost use Rattle.std.specs.Prelude.{◌≡◌, ◌≢◌, ◌<◌, ◌≤◌, length};
 ghost use Rattle.std.specs.Result.{is_err};
-ghost use Rattle.readiness.specs.Offers.{OffersSo, offer_failed};
+ghost use Rattle.wire_streams.specs.Offers.{OffersSo, offer_failed};
 ghost use Rattle.wire_streams.specs.Causes.{CountsOutcome};
 ghost use Rattle.wire_streams.specs.Dials.{IsAnswer, Makes, exchanged, has_failed};
 ghost use Rattle.wire_streams.specs.Listening.{Accepts};
@@ -11,11 +11,8 @@ ghost use Rattle.wire_streams.specs.Streams.{Reads, Writes, read_failed, write_f
 ghost use Rattle.wire_streams.specs.Words.{Draws};
 ghost use Rattle.wire_streams.specs.declared.dialer.Made.TheVariants.{Close};
 
-use readiness::{Offer, Offers};
+use wire_streams::{Dial, Dialer, Got, ListenFault, Listener, NoStart, Offer, Offers, Put, Sink, Source, Spawner, WordFault, Words};
 use wire_base::{Bytes, Shape};
-use wire_streams::{
-    Dial, Dialer, Got, ListenFault, Listener, NoStart, Put, Sink, Source, Spawner, WordFault, Words,
-};
 
 /// As `Source::read`.
 pub fn read<S: Source>(source: &mut S, out: &mut [u8]) -> Got

@@ -1,9 +1,9 @@
-// The public calls of `rpc_file`.
+// The public calls of `talks`.
 ghost use Rattle.std.specs.Prelude.{◌≡◌, ◌++◌, OnOk, OnErr, nat_le, length};
-ghost use Rattle.rpc_file.specs.Answers.{answer_text};
-ghost use Rattle.rpc_file.specs.Requests.{Reads};
+ghost use Rattle.talks.specs.RpcAnswers.{answer_text};
+ghost use Rattle.talks.specs.Requests.{Reads};
 
-use rpc_file::{Request, RpcAnswer, RpcFault};
+use talks::{Request, RpcAnswer, RpcFault};
 use wire_base::{Bytes, NoMemory};
 
 /// As `print_answer`.
@@ -11,19 +11,19 @@ pub fn print_answer(answer: &RpcAnswer, out: &mut Bytes) -> Result<(), NoMemory>
     ensures ok { OnOk result (out.new ≡ out.old ++ answer_text answer.now) }
     ensures err { OnErr result (out.new ≡ out.old) }
 {
-    rpc_file::print_answer(answer, out)
+    talks::print_answer(answer, out)
 }
 
 /// As `parse_request`.
 pub fn parse_request(written: &[u8]) -> Result<Request<'_>, RpcFault>
     ensures { Reads result written.now }
 {
-    rpc_file::parse_request(written)
+    talks::parse_request(written)
 }
 
 /// As `answer_fits`.
 pub fn answer_fits(answer: &RpcAnswer, most: u32) -> bool
     ensures { result ≡ nat_le (length (answer_text answer.now)) most }
 {
-    rpc_file::answer_fits(answer, most)
+    talks::answer_fits(answer, most)
 }

@@ -1,7 +1,7 @@
 // Which clients are let in, and how long an address waits.
 use crate::fields::{Came, number_at, text_at, verb_of, word_at};
 use anyhow::bail;
-use client_limits::{Address, ClientLimits, Limits};
+use client_doors::{Address, ClientLimits, Limits};
 use row_files::{Report, Row};
 use std::alloc::Global;
 use std::net::IpAddr;

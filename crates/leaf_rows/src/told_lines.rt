@@ -10,7 +10,7 @@ use row_files::{Report, Row};
 use side_files::{LogRing, PromptKind};
 use std::alloc::Global;
 use std::marker::Send;
-use told_talks::{EndLine, LineFiles, build_start};
+use agent_talks::{EndLine, LineFiles, build_start};
 use wire_base::{AuthInfo, Bytes, Name};
 
 pub(crate) fn play(

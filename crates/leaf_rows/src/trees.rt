@@ -6,7 +6,7 @@ use key_lists::{Edit, EditList};
 use nine::{Qid, QidList};
 use row_files::{Report, Row};
 use std::alloc::Global;
-use terms::{MacKind, Places, Proof, ProofStep, Term, Terms};
+use symbolic_runs::{MacKind, Places, Proof, ProofStep, Term, Terms};
 use wire_base::{Bytes, NoMemory};
 
 pub(crate) fn play(

@@ -7,8 +7,8 @@ use Rattle.mailboxes.specs.declared.reply.Reply.TheVariants as y
 use Rattle.mailboxes.specs.declared.wait.Read.{Read}
 use Rattle.mailboxes.specs.declared.wait.Wait.{Wait}
 use Rattle.mailboxes.specs.Mails.{Pending, is_reader, read_of}
-use Rattle.rpc_file.specs.Answers.{answer_text}
-use Rattle.rpc_file.specs.declared.answer.RpcAnswer.{RpcAnswer}
+use Rattle.talks.specs.RpcAnswers.{answer_text}
+use Rattle.talks.specs.declared.answer.RpcAnswer.{RpcAnswer}
 
 -- the frame of an error
 abbrev pub error_frame : List ℕ → ℕ → List ℕ

@@ -1,6 +1,6 @@
 // A reply that wasn't taken yet.
 use nine::{put_error, put_read};
-use rpc_file::{RpcAnswer, print_answer};
+use talks::{RpcAnswer, print_answer};
 use std::alloc::Global;
 use std::marker::Model;
 use wire_base::{Bytes, NoMemory};
@@ -49,8 +49,8 @@ pub struct ToldAnswer {
 
 impl Model for ToldAnswer {
     ghost use Rattle.std.specs.Prelude.{◌<◌, ◌^◌, length};
-    ghost use Rattle.rpc_file.specs.Answers.{answer_text};
-    ghost use Rattle.rpc_file.specs.declared.answer.RpcAnswer.{RpcAnswer};
+    ghost use Rattle.talks.specs.RpcAnswers.{answer_text};
+    ghost use Rattle.talks.specs.declared.answer.RpcAnswer.{RpcAnswer};
 
     ghost Value = { RpcAnswer };
 
@@ -61,7 +61,7 @@ impl Model for ToldAnswer {
 
 impl ToldAnswer {
     ghost use Rattle.std.specs.Prelude.{◌≡◌, ◌<◌, ◌^◌, ◌++◌, length, OnOk, OnErr};
-    ghost use Rattle.rpc_file.specs.Answers.{answer_text};
+    ghost use Rattle.talks.specs.RpcAnswers.{answer_text};
     ghost use Rattle.mailboxes.specs.Kept.{answer_frame};
 
     /// It takes no memory; what printing takes later comes from this allocator.

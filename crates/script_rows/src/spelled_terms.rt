@@ -2,7 +2,7 @@
 use anyhow::bail;
 use row_files::Row;
 use std::alloc::Global;
-use terms::{MacKind, Term, Terms};
+use symbolic_runs::{MacKind, Term, Terms};
 use wire_base::{Bytes, Text};
 
 // A field's word, and what stands behind its colon.

@@ -5,7 +5,7 @@ use crate::texts::{Texts, argument, number_at};
 use anyhow::bail;
 use row_files::{Report, Row};
 use std::alloc::Global;
-use terms::{
+use symbolic_runs::{
     MacKind, Places, Proof, ProofStep, Reading, SpellFault, Term, Terms, check_derivation,
     conclude, spell,
 };

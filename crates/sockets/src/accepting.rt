@@ -5,7 +5,7 @@ ghost use Rattle.sockets.specs.Addresses.{is_path, is_unix};
 use crate::connection::{SocketSink, SocketSource, ends_of};
 use crate::listening_socket::Socket;
 use crate::unix::{OpenFault, fault_of, listen_at};
-use client_limits::Address;
+use client_doors::Address;
 use std::alloc::Global;
 use std::fs::{File, Files};
 use std::io::{self, ErrorKind};

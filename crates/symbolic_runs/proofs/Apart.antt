@@ -1,7 +1,7 @@
 -- Two acceptances are by different tickets, under different grants, and no conversation matches both.
 use Rattle.std.proofs.Common.{◌≡◌, ℕ, zero, suc, [], ◌∷◌, List, length, sym, ap, ◌∙◌, false, Contains, subst, arith}
-use Rattle.terms.specs.declared.kind.MacKind.{MacKind}
-use Rattle.terms.specs.Trees.{Tree, nonce, long_key, ticket_key, password, seal, digest}
+use Rattle.symbolic_runs.specs.declared.kind.MacKind.{MacKind}
+use Rattle.symbolic_runs.specs.Trees.{Tree, nonce, long_key, ticket_key, password, seal, digest}
 use Rattle.symbolic_runs.specs.Forms.{for_server, ticket, client_message, mail_challenge}
 use Rattle.symbolic_runs.specs.Moves.{client, mail_client, Move, hears, gives, accepts}
 use Rattle.symbolic_runs.specs.Sessions.{gives_vouch}

@@ -1,7 +1,7 @@
 -- The attacks are runs, and what fails in them.
 use Rattle.std.proofs.Common.{◌≡◌, ℕ, List, [], Some, refl, arith, codes}
-use Rattle.terms.specs.Trees.{plain, nonce, ticket_key, long_key}
-use Rattle.terms.specs.Derivations.{by_knowing, in_public, by_parting, by_sealing, by_opening}
+use Rattle.symbolic_runs.specs.Trees.{plain, nonce, ticket_key, long_key}
+use Rattle.symbolic_runs.specs.Derivations.{by_knowing, in_public, by_parting, by_sealing, by_opening}
 use Rattle.symbolic_runs.specs.Forms.{ticket_request, for_server, by_server}
 use Rattle.symbolic_runs.specs.Moves.{client, server, client_challenge, client_request, client_question, client_answer, client_ticket, client_proof, client_accepts, server_challenge, server_request, server_ticket, server_accepts, server_proof, mail_client_challenge, mail_client_answer}
 use Rattle.symbolic_runs.specs.Sessions.{comes, grants_tickets, ticket_for_server}

@@ -1,7 +1,7 @@
 -- Client agreement: who answered a client was a server for which the client's ticket was granted.
 use Rattle.std.proofs.Common.{◌≡◌, ℕ, ◌∷◌, List, refl, sym, ◌∙◌, false, Some, subst}
-use Rattle.terms.specs.Trees.{Tree, nonce, long_key, ticket_key, seal}
-use Rattle.terms.specs.Derivations.{Derives, by_parting}
+use Rattle.symbolic_runs.specs.Trees.{Tree, nonce, long_key, ticket_key, seal}
+use Rattle.symbolic_runs.specs.Derivations.{Derives, by_parting}
 use Rattle.symbolic_runs.specs.Forms.{for_server, for_client, by_client, by_server, pair, ticket, authenticator, tickets, client_message, server_message}
 use Rattle.symbolic_runs.specs.Moves.{Role, client, Move, takes, hears, gives, accepts, Own, Row, client_challenge, client_request, client_question, client_answer, client_ticket, client_proof, client_accepts, server_challenge, server_request, server_ticket, server_accepts, server_proof, mail_client_challenge, mail_client_answer, mail_question, mail_answer, mail_challenge_on, mail_user, mail_digest, mail_second_question, mail_second_answer, mail_accepts, breaks}
 use Rattle.symbolic_runs.specs.Runs.{Setting, Event, moves, Run, own_of, moves_of, known, IsRun}

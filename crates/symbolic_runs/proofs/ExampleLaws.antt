@@ -1,8 +1,8 @@
 -- The examples are runs.
 use Rattle.std.proofs.Common.{◌≡◌, ℕ, List, [], ◌∷◌, Some, None, length, refl, arith}
-use Rattle.terms.specs.declared.kind.MacKind.TheVariants.{Apop}
-use Rattle.terms.specs.Trees.{plain, nonce}
-use Rattle.terms.specs.Derivations.{by_knowing, in_public, by_parting, by_joining, each_none, each_piece}
+use Rattle.symbolic_runs.specs.declared.kind.MacKind.TheVariants.{Apop}
+use Rattle.symbolic_runs.specs.Trees.{plain, nonce}
+use Rattle.symbolic_runs.specs.Derivations.{by_knowing, in_public, by_parting, by_joining, each_none, each_piece}
 use Rattle.symbolic_runs.specs.Forms.{ticket_request, mail_request, AreFields, request}
 use Rattle.symbolic_runs.specs.Moves.{takes, gives, client_challenge, client_request, client_question, client_answer, client_ticket, server_challenge, server_request, server_ticket, server_accepts, mail_client_challenge, mail_client_answer, mail_question, mail_answer, mail_challenge_on, mail_user, mail_digest, mail_second_question, mail_second_answer, mail_accepts, breaks}
 use Rattle.symbolic_runs.specs.Sessions.{comes, grants_tickets, challenges, vouches, refusal}

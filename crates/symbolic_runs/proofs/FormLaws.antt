@@ -1,7 +1,7 @@
 -- The forms of messages determine their parts.
 use Rattle.std.proofs.Common.{◌≡◌, ℕ, List, ◌++◌, [], ◌∷◌, refl}
-use Rattle.terms.specs.Trees.{Tree, seal, long_key, ticket_key, password, digest}
-use Rattle.terms.specs.declared.kind.MacKind.{MacKind}
+use Rattle.symbolic_runs.specs.Trees.{Tree, seal, long_key, ticket_key, password, digest}
+use Rattle.symbolic_runs.specs.declared.kind.MacKind.{MacKind}
 use Rattle.symbolic_runs.specs.Forms.{Fields, pair, request, ticket, authenticator, tickets, client_message, server_message, vouch, mail_challenge}
 
 pub seal_parts : (k k' t t' : Tree) → seal k t ≡ seal k' t' → (k ≡ k') × (t ≡ t')

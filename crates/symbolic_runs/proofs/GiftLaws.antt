@@ -1,8 +1,8 @@
 -- What is computed as the next gift is what the rows allow.
 use Rattle.std.proofs.Common.{◌≡◌, ℕ, [], ◌∷◌, List, length, refl, sym, Bool, true, false, ◌&&◌, eqb, Some, None, if◌then◌else◌, subst}
 use Rattle.std.proofs.lemmas.Bool.{and_parts, and_from, eq-eqb, eqb-true}
-use Rattle.terms.specs.Trees.{plain, seal, digest, same_tree}
-use Rattle.terms.proofs.EqualityLaws.{equal_trees, tree_itself}
+use Rattle.symbolic_runs.specs.Trees.{plain, seal, digest, same_tree}
+use Rattle.symbolic_runs.proofs.EqualityLaws.{equal_trees, tree_itself}
 use Rattle.symbolic_runs.specs.Forms.{ticket_request, for_server, for_client, by_client, mail_request, Fields, AreFields, pair, request, ticket, authenticator, tickets, client_message, server_message}
 use Rattle.symbolic_runs.specs.Moves.{Role, client, server, mail_client, mail_server, Move, takes, hears, gives, asks, accepts, Own, AreNames, Row, client_challenge, client_request, client_question, client_answer, client_ticket, client_proof, client_accepts, server_challenge, server_request, server_ticket, server_accepts, server_proof, mail_client_challenge, mail_client_answer, mail_question, mail_answer, mail_challenge_on, mail_user, mail_digest, mail_second_question, mail_second_answer, mail_accepts, breaks}
 use Rattle.symbolic_runs.specs.Gifts.{part, bytes, fields_of, are_whole, is_request, ticket_like, has_names, opened, hears_tickets, shown, takes_ticket, hears_challenge, next_gift, is_gift}

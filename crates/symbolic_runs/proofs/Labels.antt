@@ -3,8 +3,8 @@
 use Rattle.std.proofs.Common.{◌≡◌, ℕ, zero, suc, [], ◌∷◌, ◌++◌, List, inl, inr, eqb, Some, map, subst}
 use Rattle.std.proofs.lemmas.Bool.{cases_Bool}
 use Rattle.std.specs.List.{slice_get}
-use Rattle.terms.specs.Trees.{Tree, plain, long_key, password}
-use Rattle.terms.specs.Derivations.{Derives}
+use Rattle.symbolic_runs.specs.Trees.{Tree, plain, long_key, password}
+use Rattle.symbolic_runs.specs.Derivations.{Derives}
 use Rattle.symbolic_runs.specs.Moves.{Move, takes, hears, gives, asks, accepts, fails, Row}
 use Rattle.symbolic_runs.specs.Sessions.{Deed, got, gives_tickets, gives_challenge, gives_vouch, refuses, deed_labels, SessionRow}
 use Rattle.symbolic_runs.specs.Runs.{Setting, Event, starts, talks, moves, serves, Run, own_of, started, moves_of, deeds_of, move_labels, given, known, Comes, Arrives, IsRun, begins, then_starts, then_talks, then_moves, then_serves}

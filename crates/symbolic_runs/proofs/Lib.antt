@@ -15,3 +15,12 @@ pub mod Clients
 pub mod Making
 pub mod ExampleLaws
 pub mod AttackLaws
+pub mod DerivationLaws
+pub mod EqualityLaws
+pub mod ReadingLaws
+pub mod StepLaws
+pub mod TreeLemmas
+pub mod ConcludeLemmas
+pub mod ReadingLemmas
+pub mod Weights
+pub mod WriteLemmas

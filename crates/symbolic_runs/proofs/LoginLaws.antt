@@ -1,8 +1,8 @@
 -- Logins written out are runs, step by step.
 use Rattle.std.proofs.Common.{◌≡◌, ℕ, List, true, Some, length, refl, arith}
-use Rattle.terms.specs.declared.kind.MacKind.{MacKind}
-use Rattle.terms.specs.Trees.{same_kind}
-use Rattle.terms.specs.Derivations.{by_knowing, in_public}
+use Rattle.symbolic_runs.specs.declared.kind.MacKind.{MacKind}
+use Rattle.symbolic_runs.specs.Trees.{same_kind}
+use Rattle.symbolic_runs.specs.Derivations.{by_knowing, in_public}
 use Rattle.symbolic_runs.specs.Forms.{AreFields}
 use Rattle.symbolic_runs.specs.Moves.{AreNames, client_challenge, client_request, client_question, client_answer, client_ticket, client_proof, client_accepts, server_challenge, server_request, server_ticket, server_accepts, server_proof, mail_client_challenge, mail_client_answer, mail_question, mail_answer, mail_challenge_on, mail_user, mail_digest, mail_second_question, mail_second_answer, mail_accepts}
 use Rattle.symbolic_runs.specs.Sessions.{comes, grants_tickets, challenges, vouches}

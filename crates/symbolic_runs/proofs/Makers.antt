@@ -1,8 +1,8 @@
 -- Who makes the seals and digests of logins: the rows that make a ticket for a server, one for a client, an authenticator of
 -- either side, a mail client's digest.
 use Rattle.std.proofs.Common.{◌≡◌, ℕ, [], ◌∷◌, List, refl, sym, ap, ◌∙◌, Option, Some, None, Contains, subst, subst₂, arith}
-use Rattle.terms.specs.declared.kind.MacKind.{MacKind}
-use Rattle.terms.specs.Trees.{Tree, nonce, long_key, ticket_key, password, seal, digest}
+use Rattle.symbolic_runs.specs.declared.kind.MacKind.{MacKind}
+use Rattle.symbolic_runs.specs.Trees.{Tree, nonce, long_key, ticket_key, password, seal, digest}
 use Rattle.symbolic_runs.specs.Forms.{for_server, for_client, by_client, by_server, pair, ticket, authenticator, tickets, client_message, server_message}
 use Rattle.symbolic_runs.specs.Moves.{client, server, mail_client, Move, takes, hears, gives, accepts}
 use Rattle.symbolic_runs.specs.Sessions.{Used, keys, key_and_password, Deed, gives_tickets, gives_vouch, key_for_server, key_for_client, ticket_for_client, MaySpeak, SessionRow, comes, grants_tickets, challenges, vouches, refusal}

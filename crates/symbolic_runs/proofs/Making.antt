@@ -1,7 +1,7 @@
 -- What an attacker makes of what it has: whole messages.
 use Rattle.std.proofs.Common.{ℕ, List}
-use Rattle.terms.specs.Trees.{Tree, seal}
-use Rattle.terms.specs.Derivations.{Derives, in_public, by_joining, by_sealing, each_none, each_piece}
+use Rattle.symbolic_runs.specs.Trees.{Tree, seal}
+use Rattle.symbolic_runs.specs.Derivations.{Derives, in_public, by_joining, by_sealing, each_none, each_piece}
 use Rattle.symbolic_runs.specs.Forms.{by_client, Fields, pair, request, ticket, authenticator, client_message}
 
 pub make_request : (known : List Tree) (kind : List ℕ) (fields : Fields) (chal : Tree) → Derives known chal → Derives known (request kind fields chal)

@@ -1,8 +1,8 @@
 -- The matching conversation: where the server's holder and the names that may speak for the user are uncompromised.
 use Rattle.std.proofs.Common.{◌≡◌, ℕ, ◌∷◌, List, refl, sym, ◌∙◌, Bool, false, ◌||◌, Option, Some, None, Contains, subst, subst₂, true≢false}
-use Rattle.terms.specs.declared.kind.MacKind.{MacKind}
-use Rattle.terms.specs.Trees.{Tree, nonce, long_key, ticket_key, password, seal, digest}
-use Rattle.terms.specs.Derivations.{Derives, by_parting}
+use Rattle.symbolic_runs.specs.declared.kind.MacKind.{MacKind}
+use Rattle.symbolic_runs.specs.Trees.{Tree, nonce, long_key, ticket_key, password, seal, digest}
+use Rattle.symbolic_runs.specs.Derivations.{Derives, by_parting}
 use Rattle.symbolic_runs.specs.Forms.{for_server, for_client, by_client, mail_request, pair, request, ticket, authenticator, tickets, client_message, mail_challenge}
 use Rattle.symbolic_runs.specs.Moves.{Role, client, Move, hears, gives, accepts}
 use Rattle.symbolic_runs.specs.Sessions.{keys, key_and_password, Deed, got, gives_tickets, gives_vouch, MaySpeak}

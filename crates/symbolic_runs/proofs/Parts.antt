@@ -1,8 +1,8 @@
 -- A part of a run is a run, and what it says at its places; what follows from less follows from more.
 use Rattle.std.proofs.Common.{◌≡◌, ℕ, zero, suc, ◌+◌, ◌^◌, ◌<◌, [], ◌∷◌, ◌++◌, List, length, refl, sym, ap, ◌∙◌, Some, map, subst, append_assoc, length-append, arith}
 use Rattle.std.specs.List.{slice_get}
-use Rattle.terms.specs.Trees.{Tree, long_key, password, Trees}
-use Rattle.terms.specs.Derivations.{Derives, DerivesAll, by_knowing, in_public, by_joining, by_parting, by_sealing, by_opening, by_digesting, each_none, each_piece}
+use Rattle.symbolic_runs.specs.Trees.{Tree, long_key, password, Trees}
+use Rattle.symbolic_runs.specs.Derivations.{Derives, DerivesAll, by_knowing, in_public, by_joining, by_parting, by_sealing, by_opening, by_digesting, each_none, each_piece}
 use Rattle.symbolic_runs.specs.Moves.{Move, Row}
 use Rattle.symbolic_runs.specs.Sessions.{Deed, deed_labels, SessionRow}
 use Rattle.symbolic_runs.specs.Runs.{Setting, Event, starts, talks, moves, serves, Run, own_of, started, moves_of, deeds_of, move_labels, given, known, Arrives, IsRun, then_moves, then_serves}

@@ -1,9 +1,9 @@
 -- Every seal under a key that may not be known, and every digest under such a secret, was made by a row.
 use Rattle.std.proofs.Common.{◌≡◌, ℕ, zero, suc, [], ◌∷◌, ◌++◌, List, refl, sym, ◌∙◌, Some, map, subst, append_assoc}
 use Rattle.std.specs.List.{slice_get}
-use Rattle.terms.specs.declared.kind.MacKind.{MacKind}
-use Rattle.terms.specs.Trees.{Tree, long_key, password, joined, seal, digest, Trees, none, piece, piece_at}
-use Rattle.terms.specs.Derivations.{Derives, DerivesAll, by_knowing, in_public, by_joining, by_parting, by_sealing, by_opening, by_digesting, each_none, each_piece}
+use Rattle.symbolic_runs.specs.declared.kind.MacKind.{MacKind}
+use Rattle.symbolic_runs.specs.Trees.{Tree, long_key, password, joined, seal, digest, Trees, none, piece, piece_at}
+use Rattle.symbolic_runs.specs.Derivations.{Derives, DerivesAll, by_knowing, in_public, by_joining, by_parting, by_sealing, by_opening, by_digesting, each_none, each_piece}
 use Rattle.symbolic_runs.specs.Moves.{Role, Move, takes, hears, gives, asks, accepts, fails, Row, client_challenge, client_request, client_question, client_answer, client_ticket, client_proof, client_accepts, server_challenge, server_request, server_ticket, server_accepts, server_proof, mail_client_challenge, mail_client_answer, mail_question, mail_answer, mail_challenge_on, mail_user, mail_digest, mail_second_question, mail_second_answer, mail_accepts, breaks}
 use Rattle.symbolic_runs.specs.Sessions.{Deed, got, gives_tickets, gives_challenge, gives_vouch, refuses, deed_labels, SessionRow, comes, grants_tickets, challenges, vouches, refusal}
 use Rattle.symbolic_runs.specs.Runs.{Setting, Event, Run, moves, serves, own_of, moves_of, deeds_of, move_labels, known, IsRun}

@@ -1,7 +1,7 @@
 -- Server agreement and the matching conversation.
 use Rattle.std.proofs.Common.{◌≡◌, ℕ, List, refl, sym, ◌∙◌, true, false, subst, true≢false}
-use Rattle.terms.specs.Trees.{Tree, nonce, long_key, seal}
-use Rattle.terms.specs.Derivations.{Derives, by_parting}
+use Rattle.symbolic_runs.specs.Trees.{Tree, nonce, long_key, seal}
+use Rattle.symbolic_runs.specs.Derivations.{Derives, by_parting}
 use Rattle.symbolic_runs.specs.Forms.{for_server, by_client, ticket, authenticator}
 use Rattle.symbolic_runs.specs.Moves.{Role, Move, accepts, Own, Row, client_challenge, client_request, client_question, client_answer, client_ticket, client_proof, client_accepts, server_challenge, server_request, server_ticket, server_accepts, server_proof, mail_client_challenge, mail_client_answer, mail_question, mail_answer, mail_challenge_on, mail_user, mail_digest, mail_second_question, mail_second_answer, mail_accepts, breaks}
 use Rattle.symbolic_runs.specs.Runs.{Setting, Event, moves, Run, own_of, moves_of, known, IsRun}

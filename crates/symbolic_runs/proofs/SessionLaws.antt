@@ -1,9 +1,9 @@
 -- What happens once in the sessions of a run: requests, answers, vouches; and where conversations start.
 use Rattle.std.proofs.Common.{◌≡◌, ℕ, suc, ◌<◌, [], ◌∷◌, ◌++◌, List, length, refl, sym, ap, ◌∙◌, inl, inr, ◌⊎◌, eqb, true, false, Some, None, Option, Contains, subst, arith}
 use Rattle.std.proofs.lemmas.Bool.{cases_Bool, cases_eq, cases_order, eq-eqb, eqb-true}
-use Rattle.terms.specs.declared.kind.MacKind.{MacKind}
-use Rattle.terms.specs.declared.kind.MacKind.TheVariants.{Apop, Cram}
-use Rattle.terms.specs.Trees.{Tree, password, digest, same_kind}
+use Rattle.symbolic_runs.specs.declared.kind.MacKind.{MacKind}
+use Rattle.symbolic_runs.specs.declared.kind.MacKind.TheVariants.{Apop, Cram}
+use Rattle.symbolic_runs.specs.Trees.{Tree, password, digest, same_kind}
 use Rattle.symbolic_runs.specs.Forms.{mail_request, Fields, pair, request, mail_challenge}
 use Rattle.symbolic_runs.specs.Moves.{Move}
 use Rattle.symbolic_runs.specs.Sessions.{Grant, key_and_password, Deed, got, gives_tickets, gives_challenge, gives_vouch, refuses, held, SessionRow, comes, grants_tickets, challenges, vouches, refusal}

@@ -2,8 +2,8 @@
 -- user's client took part, and which server answered a client (Lowe, A Hierarchy of Authentication Specifications, 1997).
 -- A conversation is told by the number of its start and not by names, and a place of a run by what stands before it.
 use Rattle.std.specs.Prelude.{◌≡◌, ℕ, List, ◌∷◌, Contains, Bool, true, false, Option, Some}
-use Rattle.terms.specs.declared.kind.MacKind.{MacKind}
-use Rattle.terms.specs.Trees.{Tree, nonce, long_key, ticket_key, password, seal, digest}
+use Rattle.symbolic_runs.specs.declared.kind.MacKind.{MacKind}
+use Rattle.symbolic_runs.specs.Trees.{Tree, nonce, long_key, ticket_key, password, seal, digest}
 use Rattle.symbolic_runs.specs.Forms.{for_server, for_client, pair, ticket, tickets, client_message, server_message, vouch, mail_challenge}
 use Rattle.symbolic_runs.specs.Moves.{Role, client, server, mail_client, mail_server, Move, takes, hears, gives, accepts}
 use Rattle.symbolic_runs.specs.Sessions.{Used, keys, key_and_password, Deed, gives_tickets, gives_vouch, ticket_for_server, vouched_ticket}

@@ -1,6 +1,6 @@
 -- What the laws of agreement say, each under a name.
 use Rattle.std.specs.Prelude.{◌≡◌, ℕ, false}
-use Rattle.terms.specs.Trees.{Tree}
+use Rattle.symbolic_runs.specs.Trees.{Tree}
 use Rattle.symbolic_runs.specs.Runs.{Run, Setting}
 use Rattle.symbolic_runs.specs.Secrets.{is_compromised, is_exposed}
 use Rattle.symbolic_runs.specs.Agreement.{Acceptance, ClientAcceptance, IsAnswered, IsByTicket, IsClientUnder, IsGrantedTo, IsHost, IsMatched, IsUnder, Matches, SpeakersAreTrue}

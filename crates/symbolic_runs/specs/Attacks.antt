@@ -1,8 +1,8 @@
 -- Runs written out that show why the laws of agreement have their premises, and what the protocols don't give. The newest
 -- event stands first.
 use Rattle.std.specs.Prelude.{ℕ, List, [], ◌∷◌, ◌==◌, codes, Some, if◌then◌else◌, true}
-use Rattle.terms.specs.declared.kind.MacKind.TheVariants.{Cram}
-use Rattle.terms.specs.Trees.{Tree, plain, nonce, long_key, ticket_key, password, seal, digest}
+use Rattle.symbolic_runs.specs.declared.kind.MacKind.TheVariants.{Cram}
+use Rattle.symbolic_runs.specs.Trees.{Tree, plain, nonce, long_key, ticket_key, password, seal, digest}
 use Rattle.symbolic_runs.specs.Forms.{ticket_request, for_server, request, ticket, client_message, server_message}
 use Rattle.symbolic_runs.specs.Moves.{client, server, mail_client, takes, hears, gives, asks, accepts}
 use Rattle.symbolic_runs.specs.Sessions.{Grant, got, gives_tickets, ticket_for_server, tickets_given}

@@ -1,7 +1,7 @@
 -- The names that runs written out speak of, and what they have in common.
 use Rattle.std.specs.Prelude.{◌≡◌, ℕ, List, [], ◌∷◌, codes, replicate, true, Option, Some}
 use Rattle.wire_base.specs.Names.{name_field}
-use Rattle.terms.specs.Trees.{Tree}
+use Rattle.symbolic_runs.specs.Trees.{Tree}
 use Rattle.symbolic_runs.specs.Forms.{answer_challenge, Fields}
 use Rattle.symbolic_runs.specs.Moves.{accepts}
 use Rattle.symbolic_runs.specs.Sessions.{Grant, keys, key_and_password}

@@ -2,8 +2,8 @@
 -- newest event stands first.
 use Rattle.std.specs.Prelude.{ℕ, List, [], ◌∷◌, ◌==◌, codes, Some, None, if◌then◌else◌}
 use Rattle.wire_base.specs.Names.{name_field}
-use Rattle.terms.specs.declared.kind.MacKind.TheVariants.{Apop, Cram}
-use Rattle.terms.specs.Trees.{Tree, plain, nonce, ticket_key, password, seal, digest}
+use Rattle.symbolic_runs.specs.declared.kind.MacKind.TheVariants.{Apop, Cram}
+use Rattle.symbolic_runs.specs.Trees.{Tree, plain, nonce, ticket_key, password, seal, digest}
 use Rattle.symbolic_runs.specs.Forms.{ticket_request, by_client, mail_request, pair, request, authenticator, client_message, vouch, mail_challenge}
 use Rattle.symbolic_runs.specs.Moves.{client, server, mail_client, mail_server, takes, hears, gives, asks, accepts, fails}
 use Rattle.symbolic_runs.specs.Sessions.{Grant, got, gives_tickets, gives_challenge, gives_vouch, refuses, ticket_for_server, tickets_given, vouched_ticket, vouched_proof}

@@ -1,9 +1,9 @@
 -- The messages of Plan 9's authentication protocols as trees (authsrv(6) of the Plan 9 manual): a record is its fields
 -- one behind the other. A public field is all its bytes: a kind 1, a name 28, a domain 48, an id 4.
 use Rattle.std.specs.Prelude.{◌≡◌, ℕ, List, [], ◌∷◌, ◌++◌, length, ◌==◌, if◌then◌else◌}
-use Rattle.terms.specs.declared.kind.MacKind.{MacKind}
-use Rattle.terms.specs.declared.kind.MacKind.TheVariants.{Apop, Cram}
-use Rattle.terms.specs.Trees.{Tree, plain, challenge, joined, seal, none, piece}
+use Rattle.symbolic_runs.specs.declared.kind.MacKind.{MacKind}
+use Rattle.symbolic_runs.specs.declared.kind.MacKind.TheVariants.{Apop, Cram}
+use Rattle.symbolic_runs.specs.Trees.{Tree, plain, challenge, joined, seal, none, piece}
 
 -- the kinds of records, as bytes
 abbrev pub ticket_request : List ℕ

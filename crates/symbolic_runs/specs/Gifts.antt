@@ -1,7 +1,7 @@
 -- What a conversation gives next, computed from what it did: a tree has a form where it is the form made of its own parts.
 -- This says once more what `Row` says of the moves that give; the law `gifts_are_computed` says that both agree.
 use Rattle.std.specs.Prelude.{ℕ, List, [], ◌∷◌, length, Bool, true, false, ◌&&◌, ◌==◌, Option, Some, None, if◌then◌else◌}
-use Rattle.terms.specs.Trees.{Tree, plain, seal, joined, digest, piece_at, same_tree}
+use Rattle.symbolic_runs.specs.Trees.{Tree, plain, seal, joined, digest, piece_at, same_tree}
 use Rattle.symbolic_runs.specs.Forms.{ticket_request, for_server, for_client, by_client, mail_request, Fields, pair, request, ticket, authenticator, tickets, client_message, server_message}
 use Rattle.symbolic_runs.specs.Moves.{Role, client, server, mail_client, mail_server, Move, takes, hears, gives, asks, accepts, Own}
 

@@ -13,3 +13,8 @@ pub mod AgreementStatements
 pub mod Cast
 pub mod Examples
 pub mod Attacks
+pub mod Trees
+pub mod Views
+pub mod Spellings
+pub mod Derivations
+pub mod Answers

@@ -1,8 +1,8 @@
 -- Logins written out as runs, so that the laws of runs speak of something. The conversation with number 0 is the
 -- client's, that with number 1 the server's. The newest event stands first.
 use Rattle.std.specs.Prelude.{ℕ, List, [], ◌∷◌, ◌==◌, Some, if◌then◌else◌}
-use Rattle.terms.specs.declared.kind.MacKind.{MacKind}
-use Rattle.terms.specs.Trees.{Tree, plain, nonce, long_key, ticket_key, password, seal, digest}
+use Rattle.symbolic_runs.specs.declared.kind.MacKind.{MacKind}
+use Rattle.symbolic_runs.specs.Trees.{Tree, plain, nonce, long_key, ticket_key, password, seal, digest}
 use Rattle.symbolic_runs.specs.Forms.{ticket_request, for_server, mail_request, Fields, name_text, pair, request, ticket, client_message, server_message, mail_challenge}
 use Rattle.symbolic_runs.specs.Moves.{client, server, mail_client, mail_server, takes, hears, gives, asks, accepts}
 use Rattle.symbolic_runs.specs.Sessions.{Grant, keys, key_and_password, got, gives_tickets, gives_challenge, gives_vouch, tickets_given, vouch_given}

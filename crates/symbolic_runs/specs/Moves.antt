@@ -3,8 +3,8 @@
 -- first. What came may be anything; a row that goes on after it says what it must have been, which is what the tests of
 -- that move ask. A given name may be any.
 use Rattle.std.specs.Prelude.{◌≡◌, ℕ, List, [], ◌∷◌, length}
-use Rattle.terms.specs.declared.kind.MacKind.{MacKind}
-use Rattle.terms.specs.Trees.{Tree, plain, seal, digest}
+use Rattle.symbolic_runs.specs.declared.kind.MacKind.{MacKind}
+use Rattle.symbolic_runs.specs.Trees.{Tree, plain, seal, digest}
 use Rattle.symbolic_runs.specs.Forms.{ticket_request, for_server, for_client, by_client, mail_request, Fields, AreFields, name_text, pair, request, ticket, authenticator, tickets, client_message, server_message, vouch}
 
 pub data Role : Type 0 where

@@ -1,7 +1,7 @@
 -- Where seals and digests come from: the rows that seal and digest, and a place in a run where one of them did.
 use Rattle.std.specs.Prelude.{◌≡◌, ℕ, List, [], ◌∷◌, ◌++◌}
-use Rattle.terms.specs.declared.kind.MacKind.{MacKind}
-use Rattle.terms.specs.Trees.{Tree, long_key, password, nonce, seal, digest}
+use Rattle.symbolic_runs.specs.declared.kind.MacKind.{MacKind}
+use Rattle.symbolic_runs.specs.Trees.{Tree, long_key, password, nonce, seal, digest}
 use Rattle.symbolic_runs.specs.Forms.{ticket_request, for_server, for_client, by_client, by_server, Fields, pair, request, ticket, authenticator, tickets, client_message, server_message}
 use Rattle.symbolic_runs.specs.Moves.{client, server, mail_client, Move, takes, hears, gives, asks, accepts}
 use Rattle.symbolic_runs.specs.Sessions.{gives_tickets, gives_vouch, ticket_for_client, ticket_for_server, vouched_ticket, vouched_proof, SessionRow}

@@ -1,6 +1,6 @@
 -- Places of a run. A place is told by what stands before it.
 use Rattle.std.specs.Prelude.{◌≡◌, ℕ, List, [], ◌∷◌, ◌++◌, length, Contains, Option, Some, None}
-use Rattle.terms.specs.declared.kind.MacKind.{MacKind}
+use Rattle.symbolic_runs.specs.declared.kind.MacKind.{MacKind}
 use Rattle.symbolic_runs.specs.Moves.{Role, client, server, mail_client, mail_server, Move, gives, asks, accepts}
 use Rattle.symbolic_runs.specs.Sessions.{Deed, got, gives_tickets, gives_challenge, gives_vouch, refuses}
 use Rattle.symbolic_runs.specs.Runs.{Event, starts, serves, Run, started, moves_of}

@@ -1,8 +1,8 @@
 -- Symbolic runs: what conversations and an authentication server do while the whole network is an attacker's. What
 -- comes to them is whatever derives from the keys and passwords that were betrayed and from all that was given before.
 use Rattle.std.specs.Prelude.{◌≡◌, ℕ, ◌+◌, ◌^◌, ◌<◌, List, [], ◌∷◌, ◌++◌, length, map, ◌==◌, if◌then◌else◌}
-use Rattle.terms.specs.Trees.{Tree, plain, nonce, long_key, password}
-use Rattle.terms.specs.Derivations.{Derives}
+use Rattle.symbolic_runs.specs.Trees.{Tree, plain, nonce, long_key, password}
+use Rattle.symbolic_runs.specs.Derivations.{Derives}
 use Rattle.symbolic_runs.specs.Moves.{Role, Move, takes, hears, gives, asks, Own, Row}
 use Rattle.symbolic_runs.specs.Sessions.{Grant, Deed, got, deed_labels, SessionRow}
 

@@ -2,7 +2,7 @@
 use Rattle.std.specs.Prelude.{◌≡◌, ℕ, List, Bool, true, false, not, ◌||◌, Option, Some, None}
 use Rattle.std.specs.List.{list_any}
 use Rattle.std.specs.Str.{bytes_eq}
-use Rattle.terms.specs.Trees.{Tree, long_key, ticket_key, junk_key, password, joined, seal, Trees, none, piece}
+use Rattle.symbolic_runs.specs.Trees.{Tree, long_key, ticket_key, junk_key, password, joined, seal, Trees, none, piece}
 use Rattle.symbolic_runs.specs.Sessions.{Used, keys, key_and_password}
 use Rattle.symbolic_runs.specs.Runs.{Setting}
 

@@ -1,8 +1,8 @@
 -- What an authentication server answers, as trees (authsrv(6) of the Plan 9 manual). A session holds the challenge that
 -- it gave until a right answer or a challenge of the other kind, so that one challenge has at most one right answer.
 use Rattle.std.specs.Prelude.{◌≡◌, ℕ, ◌+◌, ◌*◌, List, [], ◌∷◌, length, Contains, Bool, true, false, Option, Some, None, if◌then◌else◌}
-use Rattle.terms.specs.declared.kind.MacKind.{MacKind}
-use Rattle.terms.specs.Trees.{Tree, plain, long_key, ticket_key, junk_key, password, seal, digest, same_kind}
+use Rattle.symbolic_runs.specs.declared.kind.MacKind.{MacKind}
+use Rattle.symbolic_runs.specs.Trees.{Tree, plain, long_key, ticket_key, junk_key, password, seal, digest, same_kind}
 use Rattle.symbolic_runs.specs.Forms.{ticket_request, for_server, for_client, by_client, mail_request, Fields, AreFields, pair, request, ticket, authenticator, tickets, vouch, mail_challenge}
 
 -- what was used at a request: the names whose keys seal the tickets for the server and the client, or the name whose key

@@ -1,9 +1,9 @@
 -- What the laws say, each under a name.
 use Rattle.std.specs.Prelude.{◌≡◌, ℕ, List, ◌++◌, length, true, Some}
 use Rattle.std.specs.List.{slice_get}
-use Rattle.terms.specs.declared.kind.MacKind.{MacKind}
-use Rattle.terms.specs.Trees.{Tree, seal, digest}
-use Rattle.terms.specs.Derivations.{Derives}
+use Rattle.symbolic_runs.specs.declared.kind.MacKind.{MacKind}
+use Rattle.symbolic_runs.specs.Trees.{Tree, seal, digest}
+use Rattle.symbolic_runs.specs.Derivations.{Derives}
 use Rattle.symbolic_runs.specs.Forms.{AreFields, Fields, authenticator, client_message, mail_challenge, request, ticket}
 use Rattle.symbolic_runs.specs.Moves.{AreNames, Move, Own, Role, Row, accepts}
 use Rattle.symbolic_runs.specs.Gifts.{is_gift, next_gift}

@@ -1,7 +1,7 @@
 // Laws of all runs, each the contract of a function that does nothing. specs/Statements.antt has what they say.
 ghost use Rattle.std.specs.Prelude.{List};
-ghost use Rattle.terms.specs.declared.kind.MacKind.TheVariants.{Apop, Cram};
-ghost use Rattle.terms.specs.Trees.{Tree};
+ghost use Rattle.symbolic_runs.specs.declared.kind.MacKind.TheVariants.{Apop, Cram};
+ghost use Rattle.symbolic_runs.specs.Trees.{Tree};
 ghost use Rattle.symbolic_runs.specs.Forms.{pair, server_message, tickets, vouch};
 ghost use Rattle.symbolic_runs.specs.Runs.{Run, Setting};
 ghost use Rattle.symbolic_runs.specs.Logins.{Login, MailLogin};

@@ -1,14 +1,14 @@
-// The public calls of `begun_talks`.
+// The public calls of `conversations`.
 ghost use Rattle.std.specs.Prelude.{◌≡◌, ◌∷◌, option_map};
-ghost use Rattle.begun_talks.specs.Begins.{IsBegun, IsPickedBy};
-ghost use Rattle.begun_talks.specs.Shown.{exchange_in};
+ghost use Rattle.conversations.specs.Begins.{IsBegun, IsPickedBy};
+ghost use Rattle.conversations.specs.Shown.{exchange_in};
 ghost use Rattle.roles.specs.Answers.{IsKey};
 ghost use Rattle.roles.specs.Talks.{unheard, roomless, Call as Move, undone};
 ghost use Rattle.roles.specs.declared.need.Need.TheVariants.{Nothing};
 ghost use Rattle.talks.specs.Protocols.{needs};
 ghost use Rattle.talks.specs.Standings.{Begun as Beginning, with_move, role_in};
 
-use begun_talks::Begun;
+use conversations::Begun;
 use key_ring::KeyRing;
 use wire_base::Shape;
 

@@ -1,18 +1,16 @@
 // The public calls of `conversations`.
 ghost use Rattle.std.specs.Prelude.{Option, ◌≡◌, option_copied, OnErr, OnOk};
-ghost use Rattle.begun_talks.specs.Shown.{is_resting, answer_in};
+ghost use Rattle.conversations.specs.Shown.{is_resting, answer_in};
 ghost use Rattle.conversations.specs.Asking.{Readies, SameAsks, Answers};
 ghost use Rattle.conversations.specs.Fits.{Shows, answer_held, Performs, Stays, with_request, Keeps, Resumes};
 ghost use Rattle.talks.specs.Calls as c;
 ghost use Rattle.talks.specs.Standings.{outcome_of};
 
-use begun_talks::phase;
-use conversations::{Asks, Conversation};
+use conversations::{Asks, Conversation, phase};
 use key_ring::KeyRing;
 use roles::Outcome;
-use rpc_file::RpcAnswer;
+use talks::{Asking, RpcAnswer};
 use std::alloc::Global;
-use talks::Asking;
 use wire_base::NoMemory;
 
 /// As `Conversation::is_resting`.

@@ -1,4 +1,4 @@
-// The public calls of `told_talks`.
+// The public calls of `agent_talks`.
 ghost use Rattle.std.specs.Prelude.{◌≡◌, IfOk, ◌∷◌, List, Some, OnErr, OnOk, ◌≤◌, ◌+◌, false, length, IsOk, ◌-◌, [], Option, true, IfNone, IfSome, ℕ};
 ghost use Rattle.agent_history.specs.Conversations.{asker, all_withdrawn, ended_by};
 ghost use Rattle.agent_history.specs.Deeds.{Deed, OfPrompts, OfLog, is_debug, OfFids, Clunked, OfConnection, Hung, OfKeys, Switched};
@@ -10,23 +10,23 @@ ghost use Rattle.side_files.specs.Calls as side;
 ghost use Rattle.side_files.specs.Questions.{asker_of, first_conv, standing};
 ghost use Rattle.talks.specs.Calls as c;
 ghost use Rattle.talks.specs.Lines.{start_line};
-ghost use Rattle.told_talks.specs.Asking.{is_asker};
-ghost use Rattle.told_talks.specs.Files.{Files};
-ghost use Rattle.told_talks.specs.Logging.{Logs, SameLogs, logged_talk, calls_in, logged_by, talks_in};
+ghost use Rattle.agent_talks.specs.Asking.{is_asker};
+ghost use Rattle.agent_talks.specs.Files.{Files};
+ghost use Rattle.agent_talks.specs.Logging.{Logs, SameLogs, logged_talk, calls_in, logged_by, talks_in};
 
 use attr_tuples::Tuple;
 use key_ring::KeyRing;
 use side_files::PromptKind;
 use std::alloc::Global;
 use talks::Asking;
-use told_talks::{LineFiles, LoggedTalks};
+use agent_talks::{LineFiles, LoggedTalks};
 use wire_base::{Bytes, NoMemory};
 
 /// As `build_start`.
 pub fn build_start(alloc: Global, conv: u64, template: &Tuple) -> Result<Bytes, NoMemory>
     ensures { IfOk result (λ line. line ≡ start_line conv template.now) }
 {
-    told_talks::build_start(alloc, conv, template)
+    agent_talks::build_start(alloc, conv, template)
 }
 
 /// As `LineFiles::withdraw`.

@@ -1,7 +1,7 @@
 // What tests expect of a value: one call each, so that what is shown of a failure is proved once.
 
 use agent_talks::Told;
-use rpc_file::print_answer;
+use talks::print_answer;
 use std::alloc::Global;
 use std::fmt::Debug;
 use std::process::Abort;

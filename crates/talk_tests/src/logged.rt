@@ -3,13 +3,12 @@ use crate::expect::expect;
 use crate::rings::ring_of;
 use file_tree::Node;
 use key_ring::KeyRing;
-use rpc_file::Request;
+use talks::{Asking, Request};
 use side_files::PromptKind;
 use std::alloc::Global;
 use std::process::Abort;
 use std::test::Fail;
-use talks::Asking;
-use told_talks::LoggedTalks;
+use agent_talks::LoggedTalks;
 use wire_base::NoMemory;
 
 const WORD: [u8; 8] = *b"\x01#Eg\x89\xab\xcd\xef";

@@ -1,10 +1,10 @@
 // Reads that wait are told the lines and the answers that come.
 use crate::expect::expect;
-use agent_shared::Shared;
+use agent_requests::Shared;
 use file_tree::Node;
 use key_ring::ListedRing;
 use mailboxes::Read;
-use rpc_file::Request;
+use talks::Request;
 use std::alloc::Global;
 use std::process::Abort;
 use std::test::Fail;

@@ -2,7 +2,7 @@
 use crate::expect::expect;
 use mailboxes::{ErrorText, Mailboxes, Read, Reply, SettledFor, ToldAnswer};
 use nine::put_flush;
-use rpc_file::{RpcAnswer, answer_fits};
+use talks::{RpcAnswer, answer_fits};
 use std::alloc::Global;
 use std::process::Abort;
 use std::test::Fail;

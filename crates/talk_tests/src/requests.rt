@@ -6,11 +6,10 @@ use attr_tuples::print_tuple;
 use conversations::{Asks, Conversation};
 use key_ring::KeyRing;
 use roles::Outcome;
-use rpc_file::{Request, print_answer};
+use talks::{Asking, Request, print_answer};
 use std::alloc::Global;
 use std::process::Abort;
 use std::test::Fail;
-use talks::Asking;
 use wire_base::{Bytes, NoMemory, Shape};
 
 const WORD: [u8; 8] = *b"\x01#Eg\x89\xab\xcd\xef";

@@ -3,3 +3,4 @@ pub mod StandLemmas
 pub mod EndLaws
 pub mod SeekLemmas
 mod Rows
+pub mod SizeLemmas

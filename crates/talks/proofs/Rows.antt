@@ -20,9 +20,9 @@ use Rattle.sealing.specs.Request.{request_of, request_fields, request_text}
 use Rattle.roles.specs.Starts.{role_of, start_fault}
 use Rattle.roles.specs.Talks.{give, get}
 use Rattle.roles.specs.Templates.{asked, given_as, asked_as, shown_text}
-use Rattle.rpc_file.specs.Answers.{answer_text}
-use Rattle.rpc_file.specs.Requests.{starts, reads, writes}
-use Rattle.rpc_file.specs.declared.answer.RpcAnswer.TheVariants as a
+use Rattle.talks.specs.RpcAnswers.{answer_text}
+use Rattle.talks.specs.Requests.{starts, reads, writes}
+use Rattle.talks.specs.declared.answer.RpcAnswer.TheVariants as a
 use Rattle.talks.specs.declared.said.Said.{Said}
 use Rattle.talks.specs.declared.said.Asking.{Asking}
 use Rattle.talks.specs.Calls.{Call, Chosen, AsksConsent, AsksKey, Denied, NoneServes, Stored, CarriedOut, Sought, Consented, Shut, Took, Found}

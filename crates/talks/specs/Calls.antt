@@ -2,7 +2,7 @@
 -- conversation met before it. After factotum(4) of the Plan 9 manual (rpc, confirm, needkey).
 use Rattle.std.specs.Prelude.{ℕ, List, Bool}
 use Rattle.key_lists.specs.Lists.{KeyEntry}
-use Rattle.rpc_file.specs.Requests.{RpcRequest}
+use Rattle.talks.specs.Requests.{RpcRequest}
 
 -- what a search among the keys of a moment comes to: a key, a list of offers, or a pick is searched for
 pub data Found : Type 0 where

@@ -13,3 +13,6 @@ pub mod Seeking
 pub mod Answers
 pub mod Standings
 pub mod Lines
+pub mod Requests
+pub mod RpcAnswers
+pub mod Sizes

@@ -10,7 +10,7 @@ use Rattle.roles.specs.declared.answer.Cause.{Cause}
 use Rattle.roles.specs.declared.answer.Cause.TheVariants as c
 use Rattle.roles.specs.declared.need.Outcome.{Outcome}
 use Rattle.roles.specs.declared.need.Outcome.TheVariants.{Running, Accepted, Finished, Broken}
-use Rattle.rpc_file.specs.Answers.{title_of}
+use Rattle.talks.specs.RpcAnswers.{title_of}
 use Rattle.talks.specs.Answers.{cause_answer, text_or_none}
 use Rattle.talks.specs.Standings.{Begun, Standing, outcome_of}
 

@@ -1,6 +1,5 @@
 // Clients that are let in, and those that are hung up.
-use client_doors::{Door, LimitedListener, SharedLimits};
-use client_limits::{Address, ClientLimits, Limits};
+use client_doors::{Address, ClientLimits, Door, LimitedListener, Limits, SharedLimits};
 use std::alloc::Global;
 use std::net::{IpAddr, Ipv4Addr};
 use std::test::Fail;

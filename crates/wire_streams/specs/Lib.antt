@@ -10,3 +10,5 @@ pub mod Words
 pub mod Spawning
 pub mod Listening
 pub mod ListenerMemory
+pub mod Offers
+pub mod Ahead

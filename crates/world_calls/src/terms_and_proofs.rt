@@ -1,14 +1,14 @@
-// The public calls of `terms`.
+// The public calls of `symbolic_runs`.
 ghost use Rattle.std.specs.List.{slice_get};
 ghost use Rattle.std.specs.Prelude.{◌≡◌, ℕ, List, IfOk, Ok, Some, true, is_some, map, option_map, None, Err, OnOk, OnErr};
-ghost use Rattle.terms.specs.Answers.{atoms_of, behind};
-ghost use Rattle.terms.specs.Derivations.{Derives, IsProof, conclusions};
-ghost use Rattle.terms.specs.Spellings.{bytes_of, spelling};
-ghost use Rattle.terms.specs.Trees.{Tree, is_atom, same_tree, same_trees};
-ghost use Rattle.terms.specs.Views.{tree, trees, trees_of};
-ghost use Rattle.terms.specs.declared.spelling.SpellFault.TheVariants.{NoAtom, BadSeal};
+ghost use Rattle.symbolic_runs.specs.Answers.{atoms_of, behind};
+ghost use Rattle.symbolic_runs.specs.Derivations.{Derives, IsProof, conclusions};
+ghost use Rattle.symbolic_runs.specs.Spellings.{bytes_of, spelling};
+ghost use Rattle.symbolic_runs.specs.Trees.{Tree, is_atom, same_tree, same_trees};
+ghost use Rattle.symbolic_runs.specs.Views.{tree, trees, trees_of};
+ghost use Rattle.symbolic_runs.specs.declared.spelling.SpellFault.TheVariants.{NoAtom, BadSeal};
 
-use terms::{Proof, Reading, SpellFault, Term, Terms};
+use symbolic_runs::{Proof, Reading, SpellFault, Term, Terms};
 use wire_base::{Bytes, NoMemory};
 
 /// As `check_derivation`.
@@ -20,7 +20,7 @@ pub fn check_derivation(known: &[Term], proof: &Proof) -> Result<bool, NoMemory>
         × ((index : ℕ) (t : Tree) → slice_get ends index ≡ Some t
         → Derives (map tree known.now) t) }
 {
-    terms::check_derivation(known, proof)
+    symbolic_runs::check_derivation(known, proof)
 }
 
 /// As `conclude`.
@@ -28,7 +28,7 @@ pub fn conclude(known: &[Term], proof: &Proof) -> Result<Option<Terms>, NoMemory
     ensures { IfOk result (λ ends. option_map trees ends
         ≡ option_map trees_of (conclusions (map tree known.now) proof.now)) }
 {
-    terms::conclude(known, proof)
+    symbolic_runs::conclude(known, proof)
 }
 
 /// As `Reading::bytes_of`.
@@ -52,7 +52,7 @@ pub fn spell(reading: &Reading, term: &Term, out: &mut Bytes) -> Result<(), Spel
     ensures missing { is_atom (tree term.now) ≡ true
         → bytes_of (atoms_of reading.now) (tree term.now) ≡ None → result ≡ Err NoAtom }
 {
-    terms::spell(reading, term, out)
+    symbolic_runs::spell(reading, term, out)
 }
 
 /// As `Term::same`.

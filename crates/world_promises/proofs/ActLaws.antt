@@ -12,11 +12,11 @@ use Rattle.world_history.specs.Scripts.{call_now, call_or, is_unfit}
 use Rattle.world_history.specs.Talking.{Asks, gets, gives, starts}
 use Rattle.world_history.specs.Turns.{Turn, after, asks, closes, hears, misses}
 use Rattle.world_history.specs.Worlds.{done_by, history, history_by, on_talk, outstanding}
-use Rattle.world_legality.specs.Begun.{BegunWith}
-use Rattle.world_legality.specs.Agents.{AgentDoes, AgentsDo, begun_in}
-use Rattle.world_legality.specs.Conditions.{AreDone}
-use Rattle.world_legality.specs.Settings.{Place}
-use Rattle.world_legality.proofs.WordLaws.{Word, words_so}
+use Rattle.world_promises.specs.Begun.{BegunWith}
+use Rattle.world_promises.specs.Agents.{AgentDoes, AgentsDo, begun_in}
+use Rattle.world_promises.specs.Conditions.{AreDone}
+use Rattle.world_promises.specs.Settings.{Place}
+use Rattle.world_promises.proofs.WordLaws.{Word, words_so}
 use Rattle.driven_agents.specs.Idle.{IsIdle, Runs}
 use Rattle.world_promises.specs.Requests.{IsWorded}
 use Rattle.world_promises.specs.Worlds.{AllRun}

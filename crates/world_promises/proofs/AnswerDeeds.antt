@@ -7,8 +7,8 @@ use Rattle.std.proofs.lemmas.Bool.{cases_Bool}
 use Rattle.roles.specs.declared.need.Need.TheVariants.{Nothing}
 use Rattle.roles.specs.Starts.{Start}
 use Rattle.roles.specs.Talks.{Call as Move, heard, unheard}
-use Rattle.rpc_file.specs.declared.answer.RpcAnswer.{RpcAnswer}
-use Rattle.rpc_file.specs.declared.answer.RpcAnswer.TheVariants as a
+use Rattle.talks.specs.declared.answer.RpcAnswer.{RpcAnswer}
+use Rattle.talks.specs.declared.answer.RpcAnswer.TheVariants as a
 use Rattle.side_files.specs.Calls as side
 use Rattle.talks.specs.Protocols.{answers, needs}
 use Rattle.talks.specs.declared.said.Said.{Said}
@@ -20,9 +20,9 @@ use Rattle.agent_history.specs.Deeds.{Deed, OfLog, OfReplies, OfTalk, Settled, S
 use Rattle.agent_history.specs.Replies.{Wait, has_settled, is_unsettled, reader, swept, waits}
 use Rattle.agent_history.specs.SideFiles.{all_served}
 use Rattle.agent_history.specs.Conversations.{Speaker, deliver_to, delivered, fits, give_to, logged, met, questions, raising, resumed, seeking, seeking_all, sought_once, speaker_of, standing_of, talk, then_logged, then_raised, then_sought, then_took, told}
-use Rattle.world_legality.proofs.AllRoles.{all_roles}
+use Rattle.world_promises.proofs.AllRoles.{all_roles}
 use Rattle.wire_histories.specs.Conversations.{is_asked}
-use Rattle.world_legality.specs.Telling.{on_server}
+use Rattle.world_promises.specs.Telling.{on_server}
 use Rattle.driven_agents.specs.Quiet.{NamesNoLines, leads_away}
 use Rattle.driven_agents.specs.Idle.{read_of}
 use Rattle.driven_agents.proofs.CallLemmas.{logged_same, nobody_served, own_talk}

@@ -16,19 +16,19 @@ use Rattle.roles.specs.declared.need.Need.{Need}
 use Rattle.roles.specs.declared.need.Need.TheVariants.{Nothing, Key, Offers, Pick, Exchange}
 use Rattle.roles.specs.Starts.{Start}
 use Rattle.roles.specs.Talks.{Call as Move, get, give, offered, picked}
-use Rattle.rpc_file.specs.Answers.{answer_text}
-use Rattle.rpc_file.specs.Requests.{RpcRequest}
-use Rattle.rpc_file.specs.Requests as rpc
-use Rattle.rpc_file.specs.declared.answer.RpcAnswer.{RpcAnswer}
-use Rattle.rpc_file.specs.declared.answer.RpcAnswer.TheVariants as a
+use Rattle.talks.specs.RpcAnswers.{answer_text}
+use Rattle.talks.specs.Requests.{RpcRequest}
+use Rattle.talks.specs.Requests as rpc
+use Rattle.talks.specs.declared.answer.RpcAnswer.{RpcAnswer}
+use Rattle.talks.specs.declared.answer.RpcAnswer.TheVariants as a
 use Rattle.talks.specs.Protocols.{Mail, P9any, P9sk1, Protocol, answers, answers_by, needs, protocol_of, puts, puts_by, refuses}
 use Rattle.talks.specs.declared.said.Said.{Said}
 use Rattle.talks.specs.Answers.{cause_answer, move_answer, start_answer}
 use Rattle.talks.specs.Calls.{Found, Chosen, AsksConsent, AsksKey, Denied, NoneServes, Offered, Picked}
 use Rattle.talks.specs.Standings.{Begun, Phase, Kept, Standing, carried_out, made, phase_after, sought, start_by, started, told_of_key, with_key}
 use Rattle.world_history.specs.Talking.{leaves_untaken}
-use Rattle.world_legality.specs.Begun.{BegunWith}
-use Rattle.world_legality.specs.Telling.{Searches, finds, idle, is_driven, rests, told_acts}
+use Rattle.world_promises.specs.Begun.{BegunWith}
+use Rattle.world_promises.specs.Telling.{Searches, finds, idle, is_driven, rests, told_acts}
 use Rattle.world_promises.specs.Requests.{IsWorded}
 use Rattle.world_promises.proofs.AnySizes.{any_good, any_small}
 use Rattle.world_promises.proofs.MailSizes.{mail_good, mail_small}

@@ -5,7 +5,7 @@ use Rattle.std.proofs.lemmas.Bool.{cases_Bool}
 use Rattle.nine.specs.declared.message.RBody.{RBody}
 use Rattle.nine.specs.declared.message.RBody.TheVariants as r
 use Rattle.roles.specs.Talks.{Call as Move, heard, unheard}
-use Rattle.rpc_file.specs.Answers.{answer_text}
+use Rattle.talks.specs.RpcAnswers.{answer_text}
 use Rattle.talks.specs.Protocols.{answers}
 use Rattle.talks.specs.Calls.{Call, Heard, Unheard}
 use Rattle.talks.specs.Standings.{Begun, Kept, made, outcome_of}
@@ -17,9 +17,9 @@ use Rattle.agent_history.specs.Conversations.{Speaker, asker, conv_of, fits, nex
 use Rattle.agent_history.specs.Histories.{History, deeds, does}
 use Rattle.world_history.specs.Driving.{drive, questions_to, replies_to}
 use Rattle.world_history.specs.Talking.{came}
-use Rattle.world_legality.specs.Telling.{on_server}
-use Rattle.world_legality.proofs.TellLemmas.{move_told}
-use Rattle.world_legality.specs.Agents.{Answers, Comes, reads_all, reads_none}
+use Rattle.world_promises.specs.Telling.{on_server}
+use Rattle.world_promises.proofs.TellLemmas.{move_told}
+use Rattle.world_promises.specs.Agents.{Answers, Comes, reads_all, reads_none}
 use Rattle.driven_agents.proofs.TakeLaws.{takes_change_none}
 use Rattle.driven_agents.specs.Idle.{AreOf, AreRead, IsCalm, IsIdle, IsRead, Runs, read_of}
 use Rattle.driven_agents.proofs.HandedLaws.{none_unhanded, put_by, questions_so}

@@ -7,7 +7,7 @@ use Rattle.roles.specs.Talks.{Call as Move}
 use Rattle.talks.specs.declared.said.Said.{Said}
 use Rattle.talks.specs.Calls.{Call, Took}
 use Rattle.talks.specs.Standings.{Begun, OnServer, Resting, Standing, in_phase, outcome_of, standing, then_stands}
-use Rattle.rpc_file.specs.declared.answer.RpcAnswer.{RpcAnswer}
+use Rattle.talks.specs.declared.answer.RpcAnswer.{RpcAnswer}
 use Rattle.agent_history.specs.Deeds.{Deed, OfTalk, fid_of, msize_of, was_hung, was_opened}
 use Rattle.agent_history.specs.Replies.{waits}
 use Rattle.agent_history.specs.Conversations.{Speaker, fits, speakers, standing_of, talk, told}

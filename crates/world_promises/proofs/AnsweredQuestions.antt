@@ -2,7 +2,7 @@
 use Rattle.std.proofs.Common.{◌≡◌, ℕ, List, ◌∷◌, true, eqb, not, Some, None, refl, ap, ◌∙◌}
 use Rattle.std.specs.Prelude.{filter, find, option_map}
 use Rattle.roles.specs.Talks.{Call as Move}
-use Rattle.rpc_file.specs.declared.answer.RpcAnswer.{RpcAnswer}
+use Rattle.talks.specs.declared.answer.RpcAnswer.{RpcAnswer}
 use Rattle.talks.specs.Calls.{Call}
 use Rattle.agent_history.specs.Deeds.{Deed, OfTalk}
 use Rattle.agent_history.specs.Conversations.{Question, asker, next_question, questions}

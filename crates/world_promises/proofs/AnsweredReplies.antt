@@ -3,7 +3,7 @@ use Rattle.std.proofs.Common.{◌≡◌, ℕ, List, [], ◌∷◌, ◌++◌, rev
 use Rattle.std.specs.Prelude.{find}
 use Rattle.std.specs.List.{filter_map}
 use Rattle.nine.specs.declared.message.RMsg.{RMsg}
-use Rattle.rpc_file.specs.declared.answer.RpcAnswer.{RpcAnswer}
+use Rattle.talks.specs.declared.answer.RpcAnswer.{RpcAnswer}
 use Rattle.talks.specs.Calls.{Call}
 use Rattle.agent_history.specs.Deeds.{Deed}
 use Rattle.agent_history.specs.Replies.{replies, reply_in, settle_tag, taken, untaken, waits}

@@ -25,7 +25,7 @@ use Rattle.talks.specs.Protocols.{p9sk1}
 use Rattle.world_promises.proofs.SkSizes.{sk_good, sk_small}
 use Rattle.world_promises.proofs.VerdictForms.{FitMoves, FitsMove, Good, is_bad, tested_so}
 use Rattle.world_promises.proofs.OffersServe.{dom_short}
-use Rattle.world_legality.proofs.RoleForms.{either}
+use Rattle.world_promises.proofs.RoleForms.{either}
 
 -- what stands of a stage: a list that is to be given is short
 abbrev pub StoodAt : Type 0 → Stage → Type 0

@@ -12,7 +12,7 @@ use Rattle.agent_history.specs.Histories.{History, deeds}
 use Rattle.agent_laws.specs.Laws.{asks_server}
 use Rattle.agent_laws.proofs.GrowLaws.{all_are_asked}
 use Rattle.wire_histories.specs.Conversations.{is_asked}
-use Rattle.world_legality.specs.Telling.{on_server}
+use Rattle.world_promises.specs.Telling.{on_server}
 use Rattle.driven_agents.proofs.AskedLemmas.{needs_exchange}
 use Rattle.driven_agents.proofs.HandedLaws.{on_server as waits_there}
 use Rattle.world_promises.proofs.FoundLemmas.{number_passes}

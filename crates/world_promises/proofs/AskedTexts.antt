@@ -1,13 +1,13 @@
 -- What the texts of requests are read as.
 use Rattle.std.proofs.Common.{◌≡◌, Bool, true, false, cond, ltb, length, Result, Ok, Err, refl, ap, ◌∙◌, sym}
-use Rattle.rpc_file.specs.Requests.{RpcRequest}
-use Rattle.rpc_file.specs.Requests as rpc
-use Rattle.rpc_file.specs.declared.request.RpcFault.{RpcFault}
-use Rattle.rpc_file.specs.declared.request.RpcFault.TheVariants as fault
-use Rattle.rpc_file.specs.declared.request.TheConstants.{MOST_REQUEST}
+use Rattle.talks.specs.Requests.{RpcRequest}
+use Rattle.talks.specs.Requests as rpc
+use Rattle.talks.specs.declared.request.RpcFault.{RpcFault}
+use Rattle.talks.specs.declared.request.RpcFault.TheVariants as fault
+use Rattle.talks.specs.declared.request.TheConstants.{MOST_REQUEST}
 use Rattle.agent_history.specs.Requests.{is_too_long}
 use Rattle.world_history.specs.Talking.{Asks, gets, gives, request_text, starts}
-use Rattle.world_legality.specs.Agents.{asked_as}
+use Rattle.world_promises.specs.Agents.{asked_as}
 
 -- a request, where it isn't too long
 abbrev pub if_short : Bool → RpcRequest → Result RpcRequest RpcFault

@@ -20,10 +20,10 @@ use Rattle.conv_p9any.specs.declared.stage.Stage.TheVariants.{ServerOffers, Serv
 use Rattle.conv_p9any.specs.Courses as any
 use Rattle.conv_p9any.specs.Talks.{Standing as Far, choosing}
 use Rattle.conv_challenge.specs.Starts.{side_of}
-use Rattle.rpc_file.specs.Requests.{RpcRequest}
-use Rattle.rpc_file.specs.Requests as rpc
-use Rattle.rpc_file.specs.declared.answer.RpcAnswer.{RpcAnswer}
-use Rattle.rpc_file.specs.declared.answer.RpcAnswer.TheVariants as a
+use Rattle.talks.specs.Requests.{RpcRequest}
+use Rattle.talks.specs.Requests as rpc
+use Rattle.talks.specs.declared.answer.RpcAnswer.{RpcAnswer}
+use Rattle.talks.specs.declared.answer.RpcAnswer.TheVariants as a
 use Rattle.talks.specs.Protocols.{Mail, P9any, P9sk1, Protocol, answers, needs, needs_by, p9sk1, protocol_of, puts, refuses}
 use Rattle.talks.specs.Answers.{move_answer}
 use Rattle.talks.specs.declared.said.Said.{Said}
@@ -33,9 +33,9 @@ use Rattle.talks.specs.Searches.{found_among, is_denied, offered_by}
 use Rattle.talks.specs.Standings.{Begun, Phase, Resting, Waiting, Seeking, OnConfirm, OnNeedkey, OnServer, Kept, Standing, begin, begin_once, carried_out, chosen_for, finds, if_begun, is_for, made, make_move, moved, need_in, phase_after, role_in, sought, sought_if, standing, start_by, started, told_of_key, then_stands, with_key, with_move}
 use Rattle.wire_histories.specs.Conversations.{is_asked, meets}
 use Rattle.driven_agents.specs.Keys.{AreKeys}
-use Rattle.world_legality.proofs.AllRoles.{all_roles}
-use Rattle.world_legality.proofs.SearchSteps.{chosen_meets, offers_meet, pick_meets}
-use Rattle.world_legality.proofs.SkRole.{first_one}
+use Rattle.world_promises.proofs.AllRoles.{all_roles}
+use Rattle.world_promises.proofs.SearchSteps.{chosen_meets, offers_meet, pick_meets}
+use Rattle.world_promises.proofs.SkRole.{first_one}
 use Rattle.world_promises.proofs.RoomlessLaws.{roomless_rests}
 use Rattle.world_promises.proofs.MetDeeds.{most_searches}
 use Rattle.world_promises.proofs.OffersServe.{for_p9sk1, none_serves}

@@ -3,12 +3,12 @@ use Rattle.std.proofs.Common.{◌≡◌, ℕ, List, true}
 use Rattle.roles.specs.declared.need.Need.{Need}
 use Rattle.roles.specs.declared.need.Need.TheVariants.{Nothing, Key, Offers, Pick, Exchange}
 use Rattle.roles.specs.Talks.{offered, picked}
-use Rattle.rpc_file.specs.Requests.{RpcRequest}
-use Rattle.rpc_file.specs.declared.answer.RpcAnswer.{RpcAnswer}
+use Rattle.talks.specs.Requests.{RpcRequest}
+use Rattle.talks.specs.declared.answer.RpcAnswer.{RpcAnswer}
 use Rattle.talks.specs.Protocols.{needs}
 use Rattle.talks.specs.Calls.{Found, Chosen, AsksConsent, AsksKey, Denied, NoneServes, Offered, Picked}
 use Rattle.talks.specs.Standings.{Phase, Seeking, OnServer, Kept, Standing, carried_out, phase_after, sought}
-use Rattle.world_legality.specs.Telling.{Searches, asks_nobody, finds, rests}
+use Rattle.world_promises.specs.Telling.{Searches, asks_nobody, finds, rests}
 use Rattle.driven_agents.proofs.StandLemmas.{Stands, carried_so, key_so, made_so}
 
 abbrev pub IsUp : Phase → Type 0

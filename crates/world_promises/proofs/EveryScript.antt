@@ -1,12 +1,12 @@
 -- What holds of every clean legal history holds of every front of a script's record that is clean.
 use Rattle.std.proofs.Common.{◌≡◌, ◌≤◌, ℕ, List, [], ◌∷◌, ◌++◌, append_assoc, Option, Some, None, refl, sym, subst, ap, ◌∙◌}
-use Rattle.terms.specs.Spellings.{Atoms}
+use Rattle.symbolic_runs.specs.Spellings.{Atoms}
 use Rattle.wire_histories.specs.Histories.{Act, Deal, History, IsNumbered, act_in, acts_of, deal_in, deals_of}
 use Rattle.wire_histories.specs.Legal.{IsConversation, IsLegal, IsServed, Setting, Spoken, known_to}
 use Rattle.clean_runs.specs.Labels.{Labelling}
 use Rattle.clean_runs.specs.Statements.{OfEveryCleanHistory}
 use Rattle.world_history.specs.Scripts.{play}
-use Rattle.world_legality.specs.Settings.{setting}
+use Rattle.world_promises.specs.Settings.{setting}
 use Rattle.world_promises.proofs.ScriptLaws.{scripts_are_legal}
 use Rattle.world_promises.specs.Statements.{FrontsAreLegal, OfEveryCleanScript}
 

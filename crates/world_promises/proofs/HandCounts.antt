@@ -4,9 +4,9 @@ use Rattle.std.specs.Prelude.{Result, Ok, filter}
 use Rattle.std.specs.List.{list_any}
 use Rattle.std.proofs.lemmas.List.{length-map}
 use Rattle.key_lists.specs.CtlLines.{CtlLine}
-use Rattle.rpc_file.specs.Requests.{RpcRequest}
-use Rattle.rpc_file.specs.declared.request.RpcFault.{RpcFault}
-use Rattle.rpc_file.specs.declared.answer.RpcAnswer.{RpcAnswer}
+use Rattle.talks.specs.Requests.{RpcRequest}
+use Rattle.talks.specs.declared.request.RpcFault.{RpcFault}
+use Rattle.talks.specs.declared.answer.RpcAnswer.{RpcAnswer}
 use Rattle.side_files.specs.Calls as side
 use Rattle.talks.specs.Calls as calls
 use Rattle.talks.specs.Lines.{log_lines}

@@ -7,8 +7,8 @@ use Rattle.world_history.specs.declared.question.Question.{Question}
 use Rattle.world_history.specs.Acts.{Act, Talk, is_node, talk_of}
 use Rattle.world_history.specs.Turns.{Turn, asks, closes, hears, lets_open, misses, tells}
 use Rattle.world_history.specs.Worlds.{call_behind, done_by, history, last_call, outstanding}
-use Rattle.world_legality.specs.Agents.{AgentDoes, begun_in, conv_in}
-use Rattle.world_legality.specs.Settings.{Place, place_of}
+use Rattle.world_promises.specs.Agents.{AgentDoes, begun_in, conv_in}
+use Rattle.world_promises.specs.Settings.{Place, place_of}
 use Rattle.driven_agents.specs.Idle.{IsIdle}
 use Rattle.world_promises.proofs.OtherTalks.{apart}
 use Rattle.world_promises.proofs.FidLemmas.{not_same}

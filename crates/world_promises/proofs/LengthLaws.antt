@@ -16,7 +16,7 @@ use Rattle.world_history.specs.Driving.{agrees, attaches, clunks, drive, is_refu
 use Rattle.world_history.specs.Talking.{gets, gives, request_text, starts, word_of}
 use Rattle.world_history.specs.Turns.{Turn, after, asks, closes, hears, lets_open, misses, tells}
 use Rattle.world_history.specs.Worlds.{Done, done_by, fid_for, history, history_by, on_talk}
-use Rattle.world_legality.specs.Conditions.{AreDone}
+use Rattle.world_promises.specs.Conditions.{AreDone}
 use Rattle.driven_agents.specs.Idle.{IsIdle, Runs}
 use Rattle.driven_agents.proofs.HandedLaws.{none_dropped, none_handed}
 use Rattle.driven_agents.proofs.KeptLaws.{behind_takes}

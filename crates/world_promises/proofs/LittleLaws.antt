@@ -10,7 +10,7 @@ use Rattle.file_tree.specs.Tree.{lead_to}
 use Rattle.file_tree.specs.Directories.{dir_end}
 use Rattle.file_tree.specs.Calls.{node_of}
 use Rattle.key_lists.specs.CtlLines.{carried_out, lines_of}
-use Rattle.rpc_file.specs.Requests as rpc
+use Rattle.talks.specs.Requests as rpc
 use Rattle.side_files.specs.declared.line.PromptKind.{PromptKind}
 use Rattle.side_files.specs.Lines.{found}
 use Rattle.side_files.specs.Replies as prompt

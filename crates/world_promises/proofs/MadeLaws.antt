@@ -10,11 +10,11 @@ use Rattle.world_history.specs.Driving.{new_node, told}
 use Rattle.world_history.specs.Turns.{after, tells}
 use Rattle.world_history.specs.Worlds.{Done, history}
 use Rattle.driven_agents.proofs.NamesLaws.{names_no_lines}
-use Rattle.world_legality.specs.Agents.{AgentDoes, DoesTo, begun_in, conv_in}
-use Rattle.world_legality.specs.Conditions.{AreDone}
-use Rattle.world_legality.specs.Settings.{Place, place_of}
-use Rattle.world_legality.proofs.LeaveLemmas.{events_leave}
-use Rattle.world_legality.proofs.PlaceLemmas.{not_made}
+use Rattle.world_promises.specs.Agents.{AgentDoes, DoesTo, begun_in, conv_in}
+use Rattle.world_promises.specs.Conditions.{AreDone}
+use Rattle.world_promises.specs.Settings.{Place, place_of}
+use Rattle.world_promises.proofs.LeaveLemmas.{events_leave}
+use Rattle.world_promises.proofs.PlaceLemmas.{not_made}
 use Rattle.driven_agents.specs.Idle.{IsIdle, Runs}
 use Rattle.driven_agents.proofs.NewLaws.{IsNew, new_is}
 use Rattle.world_promises.specs.Worlds.{AllRun, IsSeated}

@@ -21,7 +21,7 @@ use Rattle.conv_challenge.specs.declared.stage.TheConstants.{MOST_CHALLENGE}
 use Rattle.conv_challenge.specs.Courses.{answer_after, course, first_stage, move, puts_after, verdict}
 use Rattle.conv_challenge.specs.Servers.{challenge_came, grants_challenge, grants_vouch, has_length, length_in, user_tests, vouch_came, vouch_tests}
 use Rattle.conv_challenge.specs.Starts.{proto_of, side_of}
-use Rattle.world_legality.proofs.RoleForms.{bounded_by}
+use Rattle.world_promises.proofs.RoleForms.{bounded_by}
 use Rattle.world_promises.proofs.VerdictForms.{Good, answer_so, bytes_so, either_so, goes_on, is_bad, is_heard, sized_so, tested_heard, tested_so, ticket_so}
 
 -- a challenge is short

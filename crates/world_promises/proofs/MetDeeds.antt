@@ -1,7 +1,7 @@
 -- What a request that is carried out does where nobody can be asked: the searches, the question that is raised, and the log.
 use Rattle.std.proofs.Common.{◌≡◌, ℕ, ◌+◌, List, [], ◌∷◌, ◌++◌, Bool, true, false, refl, sym, ap, subst, ◌∙◌}
 use Rattle.file_tree.specs.declared.tree.Node.TheVariants.{Confirm, Needkey}
-use Rattle.rpc_file.specs.Requests.{RpcRequest}
+use Rattle.talks.specs.Requests.{RpcRequest}
 use Rattle.talks.specs.Calls as calls
 use Rattle.talks.specs.Lines.{log_lines}
 use Rattle.talks.specs.Standings.{Phase, Resting, Waiting, Seeking, OnConfirm, OnNeedkey, OnServer, Kept, Standing, carried_out, standing, then_stands}
@@ -10,7 +10,7 @@ use Rattle.agent_history.specs.SideFiles.{all_served}
 use Rattle.agent_history.specs.Conversations.{Question, asking, met, questions, raised, raising, seeking_all, standing_of, talk, then_logged, then_raised, then_sought}
 use Rattle.driven_agents.specs.Quiet.{NamesNoLines}
 use Rattle.driven_agents.proofs.QuietLaws.{holder_none}
-use Rattle.world_legality.specs.Telling.{Searches}
+use Rattle.world_promises.specs.Telling.{Searches}
 use Rattle.driven_agents.proofs.CallLemmas.{nobody_served}
 use Rattle.world_promises.proofs.SearchDeeds.{IsShut, Rests, SearchedOn, searched_on, times}
 use Rattle.world_promises.proofs.TalkSides.{Going, all_logged_on, raised_going, same_going, stands_here, talk_going}

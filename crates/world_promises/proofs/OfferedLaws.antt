@@ -6,8 +6,8 @@ use Rattle.key_lists.specs.CtlLines.{few_of}
 use Rattle.roles.specs.declared.answer.StartFault.{StartFault}
 use Rattle.roles.specs.Talks.{Call as Move, found, get, give, heard, offered, picked, roomless, undone, unheard}
 use Rattle.talks.specs.Protocols.{refuses}
-use Rattle.rpc_file.specs.Requests.{RpcRequest}
-use Rattle.rpc_file.specs.Requests as rpc
+use Rattle.talks.specs.Requests.{RpcRequest}
+use Rattle.talks.specs.Requests as rpc
 use Rattle.talks.specs.Calls.{Call, Found, Chosen, AsksConsent, AsksKey, Denied, NoneServes, Offered, Picked, Stored, CarriedOut, Sought, Consented, KeyTold, Shut, Heard, Unheard, Roomless, Took}
 use Rattle.talks.specs.Standings.{Begun, Phase, Resting, Waiting, Seeking, OnConfirm, OnNeedkey, OnServer, Kept, Standing, begin_once, carried_out, if_begun, is_for, made, need_in, sought, sought_if, standing, start_by, started, taken_back, then_stands, with_key}
 use Rattle.agent_history.specs.Conversations.{standing_of, talk}

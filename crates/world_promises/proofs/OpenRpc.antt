@@ -8,8 +8,8 @@ use Rattle.file_tree.specs.declared.tree.Node.TheVariants.{Root, Factotum, Rpc, 
 use Rattle.file_tree.specs.declared.tree.FidState.{FidState}
 use Rattle.file_tree.specs.Tree.{file}
 use Rattle.file_tree.specs.Calls.{is_open, mode_of, node_of}
-use Rattle.rpc_file.specs.Requests.{RpcRequest}
-use Rattle.rpc_file.specs.Requests as rpc
+use Rattle.talks.specs.Requests.{RpcRequest}
+use Rattle.talks.specs.Requests as rpc
 use Rattle.talks.specs.Calls as calls
 use Rattle.talks.specs.Standings.{Phase, Resting, Waiting, Seeking, OnConfirm, OnNeedkey, OnServer, Kept}
 use Rattle.agent_history.specs.Deeds.{Deed, OfTalk, fid_of, msize_of, names}

@@ -12,10 +12,10 @@ use Rattle.file_tree.specs.Tree.{lead_to}
 use Rattle.file_tree.specs.Calls.{node_of}
 use Rattle.key_lists.specs.CtlLines.{CtlLine, carried_out, lines_of}
 use Rattle.key_lists.specs.Lists.{KeyList}
-use Rattle.rpc_file.specs.Requests.{RpcRequest}
-use Rattle.rpc_file.specs.Requests as rpc
-use Rattle.rpc_file.specs.declared.answer.RpcAnswer.{RpcAnswer}
-use Rattle.rpc_file.specs.declared.request.RpcFault.{RpcFault}
+use Rattle.talks.specs.Requests.{RpcRequest}
+use Rattle.talks.specs.Requests as rpc
+use Rattle.talks.specs.declared.answer.RpcAnswer.{RpcAnswer}
+use Rattle.talks.specs.declared.request.RpcFault.{RpcFault}
 use Rattle.side_files.specs.declared.line.PromptKind.{PromptKind}
 use Rattle.side_files.specs.declared.line.PromptKind.TheVariants as pk
 use Rattle.side_files.specs.declared.reply.Reply.{Reply}

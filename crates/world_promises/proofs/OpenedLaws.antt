@@ -13,10 +13,10 @@ use Rattle.world_history.specs.Driving.{opened, refuses_open}
 use Rattle.world_history.specs.Scripts.{is_unfit}
 use Rattle.world_history.specs.Turns.{after, lets_open}
 use Rattle.world_history.specs.Worlds.{Done, fid_for, history, outstanding}
-use Rattle.world_legality.specs.Agents.{AgentDoes, DoesTo, begun_in, conv_in}
-use Rattle.world_legality.specs.Conditions.{AreDone}
-use Rattle.world_legality.specs.Settings.{Place, place_of}
-use Rattle.world_legality.proofs.PlaceLemmas.{placed, unplaced}
+use Rattle.world_promises.specs.Agents.{AgentDoes, DoesTo, begun_in, conv_in}
+use Rattle.world_promises.specs.Conditions.{AreDone}
+use Rattle.world_promises.specs.Settings.{Place, place_of}
+use Rattle.world_promises.proofs.PlaceLemmas.{placed, unplaced}
 use Rattle.driven_agents.specs.Idle.{IsIdle, Runs}
 use Rattle.driven_agents.proofs.OpensLaws.{SeatSo, seat_is}
 use Rattle.world_promises.specs.Worlds.{AllRun, IsSeated}

@@ -3,7 +3,7 @@ use Rattle.std.proofs.Common.{◌≡◌, ℕ, zero, suc, List, ◌∷◌, length
 use Rattle.std.proofs.lemmas.Bool.{cases_Bool, eq-eqb, eqb-true}
 use Rattle.file_tree.specs.declared.tree.Node.{Node}
 use Rattle.file_tree.specs.declared.tree.Node.TheVariants.{Confirm, Needkey, Log}
-use Rattle.rpc_file.specs.declared.answer.RpcAnswer.{RpcAnswer}
+use Rattle.talks.specs.declared.answer.RpcAnswer.{RpcAnswer}
 use Rattle.side_files.specs.Lines.{Found as Line, Nothing, TooLong, First, found}
 use Rattle.talks.specs.Calls.{Call, Found, AsksConsent, AsksKey, Sought, Heard, Unheard, Took}
 use Rattle.talks.specs.Standings.{Phase, Seeking, OnServer, Kept, finds, standing}

@@ -6,9 +6,9 @@ use Rattle.nine.specs.declared.message.TBody.TheVariants as t
 use Rattle.nine.specs.declared.message.RBody.TheVariants as r
 use Rattle.nine.specs.Messages.{t_fields}
 use Rattle.roles.specs.declared.need.Need.TheVariants.{Nothing}
-use Rattle.rpc_file.specs.Answers.{answer_text}
-use Rattle.rpc_file.specs.Requests.{RpcRequest}
-use Rattle.rpc_file.specs.declared.answer.RpcAnswer.{RpcAnswer}
+use Rattle.talks.specs.RpcAnswers.{answer_text}
+use Rattle.talks.specs.Requests.{RpcRequest}
+use Rattle.talks.specs.declared.answer.RpcAnswer.{RpcAnswer}
 use Rattle.talks.specs.declared.said.Said.{Said}
 use Rattle.talks.specs.Calls as calls
 use Rattle.talks.specs.Standings.{Begun, Phase, Resting, Waiting, Seeking, OnConfirm, OnNeedkey, OnServer, Kept, Standing, carried_out, need_in, then_stands}
@@ -20,7 +20,7 @@ use Rattle.agent_history.specs.Histories.{History, deeds}
 use Rattle.agent_laws.proofs.ConversationLaws.{speakers_rise}
 use Rattle.agent_laws.proofs.GrowLaws.{met_any, none_refuses, not_first}
 use Rattle.driven_agents.proofs.KeyLaws.{keys_are_keys}
-use Rattle.world_legality.specs.Telling.{idle, is_driven}
+use Rattle.world_promises.specs.Telling.{idle, is_driven}
 use Rattle.driven_agents.specs.Idle.{IsCalm, IsIdle}
 use Rattle.driven_agents.proofs.IdleStillLaws.{IsStill, still_met, still_of}
 use Rattle.world_promises.proofs.CarriedLaws.{kept_calm, waiting_calm}

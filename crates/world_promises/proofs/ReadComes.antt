@@ -6,8 +6,8 @@ use Rattle.nine.specs.declared.message.RBody.{RBody}
 use Rattle.nine.specs.declared.message.RBody.TheVariants as r
 use Rattle.roles.specs.declared.need.Need.{Need}
 use Rattle.roles.specs.declared.need.Need.TheVariants.{Nothing, Key, Offers, Pick, Exchange}
-use Rattle.rpc_file.specs.Answers.{answer_text}
-use Rattle.rpc_file.specs.declared.answer.RpcAnswer.{RpcAnswer}
+use Rattle.talks.specs.RpcAnswers.{answer_text}
+use Rattle.talks.specs.declared.answer.RpcAnswer.{RpcAnswer}
 use Rattle.talks.specs.declared.said.Said.{Said}
 use Rattle.talks.specs.Calls as calls
 use Rattle.talks.specs.Standings.{Begun, Phase, Resting, Waiting, Kept, Standing, carried_out, in_phase, need_in, outcome_of, then_stands}
@@ -18,9 +18,9 @@ use Rattle.agent_history.specs.Histories.{History, deeds}
 use Rattle.world_history.specs.Driving.{drive, reads, replies_to}
 use Rattle.world_history.specs.Talking.{Asks, came, gets, gives, starts, is_taken, word_of}
 use Rattle.wire_histories.specs.Conversations.{is_asked}
-use Rattle.world_legality.specs.Begun.{BegunWith}
-use Rattle.world_legality.specs.Telling.{answer_acts, idle, is_driven, is_taken_in}
-use Rattle.world_legality.specs.Agents.{Answers, IsCarried, IsUnread, answers_in, asked_as, asked_in, begun_in, bodies, question_in, questions_in, reads_all, reads_none}
+use Rattle.world_promises.specs.Begun.{BegunWith}
+use Rattle.world_promises.specs.Telling.{answer_acts, idle, is_driven, is_taken_in}
+use Rattle.world_promises.specs.Agents.{Answers, IsCarried, IsUnread, answers_in, asked_as, asked_in, begun_in, bodies, question_in, questions_in, reads_all, reads_none}
 use Rattle.driven_agents.specs.Idle.{IsIdle, Runs}
 use Rattle.driven_agents.proofs.HandedLaws.{bytes_of}
 use Rattle.world_promises.specs.Requests.{IsWorded}

@@ -11,7 +11,7 @@ use Rattle.agent_history.specs.Histories.{History, deeds}
 use Rattle.agent_laws.proofs.ConversationLaws.{Rise, questions_rise, rise_parts}
 use Rattle.agent_laws.proofs.KindLaws.{same_number}
 use Rattle.world_history.specs.Driving.{drive, questions_to, reads}
-use Rattle.world_legality.specs.Agents.{begun_in}
+use Rattle.world_promises.specs.Agents.{begun_in}
 use Rattle.driven_agents.specs.Idle.{AreOf, IsIdle, KeepsAskers, SameSeats}
 use Rattle.driven_agents.proofs.HandedLaws.{none_unhanded, put_by, to_put, unhanded}
 use Rattle.world_promises.proofs.EventDeeds.{CameOf}

@@ -11,8 +11,8 @@ use Rattle.agent_history.specs.Histories.{History, deeds}
 use Rattle.agent_laws.specs.Laws.{gives_content}
 use Rattle.world_history.specs.Driving.{drive, is_refused, questions_to, reads, replies_to}
 use Rattle.world_history.specs.Talking.{Asks, request_questions, request_text, requested, word_of}
-use Rattle.world_legality.specs.Begun.{BegunWith}
-use Rattle.world_legality.specs.Agents.{GiveNothing, IsCarried, IsUnread, RequestDoes, asked_as, begun_in, is_carried, is_read, is_turned_away, isnt_read, write_of}
+use Rattle.world_promises.specs.Begun.{BegunWith}
+use Rattle.world_promises.specs.Agents.{GiveNothing, IsCarried, IsUnread, RequestDoes, asked_as, begun_in, is_carried, is_read, is_turned_away, isnt_read, write_of}
 use Rattle.driven_agents.specs.Idle.{AreOf, IsIdle, Runs, SameSeats}
 use Rattle.driven_agents.proofs.AlikeLaws.{GivesNone}
 use Rattle.driven_agents.proofs.RunLaws.{drive_runs}

@@ -9,17 +9,17 @@ use Rattle.roles.specs.declared.need.Need.{Need}
 use Rattle.roles.specs.declared.need.Need.TheVariants.{Nothing, Key, Offers, Pick, Exchange}
 use Rattle.roles.specs.Answers.{is_sought}
 use Rattle.roles.specs.Talks.{Call as Move, get, give, heard, offered, picked, roomless, undone, unheard}
-use Rattle.rpc_file.specs.Requests.{RpcRequest}
-use Rattle.rpc_file.specs.Requests as rpc
-use Rattle.rpc_file.specs.declared.answer.RpcAnswer.{RpcAnswer}
-use Rattle.rpc_file.specs.declared.answer.RpcAnswer.TheVariants as a
+use Rattle.talks.specs.Requests.{RpcRequest}
+use Rattle.talks.specs.Requests as rpc
+use Rattle.talks.specs.declared.answer.RpcAnswer.{RpcAnswer}
+use Rattle.talks.specs.declared.answer.RpcAnswer.TheVariants as a
 use Rattle.talks.specs.Protocols.{answers, needs, puts, refuses}
 use Rattle.talks.specs.Answers.{attributes, move_answer}
 use Rattle.talks.specs.Calls.{Call, Found, Chosen, AsksConsent, AsksKey, Denied, NoneServes, Offered, Picked, Stored, CarriedOut, Sought, Consented, KeyTold, Shut, Heard, Unheard, Roomless, Took}
 use Rattle.talks.specs.Standings.{Begun, Phase, Resting, Waiting, Seeking, OnConfirm, OnNeedkey, OnServer, Kept, Standing, answered, begin, begin_once, carried_out, chosen_for, if_begun, is_for, made, make_move, moved, need_in, phase_after, sought, sought_if, standing, start_by, started, taken_back, then_stands, told_of_key, with_key, with_move}
 use Rattle.wire_histories.specs.Conversations.{is_asked, meets}
-use Rattle.world_legality.proofs.AllRoles.{all_roles}
-use Rattle.world_legality.proofs.SearchSteps.{chosen_meets, offers_meet, pick_meets}
+use Rattle.world_promises.proofs.AllRoles.{all_roles}
+use Rattle.world_promises.proofs.SearchSteps.{chosen_meets, offers_meet, pick_meets}
 use Rattle.world_promises.proofs.RoomlessLaws.{roomless_rests}
 
 -- a write came last, before which nothing was needed

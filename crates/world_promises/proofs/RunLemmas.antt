@@ -12,8 +12,8 @@ use Rattle.world_history.specs.Scripts.{is_unfit}
 use Rattle.world_history.specs.Talking.{request_text, starts, gets, gives, word_of}
 use Rattle.world_history.specs.Turns.{Turn, after, asks, closes, hears, lets_open, misses, tells}
 use Rattle.world_history.specs.Worlds.{Done, done_by, fid_for, history, history_by, on_talk}
-use Rattle.world_legality.specs.Conditions.{AreDone}
-use Rattle.world_legality.proofs.PlaceLemmas.{on_node, placed}
+use Rattle.world_promises.specs.Conditions.{AreDone}
+use Rattle.world_promises.proofs.PlaceLemmas.{on_node, placed}
 use Rattle.driven_agents.specs.Idle.{Runs}
 use Rattle.driven_agents.proofs.RunLaws.{drive_runs, runs_either}
 use Rattle.world_promises.specs.Worlds.{AllRun}

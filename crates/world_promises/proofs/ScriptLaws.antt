@@ -8,8 +8,8 @@ use Rattle.world_scripts.specs.Scripts.{Numbered, is_skipped, numbered, script_l
 use Rattle.auth_program.specs.declared.cause.ScriptCause.{ScriptCause}
 use Rattle.world_history.specs.Acts.{Act}
 use Rattle.world_history.specs.Scripts.{Played, go_on, judged, play, plays}
-use Rattle.world_legality.proofs.Legality.{all_legal}
-use Rattle.world_legality.proofs.PlayLaws.{played}
+use Rattle.world_promises.proofs.Legality.{all_legal}
+use Rattle.world_promises.proofs.PlayLaws.{played}
 use Rattle.world_promises.proofs.RequestsLaws.{requests_do, requests_leave}
 use Rattle.world_promises.proofs.AnswerLaws.{absences_do, answers_do}
 use Rattle.world_promises.proofs.OtherTalks.{absences_leave, answers_leave}

@@ -16,8 +16,8 @@ use Rattle.agent_history.specs.Deeds.{Deed, OfTalk, holder_of, keys_of}
 use Rattle.agent_history.specs.Conversations.{asking, questions, raised, seeking, sought_once, standing_of, talk}
 use Rattle.agent_history.specs.Conversations as deed
 use Rattle.agent_laws.proofs.ClosedLaws.{none_asks_consent, none_asks_key}
-use Rattle.world_legality.specs.Telling.{Searches, asks_nobody}
-use Rattle.world_legality.specs.Telling as told
+use Rattle.world_promises.specs.Telling.{Searches, asks_nobody}
+use Rattle.world_promises.specs.Telling as told
 use Rattle.world_promises.proofs.RestLaws.{seeks_need}
 use Rattle.world_promises.proofs.TalkSides.{Going, stands_here, talk_going}
 

@@ -10,10 +10,10 @@ use Rattle.roles.specs.declared.need.Need.TheVariants.{Nothing, Key, Offers, Pic
 use Rattle.roles.specs.Answers.{is_sought}
 use Rattle.roles.specs.Starts.{Start, start_with}
 use Rattle.roles.specs.Talks.{get, give, offered, picked}
-use Rattle.rpc_file.specs.Requests.{RpcRequest}
-use Rattle.rpc_file.specs.Requests as rpc
-use Rattle.rpc_file.specs.declared.answer.RpcAnswer.{RpcAnswer}
-use Rattle.rpc_file.specs.declared.answer.RpcAnswer.TheVariants as a
+use Rattle.talks.specs.Requests.{RpcRequest}
+use Rattle.talks.specs.Requests as rpc
+use Rattle.talks.specs.declared.answer.RpcAnswer.{RpcAnswer}
+use Rattle.talks.specs.declared.answer.RpcAnswer.TheVariants as a
 use Rattle.talks.specs.Protocols.{answers, needs, puts, refuses}
 use Rattle.talks.specs.Answers.{move_answer, start_answer}
 use Rattle.talks.specs.declared.said.Said.{Said}
@@ -21,9 +21,9 @@ use Rattle.talks.specs.declared.said.Asking.{Asking}
 use Rattle.talks.specs.Calls.{Found, Chosen, AsksConsent, AsksKey, Denied, NoneServes, Offered, Picked}
 use Rattle.talks.specs.Searches.{found_among, found_by, is_denied, offered_by, serving}
 use Rattle.talks.specs.Standings.{Begun, Phase, Seeking, Kept, Standing, carried_out, finds, found_for, is_for, need_in, phase_after, role_in, role_name, sought, start_by, started, told_of_key, with_move}
-use Rattle.world_legality.proofs.AllRoles.{all_roles}
-use Rattle.world_legality.specs.Telling.{idle, is_driven}
-use Rattle.world_legality.proofs.SearchSteps.{chosen_meets, offers_meet, pick_meets}
+use Rattle.world_promises.proofs.AllRoles.{all_roles}
+use Rattle.world_promises.specs.Telling.{idle, is_driven}
+use Rattle.world_promises.proofs.SearchSteps.{chosen_meets, offers_meet, pick_meets}
 use Rattle.driven_agents.specs.Keys.{AreKeys}
 use Rattle.world_promises.proofs.MetDeeds.{most_searches}
 use Rattle.world_promises.proofs.OffersServe.{for_p9sk1, none_serves}

@@ -21,7 +21,7 @@ use Rattle.conv_challenge.specs.Courses as mail
 use Rattle.conv_challenge.specs.Starts.{side_of}
 use Rattle.talks.specs.Protocols.{Mail, P9any, P9sk1, Protocol, needs, needs_by, p9sk1, protocol_of}
 use Rattle.wire_histories.specs.Conversations.{meets}
-use Rattle.world_legality.proofs.SkRole.{first_one}
+use Rattle.world_promises.proofs.SkRole.{first_one}
 use Rattle.world_promises.proofs.OffersServe.{for_p9sk1}
 
 -- what meets its need leaves nothing to be searched for

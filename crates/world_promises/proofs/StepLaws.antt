@@ -8,11 +8,11 @@ use Rattle.world_history.specs.Acts.{Act, Talk, is_node, talk_of}
 use Rattle.world_history.specs.Turns.{Turn, after, turn_questions}
 use Rattle.world_history.specs.Worlds.{Done, call_behind, call_by, done_by, history, history_by, on_talk, outstanding}
 use Rattle.driven_agents.proofs.NamesLaws.{names_no_lines}
-use Rattle.world_legality.specs.Agents.{AgentDoes, DoesTo, EventsLeave, begun_in, conv_in}
-use Rattle.world_legality.specs.Conditions.{AreDone}
-use Rattle.world_legality.specs.Settings.{Place, place_of}
-use Rattle.world_legality.proofs.LeaveLemmas.{events_leave}
-use Rattle.world_legality.proofs.PlaceLemmas.{placed}
+use Rattle.world_promises.specs.Agents.{AgentDoes, DoesTo, EventsLeave, begun_in, conv_in}
+use Rattle.world_promises.specs.Conditions.{AreDone}
+use Rattle.world_promises.specs.Settings.{Place, place_of}
+use Rattle.world_promises.proofs.LeaveLemmas.{events_leave}
+use Rattle.world_promises.proofs.PlaceLemmas.{placed}
 use Rattle.driven_agents.specs.Idle.{IsIdle}
 use Rattle.world_promises.specs.Worlds.{IsSeated}
 use Rattle.world_promises.proofs.KnownLaws.{IsSame, Known, none_some, not_both, other_call, same_known, same_some, unequal}

@@ -14,8 +14,8 @@ use Rattle.agent_laws.proofs.GrowLaws.{none_refuses}
 use Rattle.driven_agents.proofs.TakeLaws.{takes_change_none}
 use Rattle.world_history.specs.Driving.{drive, is_refused, no_word, replies_to, writes}
 use Rattle.world_history.specs.Talking.{Asks, request_text}
-use Rattle.world_legality.specs.Telling.{idle}
-use Rattle.world_legality.specs.Agents.{asked_as, begun_in, write_of}
+use Rattle.world_promises.specs.Telling.{idle}
+use Rattle.world_promises.specs.Agents.{asked_as, begun_in, write_of}
 use Rattle.driven_agents.specs.Idle.{IsIdle, Runs}
 use Rattle.driven_agents.proofs.RunLaws.{event_runs}
 use Rattle.driven_agents.proofs.TakenLaws.{replies_so}

@@ -5,8 +5,8 @@ use Rattle.std.specs.Str.{bytes_eq}
 use Rattle.std.proofs.lemmas.Bool.{cases_Bool, eqb-true, eq-eqb, or_parts}
 use Rattle.world_history.specs.Acts.{Act, Talk, Domain, KeyLine, SpeakLine, Made, Told, Opened, Started, Got, Given, Answered, Unanswered, Asked, Closed, fids_on, has_name, is_held, least_fid, opened_names, talk_of, talks}
 use Rattle.world_history.specs.Scripts.{is_unfit}
-use Rattle.world_legality.specs.Conditions.{AreDone}
-use Rattle.world_legality.proofs.PlaceLemmas.{placed, was_opened}
+use Rattle.world_promises.specs.Conditions.{AreDone}
+use Rattle.world_promises.proofs.PlaceLemmas.{placed, was_opened}
 use Rattle.driven_agents.proofs.FoundLemmas.{found_kept, found_last, found_stays}
 use Rattle.world_promises.proofs.RunLemmas.{itself, same_name}
 

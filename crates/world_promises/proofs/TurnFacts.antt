@@ -14,8 +14,8 @@ use Rattle.world_history.specs.Driving.{clunks, drive, questions_to, replies_to,
 use Rattle.world_history.specs.Talking.{Asks, request_questions, requested}
 use Rattle.world_history.specs.Turns.{Turn, after, asks, closes, hears, misses, turn_questions}
 use Rattle.world_history.specs.Worlds.{call_behind, last_call}
-use Rattle.world_legality.specs.Begun.{BegunWith}
-use Rattle.world_legality.specs.Agents.{EventsLeave, TurnDoes, begun_in}
+use Rattle.world_promises.specs.Begun.{BegunWith}
+use Rattle.world_promises.specs.Agents.{EventsLeave, TurnDoes, begun_in}
 use Rattle.driven_agents.specs.Idle.{AreOf, IsIdle, KeepsAskers, Runs, SameSeats}
 use Rattle.driven_agents.proofs.ClosesLaws.{close_is}
 use Rattle.driven_agents.proofs.WritesLaws.{write_is}

@@ -6,7 +6,7 @@ use Rattle.agent_history.specs.declared.event.Event.TheVariants.{Answer, NoAnswe
 use Rattle.agent_history.specs.Conversations.{asker, conv_of}
 use Rattle.agent_history.specs.Histories.{History, deeds}
 use Rattle.world_history.specs.Driving.{drive, questions_to}
-use Rattle.world_legality.specs.Agents.{AnswerDoes, Stays}
+use Rattle.world_promises.specs.Agents.{AnswerDoes, Stays}
 use Rattle.driven_agents.specs.Idle.{AreOf, IsIdle, KeepsAskers, Runs, SameSeats}
 
 pub record Answered (number fid : ℕ) (event : Event) (call : Move) (h : History) : Type 0 where

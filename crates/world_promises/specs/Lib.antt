@@ -3,3 +3,10 @@ pub mod Answers
 pub mod Worlds
 pub mod Statements
 pub mod OpenSearches
+pub mod Roles
+pub mod Begun
+pub mod Telling
+pub mod Conditions
+pub mod Settings
+pub mod Agents
+pub mod LegalityStatements

@@ -5,8 +5,8 @@ use Rattle.agent_history.specs.Conversations.{conv_of}
 use Rattle.agent_history.specs.Histories.{History, deeds}
 use Rattle.world_history.specs.Talking.{Asks, request_questions, requested}
 use Rattle.world_history.specs.Turns.{asks}
-use Rattle.world_legality.specs.Begun.{BegunWith}
-use Rattle.world_legality.specs.Agents.{EventsLeave, RequestDoes, begun_in}
+use Rattle.world_promises.specs.Begun.{BegunWith}
+use Rattle.world_promises.specs.Agents.{EventsLeave, RequestDoes, begun_in}
 use Rattle.driven_agents.specs.Idle.{AreOf, IsIdle, KeepsAskers, Runs, SameSeats}
 
 pub record Requested (number fid : ℕ) (what : Asks) (h : History) : Type 0 where

@@ -2,7 +2,7 @@
 -- of words as terms and every labelling under which that front is clean. So it is promised of a run that was cut short, and of
 -- what was recorded before a step that isn't clean.
 use Rattle.std.specs.Prelude.{◌≡◌, ℕ, ◌≤◌, List, ◌++◌, length, reverse}
-use Rattle.terms.specs.Spellings.{Atoms}
+use Rattle.symbolic_runs.specs.Spellings.{Atoms}
 use Rattle.wire_histories.specs.Histories.{History}
 use Rattle.wire_histories.specs.Legal.{IsLegal, Setting}
 use Rattle.clean_runs.specs.Labels.{Labelling}
@@ -11,7 +11,7 @@ use Rattle.clean_runs.specs.Statements.{IsBridged, IsSecret}
 use Rattle.clean_runs.specs.AgreementStatements.{ClientsAreAnswered, ClientsAreHosts, ClientsMatch, EachByATicket, OneByAMatch, OneByAText, OneByATicket, OneUnderAGrant, ServersAgree, ServersNameTheUser}
 use Rattle.world_history.specs.Scripts.{play, world}
 use Rattle.world_promises.specs.Worlds.{most_script}
-use Rattle.world_legality.specs.Settings.{setting}
+use Rattle.world_promises.specs.Settings.{setting}
 
 -- these steps, the newest first, are the front of a script's record behind which these later ones come
 abbrev pub IsFront : History → History → List ℕ → Type 0

@@ -6,9 +6,9 @@ use Rattle.wire_histories.specs.Legal.{IsLegal}
 use Rattle.world_history.specs.Acts.{Act, Talk, is_node, talk_of}
 use Rattle.world_history.specs.Scripts.{play, world}
 use Rattle.world_history.specs.Worlds.{history, outstanding}
-use Rattle.world_legality.specs.Agents.{AgentsDo}
-use Rattle.world_legality.specs.Conditions.{AreDone}
-use Rattle.world_legality.specs.Settings.{Place, place_of, setting}
+use Rattle.world_promises.specs.Agents.{AgentsDo}
+use Rattle.world_promises.specs.Conditions.{AreDone}
+use Rattle.world_promises.specs.Settings.{Place, place_of, setting}
 use Rattle.driven_agents.specs.Idle.{IsIdle, Runs}
 
 -- no agent stopped, which each does with the event of number 2^50

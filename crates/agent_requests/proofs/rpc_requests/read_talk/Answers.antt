@@ -5,9 +5,9 @@ use Rattle.agent_history.specs.Requests.{carried}
 use Rattle.agent_talks.specs.Speaks.{stands}
 use Rattle.agent_talks.specs.Tells.{TellsBy}
 use Rattle.mailboxes.specs.Deliveries.{Delivers}
-use Rattle.agent_shared.specs.Sharing.{Shares}
-use Rattle.agent_shared.proofs.OwnDeeds.{carried_all}
-use Rattle.agent_shared.proofs.ShareLemmas.{stands_all, with_mail}
+use Rattle.agent_requests.specs.Sharing.{Shares}
+use Rattle.agent_requests.proofs.OwnDeeds.{carried_all}
+use Rattle.agent_requests.proofs.ShareLemmas.{stands_all, with_mail}
 use Rattle.agent_requests.specs.Connections.{asked}
 use Rattle.agent_requests.proofs.RpcSteps.{told_none, told_some}
 use Rattle.agent_requests.proofs.rpc_requests.read_talk.Goals as goal

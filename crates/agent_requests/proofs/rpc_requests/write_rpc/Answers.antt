@@ -1,7 +1,7 @@
 use Rattle.std.proofs.Common.{ℕ, Option, Ok, sym, subst, ◌∙◌}
-use Rattle.rpc_file.specs.Requests.{meant}
+use Rattle.talks.specs.Requests.{meant}
 use Rattle.agent_history.specs.Requests.{stored}
-use Rattle.agent_shared.specs.Sharing.{Shares}
+use Rattle.agent_requests.specs.Sharing.{Shares}
 use Rattle.agent_requests.specs.Connections.{asked}
 use Rattle.agent_requests.proofs.KeepLemmas.{open_at}
 use Rattle.agent_requests.proofs.RpcSteps.{write_through}

@@ -1,5 +1,5 @@
 use Rattle.std.proofs.Common.{refl, arith}
-use Rattle.terms.specs.declared.kind.MacKind.TheVariants.{Apop}
+use Rattle.symbolic_runs.specs.declared.kind.MacKind.TheVariants.{Apop}
 use Rattle.symbolic_runs.proofs.LoginLaws.{mail_is_run}
 use Rattle.symbolic_runs.proofs.laws.an_apop_login_is_a_run.Goals as goal
 

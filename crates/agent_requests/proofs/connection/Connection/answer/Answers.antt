@@ -1,5 +1,5 @@
 use Rattle.agent_requests.specs.Connections.{FrameServed, asked}
-use Rattle.agent_shared.proofs.ShareLemmas.{shares_still}
+use Rattle.agent_requests.proofs.ShareLemmas.{shares_still}
 use Rattle.agent_requests.proofs.KeepLemmas.{keeps_still}
 use Rattle.agent_requests.proofs.FrameSteps.{answered_frame}
 use Rattle.agent_requests.proofs.connection.Connection.answer.Goals as goal

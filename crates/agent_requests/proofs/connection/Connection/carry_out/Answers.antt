@@ -2,7 +2,7 @@ use Rattle.std.proofs.Common.{Err, refl, sym, subst, arith}
 use Rattle.nine.specs.declared.message.TBody.{TBody}
 use Rattle.agent_requests.specs.Connections.{Tried, asked}
 use Rattle.agent_requests.proofs.RequestSteps.{auth_told}
-use Rattle.agent_shared.proofs.ShareLemmas.{same_shared}
+use Rattle.agent_requests.proofs.ShareLemmas.{same_shared}
 use Rattle.agent_requests.proofs.connection.Connection.carry_out.Goals as goal
 
 pub returns-in-Auth : goal.returns-in-Auth

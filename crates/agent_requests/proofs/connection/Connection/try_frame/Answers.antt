@@ -2,7 +2,7 @@ use Rattle.std.proofs.Common.{refl, sym, ◌∙◌, arith}
 use Rattle.std.proofs.lemmas.Result.{err_from_is_err_and}
 use Rattle.agent_requests.specs.Connections.{asked}
 use Rattle.agent_requests.proofs.FrameSteps.{frame_over, frame_none, frame_unversioned, frame_repeats, frame_told, refused_told, unread_told, writes_few}
-use Rattle.agent_shared.proofs.ShareLemmas.{same_shared}
+use Rattle.agent_requests.proofs.ShareLemmas.{same_shared}
 use Rattle.agent_requests.proofs.connection.Connection.try_frame.Goals as goal
 
 pub returns-then-is_over : goal.returns-then-is_over

@@ -1,6 +1,6 @@
 use Rattle.std.proofs.Common.{map, ap}
 use Rattle.std.proofs.lemmas.Result.{on_ok_weaker}
-use Rattle.rpc_file.specs.Requests.{meant}
+use Rattle.talks.specs.Requests.{meant}
 use Rattle.agent_talks.specs.Kept.{question_of}
 use Rattle.agent_talks.proofs.SpeakLemmas.{stored_speak}
 use Rattle.agent_talks.proofs.held.Talks.store.Goals as goal

@@ -1,4 +1,4 @@
-use Rattle.rpc_file.specs.declared.answer.RpcAnswer.TheVariants.{NoRoom}
+use Rattle.talks.specs.declared.answer.RpcAnswer.TheVariants.{NoRoom}
 use Rattle.talks.specs.Calls as calls
 use Rattle.conversations.proofs.WaitLaws.{roomless_rests}
 use Rattle.agent_history.specs.Conversations.{talk}

@@ -1,5 +1,5 @@
 use Rattle.std.proofs.lemmas.Result.{on_ok_weaker}
-use Rattle.begun_talks.specs.Meanings.{request_of}
+use Rattle.conversations.specs.Meanings.{request_of}
 use Rattle.talks.specs.Standings.{carried_out}
 use Rattle.conversations.proofs.ReadyLemmas.{carried_ready}
 use Rattle.conversations.proofs.conversation.Conversation.answer_and_search.Goals as goal

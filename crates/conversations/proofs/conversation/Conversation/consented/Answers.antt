@@ -1,7 +1,7 @@
 use Rattle.std.proofs.Common.{◌≡◌, ◌∙◌, Some, refl, sym, ap, subst}
 use Rattle.talks.specs.Calls.{Consented}
 use Rattle.talks.specs.Standings.{OnConfirm, Phase, Standing, says_of, standing, told_of}
-use Rattle.begun_talks.specs.Shown.{serial_in}
+use Rattle.conversations.specs.Shown.{serial_in}
 use Rattle.conversations.proofs.ResumeLemmas.{agreed_so, answered_is, asks_consent, noted, on_confirm}
 use Rattle.conversations.specs.Asking.{IsReady}
 use Rattle.conversations.proofs.WaitLaws as laws

@@ -2,7 +2,7 @@ use Rattle.std.proofs.Common.{◌∙◌, refl, sym, ap, subst}
 use Rattle.std.proofs.lemmas.Result.{on_ok_weaker}
 use Rattle.talks.specs.Calls.{KeyTold}
 use Rattle.talks.specs.Standings.{OnNeedkey, Phase, Seeking, Standing, in_phase, standing}
-use Rattle.begun_talks.specs.Shown.{asks_for_key}
+use Rattle.conversations.specs.Shown.{asks_for_key}
 use Rattle.conversations.proofs.ResumeLemmas.{answered_is, asks_key, on_needkey, told_so}
 use Rattle.conversations.specs.Asking.{IsReady}
 use Rattle.conversations.proofs.WaitLaws as laws

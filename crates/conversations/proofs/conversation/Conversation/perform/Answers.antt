@@ -1,8 +1,8 @@
 use Rattle.std.proofs.Common.{rules, ◌≡◌, subst, sym}
 use Rattle.std.proofs.lemmas.Result.{on_err_weaker, on_ok_weaker}
 use Rattle.talks.specs.Standings.{Standing, standing}
-use Rattle.begun_talks.specs.declared.phase.Phase.TheVariants as held
-use Rattle.begun_talks.specs.Meanings.{request_of}
+use Rattle.conversations.specs.declared.phase.Phase.TheVariants as held
+use Rattle.conversations.specs.Meanings.{request_of}
 use Rattle.conversations.proofs.PerformLemmas.{performed, performed_is}
 use Rattle.conversations.specs.Asking.{IsReady}
 use Rattle.conversations.proofs.WaitingLemmas.{carries_so, waits_so}

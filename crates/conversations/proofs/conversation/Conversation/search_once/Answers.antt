@@ -1,7 +1,7 @@
 use Rattle.std.proofs.Common.{rules, ◌≡◌, ◌∙◌, sym, subst, true}
 use Rattle.std.proofs.lemmas.Result.{on_ok_weaker}
 use Rattle.talks.specs.Standings.{Standing, need_in}
-use Rattle.begun_talks.specs.declared.begun.Wanted.TheVariants as w
+use Rattle.conversations.specs.declared.begun.Wanted.TheVariants as w
 use Rattle.conversations.proofs.SearchLemmas.{key_some, offers_some, pick_some, searched_is, searched_so, seeks_so, wants_key, wants_offers, wants_pick}
 use Rattle.conversations.specs.Asking.{IsReady}
 use Rattle.conversations.proofs.ReadyLemmas.{offers_ready, pick_ready}

@@ -2,8 +2,8 @@ use Rattle.std.proofs.Common.{sym, subst}
 use Rattle.std.specs.Prelude.{Option}
 use Rattle.roles.specs.declared.answer.StartFault.{StartFault}
 use Rattle.talks.specs.Standings.{begin, started}
-use Rattle.begun_talks.specs.declared.opening.Opening.{Opening}
-use Rattle.begun_talks.specs.Begins.{Opens}
+use Rattle.conversations.specs.declared.opening.Opening.{Opening}
+use Rattle.conversations.specs.Begins.{Opens}
 use Rattle.conversations.specs.Fits.{Fits}
 use Rattle.conversations.proofs.conversation.Conversation.start_with.Goals as goal
 

@@ -1,6 +1,6 @@
 use Rattle.std.proofs.Common.{◌∙◌, refl, sym}
 use Rattle.roles.specs.Talks.{unheard}
-use Rattle.rpc_file.specs.declared.answer.RpcAnswer.TheVariants as a
+use Rattle.talks.specs.declared.answer.RpcAnswer.TheVariants as a
 use Rattle.talks.specs.Calls.{Unheard}
 use Rattle.conversations.proofs.ServerLemmas.{asks_so, done_with}
 use Rattle.conversations.proofs.WaitLaws.{unheard_rests}

@@ -1,9 +1,0 @@
-use Rattle.talks.specs.Calls.{Roomless}
-use Rattle.agent_history.specs.Conversations.{asker}
-use Rattle.agent_shared.proofs.MeetSteps.{heard_shares}
-use Rattle.agent_shared.proofs.shared.Shared.lack_room.Goals as goal
-
-pub returns-clause-shares : goal.returns-clause-shares
-returns-clause-shares c =
-    let a = c.args in
-    λ done h. heard_shares done c.asker-asker.result (asker done a.call) Roomless a.self.now c.roomless.new.self c.follow_and_sweep.new.self (c.asker-asker.ensures.told done h.talks.tells.talks.speak) h (c.roomless.ensures.met done h.talks) c.follow_and_sweep.ensures.shares

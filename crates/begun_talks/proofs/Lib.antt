@@ -1,4 +1,0 @@
-pub mod RoleLaws
-pub mod NameLemmas
-pub mod TemplateLemmas
-pub mod MoveLemmas

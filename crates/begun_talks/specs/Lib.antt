@@ -1,3 +1,0 @@
-pub mod Meanings
-pub mod Begins
-pub mod Shown

@@ -1,5 +1,0 @@
-pub mod FirstLemmas
-pub mod WrongLemmas
-pub mod CountLaws
-pub mod OtherLaws
-pub mod MinuteLaws

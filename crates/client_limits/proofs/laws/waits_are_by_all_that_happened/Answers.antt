@@ -1,5 +1,0 @@
-use Rattle.client_limits.proofs.MinuteLaws.{waits_by_all}
-use Rattle.client_limits.proofs.laws.waits_are_by_all_that_happened.Goals as goal
-
-pub returns : goal.returns
-returns c = waits_by_all

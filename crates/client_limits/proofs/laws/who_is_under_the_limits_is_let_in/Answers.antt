@@ -1,5 +1,0 @@
-use Rattle.client_limits.proofs.CountLaws.{let_in_with_address, let_in_without}
-use Rattle.client_limits.proofs.laws.who_is_under_the_limits_is_let_in.Goals as goal
-
-pub returns : goal.returns
-returns c = record { address = let_in_with_address; no_address = let_in_without }

@@ -1,5 +1,0 @@
-pub mod Addresses
-pub mod Inside
-pub mod Wrongs
-pub mod Histories
-pub mod Minutes

@@ -1,9 +1,0 @@
-pub mod DerivationLaws
-pub mod EqualityLaws
-pub mod ReadingLaws
-pub mod StepLaws
-pub mod TreeLemmas
-pub mod ConcludeLemmas
-pub mod ReadingLemmas
-pub mod Weights
-pub mod WriteLemmas

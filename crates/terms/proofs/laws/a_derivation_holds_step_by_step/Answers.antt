@@ -1,5 +1,0 @@
-use Rattle.terms.proofs.StepLaws.{holds_each, each_holds}
-use Rattle.terms.proofs.laws.a_derivation_holds_step_by_step.Goals as goal
-
-pub returns : goal.returns
-returns c known ends steps = (holds_each known ends steps, each_holds known ends steps)

@@ -1,6 +1,0 @@
-use Rattle.std.proofs.Common.{◌≡◌, map, take}
-use Rattle.terms.specs.Views.{tree}
-use Rattle.terms.proofs.term.+copy.Given as goal
-
-abbrev pub invariant-Terms::copy-loop-term : goal.invariant-Terms::copy-loop-term
-invariant-Terms::copy-loop-term l = map tree l.copies.items ≡ map tree (take l.term-index l.term-items)

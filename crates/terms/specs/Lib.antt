@@ -1,5 +1,0 @@
-pub mod Trees
-pub mod Views
-pub mod Spellings
-pub mod Derivations
-pub mod Answers

@@ -1,5 +1,0 @@
-use Rattle.world_legality.proofs.Legality.{keys_of_rings}
-use Rattle.world_legality.proofs.laws.keys_are_of_rings.Goals as goal
-
-pub returns : goal.returns
-returns c = keys_of_rings

@@ -1,5 +1,0 @@
-use Rattle.world_legality.proofs.AllRoles.{all_roles}
-use Rattle.world_legality.proofs.role_laws.each_role_is_a_role.Goals as goal
-
-pub returns : goal.returns
-returns c = all_roles
