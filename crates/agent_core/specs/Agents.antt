@@ -1,5 +1,5 @@
--- When an agent stands for a history: what it keeps of each connection, and what the connections share, are what is told
--- of the deeds of the history; after a stop it keeps nothing.
+-- When an agent stands for a history: what it keeps of each connection, and what the connections share, are what is
+-- told of the deeds of the history; after a stop it keeps nothing.
 use Rattle.std.specs.Prelude.{◌≡◌, ℕ, ◌≤◌, ◌+◌, List, [], length, Bool, true, false, ◌⊎◌}
 use Rattle.agent_history.specs.declared.event.Event.{Event}
 use Rattle.agent_history.specs.declared.event.StepAnswer.{StepAnswer}
@@ -85,8 +85,8 @@ abbrev pub left_in : State → ℕ
 left_in Stopped = 0
 left_in (Runs r) = left_to_ask r.shared
 
--- what is handed out is less to hand out, or nothing is where it was the last event; what is answered to a question adds one
--- connection at most that is given up
+-- what is handed out is less to hand out, or nothing is where it was the last event; what is answered to a question
+-- adds one connection at most that is given up
 abbrev pub AsksFewerIn : Event → StepAnswer → State → State → Type 0
 AsksFewerIn event a (Runs old) (Runs new) = AsksFewer event a old.shared new.shared
 AsksFewerIn event a (Runs old) Stopped = HadAsk event a old.shared
@@ -115,9 +115,10 @@ abbrev pub EndsIn : Event → State → Type 0
 EndsIn event Stopped = ⊥
 EndsIn event (Runs r) = Ends event r
 
--- a stop and the last event that is carried out leave an agent that stopped, which keeps nothing; else a hang gives up what
--- is kept of its connection
+-- a stop and the last event that is carried out leave an agent that stopped, which keeps nothing; else a hang gives
+-- up what is kept of its connection
 abbrev pub GivesUpIn : Event → State → State → Type 0
 GivesUpIn event Stopped new = new ≡ Stopped
 GivesUpIn event (Runs old) Stopped = Ends event old
-GivesUpIn event (Runs old) (Runs new) = GoesOn event old × GivesUp event (connection_at old) (connection_at new) new.shared
+GivesUpIn event (Runs old) (Runs new) =
+    GoesOn event old × GivesUp event (connection_at old) (connection_at new) new.shared

@@ -28,8 +28,8 @@ use Rattle.agent_requests.specs.Logging.{calls_in, talks_in}
 
 -- ---- connections
 
--- what is known of a number: nothing, what is kept of a connection that wasn't hung up, or that it was, of which no more is
--- kept (`forgotten`, what holds of all Connections)
+-- what is known of a number: nothing, what is kept of a connection that wasn't hung up, or that it was, of which no
+-- more is kept (`forgotten`, what holds of all Connections)
 pub data Known : Type 0 where
   Unknown : Known
   Live : (connection : Connection) → Known
@@ -125,7 +125,8 @@ pub record AnswersAfter (done : List Deed) (event : Event) (a : StepAnswer) (old
 
 -- while nothing stopped, it is answered so
 abbrev pub AnswersFor : Event → (ℕ → Known) → Shared → StepAnswer → List ℕ → List ℕ → Type 0
-AnswersFor event at s a old new = (done : List Deed) → is_halted done ≡ false → Lives done at s → AnswersAfter done event a old new
+AnswersFor event at s a old new =
+    (done : List Deed) → is_halted done ≡ false → Lives done at s → AnswersAfter done event a old new
 
 abbrev pub Answers : History → Event → StepAnswer → List ℕ → List ℕ → Type 0
 Answers history event a old new = AnswersAfter (deeds history) event a old new
@@ -144,8 +145,8 @@ questions s = questions_in (talks_in s.talks)
 abbrev pub unasked : Shared → ℕ
 unasked s = kept.unasked (talks_in s.talks)
 
--- how much is left to hand out. A question counts for two: what is answered to it may bring its conversation to its end,
--- which then gives up the connection that it keeps
+-- how much is left to hand out. A question counts for two: what is answered to it may bring its conversation to its
+-- end, which then gives up the connection that it keeps
 abbrev pub left_to_ask : Shared → ℕ
 left_to_ask s = unasked s * 2 + length (calls_in s.talks).drops
 
@@ -165,8 +166,8 @@ PutFor Nothing None old new = new ≡ old
 abbrev pub IsPut : List Deed → ℕ → Option Shape → List ℕ → List ℕ → Type 0
 IsPut done conv shape old new = PutFor (question_of (standing_of done conv)) shape old new
 
--- Events that take no memory: a take that finds no reply on a connection that is known, an answer to a question that isn't
--- out, a take of what is due where no question is, a hang, the want of an answer, and a stop.
+-- Events that take no memory: a take that finds no reply on a connection that is known, an answer to a question that
+-- isn't out, a take of what is due where no question is, a hang, the want of an answer, and a stop.
 abbrev pub TakesNoneOf : Event → (ℕ → Known) → Shared → Type 0
 TakesNoneOf (Request conn frame word) at s = ⊥
 TakesNoneOf (Take conn) at s = FindsNone (at conn) (replies_at s.mailboxes conn)
@@ -203,7 +204,8 @@ abbrev pub LeavesOneLess : Event → Shared → Shared → Type 0
 LeavesOneLess (Take conn) old new = length (replies_at new.mailboxes conn) + 1 ≡ length (replies_at old.mailboxes conn)
 LeavesOneLess event old new = ⊥
 
--- what is handed out is less to hand out, and what is answered to a question adds one connection at most that is given up
+-- what is handed out is less to hand out, and what is answered to a question adds one connection at most that is
+-- given up
 abbrev pub AsksFewer : Event → StepAnswer → Shared → Shared → Type 0
 AsksFewer TakeAsk (Ask call conv shape) old new = left_to_ask new + 2 ≡ left_to_ask old
 AsksFewer TakeAsk (DropCall conv) old new = left_to_ask new + 1 ≡ left_to_ask old

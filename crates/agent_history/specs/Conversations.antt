@@ -1,5 +1,6 @@
--- The conversations of an agent, their questions for the authentication server and what they ask their users, read off a
--- list of deeds. After factotum(4) of the Plan 9 manual: each opening of rpc is a conversation, which ends with its fid.
+-- The conversations of an agent, their questions for the authentication server and what they ask their users, read
+-- off a list of deeds. After factotum(4) of the Plan 9 manual: each opening of rpc is a conversation, which ends with
+-- its fid.
 use Rattle.std.specs.Prelude.{ℕ, ◌+◌, List, [], ◌∷◌, ◌++◌, length, drop, map, filter, find, Bool, true, false, not, ◌&&◌, ◌==◌, nat_le, nat_lt, Option, Some, None, is_some, option_map, if◌then◌else◌}
 use Rattle.std.specs.List.{list_any}
 use Rattle.wire_base.specs.declared.shape.Shape.{Shape}
@@ -32,7 +33,9 @@ use Rattle.agent_history.specs.SideFiles.{all_served, askers, file_of}
 -- how many were ever opened: they are numbered from 0
 abbrev pub opened_talks : List Deed → ℕ
 opened_talks [] = 0
-opened_talks (OfFids at (Opened f mode) ∷ before) = if names Rpc (fid_of before at f) then opened_talks before + 1 else opened_talks before
+opened_talks (OfFids at (Opened f mode) ∷ before) =
+    if names Rpc (fid_of before at f) then opened_talks before + 1
+    else opened_talks before
 opened_talks (deed ∷ before) = opened_talks before
 
 -- a conversation that stands, and the fid of a connection that has it open
@@ -44,7 +47,10 @@ pub record Speaker : Type 0 where
 -- the conversations that stand, the oldest first
 abbrev pub speakers : List Deed → List Speaker
 speakers [] = []
-speakers (OfFids at (Opened f mode) ∷ before) = if names Rpc (fid_of before at f) then speakers before ++ record { conv = opened_talks before; conn = at; fid = f } ∷ [] else speakers before
+speakers (OfFids at (Opened f mode) ∷ before) =
+    if names Rpc (fid_of before at f)
+    then speakers before ++ record { conv = opened_talks before; conn = at; fid = f } ∷ []
+    else speakers before
 speakers (OfFids at (Versioned msize) ∷ before) = filter (λ s. not (s.conn == at)) (speakers before)
 speakers (OfFids at (Clunked f) ∷ before) = filter (λ s. not (s.conn == at && s.fid == f)) (speakers before)
 speakers (OfConnection at Hung ∷ before) = filter (λ s. not (s.conn == at)) (speakers before)
@@ -105,7 +111,9 @@ pub record Question : Type 0 where
 -- the oldest that wasn't handed out is
 abbrev pub hand_first : List Question → List Question
 hand_first [] = []
-hand_first (q ∷ more) = if q.handed then q ∷ hand_first more else record { call = q.call; conv = q.conv; handed = true } ∷ more
+hand_first (q ∷ more) =
+    if q.handed then q ∷ hand_first more
+    else record { call = q.call; conv = q.conv; handed = true } ∷ more
 
 -- those of the conversations that stand
 abbrev pub of_speakers : List Speaker → List Question → List Question
@@ -115,7 +123,8 @@ of_speakers standing questions = filter (λ q. list_any (λ s. s.conv == q.conv)
 -- conversation ends
 abbrev pub questions : List Deed → List Question
 questions [] = []
-questions (Raised conv ∷ before) = questions before ++ record { call = raised before + 1; conv = conv; handed = false } ∷ []
+questions (Raised conv ∷ before) =
+    questions before ++ record { call = raised before + 1; conv = conv; handed = false } ∷ []
 questions (HandedOut ∷ before) = hand_first (questions before)
 questions (OfTalk conv (calls.Heard bytes) ∷ before) = filter (λ q. not (q.conv == conv)) (questions before)
 questions (OfTalk conv calls.Unheard ∷ before) = filter (λ q. not (q.conv == conv)) (questions before)
@@ -155,8 +164,8 @@ asks_challenge (Offers template) = false
 asks_challenge (Pick templates) = false
 asks_challenge Nothing = false
 
--- behind a question that is handed out: its own conversation keeps the connection over which it asks for a challenge, and
--- uses up the one that it kept by any other question
+-- behind a question that is handed out: its own conversation keeps the connection over which it asks for a challenge,
+-- and uses up the one that it kept by any other question
 abbrev pub kept_by : List Deed → Option Question → ℕ → Bool → Bool
 kept_by done None conv kept = kept
 kept_by done (Some q) conv kept = if q.conv == conv then asks_challenge (question_of (standing_of done conv)) else kept
@@ -165,7 +174,9 @@ kept_by done (Some q) conv kept = if q.conv == conv then asks_challenge (questio
 abbrev pub keeps : List Deed → ℕ → Bool
 keeps [] conv = false
 keeps (HandedOut ∷ before) conv = kept_by before (next_question before) conv (keeps before conv)
-keeps (OfTalk at call ∷ before) conv = if at == conv then keeps before conv && not (is_end (outcome_of (standing_of (OfTalk at call ∷ before) conv))) else keeps before conv
+keeps (OfTalk at call ∷ before) conv =
+    if at == conv then keeps before conv && not (is_end (outcome_of (standing_of (OfTalk at call ∷ before) conv)))
+    else keeps before conv
 keeps (OfFids at deed ∷ before) conv = keeps before conv && stands (OfFids at deed ∷ before) conv
 keeps (OfConnection at deed ∷ before) conv = keeps before conv && stands (OfConnection at deed ∷ before) conv
 keeps (Halted ∷ before) conv = false
@@ -190,7 +201,9 @@ given_up deed before standing = map (λ s. drop_of before s.conv) (filter (λ s.
 -- the connections that are to be given up, the oldest first; after a stop none is
 abbrev pub drops : List Deed → List Drop
 drops [] = []
-drops (OfTalk conv call ∷ before) = if gives_up (OfTalk conv call) before conv then drops before ++ drop_of before conv ∷ [] else drops before
+drops (OfTalk conv call ∷ before) =
+    if gives_up (OfTalk conv call) before conv then drops before ++ drop_of before conv ∷ []
+    else drops before
 drops (OfFids at deed ∷ before) = drops before ++ given_up (OfFids at deed) before (speakers before)
 drops (OfConnection at deed ∷ before) = drops before ++ given_up (OfConnection at deed) before (speakers before)
 drops (DropTaken ∷ before) = drop 1 (drops before)
@@ -226,11 +239,12 @@ raising conv phase done = done
 abbrev pub then_raised : ℕ → List Deed → List Deed
 then_raised conv done = raising conv (standing_of done conv).phase done
 
--- the user is asked where a search comes to that: whether a key may be used, which is shown without its secrets, or for a
--- key, by the template that was searched for
+-- the user is asked where a search comes to that: whether a key may be used, which is shown without its secrets, or
+-- for a key, by the template that was searched for
 abbrev pub prompting : ℕ → calls.Found → List Deed → List Deed
 prompting conv (calls.AsksConsent key) done = OfPrompts k.Confirm (side.Asked conv (public_text key.tuple)) ∷ done
-prompting conv calls.AsksKey done = OfPrompts k.Needkey (side.Asked conv (shown_text (template_of (standing_of done conv).begun))) ∷ done
+prompting conv calls.AsksKey done =
+    OfPrompts k.Needkey (side.Asked conv (shown_text (template_of (standing_of done conv).begun))) ∷ done
 prompting conv came done = done
 
 -- a conversation came to this by a search
@@ -245,8 +259,8 @@ seeking conv phase done = done
 abbrev pub sought_once : ℕ → List Deed → List Deed
 sought_once conv done = seeking conv (standing_of done conv).phase done
 
--- a start may need one thing after the other: offers, a key where there are none, and the offers again. Any other request
--- needs one thing
+-- a start may need one thing after the other: offers, a key where there are none, and the offers again. Any other
+-- request needs one thing
 abbrev pub seeking_all : Bool → ℕ → List Deed → List Deed
 seeking_all true conv done = sought_once conv (sought_once conv (sought_once conv done))
 seeking_all false conv done = sought_once conv done
@@ -263,10 +277,11 @@ logged (line ∷ more) done = logged more (OfLog (side.Pushed line) ∷ done)
 abbrev pub then_logged : ℕ → Standing → List Deed → List Deed
 then_logged conv before done = logged (log_lines (is_debug done) conv before (standing_of done conv)) done
 
--- a conversation met something, and what it needs then is got for it or asked for; the reads of the three files that wait
--- are given the lines that came
+-- a conversation met something, and what it needs then is got for it or asked for; the reads of the three files that
+-- wait are given the lines that came
 abbrev pub met : ℕ → Call → List Deed → List Deed
-met conv call done = all_served (then_logged conv (standing_of done conv) (then_raised conv (then_sought conv (OfTalk conv call ∷ done))))
+met conv call done = all_served (then_logged conv (standing_of done conv)
+    (then_raised conv (then_sought conv (OfTalk conv call ∷ done))))
 
 -- ---- answers
 
@@ -289,7 +304,8 @@ reader_of done s = reader done s.conn s.fid
 -- an answer goes to the read that waits for it, if one does
 abbrev pub give_to : ℕ → ℕ → RpcAnswer → Option Wait → List Deed → List Deed
 give_to conv conn answer None done = done
-give_to conv conn answer (Some wait) done = OfReplies conn (Settled wait.tag (told wait.count answer)) ∷ then_took conv wait.count answer done
+give_to conv conn answer (Some wait) done =
+    OfReplies conn (Settled wait.tag (told wait.count answer)) ∷ then_took conv wait.count answer done
 
 abbrev pub deliver_to : ℕ → Phase → Option Speaker → List Deed → List Deed
 deliver_to conv (Kept answer) (Some s) done = give_to conv s.conn answer (reader_of done s) done
@@ -308,7 +324,8 @@ resumed (Some conv) call done = delivered conv (met conv call done)
 -- the questions of a conversation to its user are withdrawn
 abbrev pub all_withdrawn : List ℕ → List Deed → List Deed
 all_withdrawn [] done = done
-all_withdrawn (conv ∷ more) done = all_withdrawn more (OfPrompts k.Needkey (side.Withdrawn conv) ∷ OfPrompts k.Confirm (side.Withdrawn conv) ∷ done)
+all_withdrawn (conv ∷ more) done =
+    all_withdrawn more (OfPrompts k.Needkey (side.Withdrawn conv) ∷ OfPrompts k.Confirm (side.Withdrawn conv) ∷ done)
 
 -- the conversations that end by a deed
 abbrev pub ended_by : Deed → List Deed → List ℕ

@@ -1,8 +1,7 @@
--- What an agent did, as a list of deeds, the newest first: what stands behind a deed is all that was done before it. What
--- is asked of it is one recursion a question; a deed that a question doesn't name leaves its answer as it was. Each deed
--- has a meaning at each place of a list: where it finds nothing it does nothing.
--- After section 5 of the Plan 9 manual (version, attach, walk, open, read, clunk, flush) and factotum(4) (ctl, confirm,
--- needkey, log).
+-- What an agent did, as a list of deeds, the newest first: what stands behind a deed is all that was done before it.
+-- What is asked of it is one recursion a question; a deed that a question doesn't name leaves its answer as it was.
+-- Each deed has a meaning at each place of a list: where it finds nothing it does nothing. After section 5 of the
+-- Plan 9 manual (version, attach, walk, open, read, clunk, flush) and factotum(4) (ctl, confirm, needkey, log).
 use Rattle.std.specs.Prelude.{ℕ, ◌+◌, ◌-◌, List, [], ◌∷◌, Bool, true, false, not, ◌&&◌, ◌||◌, ◌==◌, Option, Some, None, if◌then◌else◌}
 use Rattle.nine.specs.declared.message.RBody.{RBody}
 use Rattle.file_tree.specs.declared.tree.Node.{Node}
@@ -124,8 +123,12 @@ abbrev pub fid_of : List Deed → ℕ → ℕ → Option FidState
 fid_of [] conn fid = None
 fid_of (OfFids at (Versioned msize) ∷ before) conn fid = if at == conn then None else fid_of before conn fid
 fid_of (OfFids at (Attached f) ∷ before) conn fid = if at == conn && f == fid then attached else fid_of before conn fid
-fid_of (OfFids at (Walked f node) ∷ before) conn fid = if at == conn && f == fid then Some (at_rest node) else fid_of before conn fid
-fid_of (OfFids at (Opened f mode) ∷ before) conn fid = if at == conn && f == fid then opened mode (fid_of before conn fid) else fid_of before conn fid
+fid_of (OfFids at (Walked f node) ∷ before) conn fid =
+    if at == conn && f == fid then Some (at_rest node)
+    else fid_of before conn fid
+fid_of (OfFids at (Opened f mode) ∷ before) conn fid =
+    if at == conn && f == fid then opened mode (fid_of before conn fid)
+    else fid_of before conn fid
 fid_of (OfFids at (Clunked f) ∷ before) conn fid = if at == conn && f == fid then None else fid_of before conn fid
 fid_of (OfConnection at Hung ∷ before) conn fid = if at == conn then None else fid_of before conn fid
 fid_of (Halted ∷ before) conn fid = None
@@ -145,9 +148,15 @@ one_less (Some state) held = held - 1
 abbrev pub held_by : List Deed → ℕ → ℕ
 held_by [] conn = 0
 held_by (OfFids at (Versioned msize) ∷ before) conn = if at == conn then 0 else held_by before conn
-held_by (OfFids at (Attached f) ∷ before) conn = if at == conn then one_more (fid_of before conn f) (held_by before conn) else held_by before conn
-held_by (OfFids at (Walked f node) ∷ before) conn = if at == conn then one_more (fid_of before conn f) (held_by before conn) else held_by before conn
-held_by (OfFids at (Clunked f) ∷ before) conn = if at == conn then one_less (fid_of before conn f) (held_by before conn) else held_by before conn
+held_by (OfFids at (Attached f) ∷ before) conn =
+    if at == conn then one_more (fid_of before conn f) (held_by before conn)
+    else held_by before conn
+held_by (OfFids at (Walked f node) ∷ before) conn =
+    if at == conn then one_more (fid_of before conn f) (held_by before conn)
+    else held_by before conn
+held_by (OfFids at (Clunked f) ∷ before) conn =
+    if at == conn then one_less (fid_of before conn f) (held_by before conn)
+    else held_by before conn
 held_by (OfConnection at Hung ∷ before) conn = if at == conn then 0 else held_by before conn
 held_by (Halted ∷ before) conn = 0
 held_by (deed ∷ before) conn = held_by before conn
@@ -159,7 +168,9 @@ next_of (OfFids at (Versioned msize) ∷ before) conn fid = if at == conn then 0
 next_of (OfFids at (Attached f) ∷ before) conn fid = if at == conn && f == fid then 0 else next_of before conn fid
 next_of (OfFids at (Walked f node) ∷ before) conn fid = if at == conn && f == fid then 0 else next_of before conn fid
 next_of (OfFids at (Opened f mode) ∷ before) conn fid = if at == conn && f == fid then 0 else next_of before conn fid
-next_of (OfFids at (Browsed f next) ∷ before) conn fid = if at == conn && f == fid then next else next_of before conn fid
+next_of (OfFids at (Browsed f next) ∷ before) conn fid =
+    if at == conn && f == fid then next
+    else next_of before conn fid
 next_of (OfFids at (Clunked f) ∷ before) conn fid = if at == conn && f == fid then 0 else next_of before conn fid
 next_of (OfConnection at Hung ∷ before) conn fid = if at == conn then 0 else next_of before conn fid
 next_of (Halted ∷ before) conn fid = 0
@@ -180,9 +191,12 @@ without leaves (Some holder) = if leaves holder then None else Some holder
 -- the connection and the fid that have a file open, of those that opened it last
 abbrev pub holder_of : List Deed → Node → Option (ℕ × ℕ)
 holder_of [] node = None
-holder_of (OfFids at (Opened f mode) ∷ before) node = if names node (fid_of before at f) then Some (at, f) else holder_of before node
+holder_of (OfFids at (Opened f mode) ∷ before) node =
+    if names node (fid_of before at f) then Some (at, f)
+    else holder_of before node
 holder_of (OfFids at (Versioned msize) ∷ before) node = without (λ holder. holder.0 == at) (holder_of before node)
-holder_of (OfFids at (Clunked f) ∷ before) node = without (λ holder. holder.0 == at && holder.1 == f) (holder_of before node)
+holder_of (OfFids at (Clunked f) ∷ before) node =
+    without (λ holder. holder.0 == at && holder.1 == f) (holder_of before node)
 holder_of (OfConnection at Hung ∷ before) node = without (λ holder. holder.0 == at) (holder_of before node)
 holder_of (Halted ∷ before) node = None
 holder_of (deed ∷ before) node = holder_of before node
@@ -211,7 +225,9 @@ text_of [] conn fid = []
 text_of (OfFids at (Versioned msize) ∷ before) conn fid = if at == conn then [] else text_of before conn fid
 text_of (OfFids at (Attached f) ∷ before) conn fid = if at == conn && f == fid then [] else text_of before conn fid
 text_of (OfFids at (Walked f node) ∷ before) conn fid = if at == conn && f == fid then [] else text_of before conn fid
-text_of (OfFids at (Listed f) ∷ before) conn fid = if at == conn && f == fid then list_text (keys_of before) else text_of before conn fid
+text_of (OfFids at (Listed f) ∷ before) conn fid =
+    if at == conn && f == fid then list_text (keys_of before)
+    else text_of before conn fid
 text_of (OfFids at (Clunked f) ∷ before) conn fid = if at == conn && f == fid then [] else text_of before conn fid
 text_of (OfConnection at Hung ∷ before) conn fid = if at == conn then [] else text_of before conn fid
 text_of (Halted ∷ before) conn fid = []

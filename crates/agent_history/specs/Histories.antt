@@ -52,9 +52,13 @@ handing (QuestionDue question) done = HandedOut ∷ done
 
 -- the deeds after an event
 abbrev pub does : List Deed → Event → List Deed
-does done (Request at frame word) = if was_hung done at then done else swept (answered (entered at done) (call_of at frame word) frame)
+does done (Request at frame word) =
+    if was_hung done at then done
+    else swept (answered (entered at done) (call_of at frame word) frame)
 does done (Take at) = if was_hung done at then done else taking at (untaken done at) (entered at done)
-does done (Hang at) = if was_opened done at && not (was_hung done at) then swept (given_up_by (OfConnection at Hung) done) else done
+does done (Hang at) =
+    if was_opened done at && not (was_hung done at) then swept (given_up_by (OfConnection at Hung) done)
+    else done
 does done (AnswerCame call bytes) = swept (resumed (asker done call) (Heard bytes) done)
 does done (NoAnswer call) = swept (resumed (asker done call) Unheard done)
 does done (NoRoom call) = swept (resumed (asker done call) Roomless done)

@@ -31,7 +31,9 @@ settled_by body wait = record { tag = wait.tag; fid = wait.fid; count = wait.cou
 -- the first read of a tag is settled: no two that wait on a connection have the same
 abbrev pub settle_tag : ℕ → RBody → List Wait → List Wait
 settle_tag tag body [] = []
-settle_tag tag body (wait ∷ more) = if wait.tag == tag then settled_by body wait ∷ more else wait ∷ settle_tag tag body more
+settle_tag tag body (wait ∷ more) =
+    if wait.tag == tag then settled_by body wait ∷ more
+    else wait ∷ settle_tag tag body more
 
 -- a read is settled where it is one of a fid
 abbrev pub settle_fid : ℕ → RBody → Wait → Wait
@@ -48,11 +50,19 @@ too_small = Error (codes "read too small")
 -- the reads of a connection that wait, in the order in which they came
 abbrev pub waits : List Deed → ℕ → List Wait
 waits [] conn = []
-waits (OfReplies at (Awaited tag fid count) ∷ before) conn = if at == conn then waits before conn ++ record { tag = tag; fid = fid; count = count; reply = None } ∷ [] else waits before conn
-waits (OfReplies at (Settled tag body) ∷ before) conn = if at == conn then settle_tag tag body (waits before conn) else waits before conn
-waits (OfReplies at (Flushed tag) ∷ before) conn = if at == conn then filter (λ wait. not (wait.tag == tag)) (waits before conn) else waits before conn
+waits (OfReplies at (Awaited tag fid count) ∷ before) conn =
+    if at == conn then waits before conn ++ record { tag = tag; fid = fid; count = count; reply = None } ∷ []
+    else waits before conn
+waits (OfReplies at (Settled tag body) ∷ before) conn =
+    if at == conn then settle_tag tag body (waits before conn)
+    else waits before conn
+waits (OfReplies at (Flushed tag) ∷ before) conn =
+    if at == conn then filter (λ wait. not (wait.tag == tag)) (waits before conn)
+    else waits before conn
 waits (OfFids at (Versioned msize) ∷ before) conn = if at == conn then [] else waits before conn
-waits (OfFids at (Clunked fid) ∷ before) conn = if at == conn then map (settle_fid fid fid_given_up) (waits before conn) else waits before conn
+waits (OfFids at (Clunked fid) ∷ before) conn =
+    if at == conn then map (settle_fid fid fid_given_up) (waits before conn)
+    else waits before conn
 waits (OfConnection at Hung ∷ before) conn = if at == conn then [] else waits before conn
 waits (Swept ∷ before) conn = filter is_unsettled (waits before conn)
 waits (Halted ∷ before) conn = []
@@ -91,14 +101,18 @@ reply_in wait = option_map (λ body. record { tag = wait.tag; body = body }) wai
 -- the replies that a connection was given, the newest first
 abbrev pub replies : List Deed → ℕ → List RMsg
 replies [] conn = []
-replies (OfReplies at (Answered tag body) ∷ before) conn = if at == conn then record { tag = tag; body = body } ∷ replies before conn else replies before conn
+replies (OfReplies at (Answered tag body) ∷ before) conn =
+    if at == conn then record { tag = tag; body = body } ∷ replies before conn
+    else replies before conn
 replies (Swept ∷ before) conn = reverse (filter_map reply_in (waits before conn)) ++ replies before conn
 replies (deed ∷ before) conn = replies before conn
 
 -- how many of them were taken
 abbrev pub taken : List Deed → ℕ → ℕ
 taken [] conn = 0
-taken (OfReplies at Taken ∷ before) conn = if at == conn && nat_lt (taken before conn) (length (replies before conn)) then taken before conn + 1 else taken before conn
+taken (OfReplies at Taken ∷ before) conn =
+    if at == conn && nat_lt (taken before conn) (length (replies before conn)) then taken before conn + 1
+    else taken before conn
 taken (deed ∷ before) conn = taken before conn
 
 -- the replies that are left to take, the oldest first

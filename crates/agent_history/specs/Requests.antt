@@ -1,6 +1,6 @@
 -- How a request is answered: the tests that refuse it, in their order, each with its text; what it does where none of
--- them holds; and what is replied. After section 5 of the Plan 9 manual and factotum(4); that these are the tests, their
--- order and their texts are this project's.
+-- them holds; and what is replied. After section 5 of the Plan 9 manual and factotum(4); that these are the tests,
+-- their order and their texts are this project's.
 use Rattle.std.specs.Prelude.{ℕ, ◌-◌, min, List, [], ◌∷◌, length, take, drop, map, Bool, true, false, not, ◌&&◌, ◌||◌, ◌==◌, nat_lt, Option, Some, None, is_some, Result, Ok, Err, option_map, codes, if◌then◌else◌}
 use Rattle.std.specs.Option.{option_or}
 use Rattle.std.specs.Int.{w16}
@@ -160,17 +160,21 @@ unfoldable pub refusal : List Deed → Call → TBody → Option (List ℕ)
 refusal done call (t.Version msize version) = first_told ((nat_lt msize least_msize, codes "msize too small") ∷ [])
 refusal done call (t.Auth afid uname aname) = Some (codes "authentication not required")
 refusal done call (t.Attach fid afid uname aname) =
-    option_or (first_told ((not (afid == nofid), codes "bad afid") ∷ [])) (option_map fault_text (attach_fault (fid_of done call.conn fid) (held_by done call.conn)))
+    option_or (first_told ((not (afid == nofid), codes "bad afid") ∷ []))
+    (option_map fault_text (attach_fault (fid_of done call.conn fid) (held_by done call.conn)))
 refusal done call (t.Flush oldtag) = None
 refusal done call (t.Walk fid newfid wname) =
-    option_map fault_text (walk_fault (fid_of done call.conn fid) (fid_of done call.conn newfid) (fid == newfid) (held_by done call.conn) wname)
+    option_map fault_text
+    (walk_fault (fid_of done call.conn fid) (fid_of done call.conn newfid) (fid == newfid)
+    (held_by done call.conn) wname)
 refusal done call (t.Open fid mode) =
     let node = node_of (fid_of done call.conn fid) in
     fid_first (open_fault (fid_of done call.conn fid) mode) (
     (is_exclusive node && is_some (holder_of done node), codes "exclusive use file already open")
     ∷ (is_rpc node && not (nat_lt (length (speakers done)) most_talks), codes "too many conversations")
     ∷ [])
-refusal done call (t.Create fid name perm mode) = fid_first (fid_fault (fid_of done call.conn fid)) ((true, codes "permission denied") ∷ [])
+refusal done call (t.Create fid name perm mode) =
+    fid_first (fid_fault (fid_of done call.conn fid)) ((true, codes "permission denied") ∷ [])
 refusal done call (t.Read fid offset count) =
     let node = node_of (fid_of done call.conn fid) in
     fid_first (fid_fault (fid_of done call.conn fid)) (
@@ -179,8 +183,16 @@ refusal done call (t.Read fid offset count) =
     ∷ (is_elsewhere node (next_of done call.conn fid) offset, codes "bad directory offset")
     ∷ (is_rpc node && waits_for done call.conn fid, codes "rpc busy")
     ∷ (is_rpc node && is_resting (phase_of done call.conn fid), codes "no rpc pending")
-    ∷ (is_rpc node && (not (has_answer (phase_of done call.conn fid)) && waits_enough done call.conn), codes "too many waiting")
-    ∷ (is_line_file node && (finds_none (line_found done call count node) && waits_enough done call.conn), codes "too many waiting")
+    ∷ (
+      is_rpc node && (not (has_answer (phase_of done call.conn fid))
+          && waits_enough done call.conn),
+      codes "too many waiting",
+    )
+    ∷ (
+      is_line_file node &&
+          (finds_none (line_found done call count node) && waits_enough done call.conn),
+      codes "too many waiting",
+    )
     ∷ (finds_too_long (line_found done call count node), codes "read too small")
     ∷ [])
 refusal done call (t.Write fid offset content) =
@@ -190,13 +202,23 @@ refusal done call (t.Write fid offset content) =
     ∷ (is_rpc (node_of (fid_of done call.conn fid)) && not (is_resting (phase_of done call.conn fid)), codes "rpc busy")
     ∷ (is_rpc (node_of (fid_of done call.conn fid)) && is_too_long (rpc.request_of content), codes "rpc too long")
     ∷ (is_rpc (node_of (fid_of done call.conn fid)) && is_unknown (rpc.request_of content), codes "unknown rpc verb")
-    ∷ (is_some (kind_at (node_of (fid_of done call.conn fid))) && not (is_some (prompt.reply_of content)), codes "bad reply")
-    ∷ (is_some (kind_at (node_of (fid_of done call.conn fid))) && not (is_some (replier done (kind_at (node_of (fid_of done call.conn fid))) (prompt.reply_of content))), codes "unknown tag")
+    ∷ (
+      is_some (kind_at (node_of (fid_of done call.conn fid)))
+          && not (is_some (prompt.reply_of content)),
+      codes "bad reply",
+    )
+    ∷ (
+      is_some (kind_at (node_of (fid_of done call.conn fid)))
+          && not (is_some (replier done (kind_at (node_of (fid_of done call.conn fid)))
+          (prompt.reply_of content))),
+      codes "unknown tag",
+    )
     ∷ [])
 refusal done call (t.Clunk fid) = fid_first (fid_fault (fid_of done call.conn fid)) []
 refusal done call (t.Remove fid) = fid_first (fid_fault (fid_of done call.conn fid)) []
 refusal done call (t.Stat fid) = fid_first (fid_fault (fid_of done call.conn fid)) []
-refusal done call (t.Wstat fid stat) = fid_first (fid_fault (fid_of done call.conn fid)) ((true, codes "permission denied") ∷ [])
+refusal done call (t.Wstat fid stat) =
+    fid_first (fid_fault (fid_of done call.conn fid)) ((true, codes "permission denied") ∷ [])
 
 -- ---- what a request does where nothing refuses it
 
@@ -231,7 +253,8 @@ reading_answer call conv fid count phase done = OfReplies call.conn (Awaited cal
 
 abbrev pub reading_talk : Call → ℕ → ℕ → Option ℕ → List Deed → List Deed
 reading_talk call fid count None done = done
-reading_talk call fid count (Some conv) done = reading_answer call conv fid count (standing_of (carried conv call.word done) conv).phase (carried conv call.word done)
+reading_talk call fid count (Some conv) done = reading_answer call conv fid count
+    (standing_of (carried conv call.word done) conv).phase (carried conv call.word done)
 
 -- the first line, if one is there, is read, and else the read waits for it
 abbrev pub reading_line : Call → ℕ → ℕ → Node → Found → List Deed → List Deed
@@ -268,7 +291,8 @@ said_by k.Needkey agrees = calls.KeyTold
 
 -- a reply is written to a file of questions: its question is forgotten, and who asked it goes on
 abbrev pub replying : Option PromptKind → Option Reply → List Deed → List Deed
-replying (Some kind) (Some reply) done = resumed (asker_of reply.tag (prompts_of done kind)) (said_by kind reply.agrees) (OfPrompts kind (side.Replied reply.tag) ∷ done)
+replying (Some kind) (Some reply) done = resumed (asker_of reply.tag (prompts_of done kind)) (said_by kind reply.agrees)
+    (OfPrompts kind (side.Replied reply.tag) ∷ done)
 replying kind reply done = done
 
 -- a write of a file
@@ -283,9 +307,11 @@ unfoldable pub after : List Deed → Call → TBody → List Deed
 after done call (t.Version msize version) = given_up_by (OfFids call.conn (Versioned (agreed msize version))) done
 after done call (t.Attach fid afid uname aname) = OfFids call.conn (Attached fid) ∷ done
 after done call (t.Flush oldtag) = OfReplies call.conn (Flushed oldtag) ∷ done
-after done call (t.Walk fid newfid wname) = walking call.conn newfid (lead_to (node_of (fid_of done call.conn fid)) wname) done
+after done call (t.Walk fid newfid wname) =
+    walking call.conn newfid (lead_to (node_of (fid_of done call.conn fid)) wname) done
 after done call (t.Open fid mode) = OfFids call.conn (Opened fid mode) ∷ done
-after done call (t.Read fid offset count) = reading_file done call fid offset (effective count (msize_of done call.conn)) (node_of (fid_of done call.conn fid))
+after done call (t.Read fid offset count) =
+    reading_file done call fid offset (effective count (msize_of done call.conn)) (node_of (fid_of done call.conn fid))
 after done call (t.Write fid offset content) = writing done call fid content (node_of (fid_of done call.conn fid))
 after done call (t.Clunk fid) = given_up_by (OfFids call.conn (Clunked fid)) done
 after done call (t.Remove fid) = given_up_by (OfFids call.conn (Clunked fid)) done
@@ -346,14 +372,17 @@ write_reply done content node =
 
 -- none where it waits for its reply
 unfoldable pub reply_of : List Deed → Call → TBody → Option RBody
-reply_of done call (t.Version msize version) = Some (r.Version (min msize most_msize) (if is_known version then codes "9P2000" else codes "unknown"))
+reply_of done call (t.Version msize version) =
+    Some (r.Version (min msize most_msize) (if is_known version then codes "9P2000" else codes "unknown"))
 reply_of done call (t.Auth afid uname aname) = Some (r.Error (codes "authentication not required"))
 reply_of done call (t.Attach fid afid uname aname) = Some (r.Attach (qid_of Root))
 reply_of done call (t.Flush oldtag) = Some r.Flush
-reply_of done call (t.Walk fid newfid wname) = Some (r.Walk (map qid_of (visited (node_of (fid_of done call.conn fid)) wname)))
+reply_of done call (t.Walk fid newfid wname) =
+    Some (r.Walk (map qid_of (visited (node_of (fid_of done call.conn fid)) wname)))
 reply_of done call (t.Open fid mode) = Some (r.Open (qid_of (node_of (fid_of done call.conn fid))) 0)
 reply_of done call (t.Create fid name perm mode) = Some (r.Error (codes "permission denied"))
-reply_of done call (t.Read fid offset count) = read_reply done call fid offset (effective count (msize_of done call.conn)) (node_of (fid_of done call.conn fid))
+reply_of done call (t.Read fid offset count) =
+    read_reply done call fid offset (effective count (msize_of done call.conn)) (node_of (fid_of done call.conn fid))
 reply_of done call (t.Write fid offset content) = Some (write_reply done content (node_of (fid_of done call.conn fid)))
 reply_of done call (t.Clunk fid) = Some r.Clunk
 reply_of done call (t.Remove fid) = Some (r.Error (codes "permission denied"))
@@ -381,8 +410,8 @@ lacks_version done call body = not (comes_first body) && not (has_version done c
 abbrev pub repeats_tag : List Deed → Call → TBody → Bool
 repeats_tag done call body = not (comes_first body) && waits_under done call.conn call.tag
 
--- the request, where no test refuses it, or the text of the first one that does: a version has to be agreed, its tag has
--- to be free, and then come the tests of its type
+-- the request, where no test refuses it, or the text of the first one that does: a version has to be agreed, its tag
+-- has to be free, and then come the tests of its type
 abbrev pub granted_body : List Deed → Call → TBody → Result TBody (List ℕ)
 granted_body done call body =
     if lacks_version done call body then Err (codes "no version")

@@ -1,6 +1,6 @@
--- The three files of lines: the questions of confirm and needkey, which a person replies to, and the log. What was done with
--- each is read off a list of deeds, and so are its lines. A read of such a file is given its first line, and waits where there
--- is none. After factotum(4) of the Plan 9 manual.
+-- The three files of lines: the questions of confirm and needkey, which a person replies to, and the log. What was
+-- done with each is read off a list of deeds, and so are its lines. A read of such a file is given its first line,
+-- and waits where there is none. After factotum(4) of the Plan 9 manual.
 use Rattle.std.specs.Prelude.{ℕ, zero, suc, List, [], ◌∷◌, length, map, Bool, true, false, Option, Some, None, if◌then◌else◌}
 use Rattle.nine.specs.declared.message.RBody.TheVariants as r
 use Rattle.file_tree.specs.declared.tree.Node.{Node}
@@ -35,7 +35,9 @@ kind_at node = None
 -- what was done with the questions of a kind, the newest first; after a stop there are none
 abbrev pub prompt_calls : List Deed → PromptKind → List side.Call
 prompt_calls [] kind = []
-prompt_calls (OfPrompts of call ∷ before) kind = if is_of of kind then call ∷ prompt_calls before kind else prompt_calls before kind
+prompt_calls (OfPrompts of call ∷ before) kind =
+    if is_of of kind then call ∷ prompt_calls before kind
+    else prompt_calls before kind
 prompt_calls (Halted ∷ before) kind = []
 prompt_calls (deed ∷ before) kind = prompt_calls before kind
 

@@ -17,9 +17,10 @@ answers_in [] = []
 answers_in (Exchange conv request shape outcome ∷ calls) = answer_in outcome ++ answers_in calls
 answers_in (Close conv ∷ calls) = answers_in calls
 
--- These calls were made of a dialer, the first of them first, and the answers heard are the next of those to come. It says
--- nothing where nothing is told now, since a dialer may stop telling; what is told now was told before.
+-- These calls were made of a dialer, the first of them first, and the answers heard are the next of those to come. It
+-- says nothing where nothing is told now, since a dialer may stop telling; what is told now was told before.
 abbrev pub MakesAll : Option Dialed → Option Dialed → List Made → Type 0
 MakesAll before None calls = ⊤
 MakesAll None (Some now) calls = ⊥
-MakesAll (Some before) (Some now) calls = (now.made ≡ before.made ++ calls) × (before.to_come ≡ answers_in calls ++ now.to_come)
+MakesAll (Some before) (Some now) calls =
+    (now.made ≡ before.made ++ calls) × (before.to_come ≡ answers_in calls ++ now.to_come)

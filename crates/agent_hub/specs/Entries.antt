@@ -19,7 +19,9 @@ entry before event = record { before = before; event = event }
 -- the entries of a front that were made with one of these numbers, the newest first
 abbrev pub entered_by : List ℕ → Front Event → List Entered
 entered_by numbers [] = []
-entered_by numbers (e ∷ before) = if among numbers e.seat then entry (events before) e.event ∷ entered_by numbers before else entered_by numbers before
+entered_by numbers (e ∷ before) =
+    if among numbers e.seat then entry (events before) e.event ∷ entered_by numbers before
+    else entered_by numbers before
 
 -- what is entered in one turn behind a history, the newest first
 abbrev pub in_turn : History → List Event → List Entered

@@ -1,5 +1,5 @@
--- What a batch of frames of one connection enters in one turn, and what it puts out; the same of a turn of takes alone; and
--- what many such turns come to, one behind the other.
+-- What a batch of frames of one connection enters in one turn, and what it puts out; the same of a turn of takes
+-- alone; and what many such turns come to, one behind the other.
 use Rattle.std.specs.Prelude.{◌≡◌, ◌≤◌, ℕ, List, [], ◌∷◌, ◌++◌, length, map, filter, take, drop, Bool, true, false, not, ◌==◌}
 use Rattle.nine.specs.Framing.{IsWithin}
 use Rattle.turn_lock.specs.Fronts.{Front, events, made, own}
@@ -26,9 +26,9 @@ is_take conn event = false
 abbrev pub without_takes : ℕ → List Event → List Event
 without_takes conn events = filter (λ (event : Event). not (is_take conn event)) events
 
--- The seat's own new entries were made in one turn: what others did meanwhile stands before all of them. What they were
--- answered, the oldest first, was put out behind what was there; a request is answered by no bytes, so this is what the takes
--- among them gave
+-- The seat's own new entries were made in one turn: what others did meanwhile stands before all of them. What they
+-- were answered, the oldest first, was put out behind what was there; a request is answered by no bytes, so this is
+-- what the takes among them gave
 pub record Puts (mine : List Entered) (old new : List ℕ) (before after : HubSeat) : Type 0 where
   pub others : Front Event
   pub goes_on : front after ≡ made (numbers before) (events_in mine) ++ (others ++ front before)
@@ -48,9 +48,10 @@ EntersAll NoneLeft entered count = entered ≡ count
 EntersAll Stopped entered count = entered ≡ count
 EntersAll Left entered count = entered ≤ count
 
--- A batch of frames, and words for them: the first frames were entered as requests, in order, each with its word, with takes on
--- the connection between and behind them; as many as there are words, unless memory or frames are short
-pub record IsExchanged (conn : ℕ) (frames words : List (List ℕ)) (came : Exchanged) (old new : List ℕ) (before after : HubSeat) : Type 0 where
+-- A batch of frames, and words for them: the first frames were entered as requests, in order, each with its word,
+-- with takes on the connection between and behind them; as many as there are words, unless memory or frames are short
+pub record IsExchanged (conn : ℕ) (frames words : List (List ℕ)) (came : Exchanged) (old new : List ℕ)
+    (before after : HubSeat) : Type 0 where
   pub mine : List Entered
   pub puts : Puts mine old new before after
   pub drawn : List Drawn
@@ -68,7 +69,8 @@ pub record IsCollected (conn : ℕ) (end : TakesEnd) (old new : List ℕ) (befor
   pub asks : without_takes conn (events_in mine) ≡ []
   pub ends : TakesEndSo end conn (events (front after))
 
--- The seat's own new entries since it was `first` are, without takes, these requests, and this text is what they were answered
+-- The seat's own new entries since it was `first` are, without takes, these requests, and this text is what they were
+-- answered
 pub record Converses (conn : ℕ) (drawn : List Drawn) (text : List ℕ) (first after : HubSeat) : Type 0 where
   pub mine : List Entered
   pub added : Adds mine first after
@@ -76,14 +78,16 @@ pub record Converses (conn : ℕ) (drawn : List Drawn) (text : List ℕ) (first 
   pub gave : text_of mine ≡ text
 
 -- one turn more of such a conversation
-pub record GoesOn (conn : ℕ) (drawn : List Drawn) (text : List ℕ) (old new : List ℕ) (first after : HubSeat) : Type 0 where
+pub record GoesOn (conn : ℕ) (drawn : List Drawn) (text : List ℕ) (old new : List ℕ)
+    (first after : HubSeat) : Type 0 where
   pub given : List ℕ
   pub out : new ≡ old ++ given
   pub converses : Converses conn drawn (text ++ given) first after
 
 -- ---- of the code alone
 
--- a frame with the word that was drawn for it, and how many replies were taken behind it; lists of them have the newest first
+-- a frame with the word that was drawn for it, and how many replies were taken behind it; lists of them have the
+-- newest first
 pub record Handled : Type 0 where
   pub drawn : Drawn
   pub taken : ℕ
@@ -104,7 +108,8 @@ abbrev pub handled_behind : List Handled → List ℕ → List (List ℕ) → Li
 handled_behind before [] frames words = before
 handled_behind before (n ∷ taken) [] words = before
 handled_behind before (n ∷ taken) (frame ∷ frames) [] = before
-handled_behind before (n ∷ taken) (frame ∷ frames) (word ∷ words) = handled_behind (handled_for frame word n ∷ before) taken frames words
+handled_behind before (n ∷ taken) (frame ∷ frames) (word ∷ words) =
+    handled_behind (handled_for frame word n ∷ before) taken frames words
 
 -- what is entered for them
 abbrev pub events_for : ℕ → List Handled → List Event
@@ -116,7 +121,8 @@ abbrev pub batch_events : ℕ → List ℕ → List (List ℕ) → List (List �
 batch_events conn taken frames words = events_for conn (handled_behind [] taken frames words)
 
 -- some of the frames were served, and what their takes gave was put out
-pub record Handles (history : History) (conn : ℕ) (frames words : List (List ℕ)) (taken : List ℕ) (end : TakesEnd) (old new : List ℕ) : Type 0 where
+pub record Handles (history : History) (conn : ℕ) (frames words : List (List ℕ)) (taken : List ℕ) (end : TakesEnd)
+    (old new : List ℕ) : Type 0 where
   pub some : List Handled
   pub are : handled_behind [] taken frames words ≡ some
   pub counts : taken ≡ taken_of some
@@ -128,12 +134,14 @@ pub record Handles (history : History) (conn : ℕ) (frames words : List (List �
   pub all : EntersAll end (length taken) (length words)
   pub ends : TakesEndSo end conn (events_for conn some ++ history)
 
-pub record Serves (history : History) (conn : ℕ) (frames words : List (List ℕ)) (taken : List ℕ) (end : TakesEnd) (old new : List ℕ) (agent : Agent) : Type 0 where
+pub record Serves (history : History) (conn : ℕ) (frames words : List (List ℕ)) (taken : List ℕ) (end : TakesEnd)
+    (old new : List ℕ) (agent : Agent) : Type 0 where
   pub stands : StandsFor (batch_events conn taken frames words ++ history) agent
   pub handles : Handles history conn frames words taken end old new
 
 -- between two frames: `rest` is what is left of the bytes
-pub record Serving (history : History) (conn : ℕ) (frames words : List (List ℕ)) (rest : List ℕ) (index : ℕ) (taken : List ℕ) (end : TakesEnd) (old new : List ℕ) (agent : Agent) : Type 0 where
+pub record Serving (history : History) (conn : ℕ) (frames words : List (List ℕ)) (rest : List ℕ) (index : ℕ)
+    (taken : List ℕ) (end : TakesEnd) (old new : List ℕ) (agent : Agent) : Type 0 where
   pub some : List Handled
   pub counts : taken ≡ taken_of some
   pub frames_parts : frames ≡ frames_of (drawn_in some) ++ frames_in rest
@@ -143,7 +151,8 @@ pub record Serving (history : History) (conn : ℕ) (frames words : List (List �
   pub ends : TakesEndSo end conn (events_for conn some ++ history)
 
 -- one frame: it was entered, and so many replies were taken
-pub record ServesOne (history : History) (conn : ℕ) (frame word : List ℕ) (end : TakesEnd) (some more : List ℕ) (old new : List ℕ) (agent : Agent) : Type 0 where
+pub record ServesOne (history : History) (conn : ℕ) (frame word : List ℕ) (end : TakesEnd) (some more : List ℕ)
+    (old new : List ℕ) (agent : Agent) : Type 0 where
   pub taken : ℕ
   pub counts : more ≡ some ++ taken ∷ []
   pub stands : StandsFor (takes taken conn ++ Request conn frame word ∷ history) agent
@@ -155,7 +164,8 @@ pub record Collects (history : History) (conn taken : ℕ) (end : TakesEnd) (old
   pub out : new ≡ old ++ text_of (in_turn history (takes taken conn))
   pub ends : TakesEndSo end conn (takes taken conn ++ history)
 
-pub record TakesSome (history : History) (conn taken : ℕ) (end : TakesEnd) (old new : List ℕ) (agent : Agent) : Type 0 where
+pub record TakesSome (history : History) (conn taken : ℕ) (end : TakesEnd) (old new : List ℕ)
+    (agent : Agent) : Type 0 where
   pub stands : StandsFor (takes taken conn ++ history) agent
   pub collects : Collects history conn taken end old new
 

@@ -1,5 +1,5 @@
--- What is entered of the bytes that a connection's peer sends: a request for each whole frame, in order, each with the word
--- that was drawn for it.
+-- What is entered of the bytes that a connection's peer sends: a request for each whole frame, in order, each with
+-- the word that was drawn for it.
 use Rattle.std.specs.Prelude.{ℕ, List, [], ◌∷◌, ◌++◌, map}
 use Rattle.nine.specs.Streams.{frames}
 use Rattle.agent_history.specs.declared.event.Event.{Event}

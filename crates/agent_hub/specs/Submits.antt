@@ -1,5 +1,5 @@
--- What a submit says of a seat, of its event, and of what that is answered. A seat's front is what the seat has seen of the
--- one history of all callers; the answer is that of the agent after all that stands before the event.
+-- What a submit says of a seat, of its event, and of what that is answered. A seat's front is what the seat has seen
+-- of the one history of all callers; the answer is that of the agent after all that stands before the event.
 use Rattle.std.specs.Prelude.{◌≡◌, ℕ, List, ◌∷◌, ◌++◌, [], Bool, true, false, not, ◌&&◌, ◌||◌, Result, Ok, Err}
 use Rattle.wire_base.specs.declared.bytes.NoMemory.{NoMemory}
 use Rattle.turn_lock.specs.Fronts.{Front, events, made, own}
@@ -28,8 +28,8 @@ is_due NoneDue = false
 is_due (DropDue drop) = true
 is_due (QuestionDue question) = true
 
--- Whether memory may be short for an event after a history. It never is for a hang, for the want of an answer, for a stop,
--- for a take that finds nothing on a connection that was opened, and for a take of what is due where nothing is
+-- Whether memory may be short for an event after a history. It never is for a hang, for the want of an answer, for a
+-- stop, for a take that finds nothing on a connection that was opened, and for a take of what is due where nothing is
 abbrev pub takes_memory : History → Event → Bool
 takes_memory history (Request conn frame word) = true
 takes_memory history (Answer call bytes) = true
@@ -47,12 +47,14 @@ abbrev pub entered : Event → Result StepAnswer NoMemory → List Event
 entered event (Ok a) = event ∷ []
 entered event (Err e) = []
 
--- The seat has seen what others did meanwhile, and at the end its own event, if memory sufficed, which is answered after all
--- of that. Of its own entries no other is new
-pub record IsSubmitted (event : Event) (reply : Result StepAnswer NoMemory) (old new : List ℕ) (before after : HubSeat) : Type 0 where
+-- The seat has seen what others did meanwhile, and at the end its own event, if memory sufficed, which is answered
+-- after all of that. Of its own entries no other is new
+pub record IsSubmitted (event : Event) (reply : Result StepAnswer NoMemory) (old new : List ℕ)
+    (before after : HubSeat) : Type 0 where
   pub others : Front Event
   pub goes_on : front after ≡ made (numbers before) (entered event reply) ++ (others ++ front before)
   pub of_others : own (numbers before) others ≡ []
-  pub own_entries : own (numbers before) (front after) ≡ made (numbers before) (entered event reply) ++ own (numbers before) (front before)
+  pub own_entries : own (numbers before) (front after) ≡ made (numbers before) (entered event reply)
+      ++ own (numbers before) (front before)
   pub same_numbers : numbers after ≡ numbers before
   pub answered : IsAnswered (events (others ++ front before)) event reply old new

@@ -121,7 +121,8 @@ has_open done node conn fid = names node (fid_of done conn fid) && is_open (fid_
 
 -- the text is the list of keys as it stood at one moment of the history, between two events of it or at an end
 abbrev pub StoodOnce : History → List ℕ → Type 0
-StoodOnce history text = (later earlier : History) × (history ≡ later ++ earlier) × (text ≡ list_text (keys_of (deeds earlier)))
+StoodOnce history text =
+    (later earlier : History) × (history ≡ later ++ earlier) × (text ≡ list_text (keys_of (deeds earlier)))
 
 -- whether a deed sets the text that a fid of a connection reads of ctl
 abbrev pub sets_text : Deed → ℕ → ℕ → Bool
@@ -133,16 +134,18 @@ sets_text deed conn fid = concerns deed conn fid
 abbrev pub none_sets_text : List Deed → ℕ → ℕ → Bool
 none_sets_text done conn fid = list_all (λ deed. not (sets_text deed conn fid)) done
 
--- of the lines of a write, with some keys before it: those in front are carried out, and the one behind them is the first
--- that is refused, by the text
-pub record IsFirstRefused (keys : KeyList) (lines front : List (List ℕ)) (line : List ℕ) (later : List (List ℕ)) (text : List ℕ) : Type 0 where
+-- of the lines of a write, with some keys before it: those in front are carried out, and the one behind them is the
+-- first that is refused, by the text
+pub record IsFirstRefused (keys : KeyList) (lines front : List (List ℕ)) (line : List ℕ) (later : List (List ℕ))
+    (text : List ℕ) : Type 0 where
   pub split : lines ≡ front ++ line ∷ later
   pub carried_out : lines_fault keys front ≡ None
   pub refused : line_over (after_lines keys front) line ≡ Err text
 
 -- some line is the first that is refused, by the text
 abbrev pub HasFirstRefused : KeyList → List (List ℕ) → List ℕ → Type 0
-HasFirstRefused keys lines text = (front : List (List ℕ)) × (line : List ℕ) × (later : List (List ℕ)) × IsFirstRefused keys lines front line later text
+HasFirstRefused keys lines text = (front : List (List ℕ)) × (line : List ℕ) × (later : List (List ℕ))
+    × IsFirstRefused keys lines front line later text
 
 -- a request that reads the file of conversations
 abbrev pub reads_rpc : List Deed → Call → TBody → Bool
@@ -151,7 +154,8 @@ reads_rpc done call body = false
 
 -- a request that reads the file of conversations or a file of lines
 abbrev pub may_wait : List Deed → Call → TBody → Bool
-may_wait done call (t.Read fid offset count) = is_rpc (node_of (fid_of done call.conn fid)) || is_line_file (node_of (fid_of done call.conn fid))
+may_wait done call (t.Read fid offset count) =
+    is_rpc (node_of (fid_of done call.conn fid)) || is_line_file (node_of (fid_of done call.conn fid))
 may_wait done call body = false
 
 -- a request that may change something although its reply is an error: a remove gives the fid up, a write's lines before
@@ -214,28 +218,33 @@ each_once (n ∷ more) = not (list_any (nat_eq n) more) && each_once more
 
 -- each question of a kind to a user is of a conversation that stands and waits for the reply, and no two are of one
 abbrev pub all_prompted : List Deed → PromptKind → Bool
-all_prompted done kind = list_all (λ conv. stands done conv && waits_on kind (standing_of done conv).phase) (askers done kind) && each_once (askers done kind)
+all_prompted done kind = list_all (λ conv. stands done conv && waits_on kind (standing_of done conv).phase)
+    (askers done kind) && each_once (askers done kind)
 
 -- numbers that rise, all of them below a number
 abbrev pub rise_below : ℕ → List ℕ → Bool
 rise_below top [] = true
 rise_below top (n ∷ more) = nat_lt n top && list_all (nat_lt n) more && rise_below top more
 
--- a question to a user is asked behind the search that came to it: in confirm by the public text of the key that was found, in
--- needkey by the template that was searched for, without its secrets
+-- a question to a user is asked behind the search that came to it: in confirm by the public text of the key that was
+-- found, in needkey by the template that was searched for, without its secrets
 abbrev pub FollowsSearch : PromptKind → ℕ → List ℕ → List Deed → Type 0
-FollowsSearch k.Confirm conv text before = (key : KeyEntry) × (earlier : List Deed) × (before ≡ OfTalk conv (calls.Sought (calls.AsksConsent key)) ∷ earlier) × (text ≡ public_text key.tuple)
-FollowsSearch k.Needkey conv text before = (earlier : List Deed) × (before ≡ OfTalk conv (calls.Sought calls.AsksKey) ∷ earlier) × (text ≡ shown_text (template_of (standing_of before conv).begun))
+FollowsSearch k.Confirm conv text before = (key : KeyEntry) × (earlier : List Deed)
+    × (before ≡ OfTalk conv (calls.Sought (calls.AsksConsent key)) ∷ earlier) × (text ≡ public_text key.tuple)
+FollowsSearch k.Needkey conv text before = (earlier : List Deed)
+    × (before ≡ OfTalk conv (calls.Sought calls.AsksKey) ∷ earlier)
+    × (text ≡ shown_text (template_of (standing_of before conv).begun))
 
 abbrev pub AllFollow : List Deed → Type 0
 AllFollow [] = Unit {0}
 AllFollow (OfPrompts kind (side.Asked conv text) ∷ before) = FollowsSearch kind conv text before × AllFollow before
 AllFollow (deed ∷ before) = AllFollow before
 
--- a line of the log tells of a conversation as it stands then: that it has started, where the further lines are wanted, or how
--- it ended
+-- a line of the log tells of a conversation as it stands then: that it has started, where the further lines are
+-- wanted, or how it ended
 abbrev pub TellsOf : List ℕ → Standing → Bool → ℕ → Type 0
-TellsOf line now debug conv = ((debug ≡ true) × (line ≡ start_line conv (start_template now.begun))) ⊎ (end_line conv (start_template now.begun) (outcome_of now) ≡ line ∷ [])
+TellsOf line now debug conv = ((debug ≡ true) × (line ≡ start_line conv (start_template now.begun)))
+    ⊎ (end_line conv (start_template now.begun) (outcome_of now) ≡ line ∷ [])
 
 abbrev pub IsLogged : List ℕ → List Deed → Type 0
 IsLogged line done = (conv : ℕ) × TellsOf line (standing_of done conv) (is_debug done) conv
@@ -248,30 +257,36 @@ AllLogged (deed ∷ before) = AllLogged before
 -- each search found what is found among the keys of the moment at which it was made
 abbrev pub AllSearched : List Deed → Type 0
 AllSearched [] = Unit {0}
-AllSearched (OfTalk conv (calls.Sought found) ∷ before) = (found ≡ finds (standing_of before conv) (asking before) (keys_of before)) × AllSearched before
+AllSearched (OfTalk conv (calls.Sought found) ∷ before) =
+    (found ≡ finds (standing_of before conv) (asking before) (keys_of before)) × AllSearched before
 AllSearched (deed ∷ before) = AllSearched before
 
 -- ---- replies
 
 -- the reply to a frame that comes on a connection with a word; none where it waits for it
 unfoldable pub reply_to : List Deed → ℕ → List ℕ → List ℕ → Option RMsg
-reply_to done conn frame word = option_map (λ body. record { tag = tag_of frame; body = body }) (body_to done (call_of conn frame word) frame)
+reply_to done conn frame word =
+    option_map (λ body. record { tag = tag_of frame; body = body }) (body_to done (call_of conn frame word) frame)
 
 -- whether a take of a connection is answered by a reply
 abbrev pub gives : History → ℕ → Bool
 gives history conn = is_reply (answer history (Take conn)).0
 
--- the replies that the takes of a connection gave, the oldest first: each that was answered by a reply gave the first of
--- those that were left then
+-- the replies that the takes of a connection gave, the oldest first: each that was answered by a reply gave the first
+-- of those that were left then
 abbrev pub given : History → ℕ → List RMsg
 given [] conn = []
-given (Take at ∷ before) conn = if at == conn && gives before conn then given before conn ++ take 1 (untaken (deeds before) conn) else given before conn
+given (Take at ∷ before) conn =
+    if at == conn && gives before conn then given before conn ++ take 1 (untaken (deeds before) conn)
+    else given before conn
 given (event ∷ before) conn = given before conn
 
 -- the bytes that these takes put out, a frame each
 abbrev pub put_out : History → ℕ → List (List ℕ)
 put_out [] conn = []
-put_out (Take at ∷ before) conn = if at == conn && gives before conn then put_out before conn ++ (answer before (Take conn)).1 ∷ [] else put_out before conn
+put_out (Take at ∷ before) conn =
+    if at == conn && gives before conn then put_out before conn ++ (answer before (Take conn)).1 ∷ []
+    else put_out before conn
 put_out (event ∷ before) conn = put_out before conn
 
 -- how long a reply may be: as the largest message agreed, and where none is agreed as the smallest that could be
@@ -288,8 +303,9 @@ most_read (Some msize) = msize - 24
 abbrev pub may_wait_on : Option FidState → Bool
 may_wait_on state = is_open state && (is_rpc (node_of state) || is_line_file (node_of state))
 
--- the reads of a connection that wait are so: each waits for its reply and for no more bytes than may be read, and its fid
--- has such a file open; no two have the same tag; of a fid that has rpc open one waits at most; and they are at most so many
+-- the reads of a connection that wait are so: each waits for its reply and for no more bytes than may be read, and
+-- its fid has such a file open; no two have the same tag; of a fid that has rpc open one waits at most; and they are
+-- at most so many
 pub record AreWaiting (done : List Deed) (conn : ℕ) (reads : List Wait) : Type 0 where
   pub unsettled : list_all is_unsettled reads ≡ true
   pub fitting : All (λ wait. wait.count ≤ most_read (msize_of done conn)) reads
@@ -304,24 +320,30 @@ as_it_came wait = record { tag = wait.tag; fid = wait.fid; count = wait.count; r
 
 -- a read waits behind those that waited before, some of which may be settled now
 abbrev pub IsBehind : List Wait → List Wait → Wait → Type 0
-IsBehind before after wait = (others : List Wait) × (map as_it_came others ≡ map as_it_came before) × (after ≡ others ++ wait ∷ [])
+IsBehind before after wait =
+    (others : List Wait) × (map as_it_came others ≡ map as_it_came before) × (after ≡ others ++ wait ∷ [])
 
 -- a read was told the first line of the file that its fid has open: the deed before is that this line was read
 abbrev pub IsLineTold : List Deed → ℕ → Wait → RBody → Type 0
-IsLineTold before conn wait body = (node : Node) × (earlier : List Deed) × (line : List ℕ) × (before ≡ line_read node earlier)
-    × (holder_of earlier node ≡ Some (conn, wait.fid)) × (found wait.count (lines_in earlier node) ≡ First line) × (body ≡ r.Read line)
+IsLineTold before conn wait body =
+    (node : Node) × (earlier : List Deed) × (line : List ℕ) × (before ≡ line_read node earlier)
+    × (holder_of earlier node ≡ Some (conn, wait.fid)) × (found wait.count (lines_in earlier node) ≡ First line)
+    × (body ≡ r.Read line)
 
 -- it was told that it doesn't hold this line
 abbrev pub IsOverTold : List Deed → ℕ → Wait → RBody → Type 0
-IsOverTold before conn wait body = (node : Node) × (holder_of before node ≡ Some (conn, wait.fid)) × (found wait.count (lines_in before node) ≡ TooLong) × (body ≡ too_small)
+IsOverTold before conn wait body = (node : Node) × (holder_of before node ≡ Some (conn, wait.fid))
+    × (found wait.count (lines_in before node) ≡ TooLong) × (body ≡ too_small)
 
 -- what a read is told: an answer, or that it doesn't hold it; or what it finds in a file of lines
 abbrev pub IsToldOf : List Deed → ℕ → Wait → RBody → Type 0
-IsToldOf before conn wait body = ((answer : RpcAnswer) × (body ≡ told wait.count answer)) ⊎ (IsLineTold before conn wait body ⊎ IsOverTold before conn wait body)
+IsToldOf before conn wait body = ((answer : RpcAnswer) × (body ≡ told wait.count answer))
+    ⊎ (IsLineTold before conn wait body ⊎ IsOverTold before conn wait body)
 
 -- the reply is what the read under the tag is told: it waited until then, and is told no more bytes than it may hold
 abbrev pub IsTold : List Deed → ℕ → ℕ → RBody → Type 0
-IsTold before conn tag body = (wait : Wait) × (find (λ w. w.tag == tag) (waits before conn) ≡ Some wait) × (is_unsettled wait ≡ true) × IsToldOf before conn wait body
+IsTold before conn tag body = (wait : Wait) × (find (λ w. w.tag == tag) (waits before conn) ≡ Some wait)
+    × (is_unsettled wait ≡ true) × IsToldOf before conn wait body
 
 -- each read that was settled was told so
 abbrev pub AllTold : List Deed → Type 0
@@ -351,8 +373,8 @@ abbrev pub public_edit : KeyEdit → KeyEdit
 public_edit (Add key) = Add (map hidden key)
 public_edit (Delete template) = Delete (map hidden template)
 
--- what deeds are in public: the secrets of keys are hidden, and what reads were told that waited; what conversations met,
--- what they asked the authentication server, and the replies to requests aren't there
+-- what deeds are in public: the secrets of keys are hidden, and what reads were told that waited; what conversations
+-- met, what they asked the authentication server, and the replies to requests aren't there
 abbrev pub in_public : List Deed → List Deed
 in_public [] = []
 in_public (OfKeys conn (Edited edit) ∷ before) = OfKeys conn (Edited (public_edit edit)) ∷ in_public before
@@ -368,7 +390,8 @@ in_public (deed ∷ before) = deed ∷ in_public before
 -- the deeds, but for how many bytes reads of rpc may hold that wait
 abbrev pub unsized : List Deed → List Deed
 unsized [] = []
-unsized (OfReplies conn (Awaited tag fid count) ∷ before) = OfReplies conn (Awaited tag fid (if is_rpc (node_of (fid_of before conn fid)) then 0 else count)) ∷ unsized before
+unsized (OfReplies conn (Awaited tag fid count) ∷ before) =
+    OfReplies conn (Awaited tag fid (if is_rpc (node_of (fid_of before conn fid)) then 0 else count)) ∷ unsized before
 unsized (deed ∷ before) = deed ∷ unsized before
 
 -- a line doesn't delete by the value of a secret

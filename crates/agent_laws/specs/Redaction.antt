@@ -1,8 +1,9 @@
--- A history without its secrets, entry by entry. The words that were drawn are left out, how many bytes a read of rpc may hold,
--- and what requests carry that may hold secrets: of a line of ctl the verb and the public text are kept, of a request of rpc
--- the verb, and of a start the public text of its template. Of a read of rpc and of an answer of the authentication server is
--- kept what the request came to: by which templates keys are searched for, or how its answer begins, and whom it accepted or
--- why it broke. After factotum(4) of the Plan 9 manual (ctl, rpc, confirm, needkey, log).
+-- A history without its secrets, entry by entry. The words that were drawn are left out, how many bytes a read of rpc
+-- may hold, and what requests carry that may hold secrets: of a line of ctl the verb and the public text are kept, of
+-- a request of rpc the verb, and of a start the public text of its template. Of a read of rpc and of an answer of the
+-- authentication server is kept what the request came to: by which templates keys are searched for, or how its answer
+-- begins, and whom it accepted or why it broke. After factotum(4) of the Plan 9 manual (ctl, rpc, confirm, needkey,
+-- log).
 use Rattle.std.specs.Prelude.{ℕ, List, [], ◌∷◌, map, Option, Some, None, Result, Ok, Err, is_some, codes, if◌then◌else◌}
 use Rattle.nine.specs.declared.message.TMsg.{TMsg}
 use Rattle.nine.specs.declared.message.TBody.{TBody}
@@ -56,11 +57,13 @@ pub data Redacted : Type 0 where
 
 abbrev pub ctl_redaction : List Deed → Call → ℕ → ℕ → List ℕ → Result TBody (List ℕ) → Redacted
 ctl_redaction done call fid offset content (Err text) = CtlWritten call.conn call.tag fid offset [] (Some text)
-ctl_redaction done call fid offset content (Ok body) = CtlWritten call.conn call.tag fid offset (map shown_line (carried_out (keys_of done) (lines_of content))) (lines_fault (keys_of done) (lines_of content))
+ctl_redaction done call fid offset content (Ok body) = CtlWritten call.conn call.tag fid offset
+    (map shown_line (carried_out (keys_of done) (lines_of content))) (lines_fault (keys_of done) (lines_of content))
 
 abbrev pub rpc_redaction : Call → ℕ → ℕ → List ℕ → Result TBody (List ℕ) → Redacted
 rpc_redaction call fid offset content (Err text) = RpcWritten call.conn call.tag fid offset (Err text)
-rpc_redaction call fid offset content (Ok body) = RpcWritten call.conn call.tag fid offset (Ok (shown_content (rpc.request_of content)))
+rpc_redaction call fid offset content (Ok body) =
+    RpcWritten call.conn call.tag fid offset (Ok (shown_content (rpc.request_of content)))
 
 -- what the request comes to that a read of rpc carries out, if it does
 abbrev pub result_in : List Deed → Option ℕ → List ℕ → Option ShownResult
@@ -69,7 +72,8 @@ result_in done (Some conv) word = came_by_read (standing_of done conv) word (sta
 
 abbrev pub rpc_read_redaction : List Deed → Call → ℕ → ℕ → Result TBody (List ℕ) → Redacted
 rpc_read_redaction done call fid offset (Err text) = RpcRead call.conn call.tag fid offset (Err text)
-rpc_read_redaction done call fid offset (Ok body) = RpcRead call.conn call.tag fid offset (Ok (result_in done (conv_of done call.conn fid) call.word))
+rpc_read_redaction done call fid offset (Ok body) =
+    RpcRead call.conn call.tag fid offset (Ok (result_in done (conv_of done call.conn fid) call.word))
 
 -- a write, and a read, of a file; a write of a file that can't be written is refused, and its content is left out
 abbrev pub write_redaction : List Deed → Call → List ℕ → ℕ → ℕ → List ℕ → Node → Redacted
@@ -84,8 +88,10 @@ read_redaction done call frame fid offset node =
     else Came call.conn frame
 
 abbrev pub body_redaction : List Deed → Call → List ℕ → TBody → Redacted
-body_redaction done call frame (t.Read fid offset count) = read_redaction done call frame fid offset (node_of (fid_of done call.conn fid))
-body_redaction done call frame (t.Write fid offset content) = write_redaction done call frame fid offset content (node_of (fid_of done call.conn fid))
+body_redaction done call frame (t.Read fid offset count) =
+    read_redaction done call frame fid offset (node_of (fid_of done call.conn fid))
+body_redaction done call frame (t.Write fid offset content) =
+    write_redaction done call frame fid offset content (node_of (fid_of done call.conn fid))
 body_redaction done call frame body = Came call.conn frame
 
 abbrev pub message_redaction : List Deed → Call → List ℕ → Option TMsg → Redacted

@@ -55,37 +55,45 @@ OthersChangeNone = (event : Event) (history : History) → has_connection event 
 -- ---- a request acts on its connection
 
 abbrev pub ActsOnItsConnection : Type 0
-ActsOnItsConnection = (done : List Deed) (call : Call) (frame : List ℕ) → Adds (is_of call.conn) done (after_frame done call frame)
+ActsOnItsConnection = (done : List Deed) (call : Call) (frame : List ℕ)
+    → Adds (is_of call.conn) done (after_frame done call frame)
 
 -- ---- a fid stays until a deed that concerns it
 
 abbrev pub FidStays : Type 0
-FidStays = (more done : List Deed) (conn fid : ℕ) → none_concerns more conn fid ≡ true → fid_of (more ++ done) conn fid ≡ fid_of done conn fid
+FidStays = (more done : List Deed) (conn fid : ℕ) → none_concerns more conn fid ≡ true
+    → fid_of (more ++ done) conn fid ≡ fid_of done conn fid
 
 abbrev pub EventLeavesFid : Type 0
-EventLeavesFid = (event : Event) (history : History) (more : List Deed) (conn fid : ℕ) → deeds (event ∷ history) ≡ more ++ deeds history
+EventLeavesFid = (event : Event) (history : History) (more : List Deed) (conn fid : ℕ)
+    → deeds (event ∷ history) ≡ more ++ deeds history
     → none_concerns more conn fid ≡ true → fid_of (deeds (event ∷ history)) conn fid ≡ fid_of (deeds history) conn fid
 
 -- ---- other connections change no fid
 
 abbrev pub OthersLeaveFids : Type 0
-OthersLeaveFids = (event : Event) (history : History) (conn fid : ℕ) → is_on conn event ≡ false → has_stopped (event ∷ history) ≡ false
+OthersLeaveFids = (event : Event) (history : History) (conn fid : ℕ) → is_on conn event ≡ false
+    → has_stopped (event ∷ history) ≡ false
     → fid_of (deeds (event ∷ history)) conn fid ≡ fid_of (deeds history) conn fid
 
 abbrev pub OthersLeaveTexts : Type 0
-OthersLeaveTexts = (event : Event) (history : History) (conn fid : ℕ) → is_on conn event ≡ false → has_stopped (event ∷ history) ≡ false
+OthersLeaveTexts = (event : Event) (history : History) (conn fid : ℕ) → is_on conn event ≡ false
+    → has_stopped (event ∷ history) ≡ false
     → text_of (deeds (event ∷ history)) conn fid ≡ text_of (deeds history) conn fid
 
 abbrev pub OthersLeaveNexts : Type 0
-OthersLeaveNexts = (event : Event) (history : History) (conn fid : ℕ) → is_on conn event ≡ false → has_stopped (event ∷ history) ≡ false
+OthersLeaveNexts = (event : Event) (history : History) (conn fid : ℕ) → is_on conn event ≡ false
+    → has_stopped (event ∷ history) ≡ false
     → next_of (deeds (event ∷ history)) conn fid ≡ next_of (deeds history) conn fid
 
 abbrev pub OthersLeaveCounts : Type 0
-OthersLeaveCounts = (event : Event) (history : History) (conn : ℕ) → is_on conn event ≡ false → has_stopped (event ∷ history) ≡ false
+OthersLeaveCounts = (event : Event) (history : History) (conn : ℕ) → is_on conn event ≡ false
+    → has_stopped (event ∷ history) ≡ false
     → held_by (deeds (event ∷ history)) conn ≡ held_by (deeds history) conn
 
 abbrev pub OthersLeaveSizes : Type 0
-OthersLeaveSizes = (event : Event) (history : History) (conn : ℕ) → is_on conn event ≡ false → has_stopped (event ∷ history) ≡ false
+OthersLeaveSizes = (event : Event) (history : History) (conn : ℕ) → is_on conn event ≡ false
+    → has_stopped (event ∷ history) ≡ false
     → msize_of (deeds (event ∷ history)) conn ≡ msize_of (deeds history) conn
 
 -- ---- a fid held counts
@@ -97,7 +105,8 @@ FidsHeldAreCounted = (history : History) (conn : ℕ) → (fids : List ℕ) × A
 
 abbrev pub IsOpenOnce : Type 0
 IsOpenOnce = (history : History) (node : Node) (conn fid other another : ℕ) → is_exclusive node ≡ true
-    → has_open (deeds history) node conn fid ≡ true → has_open (deeds history) node other another ≡ true → (conn ≡ other) × (fid ≡ another)
+    → has_open (deeds history) node conn fid ≡ true → has_open (deeds history) node other another ≡ true
+    → (conn ≡ other) × (fid ≡ another)
 
 abbrev pub OpenerHolds : Type 0
 OpenerHolds = (history : History) (node : Node) (conn fid : ℕ) → is_exclusive node ≡ true
@@ -113,9 +122,11 @@ abbrev pub TextsStood : Type 0
 TextsStood = (history : History) (conn fid : ℕ) → StoodOnce history (text_of (deeds history) conn fid)
 
 abbrev pub ReadsStood : Type 0
-ReadsStood = (history : History) (call : Call) (fid offset count : ℕ) → node_of (fid_of (deeds history) call.conn fid) ≡ Ctl
+ReadsStood = (history : History) (call : Call) (fid offset count : ℕ)
+    → node_of (fid_of (deeds history) call.conn fid) ≡ Ctl
     → (text : List ℕ) × StoodOnce history text
-    × (reply_of (deeds history) call (Read fid offset count) ≡ Some (r.Read (piece offset (effective count (msize_of (deeds history) call.conn)) text)))
+    × (reply_of (deeds history) call (Read fid offset count)
+    ≡ Some (r.Read (piece offset (effective count (msize_of (deeds history) call.conn)) text)))
 
 abbrev pub ListedStays : Type 0
 ListedStays = (more done : List Deed) (conn fid : ℕ) → none_sets_text more conn fid ≡ true
@@ -124,14 +135,18 @@ ListedStays = (more done : List Deed) (conn fid : ℕ) → none_sets_text more c
 -- ---- a refused request changes nothing
 
 abbrev pub RefusedChangesNothing : Type 0
-RefusedChangesNothing = (done : List Deed) (call : Call) (frame text : List ℕ) → granted done call frame ≡ Err text → after_frame done call frame ≡ done
+RefusedChangesNothing = (done : List Deed) (call : Call) (frame text : List ℕ) → granted done call frame ≡ Err text
+    → after_frame done call frame ≡ done
 
 abbrev pub RefusedIsTold : Type 0
-RefusedIsTold = (done : List Deed) (call : Call) (frame text : List ℕ) → granted done call frame ≡ Err text → body_to done call frame ≡ Some (r.Error text)
+RefusedIsTold = (done : List Deed) (call : Call) (frame text : List ℕ) → granted done call frame ≡ Err text
+    → body_to done call frame ≡ Some (r.Error text)
 
 abbrev pub ErrorChangesNothing : Type 0
-ErrorChangesNothing = (done : List Deed) (call : Call) (frame text : List ℕ) → body_to done call frame ≡ Some (r.Error text)
-    → (after_frame done call frame ≡ done) ⊎ ((body : TBody) × (granted done call frame ≡ Ok body) × (may_err_and_act done call body ≡ true))
+ErrorChangesNothing = (done : List Deed) (call : Call) (frame text : List ℕ)
+    → body_to done call frame ≡ Some (r.Error text)
+    → (after_frame done call frame ≡ done)
+    ⊎ ((body : TBody) × (granted done call frame ≡ Ok body) × (may_err_and_act done call body ≡ true))
 
 -- ---- lines stand before the first refused
 
@@ -144,7 +159,8 @@ FirstIsTold = (keys : KeyList) (lines front : List (List ℕ)) (line : List ℕ)
     → IsFirstRefused keys lines front line later text → lines_fault keys lines ≡ Some text
 
 abbrev pub FirstIsFound : Type 0
-FirstIsFound = (keys : KeyList) (lines : List (List ℕ)) (text : List ℕ) → lines_fault keys lines ≡ Some text → HasFirstRefused keys lines text
+FirstIsFound = (keys : KeyList) (lines : List (List ℕ)) (text : List ℕ) → lines_fault keys lines ≡ Some text
+    → HasFirstRefused keys lines text
 
 -- ---- a write does what its lines do
 
@@ -155,10 +171,12 @@ WriteMakesKeys = (done : List Deed) (conn : ℕ) (lines : List (List ℕ))
 -- ---- a reply is taken once
 
 abbrev pub GivenInOrder : Type 0
-GivenInOrder = (history : History) (conn : ℕ) → given history conn ≡ take (taken (deeds history) conn) (reverse (replies (deeds history) conn))
+GivenInOrder = (history : History) (conn : ℕ)
+    → given history conn ≡ take (taken (deeds history) conn) (reverse (replies (deeds history) conn))
 
 abbrev pub GivenAndLeft : Type 0
-GivenAndLeft = (history : History) (conn : ℕ) → given history conn ++ untaken (deeds history) conn ≡ reverse (replies (deeds history) conn)
+GivenAndLeft = (history : History) (conn : ℕ)
+    → given history conn ++ untaken (deeds history) conn ≡ reverse (replies (deeds history) conn)
 
 abbrev pub LeftAfterTake : Type 0
 LeftAfterTake = (history : History) (conn : ℕ) → gives history conn ≡ true
@@ -170,21 +188,25 @@ FramesPutOut = (history : History) (conn : ℕ) → put_out history conn ≡ map
 -- ---- a reply fits what was agreed
 
 abbrev pub ReplyFits : Type 0
-ReplyFits = (history : History) (conn : ℕ) (frame word : List ℕ) (reply : RMsg) → reply_to (deeds history) conn frame word ≡ Some reply
+ReplyFits = (history : History) (conn : ℕ) (frame word : List ℕ) (reply : RMsg)
+    → reply_to (deeds history) conn frame word ≡ Some reply
     → length (r_frame reply) ≤ longest_reply (msize_of (deeds history) conn)
 
 abbrev pub AgreedBetween : Type 0
-AgreedBetween = (history : History) (conn msize : ℕ) → msize_of (deeds history) conn ≡ Some msize → (least_msize ≤ msize) × (msize ≤ most_msize)
+AgreedBetween = (history : History) (conn msize : ℕ) → msize_of (deeds history) conn ≡ Some msize
+    → (least_msize ≤ msize) × (msize ≤ most_msize)
 
 abbrev pub FramesFit : Type 0
 FramesFit = (history : History) (conn : ℕ) → All (λ frame. length frame ≤ most_msize) (put_out history conn)
 
 abbrev pub OthersFit : Type 0
-OthersFit = (done : List Deed) (conn : ℕ) (frame word : List ℕ) (reply : RMsg) → reply_to done conn frame word ≡ Some reply
+OthersFit = (done : List Deed) (conn : ℕ) (frame word : List ℕ) (reply : RMsg)
+    → reply_to done conn frame word ≡ Some reply
     → gives_content reply.body ≡ false → length (r_frame reply) ≤ least_msize
 
 abbrev pub ToldIsAgreed : Type 0
-ToldIsAgreed = (done : List Deed) (call : Call) (msize : ℕ) (frame : List ℕ) → body_to done call frame ≡ Some (r.Version msize (codes "9P2000"))
+ToldIsAgreed = (done : List Deed) (call : Call) (msize : ℕ) (frame : List ℕ)
+    → body_to done call frame ≡ Some (r.Version msize (codes "9P2000"))
     → msize_of (after_frame done call frame) call.conn ≡ Some msize
 
 abbrev pub ReplyIsValid : Type 0
@@ -213,12 +235,14 @@ OnlyReadsWait = (done : List Deed) (call : Call) (frame : List ℕ) → body_to 
 abbrev pub WaitsBehind : Type 0
 WaitsBehind = (done : List Deed) (call : Call) (frame : List ℕ) → body_to done call frame ≡ None
     → (fid : ℕ) × (count : ℕ)
-    × IsBehind (waits done call.conn) (waits (after_frame done call frame) call.conn) (record { tag = call.tag; fid = fid; count = count; reply = None })
+    × IsBehind (waits done call.conn) (waits (after_frame done call frame) call.conn)
+    (record { tag = call.tag; fid = fid; count = count; reply = None })
 
 -- ---- conversations
 
 abbrev pub OpenersSpeak : Type 0
-OpenersSpeak = (history : History) (conn fid : ℕ) → is_some (conv_of (deeds history) conn fid) ≡ has_open (deeds history) Rpc conn fid
+OpenersSpeak = (history : History) (conn fid : ℕ)
+    → is_some (conv_of (deeds history) conn fid) ≡ has_open (deeds history) Rpc conn fid
 
 abbrev pub OpenersSpeakOnce : Type 0
 OpenersSpeakOnce = (history : History) → IsDistinct is_same_place (speakers (deeds history))
@@ -227,7 +251,8 @@ abbrev pub SpeakersAreFew : Type 0
 SpeakersAreFew = (history : History) → length (speakers (deeds history)) ≤ most_talks
 
 abbrev pub SpeakersRise : Type 0
-SpeakersRise = (history : History) → rise_below (opened_talks (deeds history)) (map (λ s. s.conv) (speakers (deeds history))) ≡ true
+SpeakersRise = (history : History)
+    → rise_below (opened_talks (deeds history)) (map (λ s. s.conv) (speakers (deeds history))) ≡ true
 
 -- ---- questions for the authentication server
 
@@ -235,31 +260,39 @@ abbrev pub QuestionsAreAsked : Type 0
 QuestionsAreAsked = (history : History) → all_asked (deeds history) ≡ true
 
 abbrev pub QuestionsRise : Type 0
-QuestionsRise = (history : History) → rise_below (raised (deeds history) + 1) (map (λ q. q.call) (questions (deeds history))) ≡ true
+QuestionsRise = (history : History)
+    → rise_below (raised (deeds history) + 1) (map (λ q. q.call) (questions (deeds history))) ≡ true
 
 abbrev pub QuestionsArePut : Type 0
-QuestionsArePut = (history : History) (question : Question) → has_stopped history ≡ false → due (deeds history) ≡ QuestionDue question
+QuestionsArePut = (history : History) (question : Question) → has_stopped history ≡ false
+    → due (deeds history) ≡ QuestionDue question
     → (request : List ℕ) × (shape : Shape) × (answer history TakeAsk ≡ (Ask question.call question.conv shape, request))
 
 abbrev pub RequestsRaiseOne : Type 0
-RequestsRaiseOne = (history : History) (conn : ℕ) (frame word : List ℕ) → raised (deeds (Request conn frame word ∷ history)) ≤ raised (deeds history) + 1
+RequestsRaiseOne = (history : History) (conn : ℕ) (frame word : List ℕ)
+    → raised (deeds (Request conn frame word ∷ history)) ≤ raised (deeds history) + 1
 
 abbrev pub OthersRaiseNone : Type 0
-OthersRaiseNone = (event : Event) (history : History) → is_request event ≡ false → raised (deeds (event ∷ history)) ≡ raised (deeds history)
+OthersRaiseNone = (event : Event) (history : History) → is_request event ≡ false
+    → raised (deeds (event ∷ history)) ≡ raised (deeds history)
 
 -- ---- connections that are given up
 
 abbrev pub DropsArePut : Type 0
-DropsArePut = (history : History) (drop : Drop) → has_stopped history ≡ false → due (deeds history) ≡ DropDue drop → answer history TakeAsk ≡ (DropCall drop.conv, [])
+DropsArePut = (history : History) (drop : Drop) → has_stopped history ≡ false → due (deeds history) ≡ DropDue drop
+    → answer history TakeAsk ≡ (DropCall drop.conv, [])
 
 abbrev pub NothingIsPut : Type 0
-NothingIsPut = (history : History) → has_stopped history ≡ false → due (deeds history) ≡ NoneDue → answer history TakeAsk ≡ (NoAsk, [])
+NothingIsPut = (history : History) → has_stopped history ≡ false → due (deeds history) ≡ NoneDue
+    → answer history TakeAsk ≡ (NoAsk, [])
 
 abbrev pub DropsComeOnce : Type 0
-DropsComeOnce = (history more : History) (conv : ℕ) → answer history TakeAsk ≡ (DropCall conv, []) → answer (more ++ TakeAsk ∷ history) TakeAsk ≡ (DropCall conv, []) → ⊥
+DropsComeOnce = (history more : History) (conv : ℕ) → answer history TakeAsk ≡ (DropCall conv, [])
+    → answer (more ++ TakeAsk ∷ history) TakeAsk ≡ (DropCall conv, []) → ⊥
 
 abbrev pub DropsFollowChallenges : Type 0
-DropsFollowChallenges = (history : History) (conv : ℕ) → answer history TakeAsk ≡ (DropCall conv, []) → last_asked history conv ≡ Some Challenge
+DropsFollowChallenges = (history : History) (conv : ℕ) → answer history TakeAsk ≡ (DropCall conv, [])
+    → last_asked history conv ≡ Some Challenge
 
 -- ---- a search is over the keys of its moment
 
@@ -268,15 +301,18 @@ SearchesAreOfTheMoment = (history : History) → AllSearched (deeds history)
 
 abbrev pub EditsOrTalks : Type 0
 EditsOrTalks = (event : Event) (history : History)
-    → Adds (λ deed. not (is_edit deed)) (deeds history) (deeds (event ∷ history)) ⊎ Adds (λ deed. not (is_talk deed)) (deeds history) (deeds (event ∷ history))
+    → Adds (λ deed. not (is_edit deed)) (deeds history) (deeds (event ∷ history))
+    ⊎ Adds (λ deed. not (is_talk deed)) (deeds history) (deeds (event ∷ history))
 
 abbrev pub SearchesKeysBefore : Type 0
 SearchesKeysBefore = (event : Event) (history : History) (later earlier : List Deed) (conv : ℕ) (found : Found)
     → deeds (event ∷ history) ≡ later ++ OfTalk conv (Sought found) ∷ (earlier ++ deeds history)
-    → found ≡ finds (standing_of (earlier ++ deeds history) conv) (asking (earlier ++ deeds history)) (keys_of (deeds history))
+    → found ≡ finds (standing_of (earlier ++ deeds history) conv) (asking (earlier ++ deeds history))
+    (keys_of (deeds history))
 
 abbrev pub ChosenStays : Type 0
-ChosenStays = (done : List Deed) (at conn fid : ℕ) (deed : KeyDeed) → chosen_at (OfKeys at deed ∷ done) conn fid ≡ chosen_at done conn fid
+ChosenStays = (done : List Deed) (at conn fid : ℕ) (deed : KeyDeed)
+    → chosen_at (OfKeys at deed ∷ done) conn fid ≡ chosen_at done conn fid
 
 abbrev pub ChosenStaysWhileItStands : Type 0
 ChosenStaysWhileItStands = (event : Event) (history : History) (conn fid conv : ℕ) (key : KeyEntry)
@@ -328,12 +364,15 @@ NoAnswerTells = (history more : History) (event one other : Event)
 -- ---- a write hides its secrets
 
 abbrev pub WritesAlike : Type 0
-WritesAlike = (conn : ℕ) (done : List Deed) (front : List (List ℕ)) (one other : List ℕ) (later : List (List ℕ)) → all_open done ≡ true
+WritesAlike = (conn : ℕ) (done : List Deed) (front : List (List ℕ)) (one other : List ℕ) (later : List (List ℕ))
+    → all_open done ≡ true
     → AddAlike (after_lines (keys_of done) front) one other
-    → SameButSecrets (lines_done conn (carried_out (keys_of done) (front ++ one ∷ later)) done) (lines_done conn (carried_out (keys_of done) (front ++ other ∷ later)) done)
+    → SameButSecrets (lines_done conn (carried_out (keys_of done) (front ++ one ∷ later)) done)
+    (lines_done conn (carried_out (keys_of done) (front ++ other ∷ later)) done)
 
 abbrev pub WritesToldAlike : Type 0
-WritesToldAlike = (keys : KeyList) (front : List (List ℕ)) (one other : List ℕ) (later : List (List ℕ)) → AddAlike (after_lines keys front) one other
+WritesToldAlike = (keys : KeyList) (front : List (List ℕ)) (one other : List ℕ) (later : List (List ℕ))
+    → AddAlike (after_lines keys front) one other
     → lines_fault keys (front ++ one ∷ later) ≡ lines_fault keys (front ++ other ∷ later)
 
 -- ---- questions to users
@@ -348,24 +387,31 @@ QuestionsFollowSearches = (history : History) → AllFollow (deeds history)
 
 abbrev pub ReadsArePublic : Type 0
 ReadsArePublic = (one other : History) → in_public (deeds one) ≡ in_public (deeds other)
-    → (call : Call) (frame : List ℕ) (m : TMsg) (fid offset count : ℕ) → request_of frame ≡ Some m → m.body ≡ Read fid offset count
-    → is_rpc (node_of (fid_of (deeds other) call.conn fid)) ≡ false → body_to (deeds one) call frame ≡ body_to (deeds other) call frame
+    → (call : Call) (frame : List ℕ) (m : TMsg) (fid offset count : ℕ) → request_of frame ≡ Some m
+    → m.body ≡ Read fid offset count
+    → is_rpc (node_of (fid_of (deeds other) call.conn fid)) ≡ false
+    → body_to (deeds one) call frame ≡ body_to (deeds other) call frame
 
 abbrev pub WaitsArePublic : Type 0
-WaitsArePublic = (one other : History) → in_public (deeds one) ≡ in_public (deeds other) → (conn : ℕ) → waits (deeds one) conn ≡ waits (deeds other) conn
+WaitsArePublic = (one other : History) → in_public (deeds one) ≡ in_public (deeds other) → (conn : ℕ)
+    → waits (deeds one) conn ≡ waits (deeds other) conn
 
 -- ---- histories of one redaction
 
 abbrev pub RedactionsArePublic : Type 0
-RedactionsArePublic = (one other : History) → redact one ≡ redact other → in_public (unsized (deeds one)) ≡ in_public (unsized (deeds other))
+RedactionsArePublic = (one other : History) → redact one ≡ redact other
+    → in_public (unsized (deeds one)) ≡ in_public (unsized (deeds other))
 
 abbrev pub ReadsAreRedacted : Type 0
 ReadsAreRedacted = (one other : History) → redact one ≡ redact other
-    → (call : Call) (frame : List ℕ) (m : TMsg) (fid offset count : ℕ) → request_of frame ≡ Some m → m.body ≡ Read fid offset count
-    → is_rpc (node_of (fid_of (deeds other) call.conn fid)) ≡ false → body_to (deeds one) call frame ≡ body_to (deeds other) call frame
+    → (call : Call) (frame : List ℕ) (m : TMsg) (fid offset count : ℕ) → request_of frame ≡ Some m
+    → m.body ≡ Read fid offset count
+    → is_rpc (node_of (fid_of (deeds other) call.conn fid)) ≡ false
+    → body_to (deeds one) call frame ≡ body_to (deeds other) call frame
 
 abbrev pub WaitsAreRedacted : Type 0
-WaitsAreRedacted = (one other : History) → redact one ≡ redact other → (conn : ℕ) → waits (unsized (deeds one)) conn ≡ waits (unsized (deeds other)) conn
+WaitsAreRedacted = (one other : History) → redact one ≡ redact other → (conn : ℕ)
+    → waits (unsized (deeds one)) conn ≡ waits (unsized (deeds other)) conn
 
 -- ---- what is searched for
 
@@ -375,13 +421,16 @@ SearchesArePublic = (start : Start) (talk : List Move) → asks_in_public (shown
 -- ---- files that nobody has open
 
 abbrev pub NoneAsksConsent : Type 0
-NoneAsksConsent = (done : List Deed) (conv : ℕ) (key : KeyEntry) → holder_of done Confirm ≡ None → finds (standing_of done conv) (asking done) (keys_of done) ≡ AsksConsent key → ⊥
+NoneAsksConsent = (done : List Deed) (conv : ℕ) (key : KeyEntry) → holder_of done Confirm ≡ None
+    → finds (standing_of done conv) (asking done) (keys_of done) ≡ AsksConsent key → ⊥
 
 abbrev pub NoneAsksKey : Type 0
-NoneAsksKey = (done : List Deed) (conv : ℕ) → holder_of done Needkey ≡ None → finds (standing_of done conv) (asking done) (keys_of done) ≡ AsksKey → ⊥
+NoneAsksKey = (done : List Deed) (conv : ℕ) → holder_of done Needkey ≡ None
+    → finds (standing_of done conv) (asking done) (keys_of done) ≡ AsksKey → ⊥
 
 abbrev pub ClosedAsksNobody : Type 0
-ClosedAsksNobody = (deed : Deed) (done : List Deed) (kind : PromptKind) → holder_of (given_up_by deed done) (file_of kind) ≡ None → askers (given_up_by deed done) kind ≡ []
+ClosedAsksNobody = (deed : Deed) (done : List Deed) (kind : PromptKind)
+    → holder_of (given_up_by deed done) (file_of kind) ≡ None → askers (given_up_by deed done) kind ≡ []
 
 -- ---- the log
 

@@ -40,8 +40,8 @@ shown_content (Err fault) = None
 
 -- ---- what a request came to
 
--- what is needed: a key, or the offers of the keys, by this template; one of these templates to be picked, which are those of the
--- words of a p9any server; or the authentication server's answer
+-- what is needed: a key, or the offers of the keys, by this template; one of these templates to be picked, which are
+-- those of the words of a p9any server; or the authentication server's answer
 pub data ShownNeed : Type 0 where
   NeedsNothing : ShownNeed
   Searches : (template : List Attr) → ShownNeed
@@ -77,8 +77,8 @@ shown_end (Broken cause) = Breaks cause
 abbrev pub end_of : Option Begun → Option ShownEnd
 end_of begun = option_map (λ b. shown_end (ends b.start b.moves)) begun
 
--- what a request came to that was carried out, or that the authentication server's answer was for: what is needed then, or
--- how its answer begins, and how the conversation has ended, if it was started
+-- what a request came to that was carried out, or that the authentication server's answer was for: what is needed
+-- then, or how its answer begins, and how the conversation has ended, if it was started
 pub record ShownResult : Type 0 where
   pub need : ShownNeed
   pub word : List ℕ

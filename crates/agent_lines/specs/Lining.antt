@@ -1,6 +1,6 @@
--- What a connection of an agent comes to, by the bytes that are read of it: the requests that are entered with their words, the
--- hang behind them, and what is written, which is what the takes between them gave. Content is optional: what is said of
--- bytes and words holds where they are told.
+-- What a connection of an agent comes to, by the bytes that are read of it: the requests that are entered with their
+-- words, the hang behind them, and what is written, which is what the takes between them gave. Content is optional:
+-- what is said of bytes and words holds where they are told.
 use Rattle.std.specs.Prelude.{◌≡◌, ◌<◌, ◌≤◌, ℕ, List, [], ◌∷◌, ◌++◌, length, Option, None, Some, ⊤, Bool, true, false, ◌⊎◌}
 use Rattle.std.specs.Io.KnownBytes.{Consumes, IsAtEnd}
 use Rattle.wire_streams.specs.Streams.{Gains}
@@ -45,10 +45,11 @@ pub record Moment : Type 0 where
 abbrev pub moment : HubSeat → Option (List (List ℕ)) → Option (List ℕ) → Option (List ℕ) → Moment
 moment seat words input output = record { seat = seat; words = words; input = input; output = output }
 
--- The seat's own new entries are, without takes on the connection, a request for each of these frames with the word that was
--- drawn for it, and these events behind them; some words more were drawn. What all of them were answered by, the oldest first,
--- is what was written, and these bytes behind it
-pub record Serves (conn : ℕ) (last : List Event) (wanted spare : List (List ℕ)) (unwritten : List ℕ) (first now : Moment) : Type 0 where
+-- The seat's own new entries are, without takes on the connection, a request for each of these frames with the word
+-- that was drawn for it, and these events behind them; some words more were drawn. What all of them were answered by,
+-- the oldest first, is what was written, and these bytes behind it
+pub record Serves (conn : ℕ) (last : List Event) (wanted spare : List (List ℕ)) (unwritten : List ℕ)
+    (first now : Moment) : Type 0 where
   pub drawn : List Drawn
   pub mine : List Entered
   pub added : Adds mine first.seat now.seat
@@ -69,22 +70,29 @@ HandsAll input wanted spare = (wanted ≡ frames_in input) × (spare ≡ [])
 
 -- the first frames of the input were; for some of the next ones words may have been drawn
 abbrev pub HandsSome : List ℕ → List (List ℕ) → List (List ℕ) → Type 0
-HandsSome input wanted spare = (others : List (List ℕ)) × (frames_in input ≡ wanted ++ others) × (length spare ≤ most_batch)
+HandsSome input wanted spare =
+    (others : List (List ℕ)) × (frames_in input ≡ wanted ++ others) × (length spare ≤ most_batch)
 
 -- the first frames of the input were, and for the next one there was no word
 abbrev pub LacksWord : List ℕ → List (List ℕ) → List (List ℕ) → Type 0
-LacksWord input wanted spare = (frame : List ℕ) × (others : List (List ℕ)) × (frames_in input ≡ wanted ++ frame ∷ others) × (spare ≡ [])
+LacksWord input wanted spare =
+    (frame : List ℕ) × (others : List (List ℕ)) × (frames_in input ≡ wanted ++ frame ∷ others) × (spare ≡ [])
 
--- Why it ended, by the input, what was read behind it, the frames that were handed on and the words that weren't used: at the
--- end of whole frames, inside a frame, or behind a bad size; where a read failed, for want of a word, behind too many bytes;
--- and in the three other cases somewhere
+-- Why it ended, by the input, what was read behind it, the frames that were handed on and the words that weren't
+-- used: at the end of whole frames, inside a frame, or behind a bad size; where a read failed, for want of a word,
+-- behind too many bytes; and in the three other cases somewhere
 abbrev pub EndsBy : LineEnd → Option (List ℕ) → List ℕ → List ℕ → List (List ℕ) → List (List ℕ) → Type 0
-EndsBy End left input behind wanted spare = IsAtEnd left × (behind ≡ []) × IsFrames most_frame input × HandsAll input wanted spare
-EndsBy (Torn at) left input behind wanted spare = IsAtEnd left × (behind ≡ []) × (at ≡ end_of most_frame input) × (at < length input) × HasNoBadSize most_frame input × HandsAll input wanted spare
-EndsBy (BadFrame at size) left input behind wanted spare = (at ≡ end_of most_frame input) × HasBadSize most_frame input size × HandsAll input wanted spare
-EndsBy ReadFault left input behind wanted spare = (behind ≡ []) × HasNoBadSize most_frame input × HandsAll input wanted spare
+EndsBy End left input behind wanted spare =
+    IsAtEnd left × (behind ≡ []) × IsFrames most_frame input × HandsAll input wanted spare
+EndsBy (Torn at) left input behind wanted spare = IsAtEnd left × (behind ≡ []) × (at ≡ end_of most_frame input)
+    × (at < length input) × HasNoBadSize most_frame input × HandsAll input wanted spare
+EndsBy (BadFrame at size) left input behind wanted spare =
+    (at ≡ end_of most_frame input) × HasBadSize most_frame input size × HandsAll input wanted spare
+EndsBy ReadFault left input behind wanted spare =
+    (behind ≡ []) × HasNoBadSize most_frame input × HandsAll input wanted spare
 EndsBy WordFault left input behind wanted spare = LacksWord input wanted spare
-EndsBy Flood left input behind wanted spare = (0 < length behind) × HasNoBadSize most_frame input × HandsAll input wanted spare
+EndsBy Flood left input behind wanted spare =
+    (0 < length behind) × HasNoBadSize most_frame input × HandsAll input wanted spare
 EndsBy NoMemory left input behind wanted spare = HandsSome input wanted spare
 EndsBy Stopped left input behind wanted spare = HandsSome input wanted spare
 EndsBy WriteFault left input behind wanted spare = HandsSome input wanted spare
@@ -127,8 +135,8 @@ TookAll NoMemory conn seen = Unit {0}
 TookAll Stopped conn seen = has_stopped (events seen) ≡ true
 TookAll WriteFault conn seen = Unit {0}
 
--- The connection ended so, and was hung up: it was served, all replies that didn't have to wait were taken, and behind that
--- nothing was entered but the hang
+-- The connection ended so, and was hung up: it was served, all replies that didn't have to wait were taken, and
+-- behind that nothing was entered but the hang
 pub record LineEndsSo (end : LineEnd) (conn : ℕ) (first now : Moment) : Type 0 where
   pub unwritten : List ℕ
   pub misses : MissesBytes end unwritten

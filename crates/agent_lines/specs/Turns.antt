@@ -81,9 +81,11 @@ pub record Sends (held holds : Option (List ℕ)) (old new : List ℕ) : Type 0 
   pub gains : Gains held holds sent
 
 -- why a batch ended: memory was short for a frame, the agent stopped, or there was no word; or its frames were passed
-abbrev pub BatchEndsSo : Result (Unit {0}) LineEnd → Result (Unit {0}) LineEnd → Exchanged → ℕ → ℕ → Framing → Framing → Type 0
+abbrev pub BatchEndsSo : Result (Unit {0}) LineEnd → Result (Unit {0}) LineEnd → Exchanged → ℕ → ℕ → Framing → Framing
+    → Type 0
 BatchEndsSo (Ok x) drew came words size old new = (drew ≡ Ok tt) × (words ≤ came.entered) × (new ≡ passed old size)
-BatchEndsSo (Err end) drew came words size old new = (end ≡ NoMemory) ⊎ ((end ≡ Stopped) ⊎ ((drew ≡ Err end) × (words ≤ came.entered)))
+BatchEndsSo (Err end) drew came words size old new =
+    (end ≡ NoMemory) ⊎ ((end ≡ Stopped) ⊎ ((drew ≡ Err end) × (words ≤ came.entered)))
 
 -- where an input that isn't too long ends
 abbrev pub InputEndsBy : Framing → LineEnd → Type 0

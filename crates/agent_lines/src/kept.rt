@@ -7,12 +7,12 @@ ghost use Rattle.agent_hub.specs.Exchanging.{IsCollected, IsExchanged};
 ghost use Rattle.agent_lines.specs.Turns.{Sends};
 
 use agent_hub::{Exchanged, Hub, HubSeat, TakesEnd};
-use wire_streams::{Offer, Offers, WriteFault};
 use std::alloc::Global;
 use std::marker::Model;
 use std::mem;
 use std::sync::Wait;
 use wire_base::Bytes;
+use wire_streams::{Offer, Offers, WriteFault};
 
 /// How many bytes of replies are kept at most, for a client that doesn't read them: 1 MiB.
 const MOST_KEPT: usize = 1 << 20;

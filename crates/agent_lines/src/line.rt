@@ -16,10 +16,10 @@ use crate::kept::Kept;
 use agent_history::Event;
 use agent_hub::{Hub, HubSeat, TakesEnd};
 use nine::{Batch, Behind, BlockFramer, Framer};
-use wire_streams::{Awaits, Offers, Ready, Source, Wants, Words};
 use std::alloc::Global;
 use std::sync::Wait;
 use wire_base::{Bytes, NoMemory};
+use wire_streams::{Awaits, Offers, Ready, Source, Wants, Words};
 
 /// The greatest size of a frame.
 const MOST_FRAME: u32 = 8216;

@@ -128,15 +128,18 @@ abbrev pub asked : Call → history.Call
 asked call = record { conn = call.conn; tag = call.tag; word = call.word }
 
 -- what is kept and shared after a request that was served, and its reply
-pub record Served (done : List Deed) (call : history.Call) (body : TBody) (c : Connection) (s : Shared) (reply : Option Reply) : Type 0 where
+pub record Served (done : List Deed) (call : history.Call) (body : TBody) (c : Connection) (s : Shared)
+    (reply : Option Reply) : Type 0 where
   pub keeps : Keeps (after done call body) call.conn c
   pub shares : Shares (after done call body) s
   pub said : Says call.tag (reply_of done call body) reply
 
 -- What a request does, whatever was done before it. It adds no more keys than its frame has bytes, and
 -- leaves the room that was made for its reply. Where it isn't served nothing changes.
-pub record Tried (call : Call) (body : TBody) (old new : Connection) (s u : Shared) (result : Result (Option Reply) Refused) : Type 0 where
-  pub told : (done : List Deed) → Keeps done call.conn old → Shares done s → Told (refusal done (asked call) body) (Served done (asked call) body new u) result
+pub record Tried (call : Call) (body : TBody) (old new : Connection) (s u : Shared)
+    (result : Result (Option Reply) Refused) : Type 0 where
+  pub told : (done : List Deed) → Keeps done call.conn old → Shares done s
+      → Told (refusal done (asked call) body) (Served done (asked call) body new u) result
   pub few : u.ring.ever_added ≤ s.ring.ever_added + 8216
   pub room : has_room u.mailboxes call.conn ≡ has_room s.mailboxes call.conn
   pub kept : OnErr result (SameKept old new)
@@ -155,22 +158,27 @@ refusal_of (Err text) = Some text
 refusal_of (Ok body) = None
 
 -- what is kept and shared after a frame that was answered, and its reply
-pub record FrameServed (done : List Deed) (call : history.Call) (frame : List ℕ) (c : Connection) (s : Shared) (reply : Option Reply) : Type 0 where
+pub record FrameServed (done : List Deed) (call : history.Call) (frame : List ℕ) (c : Connection) (s : Shared)
+    (reply : Option Reply) : Type 0 where
   pub keeps : Keeps (after_frame done call frame) call.conn c
   pub shares : Shares (after_frame done call frame) s
   pub said : Says call.tag (body_to done call frame) reply
 
 -- the same of a frame as of a request
-pub record FrameTried (call : Call) (frame : List ℕ) (old new : Connection) (s u : Shared) (result : Result (Option Reply) Refused) : Type 0 where
-  pub told : (done : List Deed) → Keeps done call.conn old → Shares done s → Told (refusal_of (history.granted done (asked call) frame)) (FrameServed done (asked call) frame new u) result
+pub record FrameTried (call : Call) (frame : List ℕ) (old new : Connection) (s u : Shared)
+    (result : Result (Option Reply) Refused) : Type 0 where
+  pub told : (done : List Deed) → Keeps done call.conn old → Shares done s
+      → Told (refusal_of (history.granted done (asked call) frame)) (FrameServed done (asked call) frame new u) result
   pub few : u.ring.ever_added ≤ s.ring.ever_added + 8216
   pub room : has_room u.mailboxes call.conn ≡ has_room s.mailboxes call.conn
   pub kept : OnErr result (SameKept old new)
   pub shared : OnErr result (SameShared s u)
 
 -- a frame was answered, by what it asked for or by what refuses it
-pub record FrameAnswered {E : Type 0} (call : Call) (frame : List ℕ) (old new : Connection) (s u : Shared) (result : Result (Option Reply) E) : Type 0 where
-  pub served : IfOk result (λ reply. (done : List Deed) → Keeps done call.conn old → Shares done s → FrameServed done (asked call) frame new u reply)
+pub record FrameAnswered {E : Type 0} (call : Call) (frame : List ℕ) (old new : Connection) (s u : Shared)
+    (result : Result (Option Reply) E) : Type 0 where
+  pub served : IfOk result (λ reply. (done : List Deed) → Keeps done call.conn old → Shares done s
+      → FrameServed done (asked call) frame new u reply)
   pub few : u.ring.ever_added ≤ s.ring.ever_added + 8216
   pub room : has_room u.mailboxes call.conn ≡ has_room s.mailboxes call.conn
   pub kept : OnErr result (SameKept old new)

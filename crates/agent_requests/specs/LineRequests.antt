@@ -25,12 +25,14 @@ line_refusal done conn what = first_told (
     ∷ [])
 
 -- the line that is found was read, or the read waits for one
-pub record LineServed (done : List Deed) (call : Call) (fid count : ℕ) (node : Node) (what : Found) (s : Shared) (reply : Option Reply) : Type 0 where
+pub record LineServed (done : List Deed) (call : Call) (fid count : ℕ) (node : Node) (what : Found) (s : Shared)
+    (reply : Option Reply) : Type 0 where
   pub shares : Shares (reading_line call fid count node what done) s
   pub said : Says call.tag (line_read_reply what) reply
 
 abbrev pub LineTold : List Deed → Call → ℕ → ℕ → Node → Found → Shared → Result (Option Reply) Refused → Type 0
-LineTold done call fid count node what s result = Told (line_refusal done call.conn what) (LineServed done call fid count node what s) result
+LineTold done call fid count node what s result =
+    Told (line_refusal done call.conn what) (LineServed done call fid count node what s) result
 
 -- ---- replies to questions
 
@@ -42,12 +44,14 @@ reply_refusal done kind answer = first_told (
     ∷ [])
 
 -- the question was replied to, and whoever asked it went on
-pub record ReplyServed (done : List Deed) (call : Call) (kind : PromptKind) (content : List ℕ) (s : Shared) (reply : Option Reply) : Type 0 where
+pub record ReplyServed (done : List Deed) (call : Call) (kind : PromptKind) (content : List ℕ) (s : Shared)
+    (reply : Option Reply) : Type 0 where
   pub shares : Shares (replying (Some kind) (prompt.reply_of content) done) s
   pub said : Says call.tag (Some (r.Write (length content))) reply
 
 abbrev pub ReplyTold : List Deed → Call → PromptKind → List ℕ → Shared → Result (Option Reply) Refused → Type 0
-ReplyTold done call kind content s result = Told (reply_refusal done kind (prompt.reply_of content)) (ReplyServed done call kind content s) result
+ReplyTold done call kind content s result =
+    Told (reply_refusal done kind (prompt.reply_of content)) (ReplyServed done call kind content s) result
 
 -- ---- lines of ctl
 

@@ -28,11 +28,13 @@ read_refusal done conn fid = first_told (
     ∷ [])
 
 -- the request of a conversation was carried out, and its answer read, or the read waits for it
-pub record Answered (done : List Deed) (call : Call) (fid count conv : ℕ) (s : Shared) (reply : Option Reply) : Type 0 where
+pub record Answered (done : List Deed) (call : Call) (fid count conv : ℕ) (s : Shared)
+    (reply : Option Reply) : Type 0 where
   pub shares : Shares (reading_talk call fid count (Some conv) done) s
   pub said : Says call.tag (talk_read call.word count (Some conv) done) reply
 
-pub record ReadServed (done : List Deed) (call : Call) (fid count : ℕ) (s : Shared) (reply : Option Reply) : Type 0 where
+pub record ReadServed (done : List Deed) (call : Call) (fid count : ℕ) (s : Shared)
+    (reply : Option Reply) : Type 0 where
   pub shares : Shares (reading_talk call fid count (conv_of done call.conn fid) done) s
   pub said : Says call.tag (talk_read call.word count (conv_of done call.conn fid) done) reply
 
@@ -54,14 +56,17 @@ write_refusal done conn fid content = first_told (
     ∷ (is_unknown (request_of content), codes "unknown rpc verb")
     ∷ [])
 
-pub record WriteServed (done : List Deed) (call : Call) (fid : ℕ) (content : List ℕ) (s : Shared) (reply : Option Reply) : Type 0 where
+pub record WriteServed (done : List Deed) (call : Call) (fid : ℕ) (content : List ℕ) (s : Shared)
+    (reply : Option Reply) : Type 0 where
   pub shares : Shares (stored (conv_of done call.conn fid) (request_of content) done) s
   pub said : Says call.tag (Some (r.Write (length content))) reply
 
 abbrev pub WriteTold : List Deed → Call → ℕ → List ℕ → Shared → Result (Option Reply) Refused → Type 0
-WriteTold done call fid content s result = Told (write_refusal done call.conn fid content) (WriteServed done call fid content s) result
+WriteTold done call fid content s result =
+    Told (write_refusal done call.conn fid content) (WriteServed done call fid content s) result
 
 -- what is written is a request, or refused
 abbrev pub Requests : Result Request Refused → List ℕ → Type 0
 Requests (Ok request) content = request_of content ≡ Ok (meant request)
-Requests (Err why) content = ((why ≡ e.For f.RpcTooLong) × (request_of content ≡ Err TooLong)) ⊎ ((why ≡ e.For f.UnknownRpcVerb) × (request_of content ≡ Err UnknownVerb))
+Requests (Err why) content = ((why ≡ e.For f.RpcTooLong) × (request_of content ≡ Err TooLong))
+    ⊎ ((why ≡ e.For f.UnknownRpcVerb) × (request_of content ≡ Err UnknownVerb))

@@ -20,8 +20,8 @@ abbrev pub Tells : ℕ → RBody → Option Reply → Type 0
 Tells tag body None = ⊥
 Tells tag body (Some reply) = reply_bytes reply ≡ r_frame (under tag body)
 
--- what a read is told by what it finds in a file of lines: nothing; that it holds too little, and the line stays; or the
--- line, which is read
+-- what a read is told by what it finds in a file of lines: nothing; that it holds too little, and the line stays; or
+-- the line, which is read
 abbrev pub LineTold : Node → ℕ → Found → List Deed → Shared → Option Reply → Type 0
 LineTold node tag Nothing done s result = (result ≡ None) × Shares done s
 LineTold node tag TooLong done s result = Tells tag too_small result × Shares done s
@@ -32,7 +32,8 @@ abbrev pub Serves : Bool → List Deed → List Deed → Shared → Type 0
 Serves true done after s = Shares after s
 Serves false done after s = (after ≡ done) × Shares done s
 
--- behind what a conversation met, where one is meant: the reads are told the lines that came, and its answer is delivered
+-- behind what a conversation met, where one is meant: the reads are told the lines that came, and its answer is
+-- delivered
 abbrev pub followed : Option ℕ → List Deed → List Deed
 followed None done = done
 followed (Some conv) done = delivered conv (all_served done)

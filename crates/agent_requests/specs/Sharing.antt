@@ -28,8 +28,9 @@ AreLive done = AllLive (λ conn. was_hung done conn) (speakers done)
 abbrev pub HoldersLive : List Deed → Type 0
 HoldersLive done = (node : Node) → IfSome (holder_of done node) (λ holder. was_hung done holder.0 ≡ false)
 
--- the keys are those of the deeds, and so are the holders, the replies and the reads that wait, and the conversations with
--- the connections that they keep, their questions and the log; and nothing is open on a connection that was hung up
+-- the keys are those of the deeds, and so are the holders, the replies and the reads that wait, and the conversations
+-- with the connections that they keep, their questions and the log; and nothing is open on a connection that was hung
+-- up
 pub record Shares (done : List Deed) (s : Shared) : Type 0 where
   pub ring : s.ring ≡ keys_of done
   pub holders : Holds done s.holders

@@ -11,9 +11,9 @@ ghost use Rattle.agent_talks.specs.Logging.{calls_in, talks_in};
 ghost use Rattle.agent_requests.specs.Sharing.{Shares};
 
 use crate::shared::Shared;
+use agent_talks::{Speaker, Told};
 use mailboxes::{ErrorText, Reply, ToldAnswer};
 use std::alloc::Global;
-use agent_talks::{Speaker, Told};
 
 const READ_TOO_SMALL: &[u8; 14] = b"read too small";
 

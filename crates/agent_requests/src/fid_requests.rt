@@ -12,11 +12,11 @@ ghost use Rattle.mailboxes.specs.Deliveries.{SameRoom};
 ghost use Rattle.agent_requests.specs.Sharing.{Shares};
 ghost use Rattle.agent_requests.specs.Connections.{Keeps, SameKept, Tried, msize_in};
 
+use crate::Shared;
 use crate::call::Call;
 use crate::connection::{Connection, Phase};
 use crate::msize::{MOST_MSIZE, Msize};
 use crate::refused::{Refusal, Refused, Tried};
-use crate::Shared;
 use file_tree::{Fids, Node, put_record, record_size};
 use mailboxes::Reply;
 use nine::{QidList, put_attach, put_clunk, put_flush, put_open, put_stat, put_version, put_walk};

@@ -9,10 +9,10 @@ ghost use Rattle.agent_requests.specs.Sharing.{SameShared, Shares};
 ghost use Rattle.agent_requests.specs.Connections.{asked};
 ghost use Rattle.agent_requests.specs.LineRequests.{LineTold, ReplyTold};
 
+use crate::Shared;
 use crate::call::Call;
 use crate::refused::{Refusal, Refused, Tried};
 use crate::rpc_requests::{waits_enough, write_reply};
-use crate::Shared;
 use file_tree::Node;
 use mailboxes::{Read, Reply, ToldLine};
 use side_files::{PromptKind, TooSmall, parse_reply};

@@ -18,8 +18,8 @@ use crate::refused::{Refusal, Refused, Tried};
 use crate::{Shared, spell_told};
 use mailboxes::{Read, Reply};
 use nine::put_write;
-use talks::{Request, RpcFault, parse_request};
 use std::alloc::Global;
+use talks::{Request, RpcFault, parse_request};
 use wire_base::{Bytes, NoMemory};
 
 // How many reads of a connection may wait.

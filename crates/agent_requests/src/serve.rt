@@ -8,10 +8,10 @@ ghost use Rattle.mailboxes.specs.Deliveries.{Delivers};
 ghost use Rattle.agent_requests.specs.Sharing.{SameShared, Shares};
 ghost use Rattle.agent_requests.specs.Connections.{FrameAnswered, FrameTried, Keeps, SameKept, Tried, WritesAtMost, asked, msize_in};
 
+use crate::Shared;
 use crate::call::Call;
 use crate::connection::Connection;
 use crate::refused::{Refusal, Refused, Tried};
-use crate::Shared;
 use mailboxes::Reply;
 use nine::{DecodeFault, TBody, TMsg, decode_t};
 use std::alloc::Global;

@@ -14,13 +14,13 @@ ghost use Rattle.agent_talks.specs.Logging.{Logs, SameLogs, calls_in, talks_in};
 ghost use Rattle.agent_requests.specs.Sharing.{SameShared, Shares};
 
 use crate::holders::Holders;
+use agent_talks::{LoggedTalks, Told};
 use file_tree::Node;
 use key_ring::ListedRing;
 use mailboxes::Mailboxes;
-use talks::Request;
 use side_files::{PromptKind, TooSmall};
 use std::alloc::Global;
-use agent_talks::{LoggedTalks, Told};
+use talks::Request;
 use wire_base::{Bytes, NoMemory};
 
 /// How many conversations may stand.

@@ -1,5 +1,5 @@
--- What a program that answers for its user enters at an agent, and how that ends. Own entries stand with the newest first.
--- The definitions are the project's own.
+-- What a program that answers for its user enters at an agent, and how that ends. Own entries stand with the newest
+-- first. The definitions are the project's own.
 use Rattle.std.specs.Prelude.{◌≡◌, ◌<◌, ◌≤◌, ℕ, List, [], ◌∷◌, ◌++◌, length, Bool, true, false, not, ◌&&◌, Result, Ok, Err, Option, Some, None, if◌then◌else◌}
 use Rattle.nine.specs.declared.message.TMsg.{TMsg}
 use Rattle.nine.specs.Messages.{t_frame}
@@ -30,13 +30,19 @@ zeros = 0 ∷ 0 ∷ 0 ∷ 0 ∷ 0 ∷ 0 ∷ 0 ∷ 0 ∷ []
 abbrev pub asks : ℕ → TMsg → Event
 asks conn m = Request conn (t_frame m) zeros
 
--- These entries made these requests and took these replies: each request was the next one that is asked for once the replies
--- before it were taken, and all other entries are takes.
+-- These entries made these requests and took these replies: each request was the next one that is asked for once the
+-- replies before it were taken, and all other entries are takes.
 pub data Talks (conn : ℕ) (chain : List Manner) : List Entered → List TMsg → List (List ℕ) → Type 0 where
   Begins : Talks conn chain [] [] []
-  Makes : (older : List Entered) (made still : List TMsg) (replies : List (List ℕ)) (m : TMsg) (h : History) → Talks conn chain older made replies → wanted chain replies ≡ still ++ m ∷ made → Talks conn chain (entry h (asks conn m) ∷ older) (m ∷ made) replies
-  Takes : (older : List Entered) (made : List TMsg) (replies : List (List ℕ)) (reply : List ℕ) (h : History) → Talks conn chain older made replies → answer h (Take conn) ≡ (Reply, reply) → Talks conn chain (entry h (Take conn) ∷ older) made (reply ∷ replies)
-  TakesNone : (older : List Entered) (made : List TMsg) (replies : List (List ℕ)) (h : History) → Talks conn chain older made replies → is_reply (answer h (Take conn)).0 ≡ false → Talks conn chain (entry h (Take conn) ∷ older) made replies
+  Makes : (older : List Entered) (made still : List TMsg) (replies : List (List ℕ)) (m : TMsg) (h : History)
+      → Talks conn chain older made replies → wanted chain replies ≡ still ++ m ∷ made
+      → Talks conn chain (entry h (asks conn m) ∷ older) (m ∷ made) replies
+  Takes : (older : List Entered) (made : List TMsg) (replies : List (List ℕ)) (reply : List ℕ) (h : History)
+      → Talks conn chain older made replies → answer h (Take conn) ≡ (Reply, reply)
+      → Talks conn chain (entry h (Take conn) ∷ older) made (reply ∷ replies)
+  TakesNone : (older : List Entered) (made : List TMsg) (replies : List (List ℕ)) (h : History)
+      → Talks conn chain older made replies → is_reply (answer h (Take conn)).0 ≡ false
+      → Talks conn chain (entry h (Take conn) ∷ older) made replies
 
 -- the end says that a file is in use, or that a line is too long
 abbrev pub is_in_use : PromptsEnd → Bool
@@ -70,8 +76,8 @@ Leaves Gone conn last talk = (last ≡ []) × LastIs IsGone talk
 Leaves e.NoMemory conn last talk = events_in last ≡ Hang conn ∷ []
 
 module _ (conn : ℕ) (chain now : List Manner) (before after : HubSeat) where
-  -- The seat's own new entries are a talk and what follows it. The end says that a file is in use exactly where the reply to
-  -- an open did, and that a line is too long exactly where the reply to a read did
+  -- The seat's own new entries are a talk and what follows it. The end says that a file is in use exactly where the
+  -- reply to an open did, and that a line is too long exactly where the reply to a read did
   pub record Prompts (end : PromptsEnd) : Type 0 where
     pub talk : List Entered
     pub last : List Entered

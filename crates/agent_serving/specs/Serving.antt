@@ -1,5 +1,5 @@
--- What an agent of many connections has accepted, which jobs were taken for that, and what its seat entered. What a listener
--- and a spawner tell is optional. The definitions are the project's own.
+-- What an agent of many connections has accepted, which jobs were taken for that, and what its seat entered. What a
+-- listener and a spawner tell is optional. The definitions are the project's own.
 use Rattle.std.specs.Prelude.{◌≡◌, ◌≤◌, ℕ, ◌+◌, ◌-◌, ◌^◌, min, List, [], ◌∷◌, ◌++◌, length, Option}
 use Rattle.std.specs.List.{AllByRecursion}
 use Rattle.agent_history.specs.declared.event.Event.{Event}
@@ -27,25 +27,30 @@ pub record IsPrompting {I O : Type 0} (job : Job I O) : Type 0 where
   pub seat : HubSeat
   pub prompts : job ≡ Prompts seat prompts_conn
 
--- Connections that were accepted, in order, numbered from 0, with the jobs that were taken for them, how many found no thread,
--- and what was entered, the newest first. Each was opened by a take. Then its job was taken, which has both of its ends; or
--- there was no thread for that, and it was hung up.
+-- Connections that were accepted, in order, numbered from 0, with the jobs that were taken for them, how many found
+-- no thread, and what was entered, the newest first. Each was opened by a take. Then its job was taken, which has
+-- both of its ends; or there was no thread for that, and it was hung up.
 pub data Opened {I O : Type 0} : List (I × O) → List (Job I O) → ℕ → List Event → Type 0 where
   NoneYet : Opened [] [] 0 []
-  Started : (before : List (I × O)) (jobs : List (Job I O)) (lost : ℕ) (events : List Event) (connection : I × O) (seat : HubSeat) → Opened before jobs lost events
-      → Opened (before ++ connection ∷ []) (jobs ++ Line seat (length before) connection.0 connection.1 ∷ []) lost (Take (length before) ∷ events)
-  Lost : (before : List (I × O)) (jobs : List (Job I O)) (lost : ℕ) (events : List Event) (connection : I × O) → Opened before jobs lost events
+  Started : (before : List (I × O)) (jobs : List (Job I O)) (lost : ℕ) (events : List Event) (connection : I × O)
+      (seat : HubSeat) → Opened before jobs lost events
+      → Opened (before ++ connection ∷ []) (jobs ++ Line seat (length before) connection.0 connection.1 ∷ []) lost
+      (Take (length before) ∷ events)
+  Lost : (before : List (I × O)) (jobs : List (Job I O)) (lost : ℕ) (events : List Event) (connection : I × O)
+      → Opened before jobs lost events
       → Opened (before ++ connection ∷ []) jobs (lost + 1) (Hang (length before) ∷ Take (length before) ∷ events)
 
 -- a count of faults rose by as many, or stands at the last value of a counter of 64 bits
 abbrev pub RoseBy : ℕ → ℕ → ℕ → Type 0
 RoseBy many before now = min (before + many) (2 ^ 64 - 1) ≤ now
 
--- From the first seat to this one, where a listener told so before and now, a spawner had taken so before and now, and counted so
--- many faults before and now
-module _ {I O : Type 0} (asks : ℕ) (first seat : HubSeat) (came left : Option (List (I × O))) (taken now : Option (List (Job I O))) (faults failed : ℕ) where
-  -- So many jobs were taken that ask the authentication server, and one that answers for the user. Connections were accepted, and
-  -- of those that weren't refused each was opened; behind that these events were entered. Each job that wasn't taken is a fault
+-- From the first seat to this one, where a listener told so before and now, a spawner had taken so before and now,
+-- and counted so many faults before and now
+module _ {I O : Type 0} (asks : ℕ) (first seat : HubSeat) (came left : Option (List (I × O)))
+    (taken now : Option (List (Job I O))) (faults failed : ℕ) where
+  -- So many jobs were taken that ask the authentication server, and one that answers for the user. Connections were
+  -- accepted, and of those that weren't refused each was opened; behind that these events were entered. Each job
+  -- that wasn't taken is a fault
   pub record Serving (last : List Event) (refused : List (I × O)) : Type 0 where
     pub asking : List (Job I O)
     pub ask : AllByRecursion IsAsking asking
@@ -69,8 +74,8 @@ module _ {I O : Type 0} (asks : ℕ) (first seat : HubSeat) (came left : Option 
     pub serving : Serving [] []
     pub number : conn ≡ length serving.accepted
 
-  -- nothing was accepted: of the jobs that ask these were taken, and there was no thread for the next one, or for the one that
-  -- answers for the user
+  -- nothing was accepted: of the jobs that ask these were taken, and there was no thread for the next one, or for
+  -- the one that answers for the user
   pub record NotBegun (last : List Event) : Type 0 where
     pub none : Came came left []
     pub asking : List (Job I O)
@@ -81,16 +86,18 @@ module _ {I O : Type 0} (asks : ℕ) (first seat : HubSeat) (came left : Option 
     pub added : Adds mine first seat
     pub entered : events_in mine ≡ last
 
-  -- What came to this end: it hadn't begun; accepting failed; or there was no memory for the take of the last connection that
-  -- came, or no number for one more
+  -- What came to this end: it hadn't begun; accepting failed; or there was no memory for the take of the last
+  -- connection that came, or no number for one more
   abbrev pub EndedBy : List Event → ServeEnd → Type 0
   EndedBy last NoThread = NotBegun last
   EndedBy last ListenFault = Serving last []
   EndedBy last NoMemory = (refused : List (I × O)) × (length refused ≤ 1) × Serving last refused
 
 -- at the end the agent was stopped
-abbrev pub ServesSo : {I O : Type 0} → ServeEnd → ℕ → HubSeat → HubSeat → Option (List (I × O)) → Option (List (I × O)) → Option (List (Job I O)) → Option (List (Job I O)) → ℕ → ℕ → Type 0
-ServesSo end asks first seat came left taken now faults failed = EndedBy asks first seat came left taken now faults failed (Stop ∷ []) end
+abbrev pub ServesSo : {I O : Type 0} → ServeEnd → ℕ → HubSeat → HubSeat → Option (List (I × O)) → Option (List (I × O))
+    → Option (List (Job I O)) → Option (List (Job I O)) → ℕ → ℕ → Type 0
+ServesSo end asks first seat came left taken now faults failed =
+    EndedBy asks first seat came left taken now faults failed (Stop ∷ []) end
 
 -- ---- of the code alone: the jobs that ask, started one after the other
 
@@ -103,7 +110,8 @@ pub record Asking {I O : Type 0} (first seat : HubSeat) (taken now : Option (Lis
   pub added : Adds [] first seat
 
 -- at most so many were
-pub record AsksSome {I O : Type 0} (first seat : HubSeat) (taken now : Option (List (Job I O))) (most : ℕ) : Type 0 where
+pub record AsksSome {I O : Type 0} (first seat : HubSeat) (taken now : Option (List (Job I O)))
+    (most : ℕ) : Type 0 where
   pub many : ℕ
   pub few : many ≤ most
   pub asking : Asking first seat taken now many

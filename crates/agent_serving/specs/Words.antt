@@ -1,5 +1,5 @@
--- The words of the program's command line, as lists of bytes: the command's name, and its options, each with its value behind
--- it, in any order. Options go by their long names (getopt_long(3), Argument Syntax), without `=`.
+-- The words of the program's command line, as lists of bytes: the command's name, and its options, each with its
+-- value behind it, in any order. Options go by their long names (getopt_long(3), Argument Syntax), without `=`.
 use Rattle.std.specs.Prelude.{ℕ, ◌+◌, ◌<◌, ◌==◌, nat_le, nat_lt, length, List, [], ◌∷◌, Bool, true, false, not, ◌&&◌, codes, slice_index, slice_index_or, if◌then◌else◌, Option, Some, None, is_some}
 use Rattle.std.specs.Str.{bytes_eq}
 use Rattle.auth_program.specs.Words.{is_among, is_value}
@@ -7,18 +7,23 @@ use Rattle.side_files.specs.Decimals.{number_of}
 use Rattle.agent_serving.specs.declared.words.ServeWords.{ServeWords}
 use Rattle.agent_serving.specs.declared.words.TheConstants.{CONSENTS, ASKS, MOST_ASKS}
 
--- where it listens, the authentication server, how many questions are answered by yes, and how many may be asked at a time
+-- where it listens, the authentication server, how many questions are answered by yes, and how many may be asked at a
+-- time
 abbrev pub serve_options : List (List ℕ)
 serve_options = codes "--listen" ∷ codes "--auth" ∷ codes "--consent" ∷ codes "--asks" ∷ []
 
--- the place of the value behind an option, where that is given; the words are options and values, counted from this number
+-- the place of the value behind an option, where that is given; the words are options and values, counted from this
+-- number
 abbrev pub place_of : List ℕ → ℕ → List (List ℕ) → Option ℕ
-place_of option at (name ∷ value ∷ words) = if bytes_eq name option then Some (at + 1) else place_of option (at + 2) words
+place_of option at (name ∷ value ∷ words) =
+    if bytes_eq name option then Some (at + 1)
+    else place_of option (at + 2) words
 place_of option at words = None
 
 -- the words are options, each with a value, and none is given twice
 abbrev pub are_options : List (List ℕ) → Bool
-are_options (name ∷ value ∷ words) = is_among serve_options name && (is_value value && (not (is_some (place_of name 0 words)) && are_options words))
+are_options (name ∷ value ∷ words) =
+    is_among serve_options name && (is_value value && (not (is_some (place_of name 0 words)) && are_options words))
 are_options (name ∷ []) = false
 are_options [] = true
 
@@ -52,13 +57,15 @@ abbrev pub served : Option ℕ → Option ℕ → Option ℕ → Option ℕ → 
 served None auth consents asks = None
 served (Some listen) auth None asks = None
 served (Some listen) auth (Some consents) None = None
-served (Some listen) auth (Some consents) (Some asks) = Some (record { listen = listen; auth = auth; consents = consents; asks = asks })
+served (Some listen) auth (Some consents) (Some asks) =
+    Some (record { listen = listen; auth = auth; consents = consents; asks = asks })
 
 -- what the options say behind the command's name, which is the word of the number 0
 abbrev pub options_in : List (List ℕ) → Option ServeWords
 options_in words =
     if are_options words
-    then served (place_of (codes "--listen") 1 words) (place_of (codes "--auth") 1 words) (number_behind (codes "--consent") CONSENTS words) (few_asks (number_behind (codes "--asks") ASKS words))
+    then served (place_of (codes "--listen") 1 words) (place_of (codes "--auth") 1 words)
+    (number_behind (codes "--consent") CONSENTS words) (few_asks (number_behind (codes "--asks") ASKS words))
     else None
 
 -- what the words say, where they are those of the command

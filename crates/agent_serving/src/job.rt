@@ -7,9 +7,9 @@ use crate::prompts::{PromptsEnd, serve_prompts};
 use agent_hub::{AsksEnd, Hub, HubSeat, serve_asks};
 use agent_lines::{LineEnd, serve_line};
 use prompters::{Chain, Prompter};
-use wire_streams::{Awaits, Dialer, Offers, Source, Words};
 use std::alloc::Global;
 use std::sync::Wait;
+use wire_streams::{Awaits, Dialer, Offers, Source, Words};
 
 /// What is done for the connections of an agent, each by a seat of its own.
 #[derive(Drop)]

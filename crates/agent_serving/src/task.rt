@@ -4,13 +4,13 @@ use crate::keeping::{answer_for_user, keep_asking};
 use crate::waits::LineWaits;
 use agent_hub::Hub;
 use prompters::Chain;
-use wire_streams::{Dialer, Offers, Source, Watched, Words};
 use std::alloc::Global;
 use std::io::Eprint;
 use std::marker::Model;
 use std::net::Net;
 use std::sync::{Arc, Wait};
 use std::time::Clock;
+use wire_streams::{Dialer, Offers, Source, Watched, Words};
 
 /// What the tools of a job are made from, once for each job.
 pub trait Again: Sized {

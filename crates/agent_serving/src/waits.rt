@@ -2,13 +2,13 @@
 use agent_hub::Hub;
 use mio::unix::SourceFd;
 use mio::{Events, Interest, Poll, Token, Waker};
-use wire_streams::{Awaits, Ready, Wants};
 use std::alloc::Global;
 use std::net::Net;
 use std::os::fd::RawFd;
 use std::sync::Wait;
 use std::time::{Clock, Duration};
 use std::{io, thread};
+use wire_streams::{Awaits, Ready, Wants};
 
 /// How many milliseconds a wait rests that the system has no descriptors for.
 const REST: u64 = 5;

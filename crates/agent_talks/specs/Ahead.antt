@@ -1,5 +1,5 @@
--- The lines of the log that are made ahead: the line of a start before what may start a conversation, and the line of an end
--- from the start on, so that an end is told without memory.
+-- The lines of the log that are made ahead: the line of a start before what may start a conversation, and the line of
+-- an end from the start on, so that an end is told without memory.
 use Rattle.std.specs.Prelude.{◌≡◌, ℕ, List, [], ◌++◌, Bool, true, false, not, ◌&&◌, Option, Some, None, is_some, option_map, if◌then◌else◌}
 use Rattle.std.specs.Option.{option_to_list}
 use Rattle.std.specs.Ordering.{nat_cmp}
@@ -44,7 +44,9 @@ template_coming s = coming_by s.begun s.phase
 
 -- where it hasn't started yet, and further lines are wanted
 abbrev pub start_by : Bool → ℕ → Option Outcome → Option (List Attr) → Option (List ℕ)
-start_by debug conv before template = if debug && not (is_some before) then option_map (start_line conv) template else None
+start_by debug conv before template =
+    if debug && not (is_some before) then option_map (start_line conv) template
+    else None
 
 -- ---- the line of an end
 
@@ -71,14 +73,16 @@ goes_on s = is_some s.begun && not (is_end (outcome_of s))
 
 -- ---- what is told
 
--- the lines of a conversation that has this outcome now: of its start, where that was made, and of its end, where it wasn't
--- over
+-- the lines of a conversation that has this outcome now: of its start, where that was made, and of its end, where it
+-- wasn't over
 abbrev pub told_of : Bool → Option (List ℕ) → ℕ → List Attr → Option Outcome → List (List ℕ)
 told_of over start conv template None = []
-told_of over start conv template (Some outcome) = option_to_list start ++ (if over then [] else end_line conv template (Some outcome))
+told_of over start conv template (Some outcome) =
+    option_to_list start ++ (if over then [] else end_line conv template (Some outcome))
 
 -- ---- of the code alone
 
 -- whatever deeds the conversations are those of, this is shown of one that stands
 abbrev pub ShowsOf : {A : Type 0} → Talks → ℕ → (Standing → A) → A → Type 0
-ShowsOf t conv made shown = (done : List Deed) → stands done conv ≡ true → Speak done t → shown ≡ made (standing_of done conv)
+ShowsOf t conv made shown =
+    (done : List Deed) → stands done conv ≡ true → Speak done t → shown ≡ made (standing_of done conv)

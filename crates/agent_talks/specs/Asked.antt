@@ -26,7 +26,8 @@ pub record AskedAbout (before after : List Deed) (conv : ℕ) (now : Standing) (
 -- it asks for a key
 pub record AskedFor (before after : List Deed) (conv : ℕ) (now : Standing) : Type 0 where
   pub confirm : prompts_of after k.Confirm ≡ prompts_of before k.Confirm
-  pub needkey : prompts_of after k.Needkey ≡ asks_about conv (shown_text (template_of now.begun)) (prompts_of before k.Needkey)
+  pub needkey : prompts_of after k.Needkey
+      ≡ asks_about conv (shown_text (template_of now.begun)) (prompts_of before k.Needkey)
 
 -- nothing is asked
 pub record NoneAsked (before after : List Deed) : Type 0 where

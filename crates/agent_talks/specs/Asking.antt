@@ -1,5 +1,5 @@
--- When the conversations, the questions to their users and the log are those that a list of deeds tells of. After factotum(4)
--- of the Plan 9 manual (confirm, needkey, log).
+-- When the conversations, the questions to their users and the log are those that a list of deeds tells of. After
+-- factotum(4) of the Plan 9 manual (confirm, needkey, log).
 use Rattle.std.specs.Prelude.{◌≡◌, ◌≤◌, ◌+◌, ℕ, List, [], ◌∷◌, filter, map, Bool, true, ◌==◌, Option, Some, None, if◌then◌else◌}
 use Rattle.std.specs.List.{list_any}
 use Rattle.side_files.specs.declared.line.PromptKind.{PromptKind}
@@ -57,7 +57,8 @@ ended deed done = deed ∷ all_withdrawn (ended_by deed done) done
 -- of the code alone: a conversation asks the question that was made, if it is to
 abbrev pub AsksBy : Option PromptKind → ℕ → LineFiles → LineFiles → Type 0
 AsksBy None conv old new = new ≡ old
-AsksBy (Some kind) conv old new = (before : List Deed) (about : List ℕ) → IsMade (asked_in kind old.asks) about → Files before old → Files (OfPrompts kind (side.Asked conv about) ∷ before) new
+AsksBy (Some kind) conv old new = (before : List Deed) (about : List ℕ) → IsMade (asked_in kind old.asks) about
+    → Files before old → Files (OfPrompts kind (side.Asked conv about) ∷ before) new
 
 -- the conversations of those who leave
 abbrev pub convs_leaving : Leaving → List Speaker → List ℕ

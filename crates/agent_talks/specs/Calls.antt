@@ -1,6 +1,7 @@
--- The connections to the authentication server that conversations keep, by the numbers of the conversations, those that are
--- to be given up, and how they change. After section 5 of the Plan 9 manual (clunk, version) and factotum(4): a conversation
--- ends with its fid. That one keeps its connection between a challenge and the answer to it is authsrv(6).
+-- The connections to the authentication server that conversations keep, by the numbers of the conversations, those
+-- that are to be given up, and how they change. After section 5 of the Plan 9 manual (clunk, version) and
+-- factotum(4): a conversation ends with its fid. That one keeps its connection between a challenge and the answer to
+-- it is authsrv(6).
 use Rattle.std.specs.Prelude.{ℕ, List, [], ◌∷◌, ◌++◌, drop, filter, Bool, not, ◌==◌, Option, Some, None, if◌then◌else◌}
 use Rattle.std.specs.List.{list_any}
 use Rattle.agent_history.specs.Conversations.{Drop}
@@ -41,7 +42,10 @@ handed keeps conv c = if keeps then begun conv c else used conv c
 
 -- it gives its own up, where it keeps one
 abbrev pub ended : ℕ → ℕ → Calls → Calls
-ended conv behind c = if is_kept c.kept conv then record { kept = others conv c.kept; drops = c.drops ++ record { conv = conv; behind = behind } ∷ [] } else c
+ended conv behind c =
+    if is_kept c.kept conv
+    then record { kept = others conv c.kept; drops = c.drops ++ record { conv = conv; behind = behind } ∷ [] }
+    else c
 
 abbrev pub ended_if : Bool → ℕ → ℕ → Calls → Calls
 ended_if over conv behind c = if over then ended conv behind c else c

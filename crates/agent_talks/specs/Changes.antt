@@ -61,7 +61,9 @@ left_at leaving speakers conv o = if leaving_at leaving speakers conv then None 
 
 -- nobody leaves, and the questions are as before, or those of conversations that are kept are left
 abbrev pub QuestionsLeft : Talks → Talks → Leaving → Type 0
-QuestionsLeft old new leaving = ((filter (λ s. leaves leaving s) old.speakers ≡ []) × (new.questions.items ≡ old.questions.items)) ⊎ (new.questions.items ≡ filter (λ q. is_some (kept_at new q.conv)) old.questions.items)
+QuestionsLeft old new leaving = ((filter (λ s. leaves leaving s) old.speakers ≡ [])
+    × (new.questions.items ≡ old.questions.items))
+    ⊎ (new.questions.items ≡ filter (λ q. is_some (kept_at new q.conv)) old.questions.items)
 
 -- the conversations of those who leave are kept no more, nor are their questions
 pub record Leaves (old new : Talks) (leaving : Leaving) : Type 0 where
@@ -115,7 +117,8 @@ may_take p.KeyTold phase = asks_that KeyTold phase
 
 -- behind it a question to the user is made, if he is asked
 abbrev pub StepReady : Conversation → Step → Asking → KeyList → Asks → Type 0
-StepReady old step asking list asks = (talk : List Call) → Holds old talk → may_take step (standing talk).phase ≡ true → C.IsReady asking list (standing (next_by step asking list talk)) asks
+StepReady old step asking list asks = (talk : List Call) → Holds old talk → may_take step (standing talk).phase ≡ true
+    → C.IsReady asking list (standing (next_by step asking list talk)) asks
 
 abbrev pub BothReady : Option Conversation → Step → Asking → KeyList → Asks → Type 0
 BothReady None step asking list asks = Unit {0}
@@ -138,9 +141,12 @@ abbrev pub more_raised : Bool → ℕ → ℕ
 more_raised asks raised = if asks then raised + 1 else raised
 
 abbrev pub more_asked : Bool → ℕ → ℕ → List Question → List Question
-more_asked asks raised conv questions = if asks then questions ++ record { call = raised + 1; conv = conv; handed = false } ∷ [] else questions
+more_asked asks raised conv questions =
+    if asks then questions ++ record { call = raised + 1; conv = conv; handed = false } ∷ []
+    else questions
 
--- a conversation met something, a question is raised where this asks the authentication server, and all else is as before
+-- a conversation met something, a question is raised where this asks the authentication server, and all else is as
+-- before
 pub record Goes (old new : Talks) (conv : ℕ) (asks : Bool) : Type 0 where
   pub opened : new.opened ≡ old.opened
   pub speakers : speakers_in new ≡ speakers_in old

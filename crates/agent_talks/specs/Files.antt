@@ -1,5 +1,5 @@
--- When the questions to users and the lines of the log are those that a list of deeds tells of. After factotum(4) of the
--- Plan 9 manual (confirm, needkey, log).
+-- When the questions to users and the lines of the log are those that a list of deeds tells of. After factotum(4) of
+-- the Plan 9 manual (confirm, needkey, log).
 use Rattle.std.specs.Prelude.{◌≡◌, List}
 use Rattle.side_files.specs.declared.line.PromptKind.{PromptKind}
 use Rattle.side_files.specs.declared.line.PromptKind.TheVariants as k

@@ -34,9 +34,11 @@ pub record Converses (done : List Deed) (k : KeepingTalks) : Type 0 where
 abbrev pub SameConverses : KeepingTalks → KeepingTalks → Type 0
 SameConverses old new = (done : List Deed) → Converses done old → Converses done new
 
--- of the code alone: a conversation gives up the connection that it keeps, if it has come to its end; where one is meant
+-- of the code alone: a conversation gives up the connection that it keeps, if it has come to its end; where one is
+-- meant
 abbrev pub EndsOver : ℕ → ℕ → KeepingTalks → KeepingTalks → Type 0
-EndsOver conv behind old new = (done : List Deed) → stands done conv ≡ true → Speak done old.talks → new.calls ≡ ended_if (is_over_at done conv) conv behind old.calls
+EndsOver conv behind old new = (done : List Deed) → stands done conv ≡ true → Speak done old.talks
+    → new.calls ≡ ended_if (is_over_at done conv) conv behind old.calls
 
 abbrev pub EndsAsker : Option ℕ → ℕ → KeepingTalks → KeepingTalks → Type 0
 EndsAsker None behind old new = new.calls ≡ old.calls

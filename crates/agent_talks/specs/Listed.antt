@@ -1,4 +1,5 @@
--- Of the code alone: who has conversations open, in the order of their numbers, and the number that a fid of a connection finds.
+-- Of the code alone: who has conversations open, in the order of their numbers, and the number that a fid of a
+-- connection finds.
 use Rattle.std.specs.Prelude.{◌≡◌, ◌<◌, ℕ, List, [], ◌∷◌, ◌++◌, Bool, false, not, ◌==◌, ◌&&◌, filter, find, Option, option_map}
 use Rattle.std.specs.List.{list_any}
 use Rattle.std.specs.declared.cmp.Ordering.{Ordering}

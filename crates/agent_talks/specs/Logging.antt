@@ -1,6 +1,6 @@
--- What becomes of conversations is written into the log: that they start, that they come to their end, and why they broke. When
--- the conversations, the questions to their users and the log are those that a list of deeds tells of. After factotum(4) of the
--- Plan 9 manual (log).
+-- What becomes of conversations is written into the log: that they start, that they come to their end, and why they
+-- broke. When the conversations, the questions to their users and the log are those that a list of deeds tells of.
+-- After factotum(4) of the Plan 9 manual (log).
 use Rattle.std.specs.Prelude.{◌≡◌, ℕ, List, Bool, true, false, not, ◌&&◌, Option, Some, None}
 use Rattle.attr_tuples.specs.declared.attr.Attr.{Attr}
 use Rattle.roles.specs.declared.need.Outcome.{Outcome}
@@ -20,7 +20,8 @@ use Rattle.agent_talks.specs.Ahead.{IsMadeFor, goes_on, line_in, template_coming
 
 -- ---- deeds
 
--- a conversation met something, what it needs then is got for it or asked for, and its end or start is written into the log
+-- a conversation met something, what it needs then is got for it or asked for, and its end or start is written into
+-- the log
 abbrev pub logged_talk : ℕ → Call → List Deed → List Deed
 logged_talk conv call done = then_logged conv (standing_of done conv) (talked conv call done)
 
@@ -51,7 +52,8 @@ line_at t conv = line_in t.ends conv
 
 -- a conversation that stands has the line of its end, from its start on until it ends
 abbrev pub HasItsLine : List Deed → LoggedTalks → ℕ → Type 0
-HasItsLine done t conv = IsMadeFor (goes_on (standing_of done conv)) conv (start_template (standing_of done conv).begun) (line_at t conv)
+HasItsLine done t conv =
+    IsMadeFor (goes_on (standing_of done conv)) conv (start_template (standing_of done conv).begun) (line_at t conv)
 
 pub record Logs (done : List Deed) (t : LoggedTalks) : Type 0 where
   pub tells : Tells done t.asking
@@ -65,7 +67,8 @@ SameLogs old new = (done : List Deed) → Logs done old → Logs done new
 
 -- the line of the end of a conversation is made, if it may come to its end by what it meets next
 abbrev pub CanEnd : List Deed → LoggedTalks → ℕ → Type 0
-CanEnd done t conv = (template : List Attr) → template_coming (standing_of done conv) ≡ Some template → is_end (outcome_of (standing_of done conv)) ≡ false → IsMadeFor true conv template (line_at t conv)
+CanEnd done t conv = (template : List Attr) → template_coming (standing_of done conv) ≡ Some template
+    → is_end (outcome_of (standing_of done conv)) ≡ false → IsMadeFor true conv template (line_at t conv)
 
 -- the lines of all others are as before
 abbrev pub SameOthers : ℕ → LoggedTalks → LoggedTalks → Type 0
@@ -73,15 +76,20 @@ SameOthers conv old new = (other : ℕ) → (conv ≡ other → ⊥) → line_at
 
 -- the end of a conversation that has this outcome is written into the log
 pub record EndTold (conv : ℕ) (outcome : Outcome) (old new : LoggedTalks) : Type 0 where
-  pub told : (done : List Deed) (template : List Attr) → IsMadeFor (is_over outcome) conv template (line_at old conv) → Tells done old.asking → Tells (logged (end_line conv template (Some outcome)) done) new.asking
+  pub told : (done : List Deed) (template : List Attr) → IsMadeFor (is_over outcome) conv template (line_at old conv)
+      → Tells done old.asking → Tells (logged (end_line conv template (Some outcome)) done) new.asking
   pub others : SameOthers conv old new
   pub kept : is_over outcome ≡ false → line_at new conv ≡ line_at old conv
 
 -- the lines of a conversation that stands are written into it
 pub record IsTold (conv : ℕ) (over : Bool) (start : Option (List ℕ)) (old new : LoggedTalks) : Type 0 where
-  pub told : (done : List Deed) (template : List Attr) → stands done conv ≡ true → IsMadeFor (not over && is_end (outcome_of (standing_of done conv))) conv template (line_at old conv) → Tells done old.asking → Tells (logged (told_of over start conv template (outcome_of (standing_of done conv))) done) new.asking
+  pub told : (done : List Deed) (template : List Attr) → stands done conv ≡ true
+      → IsMadeFor (not over && is_end (outcome_of (standing_of done conv))) conv template (line_at old conv)
+      → Tells done old.asking
+      → Tells (logged (told_of over start conv template (outcome_of (standing_of done conv))) done) new.asking
   pub others : SameOthers conv old new
-  pub kept : (done : List Deed) → stands done conv ≡ true → Tells done old.asking → is_end (outcome_of (standing_of done conv)) ≡ false → line_at new conv ≡ line_at old conv
+  pub kept : (done : List Deed) → stands done conv ≡ true → Tells done old.asking
+      → is_end (outcome_of (standing_of done conv)) ≡ false → line_at new conv ≡ line_at old conv
 
 -- the same of the conversation that asks, where one is meant
 abbrev pub AskerTold : Option ℕ → Bool → LoggedTalks → LoggedTalks → Type 0

@@ -90,8 +90,10 @@ pub record IsReady (done : List Deed) (conv : ℕ) (list : KeyList) (asking : As
 
 -- the conversation of a number, where it has a request, whatever deeds the conversations are those of
 abbrev pub ShowsRequest : Talks → ℕ → Bool → Type 0
-ShowsRequest t conv has = (done : List Deed) → stands done conv ≡ true → Speak done t → has ≡ has_request (standing_of done conv).phase
+ShowsRequest t conv has =
+    (done : List Deed) → stands done conv ≡ true → Speak done t → has ≡ has_request (standing_of done conv).phase
 
 -- a conversation met something, and the question to its user that this comes to, if he is asked, is made
 abbrev pub Readied : List Deed → ℕ → Call → Asking → KeyList → Asks → Type 0
-Readied done conv call asking list asks = C.IsReady asking list (standing (with_search asking list (call ∷ talk done conv))) asks
+Readied done conv call asking list asks =
+    C.IsReady asking list (standing (with_search asking list (call ∷ talk done conv))) asks

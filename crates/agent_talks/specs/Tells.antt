@@ -21,10 +21,11 @@ abbrev pub told_body : Told → RBody
 told_body (t.Answer answer) = r.Read (answer_text answer)
 told_body t.TooSmall = r.Error (codes "read too small")
 
--- in this phase a read that may hold so many bytes is told the answer, if one is there; else it is told nothing, and nothing
--- has changed. What is kept fits the deeds then
+-- in this phase a read that may hold so many bytes is told the answer, if one is there; else it is told nothing, and
+-- nothing has changed. What is kept fits the deeds then
 abbrev pub TellsBy : (List Deed → Type 0) → Phase → List Deed → ℕ → ℕ → Option Told → Type 0
-TellsBy fits (Kept answer) done conv count result = (option_map told_body result ≡ Some (told count answer)) × fits (then_took conv count answer done)
+TellsBy fits (Kept answer) done conv count result =
+    (option_map told_body result ≡ Some (told count answer)) × fits (then_took conv count answer done)
 TellsBy fits Resting done conv count result = (result ≡ None) × fits done
 TellsBy fits (Waiting request) done conv count result = (result ≡ None) × fits done
 TellsBy fits Seeking done conv count result = (result ≡ None) × fits done
@@ -37,7 +38,8 @@ Tells p done new conv count result = TellsBy (λ d. Speak d new) p done conv cou
 
 -- of the code alone: whatever deeds the conversations are those of, this holds of the answer of one that stands
 abbrev pub ShowsAnswer : Talks → ℕ → (Option RpcAnswer → Type 0) → Type 0
-ShowsAnswer t conv P = (done : List Deed) → stands done conv ≡ true → Speak done t → P (answer_in (standing_of done conv).phase)
+ShowsAnswer t conv P = (done : List Deed) → stands done conv ≡ true → Speak done t
+    → P (answer_in (standing_of done conv).phase)
 
 -- the answer that the conversation of a number keeps
 abbrev pub answer_kept : Option Conversation → Option RpcAnswer

@@ -8,8 +8,8 @@ ghost use Rattle.agent_talks.specs.Ahead.{ShowsOf, new_template, start_by};
 ghost use Rattle.conversations.specs.Asking.{template_begun};
 ghost use Rattle.conversations.specs.Fits.{Shows};
 
-use crate::end_line::build_start;
 use crate::Talks;
+use crate::end_line::build_start;
 use attr_tuples::Tuple;
 use conversations::{Conversation, read_template};
 use roles::Outcome;

@@ -21,9 +21,9 @@ use crate::files::LineFiles;
 use crate::{KeepingTalks, Told};
 use file_tree::Node;
 use key_ring::KeyRing;
-use talks::{Asking, Request};
 use side_files::{PromptKind, TooSmall};
 use std::alloc::Global;
+use talks::{Asking, Request};
 use wire_base::{Bytes, NoMemory};
 
 /// The conversations of an agent that stand, with the questions to their users and the log. It has no Debug, which would

@@ -15,9 +15,9 @@ use crate::question::Question;
 use crate::speaker::{Leaving, Speaker, leaves};
 use crate::speakers::Speakers;
 use conversations::Conversation;
-use talks::Request;
 use std::alloc::Global;
 use std::collections::BTreeMap;
+use talks::Request;
 use wire_base::NoMemory;
 
 /// The conversations that stand, each with the fid of a connection that has it open, and their questions for the

@@ -21,8 +21,8 @@ use crate::tell::Told;
 use conversations::Asks;
 use key_ring::KeyRing;
 use roles::Outcome;
-use talks::{Asking, Request};
 use std::alloc::Global;
+use talks::{Asking, Request};
 use wire_base::{NoMemory, Shape};
 
 /// The conversations of an agent that stand, with their questions for the authentication server, and the connections to it

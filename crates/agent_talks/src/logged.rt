@@ -19,10 +19,10 @@ use crate::asking::AskingTalks;
 use crate::ends::{EndLines, drop_lines};
 use crate::{Leaving, Told};
 use file_tree::Node;
-use talks::Request;
 use side_files::{PromptKind, TooSmall};
 use std::alloc::Global;
 use std::collections::BTreeMap;
+use talks::Request;
 use wire_base::{Bytes, NoMemory};
 
 /// The conversations of an agent that stand, with the questions to their users and the log; what becomes of them is written

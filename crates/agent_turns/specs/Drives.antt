@@ -20,7 +20,11 @@ frames_of replies = map r_frame replies
 pub record TakesOne (history : History) (more : Bool) (agent : Agent) (old new : List (List ℕ)) : Type 0 where
   pub more_is : more ≡ is_reply (answer history (Take 0)).0
   pub stands : StandsFor (Take 0 ∷ history) agent
-  pub frames : new ≡ old ++ (elim more [ Bool.true ↦ frames_of (first_left (untaken (deeds history) 0)) | Bool.false ↦ [] ])
+  pub frames : new ≡ old ++ (elim more [
+    | Bool.true ↦ frames_of
+        (first_left (untaken (deeds history) 0))
+    | Bool.false ↦ []
+  ])
 
 -- all takes were made
 pub record TakesAll (history : History) (agent : Agent) (made : List (List ℕ)) : Type 0 where

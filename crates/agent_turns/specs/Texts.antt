@@ -21,7 +21,9 @@ file_name Rpc = codes "rpc"
 
 -- what stands behind so many bytes of a frame whose type, its fifth byte, is this
 unfoldable pub text_at : ℕ → ℕ → List ℕ → Option (List ℕ)
-text_at kind skip frame = if nat_lt (length frame) skip || not (slice_index frame 4 == kind) then None else Some (drop skip frame)
+text_at kind skip frame =
+    if nat_lt (length frame) skip || not (slice_index frame 4 == kind) then None
+    else Some (drop skip frame)
 
 -- some frame refuses
 abbrev pub has_error : List (List ℕ) → Bool

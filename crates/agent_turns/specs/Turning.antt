@@ -63,7 +63,9 @@ follow number conv c =
 
 -- the step of a request itself
 abbrev pub own : List ℕ → talk.Asks → Came → List Step
-own conv (talk.starts word tuple) c = if not (is_some c.before) && is_some c.now then start_step conv word tuple ∷ [] else []
+own conv (talk.starts word tuple) c =
+    if not (is_some c.before) && is_some c.now then start_step conv word tuple ∷ []
+    else []
 own conv talk.gets c = []
 own conv (talk.gives bytes) c = if are_taken c.driven.replies then In conv bytes ∷ [] else []
 

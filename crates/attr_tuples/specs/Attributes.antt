@@ -38,7 +38,8 @@ is_name_byte b = nat_le 33 b && (not (b == 39) && (not (b == 61) && not (b == 63
 
 -- a name: text of such bytes, neither empty nor `!` alone
 abbrev pub is_name : List ℕ → Bool
-is_name name = nat_lt 0 (length name) && (not (bytes_eq name (codes "!")) && (list_all is_name_byte name && is_text name))
+is_name name = nat_lt 0 (length name)
+    && (not (bytes_eq name (codes "!")) && (list_all is_name_byte name && is_text name))
 
 -- a value: text of the bytes of a line, if it is given
 abbrev pub is_value : Value → Bool

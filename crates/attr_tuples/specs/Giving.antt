@@ -1,5 +1,5 @@
--- What a tuple gives to a name: whether some attribute of the name has a value, and whether that value is what it should
--- be. After factotum(4) of the Plan 9 manual.
+-- What a tuple gives to a name: whether some attribute of the name has a value, and whether that value is what it
+-- should be. After factotum(4) of the Plan 9 manual.
 use Rattle.std.specs.Prelude.{ℕ, List, Bool, true, ◌&&◌}
 use Rattle.std.specs.List.{list_any}
 use Rattle.attr_tuples.specs.declared.attr.Attr.{Attr}

@@ -15,7 +15,9 @@ use Rattle.attr_tuples.specs.declared.fault.TupleFault.TheVariants.{NotText, Quo
 
 -- a word without `=` that ends in `?` asks; any other is a name alone
 abbrev pub asking : List ℕ → Attr
-asking word = if slice_index word (length word - 1) == 63 then record { name = take (length word - 1) word; value = Ask } else record { name = word; value = Bare }
+asking word =
+    if slice_index word (length word - 1) == 63 then record { name = take (length word - 1) word; value = Ask }
+    else record { name = word; value = Bare }
 
 -- a word, cut at the place of its first `=` if it has one
 abbrev pub cut_at : List ℕ → Option ℕ → Attr
@@ -123,7 +125,9 @@ put_first a (Err fault) = Err fault
 
 -- a word that is taken is an attribute, where its name is one, and then the others follow
 abbrev pub taken : ℕ → Result Cut ℕ → (Cut → Result (List Attr) TupleFault) → Result (List Attr) TupleFault
-taken at (Ok cut) others = if is_name (attr_of cut.bytes).name then put_first (attr_of cut.bytes) (others cut) else Err (Name at)
+taken at (Ok cut) others =
+    if is_name (attr_of cut.bytes).name then put_first (attr_of cut.bytes) (others cut)
+    else Err (Name at)
 taken at (Err opened) others = Err (Quote opened)
 
 -- the attributes of the rest of a text, where its next word begins at a place and so many more may follow
@@ -131,7 +135,8 @@ abbrev pub words_at : ℕ → ℕ → List ℕ → Result (List Attr) TupleFault
 words_at zero at [] = Ok []
 words_at zero at (b ∷ rest) = Err TooMany
 words_at (suc n) at [] = Ok []
-words_at (suc n) at (b ∷ rest) = taken at (first_word at (b ∷ rest)) (λ cut. words_at n (cut.end + gap_len cut.behind) (drop (gap_len cut.behind) cut.behind))
+words_at (suc n) at (b ∷ rest) = taken at (first_word at (b ∷ rest))
+    (λ cut. words_at n (cut.end + gap_len cut.behind) (drop (gap_len cut.behind) cut.behind))
 
 -- the same behind the blanks and tabs at a place
 unfoldable pub words_from : ℕ → ℕ → List ℕ → Result (List Attr) TupleFault

@@ -117,7 +117,8 @@ at_end (Behind opened) at = Ok (record { bytes = []; end = at; behind = [] })
 abbrev pub unquote : Place → ℕ → List ℕ → Result Cut ℕ
 unquote place at [] = at_end place at
 unquote place at (b ∷ rest) =
-    if stops place b then Ok (record { bytes = []; end = at; behind = b ∷ rest }) else prefixed (kept place b) (unquote (place_after place at b) (at + 1) rest)
+    if stops place b then Ok (record { bytes = []; end = at; behind = b ∷ rest })
+    else prefixed (kept place b) (unquote (place_after place at b) (at + 1) rest)
 
 -- the first word of a text that begins with one
 unfoldable pub first_word : ℕ → List ℕ → Result Cut ℕ

@@ -22,7 +22,8 @@ address_of words = value_of (codes "--listen") words
 -- the words of `authsrv` that are the others
 abbrev pub authsrv_words : List (List ℕ) → List (List ℕ)
 authsrv_words words = codes "authsrv"
-    ∷ without (codes "--per-address") (without (codes "--clients") (without (codes "--idle") (without (codes "--listen") words)))
+    ∷ without (codes "--per-address")
+    (without (codes "--clients") (without (codes "--idle") (without (codes "--listen") words)))
 
 -- ---- numbers
 
@@ -72,8 +73,10 @@ is_authd words = is_value (address_of words) && (are_numbers words && is_authsrv
 -- the words are the program's, with these values
 abbrev pub IsAuthd : List (List ℕ) → AuthdWords → Type 0
 IsAuthd words given = (is_authd words ≡ true)
-    × ((given.listen ≡ address_of words) × (HasNumbers words given.numbers × HasValues (authsrv_words words) given.given))
+    × ((given.listen ≡ address_of words)
+    × (HasNumbers words given.numbers × HasValues (authsrv_words words) given.given))
 
 -- why words give none: they aren't the program's, or they give an address and memory ran out
 abbrev pub IsUnreadAuthd : List (List ℕ) → Status → Type 0
-IsUnreadAuthd words status = ((status ≡ Usage) × (is_authd words ≡ false)) ⊎ ((status ≡ NoMemory) × (is_value (address_of words) ≡ true))
+IsUnreadAuthd words status =
+    ((status ≡ Usage) × (is_authd words ≡ false)) ⊎ ((status ≡ NoMemory) × (is_value (address_of words) ≡ true))

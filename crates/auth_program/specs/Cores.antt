@@ -9,7 +9,8 @@ use Rattle.auth_program.specs.declared.status.Status.{Status}
 use Rattle.auth_program.specs.declared.status.Status.TheVariants.{ReadFault, BadTables, NoMemory, Flood}
 
 -- Both tables of a domain were read whole and have no bad line, and what a server knows is what they say.
-pub record HasCore (dom : List ℕ) (keys_before keys_now speaks_before speaks_now : Option (List ℕ)) (core : Server) : Type 0 where
+pub record HasCore (dom : List ℕ) (keys_before keys_now speaks_before speaks_now : Option (List ℕ))
+    (core : Server) : Type 0 where
   pub keys : List ℕ
   pub speaks : List ℕ
   pub read_keys : ReadsFile keys_before keys_now keys

@@ -1,6 +1,7 @@
--- The lines of the log of an authentication server. A line is its name and some words, each with a blank before it: the address
--- of a client, what it asked, and what came of that. The definitions are the project's own. No word is made of anything that
--- isn't named in `judged_line`: of what is sent, a line shows the kind of a request, and the names of a host and of a user.
+-- The lines of the log of an authentication server. A line is its name and some words, each with a blank before it:
+-- the address of a client, what it asked, and what came of that. The definitions are the project's own. No word is
+-- made of anything that isn't named in `judged_line`: of what is sent, a line shows the kind of a request, and the
+-- names of a host and of a user.
 use Rattle.std.specs.Prelude.{◌≡◌, ℕ, ◌≤◌, List, [], ◌∷◌, ◌++◌, Bool, ◌&&◌, ◌||◌, ◌==◌, true, codes, drop, length, map, nat_lt, if◌then◌else◌}
 use Rattle.std.specs.List.{list_all}
 use Rattle.wire_base.specs.Kinds.{ticket_request, apop_request, cram_request}
@@ -17,7 +18,8 @@ use Rattle.auth_program.specs.Statuses.{status_text}
 abbrev pub is_visible : ℕ → Bool
 is_visible byte = nat_lt 32 byte && nat_lt byte 127
 
--- a byte of a name as it is shown: what isn't a visible sign of ASCII is `?` (63), so that no name ends a line or a word
+-- a byte of a name as it is shown: what isn't a visible sign of ASCII is `?` (63), so that no name ends a line or a
+-- word
 abbrev pub shown_byte : ℕ → ℕ
 shown_byte byte = if is_visible byte then byte else 63
 
@@ -50,7 +52,8 @@ names_text host user = word_text (codes "host=") host ++ word_text (codes "user=
 
 -- the line of a request whose fields are well
 abbrev pub judged_line : List ℕ → ℕ → List ℕ → List ℕ → Outcome → List ℕ
-judged_line address kind host user outcome = head_text address ++ (word_text (asked_word kind) [] ++ (names_text host user ++ (word_text (outcome_word outcome) [] ++ 10 ∷ [])))
+judged_line address kind host user outcome = head_text address ++
+    (word_text (asked_word kind) [] ++ (names_text host user ++ (word_text (outcome_word outcome) [] ++ 10 ∷ [])))
 
 -- the line of one with a bad field
 abbrev pub bad_line : List ℕ → ℕ → List ℕ
@@ -74,7 +77,8 @@ pub record IsLine (line : List ℕ) : Type 0 where
 
 -- ---- faults
 
--- the line of a status under another name: what stands in it behind the ten bytes of `factotum: `; nothing where there is none
+-- the line of a status under another name: what stands in it behind the ten bytes of `factotum: `; nothing where
+-- there is none
 abbrev pub line_under : List ℕ → List ℕ → List ℕ
 line_under name line = if nat_lt (length line) 10 then [] else name ++ drop 10 line
 

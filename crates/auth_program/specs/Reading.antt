@@ -16,7 +16,8 @@ option_rule name = record (new_rule name) { long = Some name; action = Some Set;
 
 -- the command of `authsrv`
 abbrev pub authsrv_app : App
-authsrv_app = with_rule (with_rule (with_rule (new_app (codes "authsrv")) (option_rule (codes "dom"))) (option_rule (codes "keys"))) (option_rule (codes "speaks"))
+authsrv_app = with_rule (with_rule (with_rule (new_app (codes "authsrv")) (option_rule (codes "dom")))
+    (option_rule (codes "keys"))) (option_rule (codes "speaks"))
 
 -- what was found has a value of this name, which is text
 pub record HasText (matches : ArgMatches) (name : List ℕ) : Type 0 where

@@ -1,5 +1,6 @@
--- What `authsrv` has read, drawn and written when it ends: its two tables, the keys first, and then the requests of one
--- client. Content is optional: the words on it hold where it is told. The server is that of authsrv(6) of the Plan 9 manual.
+-- What `authsrv` has read, drawn and written when it ends: its two tables, the keys first, and then the requests of
+-- one client. Content is optional: the words on it hold where it is told. The server is that of authsrv(6) of the
+-- Plan 9 manual.
 use Rattle.std.specs.Prelude.{◌≡◌, ℕ, ◌≤◌, List, length, Option, Some, None, true, false, ◌⊎◌}
 use Rattle.auth_tables.specs.Keys.{bad_key_line, key_of, table_keys}
 use Rattle.auth_tables.specs.Speaks.{bad_speak_line, may_speak, names_in, table_speaks}
@@ -18,7 +19,8 @@ pub record Outside : Type 0 where
   pub client : Moment
 
 -- such a moment by its parts
-abbrev pub outside : Option (List ℕ) → Option (List ℕ) → Option (List ℕ) → Option (List (List ℕ)) → Option (List ℕ) → Outside
+abbrev pub outside : Option (List ℕ) → Option (List ℕ) → Option (List ℕ) → Option (List (List ℕ)) → Option (List ℕ)
+    → Outside
 outside keys speaks left to_come holds = record { keys = keys; speaks = speaks; client = moment left to_come holds }
 
 -- what a server of a domain knows by the text of its tables
@@ -102,7 +104,8 @@ ServesSo dom (AsEnded (ends.UnknownType at kind)) before now = Serves dom (ends.
 ServesSo dom (AsEnded ends.TooManyWrong) before now = Serves dom ends.TooManyWrong before now
 ServesSo dom (AsEnded end) before now = ⊥
 ServesSo dom NoMemory before now = LacksTables before now ⊎ Serves dom ends.NoMemory before now
-ServesSo dom (Flood limit) before now = ((limit ≡ most_file) × StopsAtTables FloodsFile before now) ⊎ ((limit ≡ most_input) × Serves dom ends.Flood before now)
+ServesSo dom (Flood limit) before now = ((limit ≡ most_file) × StopsAtTables FloodsFile before now)
+    ⊎ ((limit ≡ most_input) × Serves dom ends.Flood before now)
 
 -- ---- what is served to its end
 

@@ -24,7 +24,8 @@ status_number (Flood limit) = 11
 
 -- the lines that tell numbers, in decimal
 abbrev pub bad_frame_text : ℕ → ℕ → List ℕ
-bad_frame_text at size = codes "factotum: bad frame size " ++ (decimal size ++ (codes " at " ++ (decimal at ++ 10 ∷ [])))
+bad_frame_text at size =
+    codes "factotum: bad frame size " ++ (decimal size ++ (codes " at " ++ (decimal at ++ 10 ∷ [])))
 
 abbrev pub torn_text : ℕ → List ℕ
 torn_text at = codes "factotum: input ends inside the message at " ++ (decimal at ++ 10 ∷ [])
@@ -40,7 +41,8 @@ cause_text UnknownConv = codes "unknown conversation"
 cause_text NoSuchMessage = codes "no such message"
 
 abbrev pub bad_script_text : ℕ → ScriptCause → List ℕ
-bad_script_text line cause = codes "factotum: script line " ++ (decimal line ++ (codes ": " ++ (cause_text cause ++ 10 ∷ [])))
+bad_script_text line cause =
+    codes "factotum: script line " ++ (decimal line ++ (codes ": " ++ (cause_text cause ++ 10 ∷ [])))
 
 -- the line of a table's first bad line: of who speaks for whom, or of the keys
 abbrev pub bad_table_text : Bool → ℕ → List ℕ

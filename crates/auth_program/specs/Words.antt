@@ -1,5 +1,5 @@
--- The words of `authsrv` behind the program's name, as lists of bytes: the command's name and then options, each with a value
--- behind it. Options go by their long names (getopt_long(3), Argument Syntax), without `=` or `--` alone.
+-- The words of `authsrv` behind the program's name, as lists of bytes: the command's name and then options, each with
+-- a value behind it. Options go by their long names (getopt_long(3), Argument Syntax), without `=` or `--` alone.
 use Rattle.std.specs.Prelude.{◌≡◌, ◌==◌, ◌&&◌, ℕ, List, [], ◌∷◌, Bool, true, false, not, codes, if◌then◌else◌, ◌⊎◌}
 use Rattle.std.specs.List.{list_all, list_any}
 use Rattle.std.specs.Str.{bytes_eq}
@@ -53,4 +53,5 @@ IsAuthsrv words given = (is_authsrv words ≡ true) × HasValues words given
 
 -- why words give none: they aren't those of `authsrv`, or they have their form and memory ran out
 abbrev pub IsUnreadAuthsrv : List (List ℕ) → Status → Type 0
-IsUnreadAuthsrv words status = ((status ≡ Usage) × (is_authsrv words ≡ false)) ⊎ ((status ≡ NoMemory) × (has_authsrv_form words ≡ true))
+IsUnreadAuthsrv words status =
+    ((status ≡ Usage) × (is_authsrv words ≡ false)) ⊎ ((status ≡ NoMemory) × (has_authsrv_form words ≡ true))

@@ -1,10 +1,10 @@
 // Where all clients' words are drawn from.
-use wire_streams::{ReadAhead, ReadSource, ReadWords};
 use std::alloc::Global;
 use std::fs::File;
 use std::io::{self, ErrorKind, Read};
 use std::sync::Arc;
 use wire_base::NoMemory;
+use wire_streams::{ReadAhead, ReadSource, ReadWords};
 
 /// How many bytes of it one read asks for: 64 words.
 const MANY: usize = 512;

@@ -1,7 +1,7 @@
--- What the authentication server answers, after authsrv(6) of the Plan 9 manual, APOP (RFC 1939) and CRAM (RFC 2195). The
--- form of a challenge, what stands in for keys that aren't known, the end with the fifth wrong answer and the texts of
--- errors are this project's. An answer depends on the requests before it in the session, and on nothing else that was
--- kept: a session is the list of its requests, the newest first.
+-- What the authentication server answers, after authsrv(6) of the Plan 9 manual, APOP (RFC 1939) and CRAM (RFC 2195).
+-- The form of a challenge, what stands in for keys that aren't known, the end with the fifth wrong answer and the
+-- texts of errors are this project's. An answer depends on the requests before it in the session, and on nothing else
+-- that was kept: a session is the list of its requests, the newest first.
 use Rattle.std.specs.Prelude.{◌≡◌, ℕ, ◌+◌, ◌-◌, ◌<◌, List, [], ◌∷◌, ◌++◌, Bool, false, ◌==◌, nat_le, length, take, drop, replicate, codes, Option, Some, None, Result, Ok, Err, if◌then◌else◌}
 use Rattle.std.specs.List.{slice_index_or}
 use Rattle.std.specs.Str.{bytes_eq}
@@ -57,11 +57,13 @@ shared_key words = word_key (word 0 words)
 
 -- a ticket, sealed under a key; its number says for whom it is
 abbrev pub ticket : ℕ → List ℕ → List ℕ → List ℕ → List ℕ → List ℕ → List ℕ
-ticket num chal cuid suid shared key = sealed key (ticket_text (record { num = num; chal = chal; cuid = cuid; suid = suid; key = record { 0 = shared } }))
+ticket num chal cuid suid shared key =
+    sealed key (ticket_text (record { num = num; chal = chal; cuid = cuid; suid = suid; key = record { 0 = shared } }))
 
 -- the two tickets of a grant, under their byte
 unfoldable pub tickets : TicketReq → List ℕ → List ℕ → List ℕ → List ℕ
-tickets r shared hosts servers = answer_ok ∷ [] ++ ticket client_ticket r.chal r.hostid r.uid shared hosts ++ ticket server_ticket r.chal r.hostid r.uid shared servers
+tickets r shared hosts servers = answer_ok ∷ [] ++ ticket client_ticket r.chal r.hostid r.uid shared hosts
+    ++ ticket server_ticket r.chal r.hostid r.uid shared servers
 
 -- an error and its text, with NULs to 64 bytes
 unfoldable pub refusal : List ℕ → List ℕ
@@ -90,11 +92,14 @@ challenge_text known words = challenge_at (word 0 words) known.dom
 
 -- a challenge under its byte, behind its length in decimal with blanks to five bytes
 unfoldable pub challenge_answer : List ℕ → List ℕ
-challenge_answer text = answer_counted ∷ [] ++ decimal (length text) ++ replicate (5 - length (decimal (length text))) 32 ++ text
+challenge_answer text =
+    answer_counted ∷ [] ++ decimal (length text) ++ replicate (5 - length (decimal (length text))) 32 ++ text
 
 -- the digits that answer a challenge of a kind under a password
 abbrev pub digits_for : ℕ → List ℕ → List ℕ → List ℕ
-digits_for kind challenge password = if kind == apop_request then apop_digits challenge password else cram_digits challenge password
+digits_for kind challenge password =
+    if kind == apop_request then apop_digits challenge password
+    else cram_digits challenge password
 
 -- whether digits answer a challenge under a password, if there is one
 abbrev pub are_digits : ℕ → List ℕ → List ℕ → Option (List ℕ) → Bool
@@ -110,7 +115,8 @@ password_of (Some key) = key.password
 abbrev pub is_right : Knowledge → List ℕ → TicketReq → List ℕ → Bool
 is_right known request r challenge = are_digits r.kind challenge (drop 141 request) (password_of (known.key r.uid))
 
--- a vouch for a user: a ticket for the server named, which names the user as both, and an authenticator under the key in it
+-- a vouch for a user: a ticket for the server named, which names the user as both, and an authenticator under the key
+-- in it
 unfoldable pub vouch_text : TicketReq → List ℕ → List ℕ → List ℕ
 vouch_text r shared servers =
     answer_ok ∷ [] ++ ticket server_ticket r.chal r.uid r.uid shared servers
@@ -126,7 +132,9 @@ vouch known words r = vouch_text r (shared_key words) (server_key known words r.
 -- answers it, rightly or wrongly
 abbrev pub judged : Knowledge → Asked → TicketReq → Option Challenge → Verdict
 judged known asked r None = First
-judged known asked r (Some challenge) = if challenge.kind == r.kind then (if is_right known asked.request r challenge.text then Right else Wrong) else First
+judged known asked r (Some challenge) =
+    if challenge.kind == r.kind then (if is_right known asked.request r challenge.text then Right else Wrong)
+    else First
 
 -- the challenge that is held after it: a first request has one given out, in place of one of the other kind; a right
 -- answer uses it up, and a wrong one leaves it
@@ -138,7 +146,9 @@ held_mail known asked r held Wrong = held
 -- the same after any request: one with a bad field, and a ticket request, change nothing
 abbrev pub held_after : Knowledge → Asked → Option Challenge → Result TicketReq FieldFault → Option Challenge
 held_after known asked held (Err fault) = held
-held_after known asked held (Ok r) = if r.kind == ticket_request then held else held_mail known asked r held (judged known asked r held)
+held_after known asked held (Ok r) =
+    if r.kind == ticket_request then held
+    else held_mail known asked r held (judged known asked r held)
 
 -- the challenge that a session holds
 abbrev pub held : Knowledge → List Asked → Option Challenge
@@ -179,7 +189,9 @@ mail_answer known asked r Wrong = refusal (codes "bad response")
 -- the answer to any request, by the challenge that is held
 abbrev pub answer_to : Knowledge → Asked → Option Challenge → Result TicketReq FieldFault → List ℕ
 answer_to known asked held (Err fault) = refusal (codes "bad request")
-answer_to known asked held (Ok r) = if r.kind == ticket_request then grant known asked.words r else mail_answer known asked r (judged known asked r held)
+answer_to known asked held (Ok r) =
+    if r.kind == ticket_request then grant known asked.words r
+    else mail_answer known asked r (judged known asked r held)
 
 -- the answer to a request, by those before it
 unfoldable pub answer : Knowledge → List Asked → Asked → List ℕ

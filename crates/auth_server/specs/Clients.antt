@@ -26,7 +26,8 @@ Came (Some before) None connections = ⊥
 Came (Some before) (Some now) connections = before ≡ connections ++ now
 
 -- The clients of the connections that came were given to threads, in order.
-pub record Going {I O : Type 0} (core : Server) (came left : Option (List (I × O))) (taken now : Option (List (Client I O))) : Type 0 where
+pub record Going {I O : Type 0} (core : Server) (came left : Option (List (I × O)))
+    (taken now : Option (List (Client I O))) : Type 0 where
   pub accepted : List (I × O)
   pub arrived : Came came left accepted
   pub jobs : Gains taken now (map (client_of core) accepted)
@@ -39,7 +40,8 @@ left_out NoMemory = 0
 
 -- What the end of accepting says: of the connections that came, in order, those of the front were given to threads as
 -- clients, and as many are left out behind them as the end says.
-pub record Listens {I O : Type 0} (core : Server) (end : ListenEnd) (came left : Option (List (I × O))) (taken now : Option (List (Client I O))) : Type 0 where
+pub record Listens {I O : Type 0} (core : Server) (end : ListenEnd) (came left : Option (List (I × O)))
+    (taken now : Option (List (Client I O))) : Type 0 where
   pub accepted : List (I × O)
   pub lost : List (I × O)
   pub arrived : Came came left (accepted ++ lost)

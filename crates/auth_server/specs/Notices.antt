@@ -1,5 +1,5 @@
--- What a server notes of each request of a session, in the order in which they were answered: what was asked, and what came
--- of it. The definitions are the project's own.
+-- What a server notes of each request of a session, in the order in which they were answered: what was asked, and
+-- what came of it. The definitions are the project's own.
 use Rattle.std.specs.Prelude.{◌≡◌, ℕ, List, [], ◌∷◌, ◌++◌, Bool, ◌&&◌, ◌==◌, true, false, Option, None, Some, Result, Ok, Err, is_some, if◌then◌else◌, ◌⊎◌}
 use Rattle.sealing.specs.declared.fault.FieldFault.{FieldFault}
 use Rattle.sealing.specs.declared.request.TicketReq.{TicketReq}
@@ -19,7 +19,8 @@ use Rattle.auth_server.specs.declared.log.Outcome.TheVariants.{Granted, Refused,
 use Rattle.auth_server.specs.declared.log.Notice.{Notice}
 use Rattle.auth_server.specs.declared.log.Notice.TheVariants.{Bad, Judged}
 
--- whether no key of a grant is made up: the host may speak for the user, and the tables know the host's key and the server's
+-- whether no key of a grant is made up: the host may speak for the user, and the tables know the host's key and the
+-- server's
 abbrev pub is_granted : Knowledge → TicketReq → Bool
 is_granted known r = known.speaks r.hostid r.uid && (is_some (known.key r.hostid) && is_some (known.key r.authid))
 
@@ -33,7 +34,9 @@ outcome_of_mail verdicts.Wrong = Wrong
 
 -- what came of a request whose fields are well, by the challenge that is held
 abbrev pub outcome_of : Knowledge → Asked → Option Challenge → TicketReq → Outcome
-outcome_of known asked held r = if r.kind == ticket_request then outcome_of_ticket known r else outcome_of_mail (judged known asked r held)
+outcome_of known asked held r =
+    if r.kind == ticket_request then outcome_of_ticket known r
+    else outcome_of_mail (judged known asked r held)
 
 -- what is noted of a request, by the challenge that is held
 abbrev pub notice_of : Knowledge → Asked → Option Challenge → Result TicketReq FieldFault → Notice
@@ -43,12 +46,14 @@ notice_of known asked held (Ok r) = Judged r (outcome_of known asked held r)
 -- what is noted of a session, the first request first
 abbrev pub notices_of : Knowledge → List Asked → List Notice
 notices_of known [] = []
-notices_of known (asked ∷ before) = notices_of known before ++ notice_of known asked (held known before) (request_of asked.request) ∷ []
+notices_of known (asked ∷ before) =
+    notices_of known before ++ notice_of known asked (held known before) (request_of asked.request) ∷ []
 
 -- ---- the ends
 
 -- the requests that were judged by an end: those that were answered, and the one whose answer couldn't be written whole
-abbrev pub judged_by : (known : Knowledge) (end : AuthEnd) (before now : Moment) → EndsSo known end before now → List Asked
+abbrev pub judged_by : (known : Knowledge) (end : AuthEnd) (before now : Moment) → EndsSo known end before now
+    → List Asked
 judged_by known End before now ends = ends.requests
 judged_by known (UnknownType at kind) before now ends = ends.requests
 judged_by known (Torn at) before now ends = ends.requests
@@ -60,7 +65,8 @@ judged_by known Flood before now ends = ends.requests
 judged_by known NoMemory before now ends = ends.requests
 
 -- a server ended so, and what came of each request that it judged was noted
-pub record EndsNoted (known : Knowledge) (end : AuthEnd) (before now : Moment) (log later : Option (List Notice)) : Type 0 where
+pub record EndsNoted (known : Knowledge) (end : AuthEnd) (before now : Moment)
+    (log later : Option (List Notice)) : Type 0 where
   pub ends : EndsSo known end before now
   pub noted : Gains log later (notices_of known (judged_by known end before now ends))
 

@@ -33,7 +33,7 @@ abbrev pub is_for : ℕ → Option Challenge → Bool
 is_for kind None = false
 is_for kind (Some challenge) = challenge.kind == kind
 
--- how many bytes a request has that begins with a kind: 141, and 32 digits behind these where it answers a challenge that
--- is held; none where no request of that kind is served
+-- how many bytes a request has that begins with a kind: 141, and 32 digits behind these where it answers a challenge
+-- that is held; none where no request of that kind is served
 abbrev pub needed : Option Challenge → ℕ → Option ℕ
 needed held kind = if is_served kind then Some (if is_mail kind && is_for kind held then 173 else 141) else None

@@ -27,13 +27,15 @@ moment left to_come holds = record { left = left; to_come = to_come; holds = hol
 
 -- between two moments the bytes of a session were read, and these behind them; its words were drawn, and these behind
 -- them
-pub record Reads (known : Knowledge) (before now : Moment) (requests : List Asked) (rest : List ℕ) (drawn : List (List ℕ)) : Type 0 where
+pub record Reads (known : Knowledge) (before now : Moment) (requests : List Asked) (rest : List ℕ)
+    (drawn : List (List ℕ)) : Type 0 where
   pub session : IsSession known requests
   pub read : Consumes before.left now.left (bytes_of requests ++ rest)
   pub drew : DrawsAll before.to_come now.to_come (words_of requests ++ drawn)
 
 -- and every one of its requests was answered
-pub record Answers (known : Knowledge) (before now : Moment) (requests : List Asked) (rest : List ℕ) (drawn : List (List ℕ)) : Type 0 where
+pub record Answers (known : Knowledge) (before now : Moment) (requests : List Asked) (rest : List ℕ)
+    (drawn : List (List ℕ)) : Type 0 where
   pub reads : Reads known before now requests rest drawn
   pub written : Gains before.holds now.holds (answers_of known requests)
 
@@ -139,8 +141,8 @@ pub record IsServable (known : Knowledge) (before : Moment) : Type 0 where
   pub left : before.left ≡ Some (bytes_of requests)
   pub to_come : before.to_come ≡ Some (words_of requests ++ later)
 
--- the client's bytes are told, they begin with a session that five wrong answers end, and that isn't too many; and its words
--- are told to come
+-- the client's bytes are told, they begin with a session that five wrong answers end, and that isn't too many; and
+-- its words are told to come
 pub record IsSpent (known : Knowledge) (before : Moment) : Type 0 where
   pub requests : List Asked
   pub behind : List ℕ

@@ -1,11 +1,11 @@
--- A session over a stream of bytes: its requests stand in it one behind the other, each as long as is needed of its kind
--- by then, and three words are drawn for each. A session is the list of its requests, the newest first.
+-- A session over a stream of bytes: its requests stand in it one behind the other, each as long as is needed of its
+-- kind by then, and three words are drawn for each. A session is the list of its requests, the newest first.
 use Rattle.std.specs.Prelude.{◌≡◌, ℕ, ◌<◌, List, [], ◌∷◌, ◌++◌, false, length, Option, Some, None, ◌⊎◌, ⊤}
 use Rattle.auth_server.specs.Requests.{Asked, Challenge, kind_of, needed}
 use Rattle.auth_server.specs.Answers.{Knowledge, answer, held, is_over}
 
--- a request may follow others: they have not come to an end by wrong answers, it is as long as is needed, and it has three
--- words
+-- a request may follow others: they have not come to an end by wrong answers, it is as long as is needed, and it has
+-- three words
 pub record Follows (known : Knowledge) (before : List Asked) (asked : Asked) : Type 0 where
   pub goes_on : is_over known before ≡ false
   pub whole : needed (held known before) (kind_of asked.request) ≡ Some (length asked.request)

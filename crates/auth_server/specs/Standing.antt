@@ -14,7 +14,11 @@ pub record Server : Type 0 where
 
 -- what it knows by them
 abbrev pub knowledge : Server → Knowledge
-knowledge server = record { dom = server.dom; key = λ user. key_of user server.keys; speaks = λ host user. may_speak (names_of host server.speaks) host user }
+knowledge server = record {
+  dom = server.dom;
+  key = λ user. key_of user server.keys;
+  speaks = λ host user. may_speak (names_of host server.speaks) host user;
+}
 
 -- what a session is seen as: the challenge that it holds, and how many wrong answers it had
 pub record Standing : Type 0 where

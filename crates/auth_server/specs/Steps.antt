@@ -19,7 +19,8 @@ use Rattle.auth_server.specs.declared.log.Notice.{Notice}
 use Rattle.wire_streams.specs.Spawning.{Gains}
 
 -- what a request makes of a session, by what is read of it: what is held after it, and its wrong answers more
-pub record Moves (known : Knowledge) (asked : Asked) (old new : Standing) (read : Result TicketReq FieldFault) : Type 0 where
+pub record Moves (known : Knowledge) (asked : Asked) (old new : Standing)
+    (read : Result TicketReq FieldFault) : Type 0 where
   pub held : new.held ≡ held_after known asked old.held read
   pub wrong : new.wrong ≡ old.wrong + wrong_by known asked old.held read
 
@@ -37,12 +38,14 @@ pub record Incoming : Type 0 where
 
 -- what one read makes of the bytes: so many more of the source, at least one; or they stay, at its end or at a fault
 abbrev pub Fills : Option (List ℕ) → Option (List ℕ) → List ℕ → List ℕ → ℕ → Got → Type 0
-Fills left later old new most (Bytes n) = (piece : List ℕ) × (new ≡ old ++ piece) × (n ≡ length piece) × (0 < length piece) × (length piece ≤ most) × Consumes left later piece
+Fills left later old new most (Bytes n) = (piece : List ℕ) × (new ≡ old ++ piece) × (n ≡ length piece)
+    × (0 < length piece) × (length piece ≤ most) × Consumes left later piece
 Fills left later old new most End = (new ≡ old) × IsAtEnd later × Keeps left later
 Fills left later old new most Failed = (new ≡ old) × Keeps left later
 
 -- between two reads: the requests before the one that is being read were answered
-pub record Received (known : Knowledge) (before now : Moment) (requests : List Asked) (session : Standing) (incoming : Incoming) : Type 0 where
+pub record Received (known : Knowledge) (before now : Moment) (requests : List Asked) (session : Standing)
+    (incoming : Incoming) : Type 0 where
   pub answers : Answers known before now requests incoming.bytes []
   pub goes_on : is_over known requests ≡ false
   pub stands : StandsFor known requests session
@@ -68,7 +71,8 @@ pub record EndsBehind (known : Knowledge) (end : AuthEnd) (before now : Moment) 
   pub judged : judged_by known end before now ends ≡ requests
 
 -- some requests were answered, what came of each was noted, and the next begins at a place
-pub record HasAnswered (known : Knowledge) (before now : Moment) (log later : Option (List Notice)) (at : ℕ) (session : Standing) : Type 0 where
+pub record HasAnswered (known : Knowledge) (before now : Moment) (log later : Option (List Notice)) (at : ℕ)
+    (session : Standing) : Type 0 where
   pub requests : List Asked
   pub received : Received known before now requests session (record { at = at; bytes = [] })
   pub noted : Gains log later (notices_of known requests)

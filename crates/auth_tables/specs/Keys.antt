@@ -34,12 +34,20 @@ gives_only name test attrs = list_all (λ a. not (is_named name a) || is_given t
 
 -- a tuple that is a user's key: it names one user, it gives a password or digits, and no digits but 14 hexadecimal ones
 abbrev pub is_user_key : List Attr → Bool
-is_user_key t = gives_once (codes "user") is_user t && (gives_only (codes "!hex") is_hex_key t && (gives (codes "!password") is_any t || gives (codes "!hex") is_any t))
+is_user_key t = gives_once (codes "user") is_user t
+    && (gives_only (codes "!hex") is_hex_key t && (gives (codes "!password") is_any t || gives (codes "!hex") is_any t))
 
 -- the user and the key that such a tuple gives: the digits are the DES key where there are some, and else the password
 -- stands for it
 abbrev pub key_given : List Attr → KeyLine
-key_given t = (unwrap_or (value_of (codes "user") t) [], record { des = digits_or_password (value_of (codes "!hex") t) (value_of (codes "!password") t); password = value_of (codes "!password") t })
+key_given t = (
+  unwrap_or (value_of (codes "user") t) [],
+  record {
+    des = digits_or_password (value_of (codes "!hex") t)
+        (value_of (codes "!password") t);
+    password = value_of (codes "!password") t;
+  },
+)
 
 -- the user and the key that a tuple gives, if there is one and it is a user's key
 abbrev pub key_said : Option (List Attr) → Option KeyLine

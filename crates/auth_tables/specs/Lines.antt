@@ -24,12 +24,15 @@ most_lines = 4096
 -- whether a line is bad behind others: it counts, and either so many count before it, or it doesn't fit behind those of
 -- the others that count. What fits is told by the table's kind.
 abbrev pub is_bad : (List (List ℕ) → List ℕ → Bool) → List (List ℕ) → List ℕ → Bool
-is_bad fits before line = counts line && (nat_le most_lines (length (counted before)) || not (fits (counted before) line))
+is_bad fits before line =
+    counts line && (nat_le most_lines (length (counted before)) || not (fits (counted before) line))
 
 -- the number of the first line that is bad behind those before it, where some lines stand before all of these
 abbrev pub first_bad_behind : (List (List ℕ) → List ℕ → Bool) → List (List ℕ) → List (List ℕ) → Option ℕ
 first_bad_behind fits before [] = None
-first_bad_behind fits before (line ∷ lines) = if is_bad fits before line then Some (length before + 1) else first_bad_behind fits (before ++ line ∷ []) lines
+first_bad_behind fits before (line ∷ lines) =
+    if is_bad fits before line then Some (length before + 1)
+    else first_bad_behind fits (before ++ line ∷ []) lines
 
 -- the number of the first bad line, counted from 1
 unfoldable pub first_bad : (List (List ℕ) → List ℕ → Bool) → List (List ℕ) → Option ℕ
@@ -49,4 +52,5 @@ pub record IsFirstBad (fits : List (List ℕ) → List ℕ → Bool) (lines : Li
 
 -- no line is bad behind those before it
 abbrev pub NoneIsBad : (List (List ℕ) → List ℕ → Bool) → List (List ℕ) → Type 0
-NoneIsBad fits lines = (before : List (List ℕ)) (line : List ℕ) (behind : List (List ℕ)) → lines ≡ before ++ line ∷ behind → is_bad fits before line ≡ false
+NoneIsBad fits lines = (before : List (List ℕ)) (line : List ℕ) (behind : List (List ℕ))
+    → lines ≡ before ++ line ∷ behind → is_bad fits before line ≡ false

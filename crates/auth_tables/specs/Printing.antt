@@ -1,5 +1,5 @@
--- How a table of keys is written: a line for each user, in the form that is read. After keyfs(4) of the Plan 9 manual; the
--- form of a line, a tuple as factotum(4) has it, is this project's.
+-- How a table of keys is written: a line for each user, in the form that is read. After keyfs(4) of the Plan 9
+-- manual; the form of a line, a tuple as factotum(4) has it, is this project's.
 use Rattle.std.specs.Prelude.{◌≡◌, ◌≢◌, ℕ, ◌≤◌, List, [], ◌∷◌, ◌++◌, Bool, true, false, ◌&&◌, nat_le, All, AllPairs, length, codes, Option, None, Some, IfSome, if◌then◌else◌}
 use Rattle.std.specs.List.{flat_map, list_all}
 use Rattle.std.specs.Map.{set_value}
@@ -49,7 +49,8 @@ table_text keys = flat_map key_line keys
 
 -- whether bytes may be a new password: text of 8 to 27 bytes from the blank on
 abbrev pub is_new_password : List ℕ → Bool
-is_new_password password = nat_le 8 (length password) && (nat_le (length password) 27 && (list_all (nat_le 32) password && is_text password))
+is_new_password password =
+    nat_le 8 (length password) && (nat_le (length password) 27 && (list_all (nat_le 32) password && is_text password))
 
 -- what the server knows of a user whose password this is
 abbrev pub key_of_password : List ℕ → UserKey

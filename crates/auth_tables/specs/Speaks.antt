@@ -29,8 +29,8 @@ grants names user = has names user || has names (codes "*")
 abbrev pub denies : List (List ℕ) → List ℕ → Bool
 denies names user = has names (33 ∷ user)
 
--- whether a host, which is given some names, may speak for a user: the host is the user, or its names grant him and none
--- of them denies him
+-- whether a host, which is given some names, may speak for a user: the host is the user, or its names grant him and
+-- none of them denies him
 unfoldable pub may_speak : List (List ℕ) → List ℕ → List ℕ → Bool
 may_speak names host user = bytes_eq host user || grants names user && not (denies names user)
 
@@ -79,4 +79,5 @@ pub record Gives (lines : List SpeakLine) (host name : List ℕ) : Type 0 where
 
 -- the host is the user, or a line of the host gives it the user or `*`, and none gives it `!` and the user
 abbrev pub Speaks : List SpeakLine → List ℕ → List ℕ → Type 0
-Speaks lines host user = (host ≡ user) ⊎ ((Gives lines host user ⊎ Gives lines host (codes "*")) × (Gives lines host (33 ∷ user) → ⊥))
+Speaks lines host user =
+    (host ≡ user) ⊎ ((Gives lines host user ⊎ Gives lines host (codes "*")) × (Gives lines host (33 ∷ user) → ⊥))

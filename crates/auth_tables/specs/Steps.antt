@@ -27,7 +27,9 @@ TellsSpeaks lines table = (host : List ℕ) → names_of host table ≡ names_in
 -- ---- a key as it is written behind its user
 
 abbrev pub digits_text : UserKey → List ℕ
-digits_text key = if is_of_password key.des key.password then [] else codes " !hex=" ++ value_text (encode_lower key.des)
+digits_text key =
+    if is_of_password key.des key.password then []
+    else codes " !hex=" ++ value_text (encode_lower key.des)
 
 abbrev pub password_text : Option (List ℕ) → List ℕ
 password_text None = []
@@ -42,7 +44,8 @@ pub record IsBehind (before : List (List ℕ)) (number count : ℕ) : Type 0 whe
 
 -- the lines of a file are those that were read and those that are left; none of the first is bad, so that the first bad
 -- line is to be found in what is left
-pub record HasRead (fits : List (List ℕ) → List ℕ → Bool) (lines : List (List ℕ)) (left : Option (Bor (List ℕ))) (number count : ℕ) (before : List (List ℕ)) : Type 0 where
+pub record HasRead (fits : List (List ℕ) → List ℕ → Bool) (lines : List (List ℕ)) (left : Option (Bor (List ℕ)))
+    (number count : ℕ) (before : List (List ℕ)) : Type 0 where
   pub whole : lines ≡ before ++ lines_left left
   pub behind : IsBehind before number count
   pub bad : first_bad_behind fits before (lines_left left) ≡ first_bad_behind fits [] lines

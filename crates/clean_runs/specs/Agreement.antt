@@ -1,7 +1,8 @@
--- What it means that the two ends of a login agree, of a labelled history of real bytes: on which grant a server accepted a
--- user, which conversation of the user's client took part, and which server answered a client (Lowe, A Hierarchy of
--- Authentication Specifications, 1997). A place of a history is told by what stands before it. What a conversation took and
--- gave is told by labels, move by move. The user whom a server accepts is the field of the ticket.
+-- What it means that the two ends of a login agree, of a labelled history of real bytes: on which grant a server
+-- accepted a user, which conversation of the user's client took part, and which server answered a client (Lowe, A
+-- Hierarchy of Authentication Specifications, 1997). A place of a history is told by what stands before it. What a
+-- conversation took and gave is told by labels, move by move. The user whom a server accepts is the field of the
+-- ticket.
 use Rattle.std.specs.Prelude.{◌≡◌, ℕ, List, [], ◌∷◌, ◌++◌, length, Contains, true, Option, Some, None, Ok, ◌==◌, if◌then◌else◌}
 use Rattle.std.specs.Str.{bytes_eq}
 use Rattle.sealing.specs.declared.request.TicketReq.{TicketReq}
@@ -31,23 +32,31 @@ pub record Happens (history past : History) (step : Step) : Type 0 where
 -- the role with which a conversation started
 abbrev pub plays : List ℕ → History → Option Role
 plays name [] = None
-plays name (Start conv protocol role word ∷ past) = if bytes_eq conv name then Some (role_by protocol role) else plays name past
+plays name (Start conv protocol role word ∷ past) =
+    if bytes_eq conv name then Some (role_by protocol role)
+    else plays name past
 plays name (step ∷ past) = plays name past
 
 -- what it has of its own, and what it did by its labels, move by move
 abbrev pub own_in : Labelling → List ℕ → History → Own
-own_in l conv past = record { word = nonce (number_of conv past); key = long_key (l.holder conv); password = password (l.holder conv) }
+own_in l conv past = record {
+  word = nonce (number_of conv past);
+  key = long_key (l.holder conv);
+  password = password (l.holder conv);
+}
 
 abbrev pub moves_in : Labelling → Role → List ℕ → History → List Move
 moves_in l role conv past = moves_by (own_in l conv past) role (labelled l conv past)
 
 -- the labels of what a step gives
 abbrev pub gives_labels : History → Setting → Labelling → History → Step → List Tree
-gives_labels history z l past step = labels_given (setting_of z l history) (events_of (setting_of z l history) l past step)
+gives_labels history z l past step =
+    labels_given (setting_of z l history) (events_of (setting_of z l history) l past step)
 
 -- ---- grants
 
--- a grant was made: the authentication server answered the request of this number by tickets, or vouched for a right answer
+-- a grant was made: the authentication server answered the request of this number by tickets, or vouched for a right
+-- answer
 pub record IsMade (history : History) (z : Setting) (l : Labelling) (number : ℕ) : Type 0 where
   pub session : List ℕ
   -- the request, and where it came
@@ -65,15 +74,19 @@ pub record IsMade (history : History) (z : Setting) (l : Labelling) (number : �
   pub answered : Happens history past (AsGave message session reply)
   pub ok : kind_of reply ≡ 4
   pub older : List Dealt
-  pub newest : dealt l session past ≡ record { deal = requested request words; number = number; label = l.label (length asked) } ∷ older
+  pub newest : dealt l session past
+      ≡ record { deal = requested request words; number = number; label = l.label (length asked) } ∷ older
 
 -- what it used, who may speak for its user, and what its tickets hold
 abbrev pub granted : {history : History} {z : Setting} {l : Labelling} {number : ℕ} → IsMade history z l number → Grant
 granted {z} {l} made = grant_by z.server (Ok made.read) (l.label (length made.asked))
 
 -- its ticket for the server
-abbrev pub server_ticket : {history : History} {z : Setting} {l : Labelling} {number : ℕ} → IsMade history z l number → Tree
-server_ticket {number} made = if made.read.kind == 1 then ticket_for_server (granted made) number else vouched_ticket (granted made) number
+abbrev pub server_ticket : {history : History} {z : Setting} {l : Labelling} {number : ℕ} → IsMade history z l number
+    → Tree
+server_ticket {number} made =
+    if made.read.kind == 1 then ticket_for_server (granted made) number
+    else vouched_ticket (granted made) number
 
 -- ---- servers
 
@@ -103,10 +116,11 @@ pub record IsUnder {history : History} (l : Labelling) (a : Acceptance history) 
   pub suid : List ℕ
   pub by_ticket : IsByTicket l a (seal key (ticket for_server chal cuid suid (ticket_key number)))
 
--- an acceptance rests on a grant: it is under it, and the grant was made before; its ticket, by which the server accepts,
--- was sealed under the key of the server's holder, whom the request named, with the user accepted and the conversation's
--- own word as challenge
-pub record IsGrantedTo {history : History} (z : Setting) (l : Labelling) (a : Acceptance history) (number : ℕ) : Type 0 where
+-- an acceptance rests on a grant: it is under it, and the grant was made before; its ticket, by which the server
+-- accepts, was sealed under the key of the server's holder, whom the request named, with the user accepted and the
+-- conversation's own word as challenge
+pub record IsGrantedTo {history : History} (z : Setting) (l : Labelling) (a : Acceptance history)
+    (number : ℕ) : Type 0 where
   pub under : IsUnder l a number
   pub made : IsMade a.past z l number
   pub by_its_ticket : IsByTicket l a (server_ticket made)
@@ -116,26 +130,34 @@ pub record IsGrantedTo {history : History} (z : Setting) (l : Labelling) (a : Ac
   pub chal : (granted made).chal ≡ nonce (number_of a.conv a.past)
 
 -- before this place a conversation matched a grant and a user
-pub data Matches (history past : History) (z : Setting) (l : Labelling) {number : ℕ} (made : IsMade past z l number) (user conv : List ℕ) : Type 0 where
-  -- a p9sk1 client whose holder is the host of the grant, with whose key it was made and who may speak for its user: it opened a ticket with the grant's key, its
-  -- challenge and this user, and gave the ticket that it had with it and its authenticator
+pub data Matches (history past : History) (z : Setting) (l : Labelling) {number : ℕ} (made : IsMade past z l number)
+    (user conv : List ℕ) : Type 0 where
+  -- a p9sk1 client whose holder is the host of the grant, with whose key it was made and who may speak for its
+  -- user: it opened a ticket with the grant's key, its challenge and this user, and gave the ticket that it had
+  -- with it and its authenticator
   client_matches : {sealer : Option (List ℕ)} {message : ℕ} {b : List ℕ} {handed : Tree} {cuid : List ℕ} {before : List Move} {gave : History} →
-      plays conv gave ≡ Some client → (granted made).used ≡ keys sealer (Some (l.holder conv)) → Contains (speakers z.server made.read.uid) (l.holder conv) →
-      moves_in l client conv gave ≡ hears (tickets (seal (long_key (l.holder conv)) (ticket for_client (granted made).chal cuid user (ticket_key number))) handed) ∷ before →
+      plays conv gave ≡ Some client → (granted made).used ≡ keys sealer (Some (l.holder conv))
+      → Contains (speakers z.server made.read.uid) (l.holder conv) →
+      moves_in l client conv gave
+      ≡ hears (tickets (seal (long_key (l.holder conv))
+      (ticket for_client (granted made).chal cuid user (ticket_key number))) handed) ∷ before →
       Happens past gave (Out message conv b) →
-      gives_labels history z l gave (Out message conv b) ≡ client_message handed (ticket_key number) (granted made).chal ∷ [] →
+      gives_labels history z l gave (Out message conv b) ≡ client_message handed (ticket_key number) (granted made).chal
+      ∷ [] →
       Matches history past z l made user conv
-  -- a mail client whose holder is the user of the grant, whose password it was made with: it gave its digest of the challenge,
-  -- a right answer to which the grant vouches for
+  -- a mail client whose holder is the user of the grant, whose password it was made with: it gave its digest of the
+  -- challenge, a right answer to which the grant vouches for
   mail_client_matches : {sealer : Option (List ℕ)} {message first : ℕ} {b : List ℕ} {kind : MacKind} {gave : History} →
       plays conv gave ≡ Some (mail_client kind) → (granted made).used ≡ key_and_password sealer (l.holder conv) →
       held (deeds_by made.older) kind ≡ Some first → mail_kind made.request ≡ kind →
       Happens past gave (Out message conv b) →
-      gives_labels history z l gave (Out message conv b) ≡ digest kind (password (l.holder conv)) (mail_challenge z.server.dom first) ∷ [] →
+      gives_labels history z l gave (Out message conv b)
+      ≡ digest kind (password (l.holder conv)) (mail_challenge z.server.dom first) ∷ [] →
       Matches history past z l made user conv
 
 -- a grant and a user have a match before this place
-pub record IsMatched (history past : History) (z : Setting) (l : Labelling) {number : ℕ} (made : IsMade past z l number) (user : List ℕ) : Type 0 where
+pub record IsMatched (history past : History) (z : Setting) (l : Labelling) {number : ℕ} (made : IsMade past z l number)
+    (user : List ℕ) : Type 0 where
   pub conv : List ℕ
   pub matches : Matches history past z l made user conv
   pub holder : client_name (granted made).used ≡ Some (l.holder conv)
@@ -160,12 +182,15 @@ pub record IsClientUnder {history : History} (l : Labelling) (a : ClientAcceptan
   pub suid : List ℕ
   pub handed : Tree
   pub before : List Move
-  pub opened : moves_in l client a.conv a.past ≡ takes proof ∷ gives gift ∷ hears (tickets (seal (long_key (l.holder a.conv)) (ticket for_client chal cuid suid (ticket_key number))) handed) ∷ before
+  pub opened : moves_in l client a.conv a.past ≡ takes proof ∷ gives gift
+      ∷ hears (tickets (seal (long_key (l.holder a.conv))
+      (ticket for_client chal cuid suid (ticket_key number))) handed) ∷ before
 
--- before a client accepts, a server answered it: its holder is the name that the grant's request named and whose key sealed
--- the ticket for the server, it accepted by that very ticket, and it gave its authenticator for this client's word under the
--- grant's key
-pub record IsAnswered (history : History) (z : Setting) (l : Labelling) (a : ClientAcceptance history) (number : ℕ) : Type 0 where
+-- before a client accepts, a server answered it: its holder is the name that the grant's request named and whose key
+-- sealed the ticket for the server, it accepted by that very ticket, and it gave its authenticator for this client's
+-- word under the grant's key
+pub record IsAnswered (history : History) (z : Setting) (l : Labelling) (a : ClientAcceptance history)
+    (number : ℕ) : Type 0 where
   pub made : IsMade a.past z l number
   pub conv : List ℕ
   pub gave : History
@@ -178,10 +203,12 @@ pub record IsAnswered (history : History) (z : Setting) (l : Labelling) (a : Cli
   pub message : ℕ
   pub b : List ℕ
   pub happens : Happens a.past gave (Out message conv b)
-  pub answered : gives_labels history z l gave (Out message conv b) ≡ server_message (ticket_key number) (nonce (number_of a.conv a.past)) ∷ []
+  pub answered : gives_labels history z l gave (Out message conv b)
+      ≡ server_message (ticket_key number) (nonce (number_of a.conv a.past)) ∷ []
 
 -- a client accepts under a grant of tickets that was made before, the host of which is its holder
-pub record IsHost {history : History} (z : Setting) (l : Labelling) (a : ClientAcceptance history) (number : ℕ) : Type 0 where
+pub record IsHost {history : History} (z : Setting) (l : Labelling) (a : ClientAcceptance history)
+    (number : ℕ) : Type 0 where
   pub under : IsClientUnder l a number
   pub made : IsMade a.past z l number
   pub sealer : Option (List ℕ)

@@ -1,8 +1,8 @@
--- Clean histories: ideal assumptions on a labelled history and a reading of its atoms, which no program checks. (i) The
--- reading spells each word, key and password by its atom, and different atoms of a kind differently. (ii) What is taken is
--- spelled by its label, and the label derives from what is known at its place: the keys and passwords of the compromised
--- names, and the labels of what was given before (Dolev and Yao, On the Security of Public Key Protocols, 1983). (iii) The
--- label of a message whose tests all passed has the form of its move.
+-- Clean histories: ideal assumptions on a labelled history and a reading of its atoms, which no program checks. (i)
+-- The reading spells each word, key and password by its atom, and different atoms of a kind differently. (ii) What is
+-- taken is spelled by its label, and the label derives from what is known at its place: the keys and passwords of the
+-- compromised names, and the labels of what was given before (Dolev and Yao, On the Security of Public Key Protocols,
+-- 1983). (iii) The label of a message whose tests all passed has the form of its move.
 use Rattle.std.specs.Prelude.{◌≡◌, ℕ, ◌+◌, ◌*◌, ◌<◌, ◌^◌, List, [], ◌∷◌, ◌++◌, All, Bool, true, false, length, Option, Some, None, Ok, unwrap_or}
 use Rattle.hex.specs.Hex.{encode_lower}
 use Rattle.symbolic_runs.specs.Trees.{Tree, Trees, plain, nonce, challenge, long_key, ticket_key, junk_key, password, joined, seal, digest, none, piece}
@@ -44,7 +44,8 @@ ReadsWord atoms server number random = Reads atoms (nonce number) random
 ReadsWord atoms (mail_client kind) number random = Unit {0}
 ReadsWord atoms (mail_server kind) number random = Reads atoms (nonce number) random
 
--- the words of a request are read as the digits of its challenge and as its ticket key, and as two keys that are made up
+-- the words of a request are read as the digits of its challenge and as its ticket key, and as two keys that are made
+-- up
 pub record ReadsWords (atoms : Atoms) (number : ℕ) (words : List (List ℕ)) : Type 0 where
   pub digits : Reads atoms (challenge number) (encode_lower (word 0 words))
   pub shared : Reads atoms (ticket_key number) (word_key (word 0 words))
@@ -62,9 +63,11 @@ ReadsPassword atoms name None = Unit {0}
 ReadsPassword atoms name (Some text) = Reads atoms (password name) text
 
 abbrev pub ReadsTable : Atoms → Setting → Type 0
-ReadsTable atoms z = (name : List ℕ) (key : UserKey) → (known_to z).key name ≡ Some key → Reads atoms (long_key name) key.des × ReadsPassword atoms name key.password
+ReadsTable atoms z = (name : List ℕ) (key : UserKey) → (known_to z).key name ≡ Some key
+    → Reads atoms (long_key name) key.des × ReadsPassword atoms name key.password
 
--- the key of a conversation, the one that it found last, is read as that of its holder, and of a mail client the password
+-- the key of a conversation, the one that it found last, is read as that of its holder, and of a mail client the
+-- password
 abbrev pub ReadsKey : Atoms → Role → List ℕ → SkKey → Option (List ℕ) → Type 0
 ReadsKey atoms client holder key secret = Reads atoms (long_key holder) key.des.0
 ReadsKey atoms server holder key secret = Reads atoms (long_key holder) key.des.0
@@ -81,11 +84,12 @@ ReadsSpoken atoms role holder None = Unit {0}
 ReadsSpoken atoms role holder (Some spoken) = ReadsMet atoms role holder spoken.met
 
 abbrev pub ReadsHolder : Atoms → Setting → Labelling → History → Step → Type 0
-ReadsHolder atoms z l past (Start conv protocol role random) = ReadsSpoken atoms (role_by protocol role) (l.holder conv) (z.spoken conv)
+ReadsHolder atoms z l past (Start conv protocol role random) =
+    ReadsSpoken atoms (role_by protocol role) (l.holder conv) (z.spoken conv)
 ReadsHolder atoms z l past step = Unit {0}
 
--- different words are read differently, and so are different keys and different passwords: all to which the reading gives
--- bytes, used or not
+-- different words are read differently, and so are different keys and different passwords: all to which the reading
+-- gives bytes, used or not
 abbrev pub is_key : Tree → Bool
 is_key (long_key name) = true
 is_key (ticket_key number) = true
@@ -105,7 +109,8 @@ is_password (password name) = true
 is_password t = false
 
 abbrev pub AreApart : Atoms → (Tree → Bool) → Type 0
-AreApart atoms kind = (a b : Tree) (text : List ℕ) → kind a ≡ true → kind b ≡ true → Reads atoms a text → Reads atoms b text → a ≡ b
+AreApart atoms kind = (a b : Tree) (text : List ℕ) → kind a ≡ true → kind b ≡ true → Reads atoms a text
+    → Reads atoms b text → a ≡ b
 
 -- a key has seven bytes
 abbrev pub GivesSevens : Atoms → Type 0
@@ -143,7 +148,8 @@ LabelsStep atoms s l past step = IsLabelledIf atoms s l past (taken step)
 
 -- a conversation goes on: what came last to it has its form
 abbrev pub GoesOn : Atoms → Symbolic → Labelling → List ℕ → History → Type 0
-GoesOn atoms s l conv past = IsFormed atoms (own_of s (number_of conv past)) (s.role (number_of conv past)) (moves_by (own_of s (number_of conv past)) (s.role (number_of conv past)) (labelled l conv past))
+GoesOn atoms s l conv past = IsFormed atoms (own_of s (number_of conv past)) (s.role (number_of conv past))
+    (moves_by (own_of s (number_of conv past)) (s.role (number_of conv past)) (labelled l conv past))
 
 -- an answer is given: the request has its form
 abbrev pub EachIsAnswered : Symbolic → List Deed → List Deed → Type 0
@@ -151,7 +157,9 @@ EachIsAnswered s before [] = Unit {0}
 EachIsAnswered s before (deed ∷ deeds) = IsAnswered s before deed × EachIsAnswered s before deeds
 
 abbrev pub Answers : Symbolic → Labelling → List ℕ → History → List ℕ → Type 0
-Answers s l session past b = EachIsAnswered s (deeds_by (dealt l session past)) (deeds_for_deal (deeds_by (dealt l session past)) (dealt l session past) (replied b) (requests_in past) (l.label (length past)))
+Answers s l session past b = EachIsAnswered s (deeds_by (dealt l session past))
+    (deeds_for_deal (deeds_by (dealt l session past)) (dealt l session past) (replied b) (requests_in past)
+    (l.label (length past)))
 
 abbrev pub FormsStep : Atoms → Symbolic → Labelling → History → Step → Type 0
 FormsStep atoms s l past (Out number conv b) = GoesOn atoms s l conv past

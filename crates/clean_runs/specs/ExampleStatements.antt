@@ -1,5 +1,5 @@
--- What is said of the login: its record is clean where its words, keys and passwords are bytes and differ; and of any record: with
--- two equal words it isn't clean.
+-- What is said of the login: its record is clean where its words, keys and passwords are bytes and differ; and of any
+-- record: with two equal words it isn't clean.
 use Rattle.std.specs.Prelude.{◌≡◌, ℕ, ◌<◌, List, [], ◌∷◌, ◌++◌, All, Bool, true, false, length, Option}
 use Rattle.wire_histories.specs.declared.step.Step.TheVariants.{Start}
 use Rattle.wire_histories.specs.declared.step.Protocol.{Protocol}
@@ -37,12 +37,14 @@ pub record AreFresh (k : Secrets) : Type 0 where
   pub srv_password : AreBytes k.srv_password
   -- the words of conversations differ; so do all keys, those that are made up too; and so do the passwords
   pub words : AreDifferent (word_bytes k.client ∷ word_bytes k.server ∷ [])
-  pub keys : AreDifferent (key_bytes k.first ∷ key_bytes k.second ∷ key_bytes k.third ∷ key_bytes k.ann_key ∷ key_bytes k.srv_key ∷ [])
+  pub keys : AreDifferent (key_bytes k.first ∷ key_bytes k.second ∷ key_bytes k.third ∷ key_bytes k.ann_key
+      ∷ key_bytes k.srv_key ∷ [])
   pub passwords : AreDifferent (k.ann_password ∷ k.srv_password ∷ [])
 
 -- whatever the conversations were started with, where the key that each found last is that of its user
 abbrev pub LoginIsClean : Type 0
-LoginIsClean = (k : Secrets) (spoken : List ℕ → Option Spoken) → AreFresh k → HasKey k.ann_key (spoken conv_c) → HasKey k.srv_key (spoken conv_s) → IsClean (login k) (login_setting k spoken) (reading k) labelling
+LoginIsClean = (k : Secrets) (spoken : List ℕ → Option Spoken) → AreFresh k → HasKey k.ann_key (spoken conv_c)
+    → HasKey k.srv_key (spoken conv_s) → IsClean (login k) (login_setting k spoken) (reading k) labelling
 
 -- a role uses the word of its start
 abbrev pub uses_word : Role → Bool
@@ -62,4 +64,6 @@ pub record StartsBy (history : History) (random : List ℕ) (past : History) : T
 
 -- where two do by one word, they are one
 abbrev pub WordsAreUsedOnce : Type 0
-WordsAreUsedOnce = (history : History) (z : Setting) (atoms : Atoms) (l : Labelling) → IsClean history z atoms l → (random : List ℕ) (one other : History) → StartsBy history random one → StartsBy history random other → length one ≡ length other
+WordsAreUsedOnce = (history : History) (z : Setting) (atoms : Atoms) (l : Labelling) → IsClean history z atoms l
+    → (random : List ℕ) (one other : History) → StartsBy history random one → StartsBy history random other
+    → length one ≡ length other

@@ -1,6 +1,7 @@
--- The form that the label of a message must have whose tests all passed: its shape, the very key, and in the place of a
--- challenge that was compared the very tree (authsrv(6) of the Plan 9 manual). It is told by what a conversation did, the
--- newest first, where something other than a failure follows on what came: only a move that passed is followed so.
+-- The form that the label of a message must have whose tests all passed: its shape, the very key, and in the place of
+-- a challenge that was compared the very tree (authsrv(6) of the Plan 9 manual). It is told by what a conversation
+-- did, the newest first, where something other than a failure follows on what came: only a move that passed is
+-- followed so.
 use Rattle.std.specs.Prelude.{◌≡◌, ℕ, List, [], ◌∷◌, length, Option, Ok}
 use Rattle.symbolic_runs.specs.declared.kind.MacKind.{MacKind}
 use Rattle.symbolic_runs.specs.Trees.{Tree, plain, seal, password, digest}
@@ -18,7 +19,8 @@ pub record IsRequest (kind : List ℕ) (t : Tree) : Type 0 where
   pub chal : Tree
   pub is : t ≡ request kind fields chal
 
--- an answer to a client's question: a ticket for it under its key, with the challenge of its question, and whatever it hands on
+-- an answer to a client's question: a ticket for it under its key, with the challenge of its question, and whatever
+-- it hands on
 pub record IsAnswer (atoms : Atoms) (own : Own) (question t : Tree) : Type 0 where
   pub cuid : List ℕ
   pub suid : List ℕ
@@ -28,14 +30,15 @@ pub record IsAnswer (atoms : Atoms) (own : Own) (question t : Tree) : Type 0 whe
   pub handed : Tree
   pub is : t ≡ tickets (seal own.key (ticket for_client (part question 3) cuid suid key)) handed
 
--- what a client shows to a server: a ticket under the server's key with the server's challenge, and an authenticator under
--- the ticket's key
+-- what a client shows to a server: a ticket under the server's key with the server's challenge, and an authenticator
+-- under the ticket's key
 pub record IsShown (own : Own) (t : Tree) : Type 0 where
   pub cuid : List ℕ
   pub suid : List ℕ
   pub names : AreNames cuid suid
   pub key : Tree
-  pub is : t ≡ pair (seal own.key (ticket for_server own.word cuid suid key)) (seal key (authenticator by_client own.word))
+  pub is : t ≡ pair (seal own.key (ticket for_server own.word cuid suid key))
+      (seal key (authenticator by_client own.word))
 
 -- a challenge behind six bytes
 pub record IsChallenge (t : Tree) : Type 0 where
@@ -54,17 +57,20 @@ pub record IsVouch (own : Own) (t : Tree) : Type 0 where
   pub suid : List ℕ
   pub names : AreNames cuid suid
   pub key : Tree
-  pub is : t ≡ vouch (seal own.key (ticket for_server own.word cuid suid key)) (seal key (authenticator by_client own.word))
+  pub is : t ≡ vouch (seal own.key (ticket for_server own.word cuid suid key))
+      (seal key (authenticator by_client own.word))
 
 -- what came last has its form
 abbrev pub IsFormed : Atoms → Own → Role → List Move → Type 0
 IsFormed atoms own client (takes t ∷ gives w ∷ []) = IsRequest ticket_request t
 IsFormed atoms own client (hears t ∷ asks q ∷ takes r ∷ gives w ∷ []) = IsAnswer atoms own q t
-IsFormed atoms own client (takes t ∷ gives g ∷ hears a ∷ asks q ∷ takes r ∷ gives w ∷ []) = t ≡ server_message (part (opened a) 4) own.word
+IsFormed atoms own client (takes t ∷ gives g ∷ hears a ∷ asks q ∷ takes r ∷ gives w ∷ []) =
+    t ≡ server_message (part (opened a) 4) own.word
 IsFormed atoms own server (takes t ∷ gives r ∷ takes y ∷ []) = IsShown own t
 IsFormed atoms own (mail_server kind) (hears t ∷ asks q ∷ []) = IsChallenge t
 IsFormed atoms own (mail_server kind) (takes t ∷ gives c ∷ hears a ∷ asks q ∷ []) = IsPlain t
-IsFormed atoms own (mail_server kind) (hears t ∷ asks v ∷ takes r ∷ takes u ∷ gives c ∷ hears a ∷ asks q ∷ []) = IsVouch own t
+IsFormed atoms own (mail_server kind) (hears t ∷ asks v ∷ takes r ∷ takes u ∷ gives c ∷ hears a ∷ asks q ∷ []) =
+    IsVouch own t
 IsFormed atoms own role before = Unit {0}
 
 -- an answer to a challenge: a request, and the digest of the challenge under the password of the name that is used
@@ -74,7 +80,8 @@ pub record IsRight (s : Setting) (kind : MacKind) (number first : ℕ) (t : Tree
   pub sealer : Option (List ℕ)
   pub name : List ℕ
   pub used : (s.grants number).used ≡ key_and_password sealer name
-  pub is : t ≡ pair (request (mail_request kind) fields (s.grants number).chal) (digest kind (password name) (mail_challenge s.domain first))
+  pub is : t ≡ pair (request (mail_request kind) fields (s.grants number).chal)
+      (digest kind (password name) (mail_challenge s.domain first))
 
 -- a request that is answered so, and not refused, has its form
 abbrev pub IsAnswered : Setting → List Deed → Deed → Type 0

@@ -1,6 +1,6 @@
--- A labelling of a history: which names are compromised, the name that holds the key of each conversation, and a tree for
--- each message that is taken. A step is told by its place, the number of steps before it; the starts of conversations and
--- the requests to the authentication server are numbered from 0.
+-- A labelling of a history: which names are compromised, the name that holds the key of each conversation, and a tree
+-- for each message that is taken. A step is told by its place, the number of steps before it; the starts of
+-- conversations and the requests to the authentication server are numbered from 0.
 use Rattle.std.specs.Prelude.{ℕ, ◌+◌, List, [], ◌∷◌, ◌++◌, length, map, Option, Some, None, if◌then◌else◌}
 use Rattle.std.specs.Str.{bytes_eq}
 use Rattle.symbolic_runs.specs.Trees.{Tree}
@@ -29,7 +29,9 @@ requests_in (step ∷ past) = requests_in past
 -- the number of the start of the conversation of a name
 abbrev pub started_as : List ℕ → History → Option ℕ
 started_as name [] = None
-started_as name (Start conv protocol role word ∷ past) = if bytes_eq conv name then Some (starts_in past) else started_as name past
+started_as name (Start conv protocol role word ∷ past) =
+    if bytes_eq conv name then Some (starts_in past)
+    else started_as name past
 started_as name (step ∷ past) = started_as name past
 
 -- the number of the first request of the session of a name
@@ -39,7 +41,8 @@ or_so None other = other
 
 abbrev pub opened_as : List ℕ → History → Option ℕ
 opened_as name [] = None
-opened_as name (AsGot session bytes words ∷ past) = or_so (opened_as name past) (if bytes_eq session name then Some (requests_in past) else None)
+opened_as name (AsGot session bytes words ∷ past) =
+    or_so (opened_as name past) (if bytes_eq session name then Some (requests_in past) else None)
 opened_as name (step ∷ past) = opened_as name past
 
 abbrev pub or_zero : Option ℕ → ℕ
@@ -53,7 +56,8 @@ pub record Labelled : Type 0 where
 
 abbrev pub labelled : Labelling → List ℕ → History → List Labelled
 labelled l name [] = []
-labelled l name (step ∷ past) = map (λ act. record { act = act; label = l.label (length past) }) (act_in name step) ++ labelled l name past
+labelled l name (step ∷ past) =
+    map (λ act. record { act = act; label = l.label (length past) }) (act_in name step) ++ labelled l name past
 
 -- what a session did, each deal with the tree of its place and the number that a request has there
 pub record Dealt : Type 0 where
@@ -63,7 +67,12 @@ pub record Dealt : Type 0 where
 
 abbrev pub dealt : Labelling → List ℕ → History → List Dealt
 dealt l name [] = []
-dealt l name (step ∷ past) = map (λ deal. record { deal = deal; number = requests_in past; label = l.label (length past) }) (deal_in name step) ++ dealt l name past
+dealt l name (step ∷ past) = map (λ deal. record {
+  deal = deal;
+  number = requests_in past;
+  label = l.label
+      (length past);
+}) (deal_in name step) ++ dealt l name past
 
 -- the bytes that a step takes from the network, and those that it gives to it
 abbrev pub taken : Step → Option (List ℕ)

@@ -1,6 +1,6 @@
--- A login that p9any chooses, written out with all that it rests on: ann at srv, in the domain x, by p9sk1 (authsrv(6) and
--- factotum(4) of the Plan 9 manual). The random words, the keys and the passwords are any; what stands in the messages of them is
--- what these are. It shows that records can be clean.
+-- A login that p9any chooses, written out with all that it rests on: ann at srv, in the domain x, by p9sk1
+-- (authsrv(6) and factotum(4) of the Plan 9 manual). The random words, the keys and the passwords are any; what
+-- stands in the messages of them is what these are. It shows that records can be clean.
 use Rattle.std.specs.Prelude.{◌≡◌, ℕ, List, [], ◌∷◌, ◌++◌, codes, Option, Some, None, if◌then◌else◌, slice_get}
 use Rattle.std.specs.Str.{bytes_eq}
 use Rattle.hex.specs.Hex.{encode_lower}
@@ -39,8 +39,8 @@ word_bytes w = w.a ∷ w.b ∷ w.c ∷ w.d ∷ w.e ∷ w.f ∷ w.g ∷ w.h ∷ [
 abbrev pub key_bytes : Word → List ℕ
 key_bytes w = w.a ∷ w.b ∷ w.c ∷ w.d ∷ w.e ∷ w.f ∷ w.g ∷ []
 
--- the words of the client, of the server, and of the one request; the keys and passwords of ann and srv, a key being the
--- first seven bytes of eight
+-- the words of the client, of the server, and of the one request; the keys and passwords of ann and srv, a key being
+-- the first seven bytes of eight
 pub record Secrets : Type 0 where
   pub client : Word
   pub server : Word
@@ -65,11 +65,13 @@ name_28 name = name_field 28 name
 
 -- the server's request, and the client's question
 abbrev pub request_bytes : List ℕ → Secrets → List ℕ
-request_bytes user k = 1 ∷ name_28 srv ++ (name_field 48 (codes "x") ++ (word_bytes k.server ++ (name_28 user ++ name_28 user)))
+request_bytes user k = 1 ∷ name_28 srv ++
+    (name_field 48 (codes "x") ++ (word_bytes k.server ++ (name_28 user ++ name_28 user)))
 
 -- a ticket: of a number, sealed under a key
 abbrev pub ticket_bytes : ℕ → Word → Secrets → List ℕ
-ticket_bytes number key k = sealed (key_bytes key) (number ∷ word_bytes k.server ++ (name_28 ann ++ (name_28 ann ++ key_bytes k.first)))
+ticket_bytes number key k =
+    sealed (key_bytes key) (number ∷ word_bytes k.server ++ (name_28 ann ++ (name_28 ann ++ key_bytes k.first)))
 
 -- an authenticator: of a number, over a challenge
 abbrev pub proof_bytes : ℕ → Word → Secrets → List ℕ
@@ -96,7 +98,8 @@ conv_s = codes "s"
 abbrev pub session_r : List ℕ
 session_r = codes "r"
 
--- the steps, the newest first: the conversation c is ann's client, s is srv, and r the session of the authentication server
+-- the steps, the newest first: the conversation c is ann's client, s is srv, and r the session of the authentication
+-- server
 abbrev pub login : Secrets → History
 login k =
     Accept conv_c ann ann
@@ -127,7 +130,11 @@ abbrev pub user_key : Word → List ℕ → UserKey
 user_key key secret = record { des = key_bytes key; password = Some secret }
 
 abbrev pub tables : Secrets → Server
-tables k = record { dom = codes "x"; keys = (ann, user_key k.ann_key k.ann_password) ∷ (srv, user_key k.srv_key k.srv_password) ∷ []; speaks = [] }
+tables k = record {
+  dom = codes "x";
+  keys = (ann, user_key k.ann_key k.ann_password) ∷ (srv, user_key k.srv_key k.srv_password) ∷ [];
+  speaks = [];
+}
 
 -- the key that a conversation found last
 abbrev pub last_key : List Call → Option (List ℕ)
@@ -160,7 +167,12 @@ reading k =
     ∷ []
 
 abbrev pub fields : List ℕ → Fields
-fields user = record { authid = name_28 srv; authdom = name_field 48 (codes "x"); hostid = name_28 user; uid = name_28 user }
+fields user = record {
+  authid = name_28 srv;
+  authdom = name_field 48 (codes "x");
+  hostid = name_28 user;
+  uid = name_28 user;
+}
 
 abbrev pub handed : Tree
 handed = seal (long_key srv) (ticket for_server (nonce 1) (name_28 ann) (name_28 ann) (ticket_key 0))
@@ -188,4 +200,8 @@ tree_at place = plain []
 
 -- nobody is compromised; ann's key is the client's, srv's the server's
 abbrev pub labelling : Labelling
-labelling = record { compromised = []; holder = λ name. if bytes_eq name conv_c then ann else srv; label = λ place. tree_at (slice_get trees place) }
+labelling = record {
+  compromised = [];
+  holder = λ name. if bytes_eq name conv_c then ann else srv;
+  label = λ place. tree_at (slice_get trees place);
+}

@@ -1,7 +1,7 @@
--- The symbolic run of a labelled history, event by event. What is taken has its label; the tree of what is given is computed
--- from what was done before (authsrv(6) of the Plan 9 manual), with the names of a request as they stand in its bytes.
--- Before p9any has chosen, what is given are bytes that anybody may know. A message behind a conversation's last move, which
--- is told that it is done, is no event.
+-- The symbolic run of a labelled history, event by event. What is taken has its label; the tree of what is given is
+-- computed from what was done before (authsrv(6) of the Plan 9 manual), with the names of a request as they stand in
+-- its bytes. Before p9any has chosen, what is given are bytes that anybody may know. A message behind a
+-- conversation's last move, which is told that it is done, is no event.
 use Rattle.std.specs.Prelude.{ℕ, ◌==◌, List, [], ◌∷◌, ◌++◌, Bool, true, false, length, take, map, filter, is_some, Option, Some, None, Result, Ok, Err, if◌then◌else◌}
 use Rattle.std.specs.List.{list_any}
 use Rattle.wire_base.specs.Names.{name_field}
@@ -50,12 +50,16 @@ role_by Cram part.Speakfor = mail_client mac.Cram
 
 abbrev pub role_at : History → ℕ → Role
 role_at [] number = client
-role_at (Start conv protocol role word ∷ past) number = if starts_in past == number then role_by protocol role else role_at past number
+role_at (Start conv protocol role word ∷ past) number =
+    if starts_in past == number then role_by protocol role
+    else role_at past number
 role_at (step ∷ past) number = role_at past number
 
 abbrev pub holder_at : Labelling → History → ℕ → List ℕ
 holder_at l [] number = []
-holder_at l (Start conv protocol role word ∷ past) number = if starts_in past == number then l.holder conv else holder_at l past number
+holder_at l (Start conv protocol role word ∷ past) number =
+    if starts_in past == number then l.holder conv
+    else holder_at l past number
 holder_at l (step ∷ past) number = holder_at l past number
 
 -- ---- what was used and granted at each request
@@ -69,13 +73,16 @@ name_where may name = if may then name else None
 
 -- the names that may speak for a user, himself among them
 abbrev pub speakers : Server → List ℕ → List (List ℕ)
-speakers tables user = user ∷ filter (λ host. may_speak (names_of host tables.speaks) host user) (map (λ line. line.0) tables.speaks)
+speakers tables user = user ∷ filter (λ host. may_speak (names_of host tables.speaks) host user)
+    (map (λ line. line.0) tables.speaks)
 
--- a ticket request uses the keys of the server and of the host, where the host may speak for the user; a mail request the
--- key of the server and the password of the user. The challenge is that of the request's label, the names are written anew
+-- a ticket request uses the keys of the server and of the host, where the host may speak for the user; a mail request
+-- the key of the server and the password of the user. The challenge is that of the request's label, the names are
+-- written anew
 abbrev pub tickets_for : Server → TicketReq → Tree → Grant
 tickets_for tables r label = record {
-  used = keys (name_where ((knowledge tables).speaks r.hostid r.uid) (known_name (knowledge tables) r.authid)) (name_where ((knowledge tables).speaks r.hostid r.uid) (known_name (knowledge tables) r.hostid));
+  used = keys (name_where ((knowledge tables).speaks r.hostid r.uid) (known_name (knowledge tables) r.authid))
+      (name_where ((knowledge tables).speaks r.hostid r.uid) (known_name (knowledge tables) r.hostid));
   speakers = speakers tables r.uid;
   chal = piece_of label 3;
   host = name_field 28 r.hostid;
@@ -101,7 +108,9 @@ grant_by tables (Err fault) label = nothing_granted
 
 abbrev pub grant_at : Server → Labelling → History → ℕ → Grant
 grant_at tables l [] number = nothing_granted
-grant_at tables l (AsGot session b words ∷ past) number = if requests_in past == number then grant_by tables (request_of b) (l.label (length past)) else grant_at tables l past number
+grant_at tables l (AsGot session b words ∷ past) number =
+    if requests_in past == number then grant_by tables (request_of b) (l.label (length past))
+    else grant_at tables l past number
 grant_at tables l (step ∷ past) number = grant_at tables l past number
 
 -- the setting of the run
@@ -116,8 +125,8 @@ setting_of z l history = record {
 
 -- ---- what a conversation does, move by move
 
--- p9any is choosing still: a server gives its list and takes the choice; a client takes the list, gives the choice, and takes
--- the consent of a server that said it would give one
+-- p9any is choosing still: a server gives its list and takes the choice; a client takes the list, gives the choice,
+-- and takes the consent of a server that said it would give one
 abbrev pub is_choosing : List Act → Bool
 is_choosing (started P9any role word ∷ []) = true
 is_choosing (act ∷ started P9any role word ∷ []) = true
@@ -155,8 +164,13 @@ if_some None = []
 -- the moves of an act, behind those before it
 abbrev pub moves_for : Own → Role → Bool → List Move → Act → Tree → List Move
 moves_for own role choosing before (started protocol by word) label = []
-moves_for own role choosing before (gave b) label = if choosing then [] else if_some (next_gift own role before (names_in b))
-moves_for own role choosing before (took b) label = if choosing then [] else if takes_now role before then takes label ∷ [] else []
+moves_for own role choosing before (gave b) label =
+    if choosing then []
+    else if_some (next_gift own role before (names_in b))
+moves_for own role choosing before (took b) label =
+    if choosing then []
+    else if takes_now role before then takes label ∷ []
+    else []
 moves_for own role choosing before (asked b) label = if_some (next_gift own role before (names_in b))
 moves_for own role choosing before (answered b) label = hears label ∷ []
 moves_for own role choosing before unanswered label = []
@@ -165,7 +179,8 @@ moves_for own role choosing before (failed cause) label = fails ∷ []
 
 abbrev pub moves_by : Own → Role → List Labelled → List Move
 moves_by own role [] = []
-moves_by own role (a ∷ before) = moves_for own role (is_choosing (acts_in before)) (moves_by own role before) a.act a.label ++ moves_by own role before
+moves_by own role (a ∷ before) = moves_for own role (is_choosing (acts_in before))
+    (moves_by own role before) a.act a.label ++ moves_by own role before
 
 -- ---- what a session does, deed by deed
 
@@ -188,7 +203,9 @@ vouch_deed kind number None b = refuses number b
 abbrev pub deed_by : List Deed → ℕ → List ℕ → List ℕ → Deed
 deed_by before number request b =
     if kind_of b == 9 then gives_challenge (mail_kind request) number (take 6 b)
-    else if kind_of b == 4 then (if kind_of request == 1 then gives_tickets number else vouch_deed (mail_kind request) number (held before (mail_kind request)) b)
+    else if kind_of b == 4
+    then (if kind_of request == 1 then gives_tickets number
+    else vouch_deed (mail_kind request) number (held before (mail_kind request)) b)
     else refuses number b
 
 abbrev pub deeds_answering : List Deed → List Dealt → List ℕ → List Deed
@@ -224,11 +241,17 @@ talk_events number choosing act = []
 abbrev pub conv_events : Symbolic → Labelling → History → List ℕ → Act → List Event
 conv_events s l past conv act =
     talk_events (number_of conv past) (is_choosing (acts_in (labelled l conv past))) act
-    ++ map (moves (number_of conv past)) (moves_for (own_of s (number_of conv past)) (s.role (number_of conv past)) (is_choosing (acts_in (labelled l conv past))) (moves_by (own_of s (number_of conv past)) (s.role (number_of conv past)) (labelled l conv past)) act (l.label (length past)))
+    ++ map (moves (number_of conv past))
+    (moves_for (own_of s (number_of conv past)) (s.role (number_of conv past))
+    (is_choosing (acts_in (labelled l conv past)))
+    (moves_by (own_of s (number_of conv past)) (s.role (number_of conv past)) (labelled l conv past)) act
+    (l.label (length past)))
 
 abbrev pub session_events : Labelling → History → List ℕ → Deal → List Event
 session_events l past session deal =
-    map (serves (session_number session past)) (deeds_for_deal (deeds_by (dealt l session past)) (dealt l session past) deal (requests_in past) (l.label (length past)))
+    map (serves (session_number session past))
+    (deeds_for_deal (deeds_by (dealt l session past)) (dealt l session past) deal (requests_in past)
+    (l.label (length past)))
 
 -- the events of a step
 abbrev pub events_of : Symbolic → Labelling → History → Step → List Event

@@ -1,5 +1,5 @@
--- The bridge from bytes to trees: a clean legal history is a symbolic run, and each message that it gives is spelled by its
--- label.
+-- The bridge from bytes to trees: a clean legal history is a symbolic run, and each message that it gives is spelled
+-- by its label.
 use Rattle.std.specs.Prelude.{◌≡◌, ℕ, List, [], ◌∷◌, Option, Some, None, Ok}
 use Rattle.symbolic_runs.specs.Trees.{Tree}
 use Rattle.symbolic_runs.specs.Spellings.{Atoms, spelling}
@@ -30,7 +30,8 @@ pub record IsBridged (history : History) (z : Setting) (atoms : Atoms) (l : Labe
   pub spelled : AtEachPlace history (SpellsStep atoms (setting_of z l history) l)
 
 abbrev pub OfEveryCleanHistory : (History → Setting → Atoms → Labelling → Type 0) → Type 0
-OfEveryCleanHistory P = (history : History) (z : Setting) (atoms : Atoms) (l : Labelling) → IsLegal history z → IsClean history z atoms l → P history z atoms l
+OfEveryCleanHistory P = (history : History) (z : Setting) (atoms : Atoms) (l : Labelling) → IsLegal history z
+    → IsClean history z atoms l → P history z atoms l
 
 -- and what follows: no uncompromised secret derives from what is known, at any place
 abbrev pub IsSecret : History → Setting → Atoms → Labelling → Type 0

@@ -1,5 +1,5 @@
--- Which of the connections that come are handed on: those that are let in by who is inside when they come. Who is inside, and
--- which connections come, is optional, since it need not be told. The definitions are the project's own.
+-- Which of the connections that come are handed on: those that are let in by who is inside when they come. Who is
+-- inside, and which connections come, is optional, since it need not be told. The definitions are the project's own.
 use Rattle.std.specs.Prelude.{◌≡◌, List, [], ◌∷◌, Bool, Option, None, Some, Result, Ok, Err, ⊤, if◌then◌else◌}
 use Rattle.wire_streams.specs.declared.listener.ListenFault.{ListenFault}
 use Rattle.client_doors.specs.declared.address.Address.{Address}

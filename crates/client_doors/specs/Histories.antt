@@ -1,5 +1,5 @@
--- What is so after clients came and went and gave wrong answers, as a function of all that happened. The definitions are the
--- project's own.
+-- What is so after clients came and went and gave wrong answers, as a function of all that happened. The definitions
+-- are the project's own.
 use Rattle.std.specs.Prelude.{ℕ, List, [], ◌∷◌, ◌++◌, Bool, Option, None, Some, if◌then◌else◌}
 use Rattle.client_doors.specs.declared.address.Address.{Address}
 use Rattle.client_doors.specs.declared.limits.Limits.{Limits}

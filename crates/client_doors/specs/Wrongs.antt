@@ -1,5 +1,5 @@
--- The wrong answers that are remembered: of the last 20 of an address when they came, and of 4,096 addresses. Times are in
--- milliseconds. The definitions are the project's own.
+-- The wrong answers that are remembered: of the last 20 of an address when they came, and of 4,096 addresses. Times
+-- are in milliseconds. The definitions are the project's own.
 use Rattle.std.specs.Prelude.{ℕ, ◌-◌, List, [], ◌∷◌, Bool, false, not, ◌&&◌, ◌==◌, nat_lt, take, filter, slice_get, Option, None, Some, if◌then◌else◌}
 use Rattle.client_doors.specs.declared.address.Address.{Address}
 use Rattle.client_doors.specs.declared.wrongs.Guesser.{Guesser}

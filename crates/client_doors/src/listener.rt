@@ -4,10 +4,10 @@ ghost use Rattle.std.specs.Result.{is_err};
 ghost use Rattle.wire_streams.specs.Causes.{CountsOutcome};
 ghost use Rattle.client_doors.specs.Doors.{AcceptsOne, told};
 
+use crate::HasAddress;
 use crate::admitted::Admitted;
 use crate::door::Door;
 use crate::hung_up::HungUp;
-use crate::HasAddress;
 use std::alloc::Global;
 use std::io::Eprint;
 use std::sync::Wait;

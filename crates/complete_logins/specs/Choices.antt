@@ -1,5 +1,5 @@
--- A login by p9sk1 that p9any leads to (authsrv(6) of the Plan 9 manual): the server offers a list, the client picks one of
--- its domains, and what it says then reaches the server as it was sent.
+-- A login by p9sk1 that p9any leads to (authsrv(6) of the Plan 9 manual): the server offers a list, the client picks
+-- one of its domains, and what it says then reaches the server as it was sent.
 use Rattle.std.specs.Prelude.{◌≡◌, ℕ, ◌<◌, List, [], ◌∷◌, ◌==◌, false, length, codes, Option}
 use Rattle.std.specs.List.{list_any}
 use Rattle.roles.specs.declared.key.SkKey.{SkKey}
@@ -15,19 +15,32 @@ use Rattle.complete_logins.specs.Logins.{Between, Login, LogsIn, MayLogIn, Speak
 
 -- the role that is led to
 abbrev pub p9sk1 : Inner
-p9sk1 = record { name = codes "p9sk1"; answers = sk.answer_after; puts = sk.puts_after; needs = sk.need_after; ends = sk.outcome_after; ended = sk.ended_after }
+p9sk1 = record {
+  name = codes "p9sk1";
+  answers = sk.answer_after;
+  puts = sk.puts_after;
+  needs = sk.need_after;
+  ends = sk.outcome_after;
+  ended = sk.ended_after;
+}
 
 -- how a side speaks by p9any
 abbrev pub by_p9any : Start → Speaker
-by_p9any start = record { answers = answer_after p9sk1 start; puts = puts_after p9sk1 start; needs = need_after p9sk1 start; ends = outcome_after p9sk1 start; ended = ended_after p9sk1 start }
+by_p9any start = record {
+  answers = answer_after p9sk1 start;
+  puts = puts_after p9sk1 start;
+  needs = need_after p9sk1 start;
+  ends = outcome_after p9sk1 start;
+  ended = ended_after p9sk1 start;
+}
 
 -- a key that is found, and its password
 pub record FoundKey : Type 0 where
   pub key : SkKey
   pub password : Option (List ℕ)
 
--- how both sides start, the keys that the server found one after the other while it had nothing to offer, the newest first, the
--- list that it offers, and which of the domains that it may choose the client picks
+-- how both sides start, the keys that the server found one after the other while it had nothing to offer, the newest
+-- first, the list that it offers, and which of the domains that it may choose the client picks
 pub record Choice : Type 0 where
   pub client : Start
   pub server : Start
@@ -59,12 +72,17 @@ abbrev pub client_chosen : Choice → List Call
 client_chosen c = get ∷ client_picks c
 
 abbrev pub chosen : Choice → Between
-chosen c = record { client = by_p9any c.client; client_met = client_chosen c; server = by_p9any c.server; server_met = server_chosen c }
+chosen c = record {
+  client = by_p9any c.client;
+  client_met = client_chosen c;
+  server = by_p9any c.server;
+  server_met = server_chosen c;
+}
 
 -- ---- what may be chosen
 
--- The server offers something, at once or behind keys that it is told, in a list that fits a message and has no NUL, without consenting to the choice, and the
--- client picks one of the domains that it may choose.
+-- The server offers something, at once or behind keys that it is told, in a list that fits a message and has no NUL,
+-- without consenting to the choice, and the client picks one of the domains that it may choose.
 pub record MayChoose (c : Choice) : Type 0 where
   pub client_role : role_of c.client.template ≡ Server → ⊥
   pub server_role : role_of c.server.template ≡ Server

@@ -1,5 +1,6 @@
--- A login by p9sk1 (authsrv(6) of the Plan 9 manual) whose messages reach the other side as they were sent: what the client
--- and the server are given is what the other gave, and the authentication server answers the client's question.
+-- A login by p9sk1 (authsrv(6) of the Plan 9 manual) whose messages reach the other side as they were sent: what the
+-- client and the server are given is what the other gave, and the authentication server answers the client's
+-- question.
 use Rattle.std.specs.Prelude.{◌≡◌, ℕ, ◌<◌, List, [], ◌∷◌, Bool, true, false, length, codes, Option, Some}
 use Rattle.wire_base.specs.Names.{IsName}
 use Rattle.wire_base.specs.declared.name.AuthInfo.{AuthInfo}
@@ -23,8 +24,8 @@ use Rattle.roles.specs.Starts.{Start, role_of}
 use Rattle.roles.specs.Talks.{Call, give, get, found, heard}
 use Rattle.complete_logins.specs.Calls.{AllWell}
 
--- who logs in, and where: how both sides start and which key each finds, what the authentication server knows, what it was
--- asked before, and the words that it draws
+-- who logs in, and where: how both sides start and which key each finds, what the authentication server knows, what
+-- it was asked before, and the words that it draws
 pub record Login : Type 0 where
   pub client : Start
   pub client_key : SkKey
@@ -46,8 +47,8 @@ question_in Nothing = []
 
 -- ---- what both sides meet
 
--- how a side speaks: what a call is answered behind a talk, the bytes that are got by it, what is needed behind a talk, how
--- it ends, and whether its last move was made
+-- how a side speaks: what a call is answered behind a talk, the bytes that are got by it, what is needed behind a
+-- talk, how it ends, and whether its last move was made
 pub record Speaker : Type 0 where
   pub answers : List Call → Call → Gave
   pub puts : List Call → Call → List ℕ
@@ -57,7 +58,13 @@ pub record Speaker : Type 0 where
 
 -- by p9sk1
 abbrev pub by_p9sk1 : Start → Speaker
-by_p9sk1 start = record { answers = answer_after start; puts = puts_after start; needs = need_after start; ends = outcome_after start; ended = ended_after start }
+by_p9sk1 start = record {
+  answers = answer_after start;
+  puts = puts_after start;
+  needs = need_after start;
+  ends = outcome_after start;
+  ended = ended_after start;
+}
 
 -- both sides, and what each met before p9sk1 is spoken
 pub record Between : Type 0 where
@@ -76,7 +83,8 @@ server_greeted b l = give (b.client.puts b.client_met get) ∷ found l.server_ke
 
 -- the client is given the server's request, and finds its key
 abbrev pub client_asked : Between → Login → List Call
-client_asked b l = found l.client_key l.client_password ∷ give (b.server.puts (server_greeted b l) get) ∷ get ∷ b.client_met
+client_asked b l = found l.client_key l.client_password ∷ give (b.server.puts (server_greeted b l) get) ∷ get
+    ∷ b.client_met
 
 -- the authentication server answers what the client asks
 abbrev pub grant_of : Between → Login → List ℕ
@@ -131,7 +139,11 @@ pub record MayLogIn (l : Login) : Type 0 where
 
 -- whom both sides accept, and the secret that they share
 abbrev pub accepted_in : Login → AuthInfo
-accepted_in l = record { cuid = l.client_key.user; suid = wanted_user (role_of l.client.template) l.client_key; secret = expanded (shared_key l.words) }
+accepted_in l = record {
+  cuid = l.client_key.user;
+  suid = wanted_user (role_of l.client.template) l.client_key;
+  secret = expanded (shared_key l.words);
+}
 
 -- every call of both sides is answered well, and both come to their end and accept the same names and the same secret
 pub record LogsIn (b : Between) (l : Login) : Type 0 where

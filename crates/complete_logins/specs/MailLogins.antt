@@ -1,6 +1,6 @@
--- A login to a mail server by APOP (RFC 1939) or CRAM (RFC 2195), whose messages reach the other side as they were sent, as
--- the name of the user does, which the mail protocol carries. The server asks the authentication server for a challenge, and
--- on the same connection to vouch for the user (authsrv(6) of the Plan 9 manual).
+-- A login to a mail server by APOP (RFC 1939) or CRAM (RFC 2195), whose messages reach the other side as they were
+-- sent, as the name of the user does, which the mail protocol carries. The server asks the authentication server for
+-- a challenge, and on the same connection to vouch for the user (authsrv(6) of the Plan 9 manual).
 use Rattle.std.specs.Prelude.{◌≡◌, ℕ, List, [], ◌∷◌, true, false, Option, Some}
 use Rattle.wire_base.specs.Names.{IsName}
 use Rattle.wire_base.specs.declared.name.AuthInfo.{AuthInfo}
@@ -21,9 +21,9 @@ use Rattle.conv_challenge.specs.Starts.{proto_of, side_of}
 use Rattle.complete_logins.specs.Calls.{AllWell}
 use Rattle.complete_logins.specs.Logins.{IsUser, KnowsKey, question_in}
 
--- who logs in, and where: how both sides start, the key and the password that the client finds, the key that the server
--- finds, the name of the user, what the authentication server knows, what the session was asked before, and the words that
--- are drawn for the two requests
+-- who logs in, and where: how both sides start, the key and the password that the client finds, the key that the
+-- server finds, the name of the user, what the authentication server knows, what the session was asked before, and
+-- the words that are drawn for the two requests
 pub record MailLogin : Type 0 where
   pub client : Start
   pub client_key : SkKey
@@ -76,8 +76,9 @@ pub record KnowsPassword (known : Knowledge) (user password : List ℕ) : Type 0
   pub knows : known.key user ≡ Some line
   pub same : line.password ≡ Some password
 
--- Both sides speak the same protocol; the authentication server knows the server's key, and the client's password as that
--- of the user who is named. Of the session's earlier requests none left a challenge of this protocol that isn't answered.
+-- Both sides speak the same protocol; the authentication server knows the server's key, and the client's password as
+-- that of the user who is named. Of the session's earlier requests none left a challenge of this protocol that isn't
+-- answered.
 pub record MayMail (l : MailLogin) : Type 0 where
   pub client_side : side_of l.client.template ≡ Client
   pub server_side : side_of l.server.template ≡ Server

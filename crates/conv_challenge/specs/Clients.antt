@@ -36,4 +36,5 @@ digits_by Apop challenge password = apop_digits challenge password
 digits_by Cram challenge password = cram_digits challenge password
 
 abbrev pub digits_got : Start → List ℕ → List ℕ → Verdict Stage
-digits_got start challenge password = goes (ClientDone challenge password) g.Ok (digits_by (proto_of start.template) challenge password)
+digits_got start challenge password =
+    goes (ClientDone challenge password) g.Ok (digits_by (proto_of start.template) challenge password)

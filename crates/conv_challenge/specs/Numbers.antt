@@ -1,5 +1,5 @@
--- The length in front of a challenge: a number in decimal digits, with blanks before or behind them. After authsrv(6) of
--- the Plan 9 manual.
+-- The length in front of a challenge: a number in decimal digits, with blanks before or behind them. After authsrv(6)
+-- of the Plan 9 manual.
 use Rattle.std.specs.Prelude.{ℕ, ◌+◌, ◌-◌, ◌*◌, List, [], ◌∷◌, Bool, ◌&&◌, ◌==◌, nat_le, nat_lt, length, reverse, if◌then◌else◌}
 use Rattle.std.specs.List.{list_all}
 

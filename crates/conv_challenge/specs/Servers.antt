@@ -1,6 +1,6 @@
--- The server of APOP and CRAM, which has the authentication server give a challenge and vouch for the user who answers it
--- (authsrv(6) of the Plan 9 manual): an equation a move, and in it the tests in the order in which they are made. Which
--- cause a failed test has is this project's.
+-- The server of APOP and CRAM, which has the authentication server give a challenge and vouch for the user who
+-- answers it (authsrv(6) of the Plan 9 manual): an equation a move, and in it the tests in the order in which they
+-- are made. Which cause a failed test has is this project's.
 use Rattle.std.specs.Prelude.{ℕ, ◌+◌, ◌==◌, ◌&&◌, ◌||◌, not, Bool, List, [], ◌∷◌, ◌++◌, nat_le, length, take, drop, slice_index, if◌then◌else◌}
 use Rattle.std.specs.Str.{bytes_eq}
 use Rattle.wire_base.specs.Rules.{Rule}
@@ -35,7 +35,15 @@ request_kind Cram = AUTH_CRAM
 
 -- a request of the key's user for a conversation's protocol and word, about this user
 abbrev pub request_about : Start → SkKey → List ℕ → List ℕ
-request_about start key user = request_text (record { kind = request_kind (proto_of start.template); authid = key.user; authdom = key.dom; chal = start.word; hostid = key.user; uid = user })
+request_about start key user = request_text (record {
+  kind = request_kind
+      (proto_of start.template);
+  authid = key.user;
+  authdom = key.dom;
+  chal = start.word;
+  hostid = key.user;
+  uid = user;
+})
 
 -- what asks for a challenge: it is about nobody yet
 abbrev pub challenge_question : Start → SkKey → List ℕ
@@ -53,7 +61,8 @@ length_in answer = told_length (take 5 (drop 1 answer))
 
 -- it tells a length that a challenge may have, and so many bytes stand behind it
 abbrev pub has_length : List ℕ → Bool
-has_length answer = nat_le 1 (length_in answer) && (nat_le (length_in answer) MOST_CHALLENGE && (length answer == 6 + length_in answer))
+has_length answer = nat_le 1 (length_in answer)
+    && (nat_le (length_in answer) MOST_CHALLENGE && (length answer == 6 + length_in answer))
 
 -- an answer that is a challenge, behind its kind and its length
 abbrev pub grants_challenge : List ℕ → Bool
@@ -99,7 +108,9 @@ vouch_tests start user ticket proof =
 -- a ticket and an authenticator; the user whom they name is accepted here
 abbrev pub vouch_opened : Start → SkKey → List ℕ → List ℕ → List ℕ → List ℕ → Verdict Stage
 vouch_opened start key challenge user digits vouch =
-    with_ticket BadKey (ticket_under key (ticket_part vouch)) (λ ticket. tested (vouch_tests start user ticket (proof_under ticket (rest_part vouch))) (goes (ServerDone key challenge user digits vouch) g.Ok []))
+    with_ticket BadKey (ticket_under key (ticket_part vouch))
+    (λ ticket. tested (vouch_tests start user ticket (proof_under ticket (rest_part vouch)))
+    (goes (ServerDone key challenge user digits vouch) g.Ok []))
 
 abbrev pub vouch_came : Start → SkKey → List ℕ → List ℕ → List ℕ → List ℕ → Verdict Stage
 vouch_came start key challenge user digits answer =

@@ -33,7 +33,8 @@ verdict_in c call = verdict (start_of c.own) (progress_of c) call
 pub record Follows (old new : ChConv) (v : Verdict Stage) : Type 0 where
   pub own : start_of new.own ≡ start_of old.own
   pub progress : progress_of new ≡ then_course (progress_of old) v
-  pub need : old.need ≡ need_at (start_of old.own) (progress_of old) → new.need ≡ need_at (start_of old.own) (progress_of new)
+  pub need : old.need ≡ need_at (start_of old.own) (progress_of old)
+      → new.need ≡ need_at (start_of old.own) (progress_of new)
 
 -- or there was no memory, and it is as before
 pub record MayFollow (old new : ChConv) (given : Gave) (v : Verdict Stage) : Type 0 where

@@ -1,5 +1,5 @@
--- How a conversation of APOP or CRAM is started, after factotum(4) of the Plan 9 manual: a template names the protocol and
--- the side, and what the key must be like. The order of the refusals is this project's.
+-- How a conversation of APOP or CRAM is started, after factotum(4) of the Plan 9 manual: a template names the
+-- protocol and the side, and what the key must be like. The order of the refusals is this project's.
 use Rattle.std.specs.Prelude.{ℕ, List, [], ◌∷◌, Bool, not, ◌||◌, codes, Option, if◌then◌else◌}
 use Rattle.std.specs.List.{list_any}
 use Rattle.wire_base.specs.Rules.{Rule, first_told}
@@ -49,7 +49,8 @@ proto_name Cram = codes "cram"
 
 -- the template asked by a client: a key of its protocol
 abbrev pub asked_by_client : Start → List Attr
-asked_by_client start = asked (proto_name (proto_of start.template)) role.Client start.template (value_of (codes "dom") start.template)
+asked_by_client start =
+    asked (proto_name (proto_of start.template)) role.Client start.template (value_of (codes "dom") start.template)
 
 -- the template asked by a server: a key of p9sk1, by which the authentication server knows it
 abbrev pub asked_by_server : Start → List Attr

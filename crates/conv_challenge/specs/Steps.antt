@@ -27,7 +27,8 @@ start_of own = record { template = own.template; word = own.word }
 
 -- a start that is one, its protocol and its side, or why it is none
 abbrev pub Starts : Result (Proto × Side) StartFault → List Attr → Type 0
-Starts (Ok named) template = (start_fault template ≡ None) × ((named.0 ≡ proto_of template) × (named.1 ≡ side_of template))
+Starts (Ok named) template =
+    (start_fault template ≡ None) × ((named.0 ≡ proto_of template) × (named.1 ≡ side_of template))
 Starts (Err fault) template = start_fault template ≡ Some fault
 
 -- the protocol that a template names, if it names one, and the side
@@ -70,7 +71,8 @@ within least most bytes whole =
 -- what such a message comes to that has too few bytes or too many, or that it has neither
 abbrev pub Fits : ℕ → ℕ → Option Gave → List ℕ → Type 0
 Fits least most (Some answer) bytes = (whole : Verdict Stage) → within least most bytes whole ≡ stays answer
-Fits least most None bytes = ((whole : Verdict Stage) → within least most bytes whole ≡ whole) × ((least ≤ length bytes) × (length bytes ≤ most))
+Fits least most None bytes =
+    ((whole : Verdict Stage) → within least most bytes whole ≡ whole) × ((least ≤ length bytes) × (length bytes ≤ most))
 
 -- the user whom a name of 1 to 27 bytes names, or that it names none
 abbrev pub ReadsUser : Option (List ℕ) → List ℕ → Type 0

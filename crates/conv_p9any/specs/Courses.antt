@@ -1,5 +1,5 @@
--- What the calls of a conversation of p9any come to, one after the other, for every list of calls. Once a domain is chosen
--- each call is one of the inner role's talk.
+-- What the calls of a conversation of p9any come to, one after the other, for every list of calls. Once a domain is
+-- chosen each call is one of the inner role's talk.
 use Rattle.std.specs.Prelude.{ℕ, List, [], ◌∷◌, Bool, false, ◌&&◌, not, map, codes, length, ◌==◌, Option, Some, None, if◌then◌else◌}
 use Rattle.std.specs.Str.{bytes_eq}
 use Rattle.wire_base.specs.Rules.{Rule}
@@ -40,12 +40,14 @@ waits need = if needs_any need then g.Wait else g.Ok
 
 -- it is begun by a move that gets these bytes
 abbrev pub entered : Inner → Start → Stage → List ℕ → List ℕ → Verdict Standing
-entered inner start before text bytes = goes (within before text []) (waits (inner.needs (chosen_start inner start text) [])) bytes
+entered inner start before text bytes =
+    goes (within before text []) (waits (inner.needs (chosen_start inner start text) [])) bytes
 
 -- a call is one of its talk
 abbrev pub passed_on : Inner → Start → Stage → List ℕ → List Call → Call → Verdict Standing
 passed_on inner start before text talk call =
-    goes (within before text (call ∷ talk)) (inner.answers (chosen_start inner start text) talk call) (inner.puts (chosen_start inner start text) talk call)
+    goes (within before text (call ∷ talk)) (inner.answers (chosen_start inner start text) talk call)
+    (inner.puts (chosen_start inner start text) talk call)
 
 -- ---- the moves by which it is chosen
 
@@ -74,14 +76,16 @@ abbrev pub choice_tests : List ℕ → List ℕ → List ℕ → List (Rule Caus
 choice_tests name list text = (not (is_offered name list text), NotOffered) ∷ []
 
 abbrev pub choice_came : List ℕ → Entry → List ℕ → List ℕ → Verdict Standing
-choice_came name enter list b = ended_by_nul b (λ text. tested (choice_tests name list text) (enter (ServerSecond list) text []))
+choice_came name enter list b =
+    ended_by_nul b (λ text. tested (choice_tests name list text) (enter (ServerSecond list) text []))
 
 -- a server's list came
 abbrev pub list_tests : List ℕ → Start → List ℕ → List (Rule Cause)
 list_tests name start list = (length (eligible name start list) == 0, NotOffered) ∷ []
 
 abbrev pub list_came : List ℕ → Start → List ℕ → Verdict Standing
-list_came name start b = ended_by_nul b (λ list. tested (list_tests name start list) (goes (choosing (ClientPick list)) g.Wait []))
+list_came name start b =
+    ended_by_nul b (λ list. tested (list_tests name start list) (goes (choosing (ClientPick list)) g.Wait []))
 
 -- the choice is got, and where the server consents to it that comes first
 abbrev pub choice_text : List ℕ → Start → List ℕ → ℕ → List ℕ
@@ -89,8 +93,10 @@ choice_text name start list place = choice_of name (dom_at name start list place
 
 abbrev pub choice_got : List ℕ → Start → Entry → List ℕ → ℕ → Verdict Standing
 choice_got name start enter list place =
-    if consents list then goes (choosing (ClientThird list place)) g.Ok (text_with_nul (choice_text name start list place))
-    else enter (ClientSecond list place) (choice_text name start list place) (text_with_nul (choice_text name start list place))
+    if consents list then goes (choosing (ClientThird list place)) g.Ok
+    (text_with_nul (choice_text name start list place))
+    else enter (ClientSecond list place) (choice_text name start list place)
+    (text_with_nul (choice_text name start list place))
 
 -- the server's consent came
 abbrev pub consent_tests : List ℕ → List (Rule Cause)
@@ -98,7 +104,8 @@ consent_tests text = (not (bytes_eq text (codes "OK")), WrongKind) ∷ []
 
 abbrev pub consent_came : List ℕ → Start → Entry → List ℕ → ℕ → List ℕ → Verdict Standing
 consent_came name start enter list place b =
-    ended_by_nul b (λ text. tested (consent_tests text) (enter (ClientThird list place) (choice_text name start list place) []))
+    ended_by_nul b (λ text. tested (consent_tests text)
+    (enter (ClientThird list place) (choice_text name start list place) []))
 
 abbrev pub choose : List ℕ → Start → Entry → Stage → Call → Verdict Standing
 -- server: the offers come; where there are none a key is found, which isn't kept, and they are wanted again
@@ -135,8 +142,10 @@ abbrev pub move : Inner → Start → Standing → Call → Verdict Standing
 move inner start (choosing stage) call = choose inner.name start (entered inner start) stage call
 move inner start (within before text talk) undone = taken_back inner start before text talk
 -- offers and picks are no calls of the inner role
-move inner start (within before text talk) (offered list) = stays (waits (inner.needs (chosen_start inner start text) talk))
-move inner start (within before text talk) (picked place) = stays (waits (inner.needs (chosen_start inner start text) talk))
+move inner start (within before text talk) (offered list) =
+    stays (waits (inner.needs (chosen_start inner start text) talk))
+move inner start (within before text talk) (picked place) =
+    stays (waits (inner.needs (chosen_start inner start text) talk))
 move inner start (within before text talk) call = passed_on inner start before text talk call
 
 -- ---- the course of a talk
@@ -156,7 +165,8 @@ begun start = record { stage = choosing (first_stage (role_of start.template)); 
 -- how far the calls of a talk have brought it
 abbrev pub course : Inner → Start → List Call → Progress Standing
 course inner start [] = begun start
-course inner start (call ∷ before) = then_course (course inner start before) (verdict inner start (course inner start before) call)
+course inner start (call ∷ before) =
+    then_course (course inner start before) (verdict inner start (course inner start before) call)
 
 -- the talk of the inner role, once it is begun
 abbrev pub talk_within : Standing → Option (List Call)
@@ -197,7 +207,8 @@ need_of inner start (choosing stage) = choice_need inner.name start stage
 need_of inner start (within before text talk) = inner.needs (chosen_start inner start text) talk
 
 abbrev pub need_after : Inner → Start → List Call → Need
-need_after inner start talk = need_unless (course inner start talk).broken (need_of inner start (course inner start talk).stage)
+need_after inner start talk =
+    need_unless (course inner start talk).broken (need_of inner start (course inner start talk).stage)
 
 -- ---- how it ends
 
@@ -206,7 +217,8 @@ outcome_of inner start (choosing stage) = Running
 outcome_of inner start (within before text talk) = inner.ends (chosen_start inner start text) talk
 
 abbrev pub outcome_after : Inner → Start → List Call → Outcome
-outcome_after inner start talk = outcome_unless (course inner start talk).broken (outcome_of inner start (course inner start talk).stage)
+outcome_after inner start talk =
+    outcome_unless (course inner start talk).broken (outcome_of inner start (course inner start talk).stage)
 
 abbrev pub is_last : Inner → Start → Standing → Bool
 is_last inner start (choosing stage) = false

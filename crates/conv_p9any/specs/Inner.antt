@@ -1,5 +1,5 @@
--- The role that is spoken once a domain is chosen: its name, and what it makes of its talks. Nothing else of it is known
--- here.
+-- The role that is spoken once a domain is chosen: its name, and what it makes of its talks. Nothing else of it is
+-- known here.
 use Rattle.std.specs.Prelude.{ℕ, List, ◌∷◌, Bool, not, ◌||◌, filter, codes, Some}
 use Rattle.attr_tuples.specs.declared.attr.Attr.{Attr}
 use Rattle.attr_tuples.specs.Attributes.{is_named}

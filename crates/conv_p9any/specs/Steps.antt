@@ -52,4 +52,5 @@ Judges name start stage (Chooses text) v = ((enter : Entry) → enter stage text
 -- a step of a client that was given this list
 abbrev pub Picks : List ℕ → Start → List ℕ → Step → Type 0
 Picks name start list step =
-    (verdict_of step ≡ tested (list_tests name start list) (goes (choosing (ClientPick list)) g.Wait [])) × IsNeeded name start step
+    (verdict_of step ≡ tested (list_tests name start list) (goes (choosing (ClientPick list)) g.Wait []))
+    × IsNeeded name start step

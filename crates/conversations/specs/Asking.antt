@@ -1,4 +1,5 @@
--- The questions to users that are made before they are asked. After factotum(4) of the Plan 9 manual (confirm, needkey).
+-- The questions to users that are made before they are asked. After factotum(4) of the Plan 9 manual (confirm,
+-- needkey).
 use Rattle.std.specs.Prelude.{◌≡◌, ◌<◌, ◌-◌, ◌^◌, ℕ, List, ◌∷◌, Bool, true, false, Option, Some, None}
 use Rattle.attr_tuples.specs.Printing.{public_text}
 use Rattle.key_lists.specs.Lists.{KeyEntry, KeyList}
@@ -31,7 +32,8 @@ pub record SameAsks (old new : Asks) : Type 0 where
 
 -- where a conversation asks its user, by a search among the keys of a moment, its question is made
 abbrev pub ReadyIn : Phase → Standing → Asking → KeyList → Asks → Type 0
-ReadyIn (OnConfirm serial) s asking list asks = (key : KeyEntry) → finds s asking list ≡ AsksConsent key → IsMade asks.confirm (public_text key.tuple)
+ReadyIn (OnConfirm serial) s asking list asks =
+    (key : KeyEntry) → finds s asking list ≡ AsksConsent key → IsMade asks.confirm (public_text key.tuple)
 ReadyIn OnNeedkey s asking list asks = IsMade asks.needkey (shown_text (template_of s.begun))
 ReadyIn Resting s asking list asks = Unit {0}
 ReadyIn (Waiting request) s asking list asks = Unit {0}
@@ -44,7 +46,8 @@ IsReady asking list s asks = ReadyIn s.phase s asking list asks
 
 -- whatever its talk was, that is so behind what follows, where it was so before
 abbrev pub Readies : Conversation → (List Call → List Call) → Asking → KeyList → Asks → Asks → Type 0
-Readies old then asking list before after = (talk : List Call) → Holds old talk → IsReady asking list (standing talk) before → IsReady asking list (standing (then talk)) after
+Readies old then asking list before after = (talk : List Call) → Holds old talk
+    → IsReady asking list (standing talk) before → IsReady asking list (standing (then talk)) after
 
 -- what a call answers is asked
 abbrev pub asks_that : Call → Phase → Bool
@@ -54,7 +57,8 @@ asks_that call phase = false
 
 -- and behind what its user answered
 abbrev pub Answers : Conversation → Call → Asking → KeyList → Asks → Type 0
-Answers old call asking list asks = (talk : List Call) → Holds old talk → asks_that call (standing talk).phase ≡ true → IsReady asking list (standing (with_answer call asking list talk)) asks
+Answers old call asking list asks = (talk : List Call) → Holds old talk → asks_that call (standing talk).phase ≡ true
+    → IsReady asking list (standing (with_answer call asking list talk)) asks
 
 -- by which file a user is asked
 abbrev pub asked_kind : Phase → Option PromptKind
@@ -93,11 +97,13 @@ template_begun (Some b) = Some b.start.template
 -- ---- for the proofs of methods alone
 
 abbrev pub TurnsReady : Conversation → (Standing → Standing) → Asking → KeyList → Asks → Asks → Type 0
-TurnsReady old change asking list before after = (s : Standing) → Fits old s → IsReady asking list s before → IsReady asking list (change s) after
+TurnsReady old change asking list before after =
+    (s : Standing) → Fits old s → IsReady asking list s before → IsReady asking list (change s) after
 
 abbrev pub MeetsReady : Conversation → (Standing → Standing) → Asking → KeyList → Asks → Type 0
 MeetsReady old change asking list asks = (s : Standing) → Carries old s → IsReady asking list (change s) asks
 
 -- this was found
 abbrev pub FindsReady : Conversation → Found → Asks → Type 0
-FindsReady old came asks = (s : Standing) (asking : Asking) (list : KeyList) → Fits old s → finds s asking list ≡ came → IsReady asking list (sought s came) asks
+FindsReady old came asks = (s : Standing) (asking : Asking) (list : KeyList) → Fits old s → finds s asking list ≡ came
+    → IsReady asking list (sought s came) asks

@@ -1,5 +1,5 @@
--- What is kept of a conversation that was started is what the definitions say was begun, and a move makes of it what they
--- say.
+-- What is kept of a conversation that was started is what the definitions say was begun, and a move makes of it what
+-- they say.
 use Rattle.std.specs.Prelude.{◌≡◌, ℕ, List, ◌∷◌, Option, Some, None}
 use Rattle.attr_tuples.specs.declared.attr.Attr.{Attr}
 use Rattle.key_lists.specs.Lists.{KeyList}
@@ -31,7 +31,8 @@ pub record IsBegun (held : Held) (b : Begun) : Type 0 where
 
 -- a move of the machine was made, and answered so
 abbrev pub Made : Conv → Conv → Move → Gave → Type 0
-Made old new move gave = (start : Start) (moves : List Move) → Stands old start moves → (gave ≡ answers start moves move) × Stands new start (move ∷ moves)
+Made old new move gave = (start : Start) (moves : List Move) → Stands old start moves
+    → (gave ≡ answers start moves move) × Stands new start (move ∷ moves)
 
 -- these bytes are got of it
 abbrev pub Got : Conv → List ℕ → Type 0
@@ -47,11 +48,13 @@ pub record Becomes (new : Held) (phase : Phase) (b : Begun) (answer : RpcAnswer)
 
 -- a move that is answered `ok` where it is done
 abbrev pub Moves : Held → Held → Phase → Move → Type 0
-Moves old new phase move = (b : Begun) → IsBegun old b → Becomes new phase (with_move b move) (move_answer a.Ok b.key (answers b.start b.moves move))
+Moves old new phase move = (b : Begun) → IsBegun old b
+    → Becomes new phase (with_move b move) (move_answer a.Ok b.key (answers b.start b.moves move))
 
 -- a start that was tried
 abbrev pub Opens : Opening → List Attr → List ℕ → Type 0
-Opens (o.Refused answer) template word = (fault : StartFault) × ((refuses template ≡ Some fault) × (answer ≡ start_answer fault))
+Opens (o.Refused answer) template word =
+    (fault : StartFault) × ((refuses template ≡ Some fault) × (answer ≡ start_answer fault))
 Opens (o.Started held) template word = (refuses template ≡ None) × IsBegun held (begin template word)
 
 -- where offers are needed, or a key, this is the list of what the keys offer that serve

@@ -69,21 +69,28 @@ answer_held c = answer_in (phase_of c.phase)
 
 -- a talk, and behind it a search among the keys of a moment, where something is sought
 abbrev pub with_search_once : Asking → KeyList → List Call → List Call
-with_search_once asking list talk = if is_seeking (standing talk).phase then Sought (finds (standing talk) asking list) ∷ talk else talk
+with_search_once asking list talk =
+    if is_seeking (standing talk).phase then Sought (finds (standing talk) asking list) ∷ talk
+    else talk
 
 -- and as many as it wants: a start may want the offers, a key where there are none, and the offers again
 abbrev pub with_search : Asking → KeyList → List Call → List Call
 with_search asking list talk =
-    if (standing talk).starting then with_search_once asking list (with_search_once asking list (with_search_once asking list talk))
+    if (standing talk).starting
+    then with_search_once asking list (with_search_once asking list (with_search_once asking list talk))
     else with_search_once asking list talk
 
 -- a talk with its request carried out, and the search that this wants; as it was, where it has no request
 abbrev pub with_request : List ℕ → Asking → KeyList → List Call → List Call
-with_request word asking list talk = if has_request (standing talk).phase then with_search asking list (CarriedOut word ∷ talk) else talk
+with_request word asking list talk =
+    if has_request (standing talk).phase then with_search asking list (CarriedOut word ∷ talk)
+    else talk
 
 -- a talk in which its user answers, and the search that this wants, where he was asked
 abbrev pub with_answer : Call → Asking → KeyList → List Call → List Call
-with_answer call asking list talk = if asks_user (standing talk).phase then with_search asking list (call ∷ talk) else call ∷ talk
+with_answer call asking list talk =
+    if asks_user (standing talk).phase then with_search asking list (call ∷ talk)
+    else call ∷ talk
 
 -- whatever its talk was, it holds for the talk in which its user answers
 abbrev pub Resumes : Conversation → Conversation → Call → Asking → KeyList → Type 0
@@ -104,7 +111,9 @@ abbrev pub searched_once : Asking → KeyList → Standing → Standing
 searched_once asking list s = if is_seeking s.phase then then_stands s s.phase (Sought (finds s asking list)) else s
 
 abbrev pub searched : Asking → KeyList → Standing → Standing
-searched asking list s = if s.starting then searched_once asking list (searched_once asking list (searched_once asking list s)) else searched_once asking list s
+searched asking list s =
+    if s.starting then searched_once asking list (searched_once asking list (searched_once asking list s))
+    else searched_once asking list s
 
 -- a search finds no memory: something is sought, and it is no pick
 pub record Lacks (s : Standing) : Type 0 where
@@ -138,4 +147,5 @@ Turns old new change = (s : Standing) → Fits old s → Fits new (change s)
 pub record UsesList (old new : Conversation) (given : List ℕ) : Type 0 where
   pub empty : given ≡ [] → new ≡ old
   pub rests : is_seeking (phase_of old.phase) ≡ false → new ≡ old
-  pub listed : (s : Standing) (b : ℕ) (rest : List ℕ) → given ≡ b ∷ rest → Fits old s → is_seeking s.phase ≡ true → IsOffers (need_in s.begun) → Fits new (made s (offered given) s.begun)
+  pub listed : (s : Standing) (b : ℕ) (rest : List ℕ) → given ≡ b ∷ rest → Fits old s → is_seeking s.phase ≡ true
+      → IsOffers (need_in s.begun) → Fits new (made s (offered given) s.begun)

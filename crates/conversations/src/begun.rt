@@ -18,8 +18,8 @@ use crate::phase::{Phase, choose_phase};
 use attr_tuples::{MergeFault, Tuple, merge, value_of};
 use key_ring::{Key, KeyRing};
 use roles::{Gave, Machine, Need, Outcome, SkKey};
-use talks::{Conv, RpcAnswer, pick_template};
 use std::alloc::Global;
+use talks::{Conv, RpcAnswer, pick_template};
 use wire_base::{Bytes, Name, NoMemory, Shape, Text};
 
 /// A conversation that was started. It has no Debug, which would print its key.

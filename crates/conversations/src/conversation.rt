@@ -19,15 +19,15 @@ ghost use Rattle.conversations.specs.Meanings.{phase_of, request_of};
 ghost use Rattle.conversations.specs.Shown.{answer_in, asked_in, exchange_in, has_answer, has_request, is_resting, is_seeking, waits_for_server, wanted_in};
 
 use crate::asks::Asks;
-use attr_tuples::Tuple;
 use crate::{
     Begun, Opening, Phase, Stored as Request, Wanted, open, phase, read_template, store_request,
 };
+use attr_tuples::Tuple;
 use key_ring::{Key, KeyRing};
 use roles::Outcome;
-use talks::{Asking, Found, Request as Written, RpcAnswer, Said, search_keys};
 use std::alloc::Global;
 use std::mem;
+use talks::{Asking, Found, Request as Written, RpcAnswer, Said, search_keys};
 use wire_base::{List, NoMemory, Shape};
 
 /// A conversation of rpc. It has no Debug, which would print secrets.

@@ -8,8 +8,8 @@ ghost use Rattle.conversations.specs.Begins.{Opens};
 use crate::begun::Begun;
 use attr_tuples::{Tuple, TupleFault, parse_tuple};
 use roles::{Machine, StartFault};
-use talks::{Conv, RpcAnswer};
 use std::alloc::Global;
+use talks::{Conv, RpcAnswer};
 use wire_base::NoMemory;
 
 const MOST_ATTRIBUTES: usize = 32;

@@ -7,8 +7,8 @@ ghost use Rattle.conversations.specs.Shown.{answer_in, asks_for_key, has_answer,
 
 use attr_tuples::Tuple;
 use roles::Need;
-use talks::{Request, RpcAnswer};
 use std::alloc::Global;
+use talks::{Request, RpcAnswer};
 use wire_base::{Bytes, NoMemory};
 
 /// A request as it is kept until it is carried out. It has no Debug, which would print what is written.

@@ -5,8 +5,8 @@ ghost use Rattle.conversations.specs.Asking.{asked_kind, start_text, template_be
 ghost use Rattle.conversations.specs.Fits.{Shows};
 
 use crate::conversation::Conversation;
-use attr_tuples::Tuple;
 use crate::{Phase, Stored};
+use attr_tuples::Tuple;
 use side_files::PromptKind;
 
 impl Conversation {

@@ -1,4 +1,5 @@
--- What the rows of the code's tables are to hold, so that a look-up in each of them permutes. Of the code's tables alone.
+-- What the rows of the code's tables are to hold, so that a look-up in each of them permutes. Of the code's tables
+-- alone.
 use Rattle.std.specs.Prelude.{ℕ, ◌+◌, ◌-◌, ◌*◌, ◌==◌, Bool, true, false, List, [], ◌∷◌, ◌++◌, ◌&&◌, length, replicate}
 use Rattle.des_block.specs.Bits.{binary, number_of, permuted}
 use Rattle.des_block.specs.Tables.{P}
@@ -16,7 +17,8 @@ placed before bits behind = zeros before ++ (bits ++ zeros behind)
 abbrev pub is_row : List ℕ → ℕ → ℕ → ℕ → List ℕ → Bool
 is_row table before behind n [] = n == 16
 is_row table before behind n (entry ∷ entries) =
-    (entry == number_of (permuted table (placed before (binary 4 n) behind))) && is_row table before behind (n + 1) entries
+    (entry == number_of (permuted table (placed before (binary 4 n) behind)))
+    && is_row table before behind (n + 1) entries
 
 -- a row for each four bits of the input
 abbrev pub are_rows : List ℕ → ℕ → List (List ℕ) → Bool
@@ -36,5 +38,6 @@ is_combined number table n (entry ∷ entries) =
 -- a row for each selection function
 abbrev pub are_combined : ℕ → List (List ℕ) → List (List ℕ) → Bool
 are_combined number [] [] = true
-are_combined number (table ∷ tables) (row ∷ rows) = is_combined number table 0 row && are_combined (number + 1) tables rows
+are_combined number (table ∷ tables) (row ∷ rows) =
+    is_combined number table 0 row && are_combined (number + 1) tables rows
 are_combined number tables rows = false

@@ -22,8 +22,8 @@ pub record Accepted (uname : List ℕ) (heard : Heard) : Type 0 where
   pub told : info_reading bytes ≡ Ok info
   pub user : info.suid ≡ uname
 
--- the afid is held and names a conversation that was begun for this user and this tree; that was asked once, and answered that
--- this user was accepted
+-- the afid is held and names a conversation that was begun for this user and this tree; that was asked once, and
+-- answered that this user was accepted
 pub record Vouched (all : List Held) (afid : ℕ) (uname aname : List ℕ) (calls : List PortCall) : Type 0 where
   pub conversation : AuthFid
   pub held : named afid all ≡ Some (Conversation conversation)

@@ -1,5 +1,5 @@
--- What is asked of an agent through a port, and what its answers say, by factotum(4): the requests of its rpc file, and the
--- words with which their answers begin. That a server of p9any is asked alone is this project's.
+-- What is asked of an agent through a port, and what its answers say, by factotum(4): the requests of its rpc file,
+-- and the words with which their answers begin. That a server of p9any is asked alone is this project's.
 use Rattle.std.specs.Prelude.{◌≡◌, ℕ, List, [], ◌∷◌, ◌++◌, length, take, drop, nat_le, Bool, true, false, not, ◌&&◌, ◌||◌, ◌==◌, Option, Some, None, codes, if◌then◌else◌}
 use Rattle.std.specs.Str.{bytes_eq}
 use Rattle.door_history.specs.declared.port.PortOpen.{PortOpen}

@@ -1,5 +1,5 @@
--- What was done with the fids of a connection, as a list of deeds, the newest first; what stands is read off it. After section 5 of the
--- Plan 9 manual (version, attach, walk, open, read, clunk).
+-- What was done with the fids of a connection, as a list of deeds, the newest first; what stands is read off it.
+-- After section 5 of the Plan 9 manual (version, attach, walk, open, read, clunk).
 use Rattle.std.specs.Prelude.{ℕ, List, [], ◌∷◌, ◌++◌, Option, None}
 use Rattle.door_history.specs.declared.fid.Names.{Names}
 use Rattle.door_history.specs.declared.fid.Held.{Held}

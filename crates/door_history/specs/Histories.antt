@@ -1,5 +1,5 @@
--- The history of a connection: its frames, each with what was asked at the port for it, the newest first; and what each frame
--- is answered.
+-- The history of a connection: its frames, each with what was asked at the port for it, the newest first; and what
+-- each frame is answered.
 use Rattle.std.specs.Prelude.{◌≡◌, ℕ, List, [], ◌∷◌, ◌++◌}
 use Rattle.nine.specs.declared.message.RBody.{RBody}
 use Rattle.nine.specs.Messages.{r_frame}
@@ -40,7 +40,11 @@ AreTurns (turn ∷ before) = IsTurn before turn × AreTurns before
 
 -- the reply to a frame behind a history
 abbrev pub reply_to : History → Turn → List ℕ
-reply_to before turn = r_frame (record { tag = tag_of turn.frame; body = reply_for (deeds before) (granted (deeds before) turn.frame) turn.calls })
+reply_to before turn = r_frame (record {
+  tag = tag_of turn.frame;
+  body = reply_for (deeds before)
+      (granted (deeds before) turn.frame) turn.calls;
+})
 
 -- the replies to the frames of a history, one behind the other
 abbrev pub replies : History → List ℕ

@@ -1,6 +1,6 @@
--- How a request is answered: the tests that refuse it, in their order, each with its text; what is asked at the port where
--- none of them holds; and, by the port's answers, what it does and what is replied. After section 5 of the Plan 9 manual and
--- auth(2); that these are the tests, their order and their texts are this project's.
+-- How a request is answered: the tests that refuse it, in their order, each with its text; what is asked at the port
+-- where none of them holds; and, by the port's answers, what it does and what is replied. After section 5 of the Plan
+-- 9 manual and auth(2); that these are the tests, their order and their texts are this project's.
 use Rattle.std.specs.Prelude.{◌≡◌, ℕ, ◌+◌, List, [], ◌∷◌, ◌++◌, length, take, drop, map, reverse, Bool, true, false, not, ◌&&◌, ◌||◌, ◌==◌, nat_lt, nat_le, bit_and, min, Option, Some, None, is_some, is_none, Result, Ok, Err, codes, if◌then◌else◌}
 use Rattle.std.specs.Str.{bytes_eq}
 use Rattle.wire_base.specs.Rules.{Rule, first_told}
@@ -85,7 +85,8 @@ read_tests offset (File f) =
     ∷ []
 
 abbrev pub write_tests : List ℕ → Names → List Test
-write_tests content (Conversation a) = (not (nat_le (length (write_text content)) most_request), codes "rpc too long") ∷ []
+write_tests content (Conversation a) =
+    (not (nat_le (length (write_text content)) most_request), codes "rpc too long") ∷ []
 write_tests content (File f) = (not f.is_open, codes "not open") ∷ (true, codes "not open for writing") ∷ []
 
 abbrev pub stat_tests : Names → List Test
@@ -107,7 +108,8 @@ refusal all (t.Attach fid afid uname aname) = first_told (
     ∷ (not (is_for uname aname (authenticates (named afid all))), codes "wrong attach")
     ∷ [])
 refusal all (t.Flush oldtag) = None
-refusal all (t.Walk fid newfid wname) = fid_first (named fid all) (walk_tests (fid == newfid) (is_held newfid all) (is_full all) wname)
+refusal all (t.Walk fid newfid wname) =
+    fid_first (named fid all) (walk_tests (fid == newfid) (is_held newfid all) (is_full all) wname)
 refusal all (t.Open fid mode) = fid_first (named fid all) (open_tests mode)
 refusal all (t.Create fid name perm mode) = fid_first (named fid all) (λ names. denied ∷ [])
 refusal all (t.Read fid offset count) = fid_first (named fid all) (read_tests offset)
@@ -127,8 +129,10 @@ IsAsked conv request calls = ⊥
 -- a conversation is opened, and started; where that isn't answered well, it is closed
 abbrev pub IsLogin : List PortCall → Type 0
 IsLogin (Opened Refused ∷ []) = Unit {0}
-IsLogin (Asked c asked came answer ∷ Opened (Open conv) ∷ []) = (c ≡ conv) × (asked ≡ start_text) × (is_well (heard came answer) ≡ true)
-IsLogin (Closed d ∷ Asked c asked came answer ∷ Opened (Open conv) ∷ []) = (d ≡ conv) × (c ≡ conv) × (asked ≡ start_text) × (is_well (heard came answer) ≡ false)
+IsLogin (Asked c asked came answer ∷ Opened (Open conv) ∷ []) =
+    (c ≡ conv) × (asked ≡ start_text) × (is_well (heard came answer) ≡ true)
+IsLogin (Closed d ∷ Asked c asked came answer ∷ Opened (Open conv) ∷ []) =
+    (d ≡ conv) × (c ≡ conv) × (asked ≡ start_text) × (is_well (heard came answer) ≡ false)
 IsLogin calls = ⊥
 
 abbrev pub IsNone : List PortCall → Type 0
@@ -206,7 +210,9 @@ room done count = effective count (msize_of done)
 -- a fid names a file for the user of another, where a walk comes to one
 abbrev pub walking : ℕ → ℕ → FileFid → Option DoorFile → List Deed → List Deed
 walking fid newfid f None done = done
-walking fid newfid f (Some file) done = if is_held newfid (held_in done) then Became newfid (at_rest f.uname file) ∷ done else Came newfid (at_rest f.uname file) ∷ done
+walking fid newfid f (Some file) done =
+    if is_held newfid (held_in done) then Became newfid (at_rest f.uname file) ∷ done
+    else Came newfid (at_rest f.uname file) ∷ done
 
 abbrev pub walked : ℕ → ℕ → List (List ℕ) → Option Names → List Deed → List Deed
 walked fid newfid wname (Some (File f)) done = walking fid newfid f (lead_to f.file wname) done
@@ -223,7 +229,9 @@ kept_of fid a count (Some bytes) done = Became fid (keeping (drop count bytes) a
 
 abbrev pub reading : ℕ → ℕ → ℕ → Option Names → List PortCall → List Deed → List Deed
 reading fid offset count None calls done = done
-reading fid offset count (Some (File f)) calls done = if is_directory f.file then Became fid (read_to (offset + length (content_of f.uname offset count f.file)) f) ∷ done else done
+reading fid offset count (Some (File f)) calls done =
+    if is_directory f.file then Became fid (read_to (offset + length (content_of f.uname offset count f.file)) f) ∷ done
+    else done
 reading fid offset count (Some (Conversation a)) calls done = kept_of fid a count (to_read a.kept calls) done
 
 abbrev pub logging_in : ℕ → List ℕ → List ℕ → Option ℕ → List Deed → List Deed
@@ -233,7 +241,9 @@ logging_in afid uname aname (Some conv) done = Came afid (begun conv uname aname
 unfoldable pub after : List Deed → TBody → List PortCall → List Deed
 after done (t.Version msize version) calls = Versioned (agreed msize version) ∷ done
 after done (t.Auth afid uname aname) calls = logging_in afid uname aname (begun_in calls) done
-after done (t.Attach fid afid uname aname) calls = if vouches uname (heard_in calls) then Came fid (at_rest uname Root) ∷ done else done
+after done (t.Attach fid afid uname aname) calls =
+    if vouches uname (heard_in calls) then Came fid (at_rest uname Root) ∷ done
+    else done
 after done (t.Walk fid newfid wname) calls = walked fid newfid wname (named fid (held_in done)) done
 after done (t.Open fid mode) calls = opening fid (named fid (held_in done)) done
 after done (t.Read fid offset count) calls = reading fid offset (room done count) (named fid (held_in done)) calls done
@@ -289,9 +299,12 @@ write_reply content (Asked c asked came answer ∷ calls) = written content answ
 write_reply content calls = unavailable
 
 unfoldable pub reply_of : List Deed → TBody → List PortCall → RBody
-reply_of done (t.Version msize version) calls = r.Version (min msize most_msize) (if is_known version then codes "9P2000" else codes "unknown")
+reply_of done (t.Version msize version) calls =
+    r.Version (min msize most_msize) (if is_known version then codes "9P2000" else codes "unknown")
 reply_of done (t.Auth afid uname aname) calls = login_reply (begun_in calls)
-reply_of done (t.Attach fid afid uname aname) calls = if vouches uname (heard_in calls) then r.Attach (qid_of Root) else r.Error (codes "not authenticated")
+reply_of done (t.Attach fid afid uname aname) calls =
+    if vouches uname (heard_in calls) then r.Attach (qid_of Root)
+    else r.Error (codes "not authenticated")
 reply_of done (t.Flush oldtag) calls = r.Flush
 reply_of done (t.Walk fid newfid wname) calls = walk_reply wname (named fid (held_in done))
 reply_of done (t.Open fid mode) calls = r.Open (qid_of (file_of (named fid (held_in done)))) 0

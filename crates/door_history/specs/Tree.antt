@@ -1,5 +1,5 @@
--- The tree that is served: the root, and in it one file, which tells for whom it was attached. After section 5 of the Plan 9
--- manual (intro(5), stat(5), walk(5), read(5)); paths, modes and the owner are this project's own.
+-- The tree that is served: the root, and in it one file, which tells for whom it was attached. After section 5 of the
+-- Plan 9 manual (intro(5), stat(5), walk(5), read(5)); paths, modes and the owner are this project's own.
 use Rattle.std.specs.Prelude.{ℕ, List, [], ◌∷◌, ◌++◌, length, take, drop, nat_le, Bool, true, false, not, ◌&&◌, ◌==◌, Option, Some, None, codes, if◌then◌else◌}
 use Rattle.std.specs.Str.{bytes_eq}
 use Rattle.nine.specs.declared.qid.Qid.{Qid}
@@ -47,7 +47,10 @@ record_of file = stat_text (record {
 
 -- where one name leads: from the root `..` to itself, and `who` to the file; under the file nothing is there
 unfoldable pub step : DoorFile → List ℕ → Option DoorFile
-step Root name = if bytes_eq name (codes "..") then Some Root else if bytes_eq name (codes "who") then Some Who else None
+step Root name =
+    if bytes_eq name (codes "..") then Some Root
+    else if bytes_eq name (codes "who") then Some Who
+    else None
 step Who name = None
 
 -- the files that a walk comes to, as long as the names are there

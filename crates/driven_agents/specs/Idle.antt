@@ -1,5 +1,5 @@
--- How an agent stands between what a network does to it: all that it put out was taken, and each conversation that asked the
--- authentication server is read by the request that waits for its answer. It serves proofs alone.
+-- How an agent stands between what a network does to it: all that it put out was taken, and each conversation that
+-- asked the authentication server is read by the request that waits for its answer. It serves proofs alone.
 use Rattle.std.specs.Prelude.{◌≡◌, ◌+◌, ◌<◌, ℕ, List, [], ◌∷◌, Bool, true, false, ◌==◌, nat_lt, Some, None}
 use Rattle.std.specs.List.{list_all}
 use Rattle.file_tree.specs.Calls.{attached}
@@ -68,7 +68,8 @@ pub record SameSeats (old new : History) : Type 0 where
 
 -- a question that stands keeps its conversation
 abbrev pub KeepsAskers : (ℕ → Bool) → History → History → Type 0
-KeepsAskers of old new = (call number : ℕ) → asker (deeds old) call ≡ Some number → of number ≡ true → asker (deeds new) call ≡ Some number
+KeepsAskers of old new =
+    (call number : ℕ) → asker (deeds old) call ≡ Some number → of number ≡ true → asker (deeds new) call ≡ Some number
 
 -- these questions are ones of a conversation
 abbrev pub AreOf : ℕ → List Question → History → Type 0
@@ -83,11 +84,13 @@ EventsDo = (event : Event) (h : History) → Runs (event ∷ h) → Runs h × (d
 
 -- where its connection is there behind an event, the replies that come of it are all that it left to be taken
 abbrev pub TakesGetWhatIsLeft : Type 0
-TakesGetWhatIsLeft = (event : Event) (h : History) → was_hung (deeds (event ∷ h)) 0 ≡ false → Runs (drive event h) → replies_to event h ≡ untaken (deeds (event ∷ h)) 0
+TakesGetWhatIsLeft = (event : Event) (h : History) → was_hung (deeds (event ∷ h)) 0 ≡ false → Runs (drive event h)
+    → replies_to event h ≡ untaken (deeds (event ∷ h)) 0
 
 -- takes leave nothing of what an event left of a calm agent
 abbrev pub TakesLeaveNothing : Type 0
-TakesLeaveNothing = (event : Event) (h : History) → IsCalm (deeds (event ∷ h)) → Runs (drive event h) → IsIdle (drive event h)
+TakesLeaveNothing = (event : Event) (h : History) → IsCalm (deeds (event ∷ h)) → Runs (drive event h)
+    → IsIdle (drive event h)
 
 -- a write keeps an agent idle, and so does a fid that is given up which had rpc open
 abbrev pub WritesKeepIdle : Type 0
@@ -103,7 +106,9 @@ pub record IsOpened (fid : ℕ) (h : History) : Type 0 where
   pub seat : conv_of (deeds (opened fid h)) 0 fid ≡ Some (opened_talks (deeds h))
 
 abbrev pub OpeningsKeepIdle : Type 0
-OpeningsKeepIdle = (fid : ℕ) (h : History) → IsIdle h → fid < 65535 → (fid == 0) ≡ false → (standing_of (deeds h) (opened_talks (deeds h))).begun ≡ None → Runs (opened fid h) → refuses_open fid h ≡ false → IsOpened fid h
+OpeningsKeepIdle = (fid : ℕ) (h : History) → IsIdle h → fid < 65535 → (fid == 0) ≡ false
+    → (standing_of (deeds h) (opened_talks (deeds h))).begun ≡ None → Runs (opened fid h) → refuses_open fid h ≡ false
+    → IsOpened fid h
 
 -- a new node is idle
 abbrev pub NewNodesAreIdle : Type 0

@@ -31,4 +31,5 @@ AreMet (move ∷ moves) = IsMet move × AreMet moves
 
 -- each that a conversation is told that was started
 abbrev pub ToldRingKeys : Type 0
-ToldRingKeys = (history : History) (conv : ℕ) (b : Begun) → (standing_of (deeds history) conv).begun ≡ Some b → AreMet b.moves
+ToldRingKeys = (history : History) (conv : ℕ) (b : Begun) → (standing_of (deeds history) conv).begun ≡ Some b
+    → AreMet b.moves

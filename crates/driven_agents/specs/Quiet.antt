@@ -22,11 +22,13 @@ NamesNoLines done = list_all leads_away done ≡ true
 
 -- a write leaves with what each conversation was started, and what it met since
 abbrev pub WritesStartNone : Type 0
-WritesStartNone = (fid : ℕ) (bytes : List ℕ) (history : History) (conv : ℕ) → NamesNoLines (deeds history) → (standing_of (deeds (writes fid bytes ∷ history)) conv).begun ≡ (standing_of (deeds history) conv).begun
+WritesStartNone = (fid : ℕ) (bytes : List ℕ) (history : History) (conv : ℕ) → NamesNoLines (deeds history)
+    → (standing_of (deeds (writes fid bytes ∷ history)) conv).begun ≡ (standing_of (deeds history) conv).begun
 
 -- a closing changes no conversation
 abbrev pub ClosingsChangeNone : Type 0
-ClosingsChangeNone = (fid : ℕ) (history : History) (conv : ℕ) → NamesNoLines (deeds history) → standing_of (deeds (clunks fid ∷ history)) conv ≡ standing_of (deeds history) conv
+ClosingsChangeNone = (fid : ℕ) (history : History) (conv : ℕ) → NamesNoLines (deeds history)
+    → standing_of (deeds (clunks fid ∷ history)) conv ≡ standing_of (deeds history) conv
 
 -- no fid of a node of a network ever comes to name one
 abbrev pub NodesNameNoLines : Type 0
@@ -34,13 +36,16 @@ NodesNameNoLines = (acts : List Act) (node : List ℕ) → NamesNoLines (deeds (
 
 -- so nobody has one open, and no search comes to a question for a user
 abbrev pub NodesOpenNoLines : Type 0
-NodesOpenNoLines = (acts : List Act) (node : List ℕ) (file : Node) → is_line_file file ≡ true → holder_of (deeds (worlds.history acts node)) file ≡ None
+NodesOpenNoLines = (acts : List Act) (node : List ℕ) (file : Node) → is_line_file file ≡ true
+    → holder_of (deeds (worlds.history acts node)) file ≡ None
 
 abbrev pub found_in : List Deed → ℕ → Found
 found_in done conv = finds (standing_of done conv) (asking done) (keys_of done)
 
 abbrev pub AskNoConsent : Type 0
-AskNoConsent = (acts : List Act) (node : List ℕ) (conv : ℕ) (key : KeyEntry) → found_in (deeds (worlds.history acts node)) conv ≡ AsksConsent key → ⊥
+AskNoConsent = (acts : List Act) (node : List ℕ) (conv : ℕ) (key : KeyEntry)
+    → found_in (deeds (worlds.history acts node)) conv ≡ AsksConsent key → ⊥
 
 abbrev pub AskForNoKey : Type 0
-AskForNoKey = (acts : List Act) (node : List ℕ) (conv : ℕ) → found_in (deeds (worlds.history acts node)) conv ≡ AsksKey → ⊥
+AskForNoKey = (acts : List Act) (node : List ℕ) (conv : ℕ) → found_in (deeds (worlds.history acts node)) conv ≡ AsksKey
+    → ⊥

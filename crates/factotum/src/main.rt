@@ -20,7 +20,6 @@ use host_edge::{
     find_untaken, hold_standard, open, open_table, tell as tell_line, tell_asked, tell_usage,
     tell_why,
 };
-use wire_streams::{ReadAhead, ReadSource, ReadWords, WriteSink, write_all};
 use sockets::{
     Failures, FailuresOf, Line, LinesOf, OwnLines, Servers, SharedFailures, SharedLines,
     SocketListener, TcpDialer, ThreadSpawner, Unstarted,
@@ -32,6 +31,7 @@ use std::process::ExitCode;
 use std::sync::{Arc, Wait};
 use std::time::{Clock, Duration};
 use wire_base::{Bytes, Text};
+use wire_streams::{ReadAhead, ReadSource, ReadWords, WriteSink, write_all};
 
 /// Where words are drawn from.
 const RANDOM: &str = "/dev/urandom";

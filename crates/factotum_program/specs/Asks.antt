@@ -1,5 +1,5 @@
--- Of the code alone: how far the questions of a frame, and a frame, were carried out. Before and after stand what the dialer
--- tells of its calls.
+-- Of the code alone: how far the questions of a frame, and a frame, were carried out. Before and after stand what the
+-- dialer tells of its calls.
 use Rattle.std.specs.Prelude.{◌≡◌, ◌⊎◌, ℕ, List, [], ◌∷◌, Bool, true, false, Option}
 use Rattle.wire_base.specs.declared.shape.Shape.{Shape}
 use Rattle.wire_streams.specs.Dials.{Dialed}
@@ -16,7 +16,8 @@ use Rattle.factotum_program.specs.Sights.{MakesAll, MakesPart}
 use Rattle.factotum_program.specs.Gathers.{Gathers, GathersPart}
 
 -- a question was asked, and this event tells what that came to
-pub record Exchanges (call conv : ℕ) (request : List ℕ) (shape : Shape) (before now : Option Dialed) (event : Event) : Type 0 where
+pub record Exchanges (call conv : ℕ) (request : List ℕ) (shape : Shape) (before now : Option Dialed)
+    (event : Event) : Type 0 where
   pub outcome : Outcome
   pub is : event ≡ event_of call outcome
   pub made : MakesAll before now (Exchange conv request shape outcome ∷ [])
@@ -59,7 +60,8 @@ pub record AsksSome (history : History) (before now : Option Dialed) : Type 0 wh
   pub made : MakesPart before now (ask_all heard history).calls
 
 -- a frame was answered, and its replies are gathered
-pub record Turns (history : History) (frame word : List ℕ) (before now : Option Dialed) (origin held : Option (List ℕ)) (gathered : List ℕ) (agent : Agent) : Type 0 where
+pub record Turns (history : History) (frame word : List ℕ) (before now : Option Dialed) (origin held : Option (List ℕ))
+    (gathered : List ℕ) (agent : Agent) : Type 0 where
   pub heard : List Outcome
   pub met : (asked_in history (turn_of frame word heard)).met ≡ true
   pub made : MakesAll before now (asked_in history (turn_of frame word heard)).calls
@@ -67,7 +69,8 @@ pub record Turns (history : History) (frame word : List ℕ) (before now : Optio
   pub told : Gathers origin held gathered (text_of (after_turn history (turn_of frame word heard)))
 
 -- a frame was answered in part
-pub record TurnsPart (status : Status) (history : History) (frame word : List ℕ) (before now : Option Dialed) (origin held : Option (List ℕ)) (gathered : List ℕ) : Type 0 where
+pub record TurnsPart (status : Status) (history : History) (frame word : List ℕ) (before now : Option Dialed)
+    (origin held : Option (List ℕ)) (gathered : List ℕ) : Type 0 where
   pub heard : List Outcome
   pub made : MakesPart before now (asked_in history (turn_of frame word heard)).calls
   pub told : GathersPart status origin held gathered (text_of (after_turn history (turn_of frame word heard)))

@@ -1,5 +1,5 @@
--- What a pipe has read, drawn, asked and written when it ends, by the bytes that it read. Content is optional: the words on
--- it hold where it is told.
+-- What a pipe has read, drawn, asked and written when it ends, by the bytes that it read. Content is optional: the
+-- words on it hold where it is told.
 use Rattle.std.specs.Prelude.{◌≡◌, ◌<◌, ◌≤◌, ℕ, List, [], ◌∷◌, ◌++◌, length, Option, true}
 use Rattle.std.specs.Io.KnownBytes.{Consumes, IsAtEnd}
 use Rattle.wire_streams.specs.Streams.{Gains}
@@ -24,8 +24,8 @@ pub record Reads (old new : Option (List ℕ)) (input behind : List ℕ) : Type 
   pub bounded : length input ≤ most_input
   pub full : 0 < length behind → length input ≡ most_input
 
--- Each of these frames was answered: a word was drawn for it, all that it made the agent ask was asked, the connections to
--- the authentication server that it made the agent give up were closed, and its replies were written.
+-- Each of these frames was answered: a word was drawn for it, all that it made the agent ask was asked, the
+-- connections to the authentication server that it made the agent give up were closed, and its replies were written.
 pub record Replies (frames : List (List ℕ)) (before now : Sight) : Type 0 where
   pub turns : List Turn
   pub are : frames_of turns ≡ frames
@@ -96,8 +96,9 @@ pub record GainsPart (status : Status) (old new : Option (List ℕ)) (text : Lis
   pub written : Gains old new front
   pub missing : status ≡ WriteFault → 0 < length rest
 
--- For each of these frames a word was drawn, and all that it made the agent ask was asked, and all that it made it give up
--- was closed, but for the last one, of which some may be left to ask and to close; a front of their replies was written.
+-- For each of these frames a word was drawn, and all that it made the agent ask was asked, and all that it made it
+-- give up was closed, but for the last one, of which some may be left to ask and to close; a front of their replies
+-- was written.
 pub record RepliesPart (status : Status) (frames : List (List ℕ)) (before now : Sight) : Type 0 where
   pub turns : List Turn
   pub last : List Turn

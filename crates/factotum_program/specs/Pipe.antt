@@ -1,6 +1,6 @@
--- One 9P connection over an input and an output, beside a source of words and an authentication server: the history that
--- its frames make, what is written, and what the server is asked. The history is the agent's own; nothing of how the
--- program goes over its input stands here.
+-- One 9P connection over an input and an output, beside a source of words and an authentication server: the history
+-- that its frames make, what is written, and what the server is asked. The history is the agent's own; nothing of how
+-- the program goes over its input stands here.
 use Rattle.std.specs.Prelude.{ℕ, zero, suc, List, [], ◌∷◌, ◌++◌, length, map, Bool, true, false, not, ◌&&◌, if◌then◌else◌}
 use Rattle.wire_base.specs.declared.shape.Shape.{Shape}
 use Rattle.wire_base.specs.declared.shape.Shape.TheVariants.{Tickets}
@@ -53,7 +53,8 @@ event_of call Roomless = NoRoom call
 
 -- the question that is handed out next, asked with this outcome
 abbrev pub exchange_next : History → Outcome → Made
-exchange_next history outcome = let next = answer history TakeAsk in Exchange (conv_in next.0) next.1 (shape_in next.0) outcome
+exchange_next history outcome =
+    let next = answer history TakeAsk in Exchange (conv_in next.0) next.1 (shape_in next.0) outcome
 
 -- and the history once the agent was told
 abbrev pub told_next : History → Outcome → History
@@ -81,7 +82,9 @@ close_next history = Close (conv_in (answer history TakeAsk).0)
 -- connections are closed, at most so many, as long as one is handed out
 abbrev pub close_while : ℕ → History → Asked
 close_while zero history = none_made history
-close_while (suc n) history = if is_drop (answer history TakeAsk).0 then behind_call (close_next history) (close_while n (TakeAsk ∷ history)) else none_made history
+close_while (suc n) history =
+    if is_drop (answer history TakeAsk).0 then behind_call (close_next history) (close_while n (TakeAsk ∷ history))
+    else none_made history
 
 abbrev pub closed : History → Asked
 closed history = close_while (length (drops (deeds history))) history
@@ -90,13 +93,15 @@ closed history = close_while (length (drops (deeds history))) history
 abbrev pub ended : Bool → Asked → Asked
 ended met asked = record { history = TakeAsk ∷ asked.history; calls = asked.calls; met = met }
 
--- What is due is taken until nothing is: a connection is closed; a question is asked, with the next of these outcomes, and
--- the agent is told.
+-- What is due is taken until nothing is: a connection is closed; a question is asked, with the next of these
+-- outcomes, and the agent is told.
 abbrev pub ask_all : List Outcome → History → Asked
 ask_all [] history = ended (not (is_ask (answer (closed history).history TakeAsk).0)) (closed history)
 ask_all (outcome ∷ more) history =
     let before = closed history in
-    if is_ask (answer before.history TakeAsk).0 then behind_calls before.calls (behind_call (exchange_next before.history outcome) (ask_all more (told_next before.history outcome)))
+    if is_ask (answer before.history TakeAsk).0
+    then behind_calls before.calls
+    (behind_call (exchange_next before.history outcome) (ask_all more (told_next before.history outcome)))
     else ended false before
 
 -- ---- frames
@@ -128,7 +133,8 @@ asked_in history turn = ask_all turn.heard (Request 0 turn.frame turn.word ∷ h
 
 -- and then takes until there is no reply
 unfoldable pub after_turn : History → Turn → History
-after_turn history turn = let asked = (asked_in history turn).history in take_while (length (untaken (deeds asked) 0)) asked
+after_turn history turn =
+    let asked = (asked_in history turn).history in take_while (length (untaken (deeds asked) 0)) asked
 
 -- the frames in order: the history, the calls made, and whether each frame has as many outcomes as questions
 abbrev pub after_turns : History → List Turn → History

@@ -15,7 +15,8 @@ use Rattle.factotum_program.specs.Commands.{most_input, frames_in}
 use Rattle.factotum_program.specs.Gathers.{Gathers, GathersPart}
 
 -- some frames of the stream were answered
-pub record Handed (origin now : Sight) (gathered stream : List ℕ) (turns : List Turn) (framer : Framing) (agent : Agent) : Type 0 where
+pub record Handed (origin now : Sight) (gathered stream : List ℕ) (turns : List Turn) (framer : Framing)
+    (agent : Agent) : Type 0 where
   pub cut : HasHandedOut framer stream (frames_of turns)
   pub limit : framer.limit ≡ most_frame
   pub stands : StandsFor (after_turns [] turns) agent

@@ -1,5 +1,5 @@
--- What a pipe draws, asks and writes between two moments. Words, calls and bytes are optional: what is said of them holds
--- where they are told.
+-- What a pipe draws, asks and writes between two moments. Words, calls and bytes are optional: what is said of them
+-- holds where they are told.
 use Rattle.std.specs.Prelude.{◌≡◌, ℕ, List, [], ◌∷◌, ◌++◌, Bool, true, false, Option, None, Some, ⊤}
 use Rattle.std.specs.List.{list_all}
 use Rattle.wire_streams.specs.Dials.{Dialed}
@@ -31,12 +31,13 @@ answers_in [] = []
 answers_in (Exchange conv request shape outcome ∷ calls) = answer_in outcome ++ answers_in calls
 answers_in (Close conv ∷ calls) = answers_in calls
 
--- These calls were made of a dialer, the first of them first, and the answers heard are the next of those to come. It says
--- nothing where nothing is told now, since a dialer may stop telling; what is told now was told before.
+-- These calls were made of a dialer, the first of them first, and the answers heard are the next of those to come. It
+-- says nothing where nothing is told now, since a dialer may stop telling; what is told now was told before.
 abbrev pub MakesAll : Option Dialed → Option Dialed → List Made → Type 0
 MakesAll before None calls = ⊤
 MakesAll None (Some now) calls = ⊥
-MakesAll (Some before) (Some now) calls = (now.made ≡ before.made ++ calls) × (before.to_come ≡ answers_in calls ++ now.to_come)
+MakesAll (Some before) (Some now) calls =
+    (now.made ≡ before.made ++ calls) × (before.to_come ≡ answers_in calls ++ now.to_come)
 
 -- the words of these turns were drawn, and their calls made, and nothing else
 pub record Goes (before now : Sight) (turns : List Turn) : Type 0 where

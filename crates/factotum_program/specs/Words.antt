@@ -1,5 +1,6 @@
--- The words of a command line behind the program's name, as lists of bytes: the command's name and then options, each with a
--- value behind it. Options go by their long names (getopt_long(3), Argument Syntax), without `=` or `--` alone.
+-- The words of a command line behind the program's name, as lists of bytes: the command's name and then options, each
+-- with a value behind it. Options go by their long names (getopt_long(3), Argument Syntax), without `=` or `--`
+-- alone.
 use Rattle.std.specs.Prelude.{◌≡◌, ◌&&◌, ◌||◌, ℕ, List, [], ◌∷◌, Bool, true, false, codes, Option, Some, None, ◌⊎◌}
 use Rattle.std.specs.Str.{bytes_eq}
 use Rattle.auth_program.specs.Words.{IsAuthsrv, has_authsrv_form, is_authsrv, is_value}
@@ -18,7 +19,8 @@ is_pipe_alone words = false
 
 -- behind the word `pipe` stands its option, with a value: the address of the authentication server
 abbrev pub has_auth_form : List (List ℕ) → Bool
-has_auth_form (name ∷ option ∷ value ∷ []) = bytes_eq name (codes "pipe") && (bytes_eq option (codes "--auth") && is_value value)
+has_auth_form (name ∷ option ∷ value ∷ []) =
+    bytes_eq name (codes "pipe") && (bytes_eq option (codes "--auth") && is_value value)
 has_auth_form words = false
 
 -- the words are those of `pipe`
@@ -56,4 +58,5 @@ has_options_form words = has_auth_form words || (has_authsrv_form words || has_g
 
 -- why words have no task: they are no command's, or they have options and memory ran out
 abbrev pub IsUnread : List (List ℕ) → Status → Type 0
-IsUnread words status = ((status ≡ Usage) × (is_command words ≡ false)) ⊎ ((status ≡ NoMemory) × (has_options_form words ≡ true))
+IsUnread words status =
+    ((status ≡ Usage) × (is_command words ≡ false)) ⊎ ((status ≡ NoMemory) × (has_options_form words ≡ true))

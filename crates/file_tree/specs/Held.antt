@@ -78,7 +78,8 @@ abbrev pub attach_refusal : Table → ℕ → Option FidFault
 attach_refusal table fid = attach_fault (state_at table fid) (held_in table)
 
 abbrev pub walk_refusal : Table → ℕ → ℕ → List (List ℕ) → Option FidFault
-walk_refusal table fid newfid names = walk_fault (state_at table fid) (state_at table newfid) (fid == newfid) (held_in table) names
+walk_refusal table fid newfid names =
+    walk_fault (state_at table fid) (state_at table newfid) (fid == newfid) (held_in table) names
 
 -- changes of fids, the newest first: which fid, and what it became
 abbrev pub Changes : Type 0

@@ -54,7 +54,9 @@ up node = if is_directory node then Some (parent node) else None
 
 -- where one name leads: `..` up, any other to the file of that name in the directory
 unfoldable pub step : Node → List ℕ → Option Node
-step node name = if bytes_eq name (codes "..") then up node else find (λ child. bytes_eq name (file child).name) (files_in node)
+step node name =
+    if bytes_eq name (codes "..") then up node
+    else find (λ child. bytes_eq name (file child).name) (files_in node)
 
 -- the files that a walk comes to: it follows the names as long as they are there
 abbrev pub visited : Node → List (List ℕ) → List Node

@@ -36,9 +36,11 @@ edited (Delete template) list = deleted template list
 -- the list after edits, the oldest first, up to the first that is refused
 abbrev pub after_edits : List KeyEdit → KeyList → KeyList
 after_edits [] list = list
-after_edits (edit ∷ edits) list = elim (edit_fault edit list) [ None ↦ after_edits edits (edited edit list) | Some fault ↦ list ]
+after_edits (edit ∷ edits) list =
+    elim (edit_fault edit list) [ None ↦ after_edits edits (edited edit list) | Some fault ↦ list ]
 
 -- why the first refused one is refused, if one is
 abbrev pub edits_fault : List KeyEdit → KeyList → Option EditFault
 edits_fault [] list = None
-edits_fault (edit ∷ edits) list = elim (edit_fault edit list) [ None ↦ edits_fault edits (edited edit list) | Some fault ↦ Some fault ]
+edits_fault (edit ∷ edits) list =
+    elim (edit_fault edit list) [ None ↦ edits_fault edits (edited edit list) | Some fault ↦ Some fault ]

@@ -86,12 +86,14 @@ line_over keys line = elim (read_line line) [
 -- stands behind the edits that were carried out before it
 abbrev pub carried_out : KeyList → List (List ℕ) → List CtlLine
 carried_out keys [] = []
-carried_out keys (line ∷ lines) = elim (line_over keys line) [ Ok said ↦ said ∷ carried_out (keys_with said keys) lines | Err text ↦ [] ]
+carried_out keys (line ∷ lines) =
+    elim (line_over keys line) [ Ok said ↦ said ∷ carried_out (keys_with said keys) lines | Err text ↦ [] ]
 
 -- the text that refuses the first refused one, if one is
 abbrev pub lines_fault : KeyList → List (List ℕ) → Option (List ℕ)
 lines_fault keys [] = None
-lines_fault keys (line ∷ lines) = elim (line_over keys line) [ Ok said ↦ lines_fault (keys_with said keys) lines | Err text ↦ Some text ]
+lines_fault keys (line ∷ lines) =
+    elim (line_over keys line) [ Ok said ↦ lines_fault (keys_with said keys) lines | Err text ↦ Some text ]
 
 -- the keys after lines that are carried out
 abbrev pub keys_with_all : List CtlLine → KeyList → KeyList

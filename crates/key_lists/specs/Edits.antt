@@ -29,7 +29,9 @@ drops key (Delete template) = matches template key
 -- were added up to it, `earlier` of them before these lines
 abbrev pub standing : ℕ → List KeyEdit → List KeyEntry
 standing earlier [] = []
-standing earlier (Add key ∷ later) = if list_any (drops key) later then standing (earlier + 1) later else record { tuple = key; serial = earlier + 1 } ∷ standing (earlier + 1) later
+standing earlier (Add key ∷ later) =
+    if list_any (drops key) later then standing (earlier + 1) later
+    else record { tuple = key; serial = earlier + 1 } ∷ standing (earlier + 1) later
 standing earlier (Delete template ∷ later) = standing earlier later
 
 -- how many lines add a key

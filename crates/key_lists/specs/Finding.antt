@@ -9,7 +9,8 @@ use Rattle.key_lists.specs.Lists.{KeyEntry, KeyList, next_serving}
 abbrev pub in_turn : List Attr → List ℕ → KeyList → ℕ → Option KeyEntry → List KeyEntry
 in_turn template role list turns None = []
 in_turn template role list zero (Some key) = []
-in_turn template role list (suc turns) (Some key) = key ∷ in_turn template role list turns (next_serving template role key.serial list)
+in_turn template role list (suc turns) (Some key) =
+    key ∷ in_turn template role list turns (next_serving template role key.serial list)
 
 -- the words of a text with blanks between
 abbrev pub words_of : List ℕ → List (List ℕ)

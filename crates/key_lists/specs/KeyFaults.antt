@@ -46,7 +46,8 @@ is_bad_hex (Some a) = not (is_given is_hex_key a.value)
 
 -- the user is named more than once, or isn't one; or the domain, where it is named
 abbrev pub has_bad_name : List Attr → Bool
-has_bad_name key = not (gives_once (codes "user") is_user key) || has_name key (codes "dom") && not (gives_once (codes "dom") is_dom key)
+has_bad_name key = not (gives_once (codes "user") is_user key)
+    || has_name key (codes "dom") && not (gives_once (codes "dom") is_dom key)
 
 -- the rules of a key, in order
 abbrev pub key_rules : List Attr → List (Rule AddFault)

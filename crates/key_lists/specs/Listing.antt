@@ -40,7 +40,9 @@ offer_of dom = codes "p9sk1@" ++ dom
 -- the offers that find room in so many bytes, each with one byte behind it, up to the first that doesn't
 abbrev pub fitting : ℕ → List (List ℕ) → List (List ℕ)
 fitting room [] = []
-fitting room (offer ∷ more) = if nat_lt (length offer) room then offer ∷ fitting (room - (length offer + 1)) more else []
+fitting room (offer ∷ more) =
+    if nat_lt (length offer) room then offer ∷ fitting (room - (length offer + 1)) more
+    else []
 
 -- how many bytes the offers have at most, with the byte behind the last one
 abbrev pub most_offered : ℕ

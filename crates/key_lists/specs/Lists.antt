@@ -50,7 +50,10 @@ next_entry key list = record { tuple = key; serial = list.ever_added + 1 }
 
 -- the list with a key added: those that are the same in public are dropped, and the new one stands last
 abbrev pub added : List Attr → KeyList → KeyList
-added key list = record { keys = filter (λ old. not (public_equal key old.tuple)) list.keys ++ next_entry key list ∷ []; ever_added = list.ever_added + 1 }
+added key list = record {
+  keys = filter (λ old. not (public_equal key old.tuple)) list.keys ++ next_entry key list ∷ [];
+  ever_added = list.ever_added + 1;
+}
 
 -- ---- deleting
 
@@ -64,17 +67,22 @@ matching template list = length (filter (λ key. matches template key.tuple) lis
 
 -- why nothing is deleted by a template, if nothing is
 unfoldable pub delete_fault : List Attr → KeyList → Option DeleteFault
-delete_fault template list = first_told ((list_any tells_secret template, SecretValue) ∷ (matching template list == 0, NoneMatched) ∷ [])
+delete_fault template list =
+    first_told ((list_any tells_secret template, SecretValue) ∷ (matching template list == 0, NoneMatched) ∷ [])
 
 -- the list without the keys that match a template
 abbrev pub deleted : List Attr → KeyList → KeyList
-deleted template list = record { keys = filter (λ key. not (matches template key.tuple)) list.keys; ever_added = list.ever_added }
+deleted template list = record {
+  keys = filter (λ key. not (matches template key.tuple)) list.keys;
+  ever_added = list.ever_added;
+}
 
 -- ---- finding
 
 -- a key serves a template and a role: it matches the template, and it either names no role or holds this one
 abbrev pub serves : List Attr → List ℕ → KeyEntry → Bool
-serves template role key = matches template key.tuple && (not (has_name key.tuple (codes "role")) || gives (codes "role") (λ text. bytes_eq text role) key.tuple)
+serves template role key = matches template key.tuple
+    && (not (has_name key.tuple (codes "role")) || gives (codes "role") (λ text. bytes_eq text role) key.tuple)
 
 -- the first key that serves
 abbrev pub first_serving : List Attr → List ℕ → KeyList → Option KeyEntry
@@ -82,4 +90,5 @@ first_serving template role list = find (serves template role) list.keys
 
 -- the first key that serves behind the key of a number; none where there is no key of that number
 abbrev pub next_serving : List Attr → List ℕ → ℕ → KeyList → Option KeyEntry
-next_serving template role serial list = find (serves template role) (after_first (λ key. key.serial == serial) list.keys)
+next_serving template role serial list =
+    find (serves template role) (after_first (λ key. key.serial == serial) list.keys)

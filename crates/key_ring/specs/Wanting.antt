@@ -22,4 +22,5 @@ if_passes wanted (Some key) = if passes wanted key then Some key else None
 -- the first key of these numbers that is one
 abbrev pub first_of : Wanted → List KeyEntry → List ℕ → Option KeyEntry
 first_of wanted keys [] = None
-first_of wanted keys (serial ∷ serials) = option_or (if_passes wanted (numbered keys serial)) (first_of wanted keys serials)
+first_of wanted keys (serial ∷ serials) =
+    option_or (if_passes wanted (numbered keys serial)) (first_of wanted keys serials)

@@ -62,7 +62,8 @@ put_odd Debug odd more = more
 -- of each edit that lines say, whether an odd number of lines `debug` stands before it
 abbrev pub odd_in : List (List ℕ) → Bool → List Bool
 odd_in [] odd = []
-odd_in (line ∷ lines) odd = elim (read_line line) [ Ok said ↦ put_odd said odd (odd_in lines (odd_behind said odd)) | Err text ↦ [] ]
+odd_in (line ∷ lines) odd =
+    elim (read_line line) [ Ok said ↦ put_odd said odd (odd_in lines (odd_behind said odd)) | Err text ↦ [] ]
 
 -- whether an odd number stands before the first line that can't be read, or else before the end
 abbrev pub odd_last : List (List ℕ) → Bool → Bool

@@ -11,8 +11,11 @@ ghost use Rattle.wire_streams.specs.Streams.{Reads, Writes, read_failed, write_f
 ghost use Rattle.wire_streams.specs.Words.{Draws};
 ghost use Rattle.wire_streams.specs.declared.dialer.Made.TheVariants.{Close};
 
-use wire_streams::{Dial, Dialer, Got, ListenFault, Listener, NoStart, Offer, Offers, Put, Sink, Source, Spawner, WordFault, Words};
 use wire_base::{Bytes, Shape};
+use wire_streams::{
+    Dial, Dialer, Got, ListenFault, Listener, NoStart, Offer, Offers, Put, Sink, Source, Spawner,
+    WordFault, Words,
+};
 
 /// As `Source::read`.
 pub fn read<S: Source>(source: &mut S, out: &mut [u8]) -> Got

@@ -3,8 +3,8 @@ use crate::fields::{Came, bytes_at, number_at, text_at, verb_of, word_at};
 use crate::tuples::tuple_at;
 use anyhow::bail;
 use row_files::{Report, Row};
-use talks::{Request, RpcAnswer, answer_fits, parse_request, print_answer};
 use std::alloc::Global;
+use talks::{Request, RpcAnswer, answer_fits, parse_request, print_answer};
 use wire_base::{AuthInfo, Bytes, Name};
 
 pub(crate) fn play(

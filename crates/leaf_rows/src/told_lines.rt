@@ -2,6 +2,7 @@
 use crate::fields::{Came, byte_at, bytes_at, number_at, text_at, verb_of, word_at};
 use crate::prompts::{kind_at, reserve, tell_handed};
 use crate::tuples::tuple_at;
+use agent_talks::{EndLine, LineFiles, build_start};
 use anyhow::bail;
 use attr_tuples::Tuple;
 use file_tree::Node;
@@ -10,7 +11,6 @@ use row_files::{Report, Row};
 use side_files::{LogRing, PromptKind};
 use std::alloc::Global;
 use std::marker::Send;
-use agent_talks::{EndLine, LineFiles, build_start};
 use wire_base::{AuthInfo, Bytes, Name};
 
 pub(crate) fn play(

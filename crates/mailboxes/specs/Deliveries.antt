@@ -35,7 +35,12 @@ under tag body = record { tag = tag; body = body }
 
 -- a read that waits, with the frame of its reply
 abbrev pub pending : Wait → Pending
-pending wait = record { tag = wait.tag; fid = wait.fid; count = wait.count; reply = option_map (λ body. r_frame (under wait.tag body)) wait.reply }
+pending wait = record {
+  tag = wait.tag;
+  fid = wait.fid;
+  count = wait.count;
+  reply = option_map (λ body. r_frame (under wait.tag body)) wait.reply;
+}
 
 -- a read that waits, as it came
 abbrev pub read_of : Wait → Read

@@ -30,12 +30,19 @@ reply_bytes (y.Answer tag answer) = answer_frame answer tag
 reply_bytes (y.Line tag line) = line_frame line tag
 
 abbrev pub pending_of : Wait → Pending
-pending_of wait = record { tag = wait.tag; fid = wait.fid; count = wait.count; reply = option_map reply_bytes wait.reply }
+pending_of wait = record {
+  tag = wait.tag;
+  fid = wait.fid;
+  count = wait.count;
+  reply = option_map reply_bytes wait.reply;
+}
 
 -- the first read that is one of a fid and isn't settled
 abbrev pub reader_in : ℕ → List Wait → Option Read
 reader_in fid [] = None
-reader_in fid (wait ∷ more) = if is_reader fid (pending_of wait) then Some (read_of (pending_of wait)) else reader_in fid more
+reader_in fid (wait ∷ more) =
+    if is_reader fid (pending_of wait) then Some (read_of (pending_of wait))
+    else reader_in fid more
 
 -- the place that is kept for one more
 abbrev pub places : Bool → ℕ

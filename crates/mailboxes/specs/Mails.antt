@@ -1,5 +1,5 @@
--- What is kept of the replies of one connection, and how it changes: the frames that weren't taken yet, and the reads that
--- wait for one. After section 5 of the Plan 9 manual (intro, read, flush, clunk).
+-- What is kept of the replies of one connection, and how it changes: the frames that weren't taken yet, and the reads
+-- that wait for one. After section 5 of the Plan 9 manual (intro, read, flush, clunk).
 use Rattle.std.specs.Prelude.{ℕ, List, [], ◌∷◌, ◌++◌, map, filter, drop, Bool, true, false, not, ◌&&◌, ◌==◌, Option, Some, None, is_some, if◌then◌else◌}
 use Rattle.std.specs.List.{list_any, filter_map}
 use Rattle.mailboxes.specs.declared.wait.Read.{Read}
@@ -11,8 +11,8 @@ pub record Pending : Type 0 where
   pub count : ℕ
   pub reply : Option (List ℕ)
 
--- the frames, the oldest first; the reads that wait, in the order in which they came; whether there is room for one more
--- frame, beside that for the replies to the reads that wait; and whether there is for one more read that waits
+-- the frames, the oldest first; the reads that wait, in the order in which they came; whether there is room for one
+-- more frame, beside that for the replies to the reads that wait; and whether there is for one more read that waits
 pub record Mail : Type 0 where
   pub replies : List (List ℕ)
   pub waits : List Pending
@@ -42,7 +42,9 @@ settled_by frame wait = record { tag = wait.tag; fid = wait.fid; count = wait.co
 -- the first read of a tag is settled
 abbrev pub settle_tag : ℕ → List ℕ → List Pending → List Pending
 settle_tag tag frame [] = []
-settle_tag tag frame (wait ∷ more) = if wait.tag == tag then settled_by frame wait ∷ more else wait ∷ settle_tag tag frame more
+settle_tag tag frame (wait ∷ more) =
+    if wait.tag == tag then settled_by frame wait ∷ more
+    else wait ∷ settle_tag tag frame more
 
 -- a read is settled where it is one of a fid, by a frame that its tag gives
 abbrev pub settle_fid : ℕ → (ℕ → List ℕ) → Pending → Pending
@@ -75,14 +77,23 @@ with_place mail = record mail { has_place = true }
 
 -- a frame stands last
 abbrev pub pushed : List ℕ → Mail → Mail
-pushed frame mail = record { replies = mail.replies ++ frame ∷ []; waits = mail.waits; has_room = false; has_place = mail.has_place }
+pushed frame mail = record {
+  replies = mail.replies ++ frame ∷ [];
+  waits = mail.waits;
+  has_room = false;
+  has_place = mail.has_place;
+}
 
 -- the oldest frame is gone
 abbrev pub popped : Mail → Mail
 popped mail = record mail { replies = drop 1 mail.replies }
 
 abbrev pub awaited : ℕ → ℕ → ℕ → Mail → Mail
-awaited tag fid count mail = record mail { waits = mail.waits ++ record { tag = tag; fid = fid; count = count; reply = None } ∷ []; has_place = false }
+awaited tag fid count mail = record mail {
+  waits = mail.waits
+      ++ record { tag = tag; fid = fid; count = count; reply = None } ∷ [];
+  has_place = false;
+}
 
 abbrev pub with_settled : ℕ → List ℕ → Mail → Mail
 with_settled tag frame mail = record mail { waits = settle_tag tag frame mail.waits }
@@ -98,4 +109,9 @@ without_waits mail = record mail { waits = [] }
 
 -- the frames to the reads that are settled stand last, in the order in which the reads came
 abbrev pub swept : Mail → Mail
-swept mail = record { replies = mail.replies ++ filter_map (λ wait. wait.reply) mail.waits; waits = filter is_unsettled mail.waits; has_room = mail.has_room; has_place = mail.has_place }
+swept mail = record {
+  replies = mail.replies ++ filter_map (λ wait. wait.reply) mail.waits;
+  waits = filter is_unsettled mail.waits;
+  has_room = mail.has_room;
+  has_place = mail.has_place;
+}

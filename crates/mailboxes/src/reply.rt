@@ -1,8 +1,8 @@
 // A reply that wasn't taken yet.
 use nine::{put_error, put_read};
-use talks::{RpcAnswer, print_answer};
 use std::alloc::Global;
 use std::marker::Model;
+use talks::{RpcAnswer, print_answer};
 use wire_base::{Bytes, NoMemory};
 
 /// The text of a refusal: fewer than 64 bytes, which stand in the program itself.

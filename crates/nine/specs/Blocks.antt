@@ -12,6 +12,7 @@ count_of Failed = 0
 
 -- what a read behind the bytes that are filled came to: it begins as it did, and what was read stands behind that
 abbrev pub ReadsInto : ℕ → ℕ → Option (List ℕ) → Option (List ℕ) → Got → List ℕ → List ℕ → Type 0
-ReadsInto from most old new (Bytes n) before after = (piece : List ℕ) × (0 < n) × (n ≤ most) × (length piece ≡ n) × Consumes old new piece × (take (from + n) after ≡ take from before ++ piece)
+ReadsInto from most old new (Bytes n) before after = (piece : List ℕ) × (0 < n) × (n ≤ most) × (length piece ≡ n)
+    × Consumes old new piece × (take (from + n) after ≡ take from before ++ piece)
 ReadsInto from most old new End before after = IsAtEnd new × Keeps old new × (take from after ≡ take from before)
 ReadsInto from most old new Failed before after = Keeps old new × (take from after ≡ take from before)

@@ -13,7 +13,8 @@ Decodes (Err NoMemory) reading = Unit {0}
 
 -- whether a request, or a reply, of this type has a text, bytes or a list, for which its decoder takes memory
 abbrev pub t_takes_memory : ℕ → Bool
-t_takes_memory kind = kind == 100 || kind == 102 || kind == 104 || kind == 110 || kind == 114 || kind == 118 || kind == 126
+t_takes_memory kind = kind == 100 || kind == 102 || kind == 104 || kind == 110 || kind == 114 || kind == 118
+    || kind == 126
 
 abbrev pub r_takes_memory : ℕ → Bool
 r_takes_memory kind = kind == 101 || kind == 107 || kind == 111 || kind == 117 || kind == 125

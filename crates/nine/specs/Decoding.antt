@@ -24,7 +24,8 @@ unfoldable pub auth_at : Reader TBody
 auth_at = converted (λ p. t.Auth p.0.0 p.0.1 p.1) (both (both (number w32) string) string)
 
 unfoldable pub attach_at : Reader TBody
-attach_at = converted (λ p. t.Attach p.0.0.0 p.0.0.1 p.0.1 p.1) (both (both (both (number w32) (number w32)) string) string)
+attach_at = converted (λ p. t.Attach p.0.0.0 p.0.0.1 p.0.1 p.1)
+    (both (both (both (number w32) (number w32)) string) string)
 
 unfoldable pub flush_at : Reader TBody
 flush_at = converted (λ p. t.Flush p) (number w16)
@@ -36,7 +37,8 @@ unfoldable pub open_at : Reader TBody
 open_at = converted (λ p. t.Open p.0 p.1) (both (number w32) (number w8))
 
 unfoldable pub create_at : Reader TBody
-create_at = converted (λ p. t.Create p.0.0.0 p.0.0.1 p.0.1 p.1) (both (both (both (number w32) string) (number w32)) (number w8))
+create_at = converted (λ p. t.Create p.0.0.0 p.0.0.1 p.0.1 p.1)
+    (both (both (both (number w32) string) (number w32)) (number w8))
 
 unfoldable pub read_at : Reader TBody
 read_at = converted (λ p. t.Read p.0.0 p.0.1 p.1) (both (both (number w32) (number w64)) (number w32))
@@ -84,7 +86,8 @@ abbrev pub as_one : {A : Type 0} → Reader A → Reader A
 as_one read bytes at = elim (read bytes at) [ Ok x ↦ Ok x | Err fault ↦ Err at ]
 
 abbrev pub qid_parts_at : Reader Qid
-qid_parts_at = converted (λ p. record { kind = p.0.0; vers = p.0.1; path = p.1 }) (both (both (number w8) (number w32)) (number w64))
+qid_parts_at = converted (λ p. record { kind = p.0.0; vers = p.0.1; path = p.1 })
+    (both (both (number w8) (number w32)) (number w64))
 
 unfoldable pub qid_at : Reader Qid
 qid_at = as_one qid_parts_at
@@ -127,9 +130,12 @@ bare_reply_at body = converted (λ p. body) nothing
 unfoldable pub r_body_at : ℕ → Reader RBody
 r_body_at kind =
     if kind == 101 then version_reply_at else if kind == 103 then auth_reply_at else if kind == 105 then attach_reply_at
-    else if kind == 107 then error_reply_at else if kind == 109 then bare_reply_at r.Flush else if kind == 111 then walk_reply_at
-    else if kind == 113 then open_reply_at else if kind == 115 then create_reply_at else if kind == 117 then read_reply_at
-    else if kind == 119 then write_reply_at else if kind == 121 then bare_reply_at r.Clunk else if kind == 123 then bare_reply_at r.Remove
+    else if kind == 107 then error_reply_at else if kind == 109 then bare_reply_at r.Flush else if kind == 111
+    then walk_reply_at
+    else if kind == 113 then open_reply_at else if kind == 115 then create_reply_at else if kind == 117
+    then read_reply_at
+    else if kind == 119 then write_reply_at else if kind == 121 then bare_reply_at r.Clunk else if kind == 123
+    then bare_reply_at r.Remove
     else if kind == 125 then stat_reply_at else if kind == 127 then bare_reply_at r.Wstat else no_message
 
 -- the reply that a whole frame of at least 7 bytes is, or the place of its first fault

@@ -1,6 +1,6 @@
 -- The bytes of the messages of 9P2000, after section 5 of the Plan 9 manual (intro(5), version(5), attach(5),
--- flush(5), walk(5), open(5), read(5), clunk(5), remove(5), stat(5), error(5)). Each message has one spelling: size, type, tag, and its
--- fields in order. Numbers are little-endian.
+-- flush(5), walk(5), open(5), read(5), clunk(5), remove(5), stat(5), error(5)). Each message has one spelling: size,
+-- type, tag, and its fields in order. Numbers are little-endian.
 use Rattle.std.specs.Prelude.{◌≡◌, ℕ, ◌+◌, ◌-◌, ◌<◌, ◌≤◌, ◌^◌, List, [], ◌++◌, length}
 use Rattle.std.specs.Int.{w8, w16, w32, w64, to_le_bytes}
 use Rattle.wire_base.specs.Readers.{counted, spelled, listing, FitsList, IsString}
@@ -50,7 +50,8 @@ t_fields (t.Attach fid afid uname aname) = to_le_bytes w32 fid ++ to_le_bytes w3
 t_fields (t.Flush oldtag) = to_le_bytes w16 oldtag
 t_fields (t.Walk fid newfid wname) = to_le_bytes w32 fid ++ to_le_bytes w32 newfid ++ listing w16 spelled wname
 t_fields (t.Open fid mode) = to_le_bytes w32 fid ++ to_le_bytes w8 mode
-t_fields (t.Create fid name perm mode) = to_le_bytes w32 fid ++ spelled name ++ to_le_bytes w32 perm ++ to_le_bytes w8 mode
+t_fields (t.Create fid name perm mode) =
+    to_le_bytes w32 fid ++ spelled name ++ to_le_bytes w32 perm ++ to_le_bytes w8 mode
 t_fields (t.Read fid offset count) = to_le_bytes w32 fid ++ to_le_bytes w64 offset ++ to_le_bytes w32 count
 t_fields (t.Write fid offset content) = to_le_bytes w32 fid ++ to_le_bytes w64 offset ++ counted w32 content
 t_fields (t.Clunk fid) = to_le_bytes w32 fid

@@ -23,7 +23,10 @@ pub data Front : Type 0 where
 -- of a stream that begins with this size
 abbrev pub front_with : ℕ → List ℕ → Option ℕ → Front
 front_with limit stream None = IsShort
-front_with limit stream (Some size) = if is_bad limit size then IsBad size else if nat_le size (length stream) then IsWhole size else IsShort
+front_with limit stream (Some size) =
+    if is_bad limit size then IsBad size
+    else if nat_le size (length stream) then IsWhole size
+    else IsShort
 
 unfoldable pub front : ℕ → List ℕ → Front
 front limit stream = front_with limit stream (size_of stream)

@@ -1,4 +1,5 @@
--- The line of a message: its type, its tag, and each field by its name, in the order of the wire; with secrets, or without.
+-- The line of a message: its type, its tag, and each field by its name, in the order of the wire; with secrets, or
+-- without.
 use Rattle.std.specs.Prelude.{ℕ, List, [], ◌∷◌, ◌++◌, length, Bool, codes, ◌==◌, bit_and, unwrap_or, Result, Ok, Err, if◌then◌else◌}
 use Rattle.std.specs.List.{flat_map}
 use Rattle.std.specs.Int.{w8, w16}
@@ -38,15 +39,22 @@ t_word (t.Stat fid) = codes "Tstat"
 t_word (t.Wstat fid stat) = codes "Twstat"
 
 abbrev pub t_shown : Bool → TBody → List ℕ
-t_shown secrets (t.Version msize version) = number_text (codes " msize ") msize ++ string_text (codes " version ") version
-t_shown secrets (t.Auth afid uname aname) = fid_text (codes " afid ") afid ++ string_text (codes " uname ") uname ++ string_text (codes " aname ") aname
-t_shown secrets (t.Attach fid afid uname aname) = fid_text (codes " fid ") fid ++ fid_text (codes " afid ") afid ++ string_text (codes " uname ") uname ++ string_text (codes " aname ") aname
+t_shown secrets (t.Version msize version) =
+    number_text (codes " msize ") msize ++ string_text (codes " version ") version
+t_shown secrets (t.Auth afid uname aname) =
+    fid_text (codes " afid ") afid ++ string_text (codes " uname ") uname ++ string_text (codes " aname ") aname
+t_shown secrets (t.Attach fid afid uname aname) = fid_text (codes " fid ") fid ++ fid_text (codes " afid ") afid
+    ++ string_text (codes " uname ") uname ++ string_text (codes " aname ") aname
 t_shown secrets (t.Flush oldtag) = number_text (codes " oldtag ") oldtag
-t_shown secrets (t.Walk fid newfid wname) = fid_text (codes " fid ") fid ++ fid_text (codes " newfid ") newfid ++ names_text wname
+t_shown secrets (t.Walk fid newfid wname) =
+    fid_text (codes " fid ") fid ++ fid_text (codes " newfid ") newfid ++ names_text wname
 t_shown secrets (t.Open fid mode) = fid_text (codes " fid ") fid ++ number_text (codes " mode ") mode
-t_shown secrets (t.Create fid name perm mode) = fid_text (codes " fid ") fid ++ string_text (codes " name ") name ++ perm_text (codes " perm ") perm ++ number_text (codes " mode ") mode
-t_shown secrets (t.Read fid offset count) = fid_text (codes " fid ") fid ++ number_text (codes " offset ") offset ++ number_text (codes " count ") count
-t_shown secrets (t.Write fid offset content) = fid_text (codes " fid ") fid ++ number_text (codes " offset ") offset ++ content_text secrets (codes " count ") content
+t_shown secrets (t.Create fid name perm mode) = fid_text (codes " fid ") fid ++ string_text (codes " name ") name
+    ++ perm_text (codes " perm ") perm ++ number_text (codes " mode ") mode
+t_shown secrets (t.Read fid offset count) =
+    fid_text (codes " fid ") fid ++ number_text (codes " offset ") offset ++ number_text (codes " count ") count
+t_shown secrets (t.Write fid offset content) = fid_text (codes " fid ") fid ++ number_text (codes " offset ") offset
+    ++ content_text secrets (codes " count ") content
 t_shown secrets (t.Clunk fid) = fid_text (codes " fid ") fid
 t_shown secrets (t.Remove fid) = fid_text (codes " fid ") fid
 t_shown secrets (t.Stat fid) = fid_text (codes " fid ") fid
@@ -74,7 +82,8 @@ r_word (r.Stat stat) = codes "Rstat"
 r_word r.Wstat = codes "Rwstat"
 
 abbrev pub r_shown : Bool → RBody → List ℕ
-r_shown secrets (r.Version msize version) = number_text (codes " msize ") msize ++ string_text (codes " version ") version
+r_shown secrets (r.Version msize version) =
+    number_text (codes " msize ") msize ++ string_text (codes " version ") version
 r_shown secrets (r.Auth aqid) = qid_shown (codes " aqid ") aqid
 r_shown secrets (r.Attach qid) = qid_shown (codes " qid ") qid
 r_shown secrets (r.Error ename) = string_text (codes " ename ") ename
@@ -104,7 +113,8 @@ tag_of frame = unwrap_or (value_of (number w16 frame 5)) 0
 -- a frame of this type and tag that is no message of its direction: where the fault is in it, and where it begins
 unfoldable pub bad_text : ℕ → ℕ → ℕ → ℕ → List ℕ
 bad_text at kind tag fault =
-    number_text (codes "bad message: type ") kind ++ tag_text tag ++ number_text (codes " fault at ") fault ++ number_text (codes " of the frame at ") at ++ 10 ∷ []
+    number_text (codes "bad message: type ") kind ++ tag_text tag ++ number_text (codes " fault at ") fault
+    ++ number_text (codes " of the frame at ") at ++ 10 ∷ []
 
 abbrev pub bad_line : ℕ → List ℕ → ℕ → List ℕ
 bad_line at frame fault = bad_text at (type_of frame) (tag_of frame) fault
@@ -120,7 +130,8 @@ r_line_of secrets at frame (Err fault) = bad_line at frame fault
 -- the line of a frame that begins at this place of a stream: an even type byte is a request's, an odd one a reply's
 unfoldable pub line_of : Bool → ℕ → List ℕ → List ℕ
 line_of secrets at frame =
-    if bit_and (type_of frame) 1 == 0 then t_line_of secrets at frame (t_reading frame) else r_line_of secrets at frame (r_reading frame)
+    if bit_and (type_of frame) 1 == 0 then t_line_of secrets at frame (t_reading frame)
+    else r_line_of secrets at frame (r_reading frame)
 
 -- ---- what ends a stream
 

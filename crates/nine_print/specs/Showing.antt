@@ -48,7 +48,8 @@ module _ (secrets : Bool) where
   abbrev pub CutsAt : ShowEnd → Option (List ℕ) → Option (List ℕ) → Option (List ℕ) → List ℕ → Type 0
   CutsAt Fine left origin held stream = ⊥
   CutsAt ReadFault left origin held stream = ⊥
-  CutsAt WriteFault left origin held stream = (text : List ℕ) × IsText secrets left stream text × GainsFront origin held text
+  CutsAt WriteFault left origin held stream =
+      (text : List ℕ) × IsText secrets left stream text × GainsFront origin held text
   CutsAt BadSize left origin held stream = (text : List ℕ) × IsBadText secrets stream text × Gains origin held text
   CutsAt Torn left origin held stream = ⊥
   CutsAt NoMemory left origin held stream = ShowsSome secrets origin held stream

@@ -53,11 +53,13 @@ module _ (secrets : Bool) where
     pub bad : HasBadSize most_frame input size
     pub lines : text ≡ lines_of (frames_in input) ++ bad_size_line (end_of most_frame input) size
 
-  -- Of one that ends inside a frame: the lines of its whole frames, and the line that tells how many bytes of one follow.
+  -- Of one that ends inside a frame: the lines of its whole frames, and the line that tells how many bytes of one
+  -- follow.
   pub record IsTornText (input text : List ℕ) : Type 0 where
     pub short : HasNoBadSize most_frame input
     pub inside : end_of most_frame input < length input
-    pub lines : text ≡ lines_of (frames_in input) ++ torn_line (end_of most_frame input) (length input - end_of most_frame input)
+    pub lines : text ≡ lines_of (frames_in input)
+        ++ torn_line (end_of most_frame input) (length input - end_of most_frame input)
 
   -- the lines of the first of the whole frames were written, of each the whole line
   pub record ShowsSome (held_old held_new : Option (List ℕ)) (input : List ℕ) : Type 0 where
@@ -66,17 +68,23 @@ module _ (secrets : Bool) where
     pub parts : frames_in input ≡ some ++ others
     pub written : Gains held_old held_new (lines_of some)
 
-  -- what is to be written of what was read: the lines of its whole frames, and at a bad size or a torn end the line of it
+  -- what is to be written of what was read: the lines of its whole frames, and at a bad size or a torn end the line
+  -- of it
   abbrev pub IsText : Option (List ℕ) → List ℕ → List ℕ → Type 0
-  IsText left input text = (text ≡ lines_of (frames_in input)) ⊎ (IsBadText input text ⊎ (IsAtEnd left × IsTornText input text))
+  IsText left input text =
+      (text ≡ lines_of (frames_in input)) ⊎ (IsBadText input text ⊎ (IsAtEnd left × IsTornText input text))
 
   -- how a showing that has read this input ends: what is left of the source, and what was written
   abbrev pub EndsSo : ShowEnd → Option (List ℕ) → Option (List ℕ) → Option (List ℕ) → List ℕ → Type 0
-  EndsSo Fine left held_old held_new input = IsAtEnd left × ((text : List ℕ) × IsWholeText input text × Gains held_old held_new text)
-  EndsSo ReadFault left held_old held_new input = HasNoBadSize most_frame input × Gains held_old held_new (lines_of (frames_in input))
-  EndsSo WriteFault left held_old held_new input = (text : List ℕ) × IsText left input text × GainsFront held_old held_new text
+  EndsSo Fine left held_old held_new input =
+      IsAtEnd left × ((text : List ℕ) × IsWholeText input text × Gains held_old held_new text)
+  EndsSo ReadFault left held_old held_new input =
+      HasNoBadSize most_frame input × Gains held_old held_new (lines_of (frames_in input))
+  EndsSo WriteFault left held_old held_new input =
+      (text : List ℕ) × IsText left input text × GainsFront held_old held_new text
   EndsSo BadSize left held_old held_new input = (text : List ℕ) × IsBadText input text × Gains held_old held_new text
-  EndsSo Torn left held_old held_new input = IsAtEnd left × ((text : List ℕ) × IsTornText input text × Gains held_old held_new text)
+  EndsSo Torn left held_old held_new input =
+      IsAtEnd left × ((text : List ℕ) × IsTornText input text × Gains held_old held_new text)
   EndsSo NoMemory left held_old held_new input = ShowsSome held_old held_new input
   EndsSo Flood left held_old held_new input = ShowsSome held_old held_new input
 

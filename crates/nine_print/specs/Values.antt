@@ -1,7 +1,7 @@
--- The values of a message as text of one line, in the manner of Plan 9's fcall format (fcall(2)): numbers in decimal, a
--- qid as path, version and type, bytes as text where all are printable, else as hexadecimal digits. All of it is
--- printable ASCII. Of a content nothing is shown behind the `=` of what may be a secret attribute, and unless secrets are
--- asked for nothing where its front isn't text: it may be a ticket, or what `authinfo` gives.
+-- The values of a message as text of one line, in the manner of Plan 9's fcall format (fcall(2)): numbers in decimal,
+-- a qid as path, version and type, bytes as text where all are printable, else as hexadecimal digits. All of it is
+-- printable ASCII. Of a content nothing is shown behind the `=` of what may be a secret attribute, and unless secrets
+-- are asked for nothing where its front isn't text: it may be a ticket, or what `authinfo` gives.
 use Rattle.std.specs.Prelude.{ℕ, List, [], ◌∷◌, ◌++◌, length, take, Bool, false, not, ◌&&◌, ◌||◌, ◌==◌, nat_le, nat_lt, bit_and, codes, if◌then◌else◌}
 use Rattle.std.specs.List.{flat_map, list_all}
 use Rattle.std.specs.Int.{w32, w64, to_be_bytes}
@@ -49,15 +49,18 @@ kind_text kind = letter_text kind 128 100 ++ letter_text kind 64 97 ++ letter_te
 
 -- (path vers type), the path in sixteen hexadecimal digits
 unfoldable pub qid_shown : List ℕ → Qid → List ℕ
-qid_shown name q = name ++ 40 ∷ encode_lower (to_be_bytes w64 q.path) ++ number_text (codes " ") q.vers ++ 32 ∷ kind_text q.kind ++ 41 ∷ []
+qid_shown name q = name ++ 40 ∷ encode_lower (to_be_bytes w64 q.path) ++ number_text (codes " ") q.vers
+    ++ 32 ∷ kind_text q.kind ++ 41 ∷ []
 
 -- ---- content
 
--- What of a content may be shown: nothing behind the first `=` that stands behind a `!` of the same line. So the value of
--- an attribute whose name begins with `!` isn't shown, however it is quoted, broken or cut.
+-- What of a content may be shown: nothing behind the first `=` that stands behind a `!` of the same line. So the
+-- value of an attribute whose name begins with `!` isn't shown, however it is quoted, broken or cut.
 abbrev pub open_part : Bool → List ℕ → List ℕ
 open_part marked [] = []
-open_part marked (b ∷ rest) = if marked && b == 61 then b ∷ [] else b ∷ open_part (if b == 10 then false else marked || b == 33) rest
+open_part marked (b ∷ rest) =
+    if marked && b == 61 then b ∷ []
+    else b ∷ open_part (if b == 10 then false else marked || b == 33) rest
 
 -- a byte that doesn't end a line
 abbrev pub is_in_line : ℕ → Bool
@@ -85,4 +88,5 @@ dots part whole = if nat_lt (length part) (length whole) then codes ".." else []
 
 -- how many bytes, and those that are shown
 unfoldable pub content_text : Bool → List ℕ → List ℕ → List ℕ
-content_text secrets name content = number_text name (length content) ++ 32 ∷ piece_text (shown_part secrets content) ++ dots (shown_part secrets content) content
+content_text secrets name content = number_text name (length content) ++ 32 ∷ piece_text (shown_part secrets content)
+    ++ dots (shown_part secrets content) content

@@ -1,6 +1,6 @@
--- How a password is changed, after AuthPass of authsrv(6) and passwd(1) of the Plan 9 manual: the client asks for a ticket to
--- itself, and sends its old password and the new one under the key of that ticket. Which new passwords are taken, and the
--- texts of errors, are this project's.
+-- How a password is changed, after AuthPass of authsrv(6) and passwd(1) of the Plan 9 manual: the client asks for a
+-- ticket to itself, and sends its old password and the new one under the key of that ticket. Which new passwords are
+-- taken, and the texts of errors, are this project's.
 use Rattle.std.specs.Prelude.{ℕ, List, [], ◌∷◌, ◌++◌, Bool, false, not, ◌==◌, codes, slice_index, Option, Some, None, Result, Ok, Err, if◌then◌else◌}
 use Rattle.std.specs.Str.{bytes_eq}
 use Rattle.wire_base.specs.Kinds.{answer_ok, password_request, password_ticket}
@@ -25,7 +25,8 @@ session_key words = word_key (word 0 words)
 -- the ticket for the user, sealed under his key; where he has none, under one that the second word stands for
 unfoldable pub ticket_answer : List KeyLine → List (List ℕ) → TicketReq → List ℕ
 ticket_answer keys words r =
-    answer_ok ∷ [] ++ ticket password_ticket r.chal r.uid r.uid (session_key words) (key_or (key_of r.uid keys) (word 1 words))
+    answer_ok ∷ [] ++ ticket password_ticket r.chal r.uid r.uid (session_key words)
+    (key_or (key_of r.uid keys) (word 1 words))
 
 -- the answer to a request: the ticket, or that a field is bad
 abbrev pub request_answer : List KeyLine → List (List ℕ) → Result TicketReq FieldFault → List ℕ

@@ -1,6 +1,7 @@
--- What a change of password has read, drawn, written and noted when it ends: the table of keys, and one client's session.
--- Content is optional: the words on it hold where it is told. After AuthPass of authsrv(6) of the Plan 9 manual; that one
--- session is served, and that the whole table is written before the client is told, are this project's.
+-- What a change of password has read, drawn, written and noted when it ends: the table of keys, and one client's
+-- session. Content is optional: the words on it hold where it is told. After AuthPass of authsrv(6) of the Plan 9
+-- manual; that one session is served, and that the whole table is written before the client is told, are this
+-- project's.
 use Rattle.std.specs.Prelude.{◌≡◌, ◌≢◌, ◌⊎◌, ℕ, ◌+◌, ◌*◌, ◌<◌, List, [], ◌∷◌, ◌++◌, true, false, codes, length, slice_index, Option, Some, None, Ok, Err}
 use Rattle.std.specs.Io.KnownBytes.{Consumes, IsAtEnd}
 use Rattle.wire_base.specs.Kinds.{answer_ok, password_request}
@@ -23,8 +24,8 @@ use Rattle.pass_program.specs.declared.refusal.Refusal.TheVariants.{TableNotWrit
 use Rattle.pass_program.specs.declared.status.PassStatus.{PassStatus}
 use Rattle.pass_program.specs.declared.status.PassStatus.TheVariants.{Fine, Usage, ReadFault, WriteFault, WordFault, Torn, BadTable, Refused as WasRefused, NoMemory, Flood}
 
--- What the outside of a session tells at a moment: what the client's source has left, the words that are to come, what the
--- client's sink and that of the new table hold, and what was noted.
+-- What the outside of a session tells at a moment: what the client's source has left, the words that are to come,
+-- what the client's sink and that of the new table hold, and what was noted.
 pub record Moment : Type 0 where
   pub left : Option (List ℕ)
   pub to_come : Option (List (List ℕ))
@@ -32,18 +33,27 @@ pub record Moment : Type 0 where
   pub table : Option (List ℕ)
   pub noted : Option (List (List ℕ × Event))
 
-abbrev pub moment : Option (List ℕ) → Option (List (List ℕ)) → Option (List ℕ) → Option (List ℕ) → Option (List (List ℕ × Event)) → Moment
-moment left to_come holds table noted = record { left = left; to_come = to_come; holds = holds; table = table; noted = noted }
+abbrev pub moment : Option (List ℕ) → Option (List (List ℕ)) → Option (List ℕ) → Option (List ℕ)
+    → Option (List (List ℕ × Event)) → Moment
+moment left to_come holds table noted = record {
+  left = left;
+  to_come = to_come;
+  holds = holds;
+  table = table;
+  noted = noted;
+}
 
 -- these bytes of the client were read, these words drawn, these bytes written to it, and these events noted
-pub record Moves (before now : Moment) (read : List ℕ) (drawn : List (List ℕ)) (answered : List ℕ) (noted : List (List ℕ × Event)) : Type 0 where
+pub record Moves (before now : Moment) (read : List ℕ) (drawn : List (List ℕ)) (answered : List ℕ)
+    (noted : List (List ℕ × Event)) : Type 0 where
   pub took : Consumes before.left now.left read
   pub drew : DrawsAll before.to_come now.to_come drawn
   pub told : Gains before.holds now.holds answered
   pub notes : Notes before.noted now.noted noted
 
 -- the same, but that of the last answer a front was written, of which some is missing
-pub record Loses (before now : Moment) (read : List ℕ) (drawn : List (List ℕ)) (answered last : List ℕ) (noted : List (List ℕ × Event)) : Type 0 where
+pub record Loses (before now : Moment) (read : List ℕ) (drawn : List (List ℕ)) (answered last : List ℕ)
+    (noted : List (List ℕ × Event)) : Type 0 where
   pub front : List ℕ
   pub rest : List ℕ
   pub parts : last ≡ front ++ rest
@@ -56,14 +66,18 @@ LeavesTable before now = now.table ≡ before.table
 
 -- ---- a session under way
 
--- its request and refused messages were read and answered, with these bytes behind them; nothing was written to the table
-pub record Talked (keys : List KeyLine) (before now : Moment) (asked : Asked) (r : TicketReq) (tries : List Refused) (rest : List ℕ) : Type 0 where
+-- its request and refused messages were read and answered, with these bytes behind them; nothing was written to the
+-- table
+pub record Talked (keys : List KeyLine) (before now : Moment) (asked : Asked) (r : TicketReq) (tries : List Refused)
+    (rest : List ℕ) : Type 0 where
   pub goes_on : GoesOn keys asked r tries
-  pub moves : Moves before now (bytes_of asked tries ++ rest) asked.words (answers_of keys asked r tries) (notes_of r.uid tries)
+  pub moves : Moves before now (bytes_of asked tries ++ rest) asked.words (answers_of keys asked r tries)
+      (notes_of r.uid tries)
   pub kept : LeavesTable before now
 
 -- the message behind them is taken: it asks for this password
-pub record Taken (keys : List KeyLine) (asked : Asked) (r : TicketReq) (tries : List Refused) (message password : List ℕ) : Type 0 where
+pub record Taken (keys : List KeyLine) (asked : Asked) (r : TicketReq) (tries : List Refused)
+    (message password : List ℕ) : Type 0 where
   pub goes_on : GoesOn keys asked r tries
   pub whole : length message ≡ message_bytes
   pub taken : judged keys r.uid (session_key asked.words) message ≡ Ok password
@@ -82,7 +96,8 @@ pub record Changes (keys : List KeyLine) (before now : Moment) : Type 0 where
   pub message : List ℕ
   pub password : List ℕ
   pub taken : Taken keys asked r tries message password
-  pub moves : Moves before now (bytes_of asked tries ++ message) asked.words (answers_of keys asked r tries ++ answer_ok ∷ [])
+  pub moves : Moves before now (bytes_of asked tries ++ message) asked.words
+      (answers_of keys asked r tries ++ answer_ok ∷ [])
       (notes_of r.uid tries ++ (r.uid, Changed) ∷ [])
   pub wrote : Gains before.table now.table (new_table keys r password)
 
@@ -131,7 +146,8 @@ pub record TearsMessage (keys : List KeyLine) (at : ℕ) (before now : Moment) :
 
 -- a read failed inside the request, or behind it
 abbrev pub LosesInput : List KeyLine → Moment → Moment → Type 0
-LosesInput keys before now = ((part : List ℕ) × ReadsRequest before now part) ⊎ ((at : ℕ) × (part : List ℕ) × ReadsMessage keys before now at part)
+LosesInput keys before now = ((part : List ℕ) × ReadsRequest before now part)
+    ⊎ ((at : ℕ) × (part : List ℕ) × ReadsMessage keys before now at part)
 
 -- the first byte is of another kind; no more was read
 pub record MeetsOther (before now : Moment) : Type 0 where
@@ -169,12 +185,13 @@ pub record LacksWords (before now : Moment) : Type 0 where
   pub moves : Moves before now request drawn [] []
   pub kept : LeavesTable before now
 
--- An answer to the client wasn't taken whole. Which answer that is: to the request, to a message that is refused, to one
--- that is taken, behind its table, or that the table wasn't taken.
+-- An answer to the client wasn't taken whole. Which answer that is: to the request, to a message that is refused, to
+-- one that is taken, behind its table, or that the table wasn't taken.
 pub record LosesRequest (keys : List KeyLine) (before now : Moment) : Type 0 where
   pub asked : Asked
   pub asks : IsAsked asked
-  pub loses : Loses before now asked.request asked.words [] (request_answer keys asked.words (request_of asked.request)) []
+  pub loses : Loses before now asked.request asked.words []
+      (request_answer keys asked.words (request_of asked.request)) []
   pub kept : LeavesTable before now
 
 pub record LosesRefusal (keys : List KeyLine) (before now : Moment) : Type 0 where
@@ -184,7 +201,8 @@ pub record LosesRefusal (keys : List KeyLine) (before now : Moment) : Type 0 whe
   pub last : Refused
   pub goes_on : GoesOn keys asked r tries
   pub all_refused : AreRefused keys r.uid (session_key asked.words) (last ∷ tries)
-  pub loses : Loses before now (bytes_of asked (last ∷ tries)) asked.words (answers_of keys asked r tries) (refused last.why) (notes_of r.uid (last ∷ tries))
+  pub loses : Loses before now (bytes_of asked (last ∷ tries)) asked.words (answers_of keys asked r tries)
+      (refused last.why) (notes_of r.uid (last ∷ tries))
   pub kept : LeavesTable before now
 
 pub record LosesConsent (keys : List KeyLine) (before now : Moment) : Type 0 where
@@ -194,7 +212,8 @@ pub record LosesConsent (keys : List KeyLine) (before now : Moment) : Type 0 whe
   pub message : List ℕ
   pub password : List ℕ
   pub taken : Taken keys asked r tries message password
-  pub loses : Loses before now (bytes_of asked tries ++ message) asked.words (answers_of keys asked r tries) (answer_ok ∷ []) (notes_of r.uid tries)
+  pub loses : Loses before now (bytes_of asked tries ++ message) asked.words (answers_of keys asked r tries)
+      (answer_ok ∷ []) (notes_of r.uid tries)
   pub wrote : Gains before.table now.table (new_table keys r password)
 
 -- the table wasn't taken whole; the client is told so, whole or as far as that was taken
@@ -220,7 +239,8 @@ pub record LacksMemory (keys : List KeyLine) (before now : Moment) : Type 0 wher
   pub message : List ℕ
   pub password : List ℕ
   pub taken : Taken keys asked r tries message password
-  pub moves : Moves before now (bytes_of asked tries ++ message) asked.words (answers_of keys asked r tries) (notes_of r.uid tries)
+  pub moves : Moves before now (bytes_of asked tries ++ message) asked.words (answers_of keys asked r tries)
+      (notes_of r.uid tries)
   pub kept : LeavesTable before now
 
 -- what a session by a table that ended so has read, drawn, written and noted; no other status ends it
@@ -229,11 +249,13 @@ SessionEnds keys (Fine true) before now = Changes keys before now
 SessionEnds keys (Fine false) before now = EndsEmpty before now ⊎ EndsBetween keys before now
 SessionEnds keys Usage before now = ⊥
 SessionEnds keys ReadFault before now = LosesInput keys before now
-SessionEnds keys WriteFault before now = LosesRequest keys before now ⊎ (LosesRefusal keys before now ⊎ (LosesConsent keys before now ⊎ LosesTable keys before now))
+SessionEnds keys WriteFault before now = LosesRequest keys before now
+    ⊎ (LosesRefusal keys before now ⊎ (LosesConsent keys before now ⊎ LosesTable keys before now))
 SessionEnds keys WordFault before now = LacksWords before now
 SessionEnds keys (Torn at) before now = TearsRequest at before now ⊎ TearsMessage keys at before now
 SessionEnds keys (BadTable line) before now = ⊥
-SessionEnds keys WasRefused before now = MeetsOther before now ⊎ (MeetsBadRequest before now ⊎ EndsRefused keys before now)
+SessionEnds keys WasRefused before now =
+    MeetsOther before now ⊎ (MeetsBadRequest before now ⊎ EndsRefused keys before now)
 SessionEnds keys NoMemory before now = LacksMemory keys before now
 SessionEnds keys (Flood limit) before now = ⊥
 
@@ -251,7 +273,8 @@ pub record Outside : Type 0 where
   pub keys : Option (List ℕ)
   pub session : Moment
 
-abbrev pub outside : Option (List ℕ) → Option (List ℕ) → Option (List (List ℕ)) → Option (List ℕ) → Option (List ℕ) → Option (List (List ℕ × Event)) → Outside
+abbrev pub outside : Option (List ℕ) → Option (List ℕ) → Option (List (List ℕ)) → Option (List ℕ) → Option (List ℕ)
+    → Option (List (List ℕ × Event)) → Outside
 outside keys left to_come holds table noted = record { keys = keys; session = moment left to_come holds table noted }
 
 -- the table was read whole, and has no bad line; what is known is what it says

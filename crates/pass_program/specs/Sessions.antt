@@ -1,5 +1,5 @@
--- A session of a change of password: the request, and the messages behind it that were refused, the newest first. It goes on
--- until a message is taken, or there are too many refusals.
+-- A session of a change of password: the request, and the messages behind it that were refused, the newest first. It
+-- goes on until a message is taken, or there are too many refusals.
 use Rattle.std.specs.Prelude.{◌≡◌, ℕ, ◌<◌, List, [], ◌∷◌, ◌++◌, length, slice_index, Ok, Err}
 use Rattle.wire_base.specs.Kinds.{password_request}
 use Rattle.sealing.specs.Request.{request_of}
@@ -37,7 +37,8 @@ pub record Refused : Type 0 where
 abbrev pub AreRefused : List KeyLine → List ℕ → List ℕ → List Refused → Type 0
 AreRefused keys user key [] = Unit {0}
 AreRefused keys user key (it ∷ before) =
-    (length it.message ≡ message_bytes) × (judged keys user key it.message ≡ Err it.why) × AreRefused keys user key before
+    (length it.message ≡ message_bytes) × (judged keys user key it.message ≡ Err it.why)
+    × AreRefused keys user key before
 
 -- the request can be read, and each message behind it was refused
 pub record IsSession (keys : List KeyLine) (asked : Asked) (r : TicketReq) (tries : List Refused) : Type 0 where

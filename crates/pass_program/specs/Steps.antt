@@ -50,7 +50,8 @@ pub record IsRequested (before now : Option (List ℕ)) (request : List ℕ) : T
   pub kind : slice_index request 0 ≡ password_request
 
 -- it can be read, and its ticket was written
-pub record IsAnswered (keys : List KeyLine) (request : List ℕ) (words : List (List ℕ)) (before now : Option (List ℕ)) (session : Session) : Type 0 where
+pub record IsAnswered (keys : List KeyLine) (request : List ℕ) (words : List (List ℕ)) (before now : Option (List ℕ))
+    (session : Session) : Type 0 where
   pub r : TicketReq
   pub read : request_of request ≡ Ok r
   pub told : Gains before now (ticket_answer keys words r)
@@ -65,7 +66,8 @@ pub record IsDenied (request : List ℕ) (before now : Option (List ℕ)) : Type
 
 -- by the status that ends the session there
 abbrev pub AnswerEnds : List KeyLine → List ℕ → List (List ℕ) → PassStatus → Option (List ℕ) → Option (List ℕ) → Type 0
-AnswerEnds keys request words WriteFault before now = GainsFront before now (request_answer keys words (request_of request))
+AnswerEnds keys request words WriteFault before now =
+    GainsFront before now (request_answer keys words (request_of request))
 AnswerEnds keys request words WasRefused before now = IsDenied request before now
 AnswerEnds keys request words status before now = ⊥
 
@@ -96,7 +98,8 @@ pub record Hears (keys : List KeyLine) (before now : Moment) (user password : Li
   pub tries : List Refused
   pub message : List ℕ
   pub taken : Taken keys asked r tries message password
-  pub moves : Moves before now (bytes_of asked tries ++ message) asked.words (answers_of keys asked r tries) (notes_of r.uid tries)
+  pub moves : Moves before now (bytes_of asked tries ++ message) asked.words (answers_of keys asked r tries)
+      (notes_of r.uid tries)
   pub kept : LeavesTable before now
   pub same : user ≡ r.uid
 

@@ -16,8 +16,9 @@ abbrev pub path_of : List (List ℕ) → List ℕ
 path_of (option ∷ path ∷ []) = path
 path_of words = []
 
--- what a run of the program with these words that ended so has read, drawn, written and noted: nothing exactly where they
--- aren't its words
+-- what a run of the program with these words that ended so has read, drawn, written and noted: nothing exactly where
+-- they aren't its words
 abbrev pub RunsSo : List (List ℕ) → PassStatus → Outside → Outside → Type 0
 RunsSo words status before now =
-    ((are_words words ≡ false) × (status ≡ Usage) × (now ≡ before)) ⊎ ((are_words words ≡ true) × EndsSo status before now)
+    ((are_words words ≡ false) × (status ≡ Usage) × (now ≡ before))
+    ⊎ ((are_words words ≡ true) × EndsSo status before now)

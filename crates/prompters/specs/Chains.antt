@@ -1,5 +1,5 @@
--- What prompters that are asked in order answer to a question, and what becomes of them. The definitions are the project's
--- own.
+-- What prompters that are asked in order answer to a question, and what becomes of them. The definitions are the
+-- project's own.
 use Rattle.std.specs.Prelude.{◌≡◌, ℕ, ◌+◌, List, [], ◌∷◌, ◌++◌, length, if◌then◌else◌}
 use Rattle.side_files.specs.declared.question.Question.{Question}
 use Rattle.prompters.specs.declared.prompter.Say.{Say}

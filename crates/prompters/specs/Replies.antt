@@ -1,5 +1,5 @@
--- What the replies say that a client takes which answers questions for a user (section 5 of the Plan 9 manual): to which
--- request each belongs, by its tag, what refuses a request, and the question that is read.
+-- What the replies say that a client takes which answers questions for a user (section 5 of the Plan 9 manual): to
+-- which request each belongs, by its tag, what refuses a request, and the question that is read.
 use Rattle.std.specs.Prelude.{ℕ, ◌==◌, ◌&&◌, List, drop, Bool, true, false, codes, Option, Some, None, if◌then◌else◌}
 use Rattle.std.specs.Int.{w8, w16}
 use Rattle.std.specs.Str.{bytes_eq}

@@ -18,8 +18,8 @@ abbrev pub left_behind : List Attr → ℕ → List Question → ℕ
 left_behind template left [] = left
 left_behind template left (q ∷ since) = left_behind template (left_after template left q) since
 
--- It says yes to so many of the questions whose tuples match the template, passes all others on, and is spent when it may
--- say yes no more.
+-- It says yes to so many of the questions whose tuples match the template, passes all others on, and is spent when it
+-- may say yes no more.
 abbrev pub limited : List Attr → ℕ → Manner
 limited template left = record {
   says = λ since q. if grants template (left_behind template left since) q then Yes else Pass;

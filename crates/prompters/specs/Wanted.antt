@@ -46,7 +46,8 @@ meets_use (reply ∷ older) = meets_use older || (is_of_open (unreplied older) r
 -- the reply to one of the reads was that a line is too long for it
 abbrev pub meets_long_line : List (List ℕ) → Bool
 meets_long_line [] = false
-meets_long_line (reply ∷ older) = meets_long_line older || (is_of_read (unreplied older) reply && refuses_by too_small_text reply)
+meets_long_line (reply ∷ older) =
+    meets_long_line older || (is_of_read (unreplied older) reply && refuses_by too_small_text reply)
 
 -- one of the first requests is refused, or a read brings no question: nothing is asked for behind that
 abbrev pub ends_by : List First → List ℕ → Bool
@@ -88,9 +89,12 @@ asked_by (first ∷ others) reply chain = chain
 -- the chain behind these replies: it was asked once for each line
 abbrev pub chain_behind : List Manner → List (List ℕ) → List Manner
 chain_behind chain [] = chain
-chain_behind chain (reply ∷ older) = if is_over (reply ∷ older) then chain_behind chain older else asked_by (unreplied older) reply (chain_behind chain older)
+chain_behind chain (reply ∷ older) =
+    if is_over (reply ∷ older) then chain_behind chain older
+    else asked_by (unreplied older) reply (chain_behind chain older)
 
 -- all requests once these replies were taken
 abbrev pub wanted : List Manner → List (List ℕ) → List TMsg
 wanted chain [] = request_of Version ∷ []
-wanted chain (reply ∷ older) = (if is_over (reply ∷ older) then [] else wanted_by (unreplied older) reply (chain_behind chain older)) ++ wanted chain older
+wanted chain (reply ∷ older) = (if is_over (reply ∷ older) then []
+    else wanted_by (unreplied older) reply (chain_behind chain older)) ++ wanted chain older

@@ -31,19 +31,25 @@ IsTold fault.NoMemory told = Unit {0}
 IsTold given told = told ≡ Some given
 
 -- whatever the machine's talk was: the call is answered so
-abbrev pub Tells : {M : Type 0} → (M → Start → List Call → Type 0) → (Start → List Call → Call → Gave) → M → Gave → Call → Type 0
-Tells stands answers m given call = (start : Start) (talk : List Call) → stands m start talk → Comes given (answers start talk call)
+abbrev pub Tells : {M : Type 0} → (M → Start → List Call → Type 0) → (Start → List Call → Call → Gave) → M → Gave → Call
+    → Type 0
+Tells stands answers m given call =
+    (start : Start) (talk : List Call) → stands m start talk → Comes given (answers start talk call)
 
 -- and the machine stands for the talk with the call
 abbrev pub Keeps : {M : Type 0} → (M → Start → List Call → Type 0) → M → M → Gave → Call → Type 0
-Keeps stands old new given call = (start : Start) (talk : List Call) → stands old start talk → stands new start (talk_with given call talk)
+Keeps stands old new given call =
+    (start : Start) (talk : List Call) → stands old start talk → stands new start (talk_with given call talk)
 
 -- the same of calls that take no memory
-abbrev pub TellsAlways : {M : Type 0} → (M → Start → List Call → Type 0) → (Start → List Call → Call → Gave) → M → Gave → Call → Type 0
-TellsAlways stands answers m given call = (start : Start) (talk : List Call) → stands m start talk → given ≡ answers start talk call
+abbrev pub TellsAlways : {M : Type 0} → (M → Start → List Call → Type 0) → (Start → List Call → Call → Gave) → M → Gave
+    → Call → Type 0
+TellsAlways stands answers m given call =
+    (start : Start) (talk : List Call) → stands m start talk → given ≡ answers start talk call
 
 abbrev pub KeepsAlways : {M : Type 0} → (M → Start → List Call → Type 0) → M → M → Call → Type 0
-KeepsAlways stands old new call = (start : Start) (talk : List Call) → stands old start talk → stands new start (call ∷ talk)
+KeepsAlways stands old new call =
+    (start : Start) (talk : List Call) → stands old start talk → stands new start (call ∷ talk)
 
 -- a key is needed
 abbrev pub IsKey : Need → Type 0
@@ -87,11 +93,14 @@ IsExchange (Exchange request shape) = Unit {0}
 
 -- where nothing was needed before the latest call, and a key since, the machine stands for the talk before that call
 abbrev pub TakesBack : {M : Type 0} → (M → Start → List Call → Type 0) → (Start → List Call → Need) → M → M → Type 0
-TakesBack stands needs old new = (start : Start) (talk : List Call) (call : Call) → stands old start (call ∷ talk) → needs start talk ≡ Nothing → IsKey (needs start (call ∷ talk)) → stands new start talk
+TakesBack stands needs old new = (start : Start) (talk : List Call) (call : Call) → stands old start (call ∷ talk)
+    → needs start talk ≡ Nothing → IsKey (needs start (call ∷ talk)) → stands new start talk
 
 -- what is got by the call stands behind what stood before
-abbrev pub Puts : {M : Type 0} → (M → Start → List Call → Type 0) → (Start → List Call → Call → List ℕ) → M → Gave → Call → List ℕ → List ℕ → Type 0
-Puts stands puts m given call old new = (start : Start) (talk : List Call) → stands m start talk → new ≡ old ++ bytes_with given (puts start talk call)
+abbrev pub Puts : {M : Type 0} → (M → Start → List Call → Type 0) → (Start → List Call → Call → List ℕ) → M → Gave
+    → Call → List ℕ → List ℕ → Type 0
+Puts stands puts m given call old new =
+    (start : Start) (talk : List Call) → stands m start talk → new ≡ old ++ bytes_with given (puts start talk call)
 
 -- what is shown of a machine is what its talk makes
 abbrev pub Shows : {M A : Type 0} → (M → Start → List Call → Type 0) → (Start → List Call → A) → M → A → Type 0

@@ -1,5 +1,6 @@
--- The client of p9sk1, for itself or speaking for another (authsrv(6) and factotum(4) of the Plan 9 manual): an equation
--- a move, and in it the tests in the order in which they are made. Which cause a failed test has is this project's.
+-- The client of p9sk1, for itself or speaking for another (authsrv(6) and factotum(4) of the Plan 9 manual): an
+-- equation a move, and in it the tests in the order in which they are made. Which cause a failed test has is this
+-- project's.
 use Rattle.std.specs.Prelude.{ℕ, ◌==◌, ◌&&◌, ◌||◌, not, Bool, false, List, [], ◌∷◌, ◌++◌, length, drop, slice_index, codes, Option, Some, None, if◌then◌else◌}
 use Rattle.std.specs.Str.{bytes_eq}
 use Rattle.wire_base.specs.Rules.{Rule}
@@ -40,7 +41,8 @@ request_tests start request =
 
 -- a server's request of 141 bytes
 abbrev pub request_came : Start → List ℕ → Verdict Stage
-request_came start b = with_request WrongKind (request_of b) (λ request. tested (request_tests start request) (goes (ClientKey b) g.Wait []))
+request_came start b = with_request WrongKind (request_of b)
+    (λ request. tested (request_tests start request) (goes (ClientKey b) g.Wait []))
 
 -- whom the client asks to be: the user of its key, or the one for whom it speaks
 abbrev pub wanted_user : Role → SkKey → List ℕ
@@ -51,7 +53,14 @@ wanted_user Server key = key.user
 -- the question for the authentication server: what the server's request says, for the key's user, who wants to be this
 -- user
 abbrev pub question_for : Role → SkKey → TicketReq → List ℕ
-question_for role key request = request_text (record { kind = AUTH_TREQ; authid = request.authid; authdom = request.authdom; chal = request.chal; hostid = key.user; uid = wanted_user role key })
+question_for role key request = request_text (record {
+  kind = AUTH_TREQ;
+  authid = request.authid;
+  authdom = request.authdom;
+  chal = request.chal;
+  hostid = key.user;
+  uid = wanted_user role key;
+})
 
 -- an answer that is a refusal with its text, and one that grants, with two tickets
 abbrev pub is_refusal : List ℕ → Bool
@@ -65,13 +74,18 @@ abbrev pub ticket_tests : Start → List ℕ → SkKey → Ticket → List (Rule
 ticket_tests start request key ticket =
     (not (ticket.num == AUTH_TC), BadKey)
     ∷ (not (bytes_eq ticket.chal (challenge_in request)), WrongChallenge)
-    ∷ (not (bytes_eq ticket.cuid key.user) || not (bytes_eq ticket.suid (wanted_user (role_of start.template) key)), WrongUser)
+    ∷ (
+      not (bytes_eq ticket.cuid key.user)
+          || not (bytes_eq ticket.suid (wanted_user (role_of start.template) key)),
+      WrongUser,
+    )
     ∷ []
 
 -- two tickets of the authentication server
 abbrev pub tickets_came : Start → List ℕ → SkKey → List ℕ → Verdict Stage
 tickets_came start request key tickets =
-    with_ticket BadKey (ticket_under key (ticket_part tickets)) (λ ticket. tested (ticket_tests start request key ticket) (goes (ClientThird request key tickets) g.Ok []))
+    with_ticket BadKey (ticket_under key (ticket_part tickets))
+    (λ ticket. tested (ticket_tests start request key ticket) (goes (ClientThird request key tickets) g.Ok []))
 
 -- an answer of the authentication server
 abbrev pub answer_came : Start → List ℕ → SkKey → List ℕ → Verdict Stage
@@ -88,7 +102,8 @@ handed_on request tickets ticket = rest_part tickets ++ proof_for AUTH_AC (chall
 
 abbrev pub tickets_got : List ℕ → SkKey → List ℕ → Verdict Stage
 tickets_got request key tickets =
-    with_ticket BadKey (ticket_under key (ticket_part tickets)) (λ ticket. goes (ClientFourth request key tickets) g.Ok (handed_on request tickets ticket))
+    with_ticket BadKey (ticket_under key (ticket_part tickets))
+    (λ ticket. goes (ClientFourth request key tickets) g.Ok (handed_on request tickets ticket))
 
 -- the tests of the server's authenticator
 abbrev pub proof_tests : ℕ → List ℕ → Authenticator → List (Rule Cause)
@@ -100,4 +115,6 @@ proof_tests kind challenge proof =
 -- the server's authenticator of 13 bytes
 abbrev pub proof_came : Start → List ℕ → SkKey → List ℕ → List ℕ → Verdict Stage
 proof_came start request key tickets b =
-    with_ticket BadKey (ticket_under key (ticket_part tickets)) (λ ticket. tested (proof_tests AUTH_AS start.word (proof_under ticket b)) (goes (ClientDone request key tickets b) g.Ok []))
+    with_ticket BadKey (ticket_under key (ticket_part tickets))
+    (λ ticket. tested (proof_tests AUTH_AS start.word (proof_under ticket b))
+    (goes (ClientDone request key tickets b) g.Ok []))

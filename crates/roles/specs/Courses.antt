@@ -52,7 +52,8 @@ abbrev pub move : Start → Stage → Call → Verdict Stage
 move start ClientFirst get = goes ClientSecond g.Ok start.word
 -- client, 2: the server's request is given, a key found for it, the authentication server asked
 move start ClientSecond (give b) = sized 141 b (request_came start b)
-move start (ClientKey request) (found key password) = with_request WrongKind (request_of request) (λ _. goes (ClientAsk request key) g.Wait [])
+move start (ClientKey request) (found key password) =
+    with_request WrongKind (request_of request) (λ _. goes (ClientAsk request key) g.Wait [])
 move start (ClientKey request) undone = goes ClientSecond g.Ok []
 move start (ClientAsk request key) (heard answer) = answer_came start request key answer
 move start (ClientAsk request key) unheard = breaks NoServer

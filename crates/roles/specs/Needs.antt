@@ -16,12 +16,19 @@ pub record SeeksKeys (needs : Start → List Call → Need) (answers : Start →
   pub never_offers : (start : Start) (talk : List Call) → IsOffers (needs start talk) → ⊥
   pub never_picks : (start : Start) (talk : List Call) → IsPick (needs start talk) → ⊥
   -- what a call seeks that nothing was needed before is taken back with it
-  pub undone_needs : (start : Start) (talk : List Call) (call : Call) → needs start talk ≡ Nothing → is_sought (needs start (call ∷ talk)) ≡ true → needs start (undone ∷ call ∷ talk) ≡ Nothing
+  pub undone_needs : (start : Start) (talk : List Call) (call : Call) → needs start talk ≡ Nothing
+      → is_sought (needs start (call ∷ talk)) ≡ true → needs start (undone ∷ call ∷ talk) ≡ Nothing
   -- behind a key no other is sought
-  pub found_needs : (start : Start) (talk : List Call) (key : SkKey) (password : Option (List ℕ)) → IsKey (needs start talk) → is_sought (needs start (found key password ∷ talk)) ≡ false
+  pub found_needs : (start : Start) (talk : List Call) (key : SkKey) (password : Option (List ℕ))
+      → IsKey (needs start talk) → is_sought (needs start (found key password ∷ talk)) ≡ false
   -- behind the authentication server's answer nothing is needed, and none at all is told
-  pub heard_needs : (start : Start) (talk : List Call) (bytes : List ℕ) → IsExchange (needs start talk) → needs start (heard bytes ∷ talk) ≡ Nothing
-  pub unheard_needs : (start : Start) (talk : List Call) → IsExchange (needs start talk) → needs start (unheard ∷ talk) ≡ Nothing
-  pub roomless_needs : (start : Start) (talk : List Call) → IsExchange (needs start talk) → needs start (roomless ∷ talk) ≡ Nothing
-  pub unheard_tells : (start : Start) (talk : List Call) → IsExchange (needs start talk) → answers start talk unheard ≡ g.Refused NoServer
-  pub roomless_tells : (start : Start) (talk : List Call) → IsExchange (needs start talk) → answers start talk roomless ≡ g.Refused NoRoom
+  pub heard_needs : (start : Start) (talk : List Call) (bytes : List ℕ) → IsExchange (needs start talk)
+      → needs start (heard bytes ∷ talk) ≡ Nothing
+  pub unheard_needs : (start : Start) (talk : List Call) → IsExchange (needs start talk)
+      → needs start (unheard ∷ talk) ≡ Nothing
+  pub roomless_needs : (start : Start) (talk : List Call) → IsExchange (needs start talk)
+      → needs start (roomless ∷ talk) ≡ Nothing
+  pub unheard_tells : (start : Start) (talk : List Call) → IsExchange (needs start talk)
+      → answers start talk unheard ≡ g.Refused NoServer
+  pub roomless_tells : (start : Start) (talk : List Call) → IsExchange (needs start talk)
+      → answers start talk roomless ≡ g.Refused NoRoom

@@ -20,7 +20,14 @@ use Rattle.roles.specs.Clients.{proof_tests}
 
 -- the second move: the request, with the key's user and domain and the server's challenge, for nobody yet
 abbrev pub server_request : Start → SkKey → List ℕ
-server_request start key = request_text (record { kind = AUTH_TREQ; authid = key.user; authdom = key.dom; chal = start.word; hostid = []; uid = [] })
+server_request start key = request_text (record {
+  kind = AUTH_TREQ;
+  authid = key.user;
+  authdom = key.dom;
+  chal = start.word;
+  hostid = [];
+  uid = [];
+})
 
 -- the tests of what a client shows in the third move: its ticket, which opened, and then its authenticator
 abbrev pub shown_tests : Start → Ticket → Authenticator → List (Rule Cause)
@@ -33,9 +40,12 @@ shown_tests start ticket proof =
 -- the third move: a ticket and an authenticator, 85 bytes; who passes is accepted here
 abbrev pub shown_came : Start → SkKey → List ℕ → List ℕ → Verdict Stage
 shown_came start key theirs b =
-    with_ticket WrongKind (ticket_under key (ticket_part b)) (λ ticket. tested (shown_tests start ticket (proof_under ticket (rest_part b))) (goes (ServerFourth key theirs b) g.Ok []))
+    with_ticket WrongKind (ticket_under key (ticket_part b))
+    (λ ticket. tested (shown_tests start ticket (proof_under ticket (rest_part b)))
+    (goes (ServerFourth key theirs b) g.Ok []))
 
 -- the fourth move: an authenticator for the client's challenge
 abbrev pub proof_got : SkKey → List ℕ → List ℕ → Verdict Stage
 proof_got key theirs shown =
-    with_ticket WrongKind (ticket_under key (ticket_part shown)) (λ ticket. goes (ServerDone key theirs shown) g.Ok (proof_for AUTH_AS theirs ticket))
+    with_ticket WrongKind (ticket_under key (ticket_part shown))
+    (λ ticket. goes (ServerDone key theirs shown) g.Ok (proof_for AUTH_AS theirs ticket))

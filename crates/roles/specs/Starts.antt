@@ -1,5 +1,5 @@
--- How a conversation is started, after factotum(4) of the Plan 9 manual: a template names the protocol and the role, and
--- what the key must be like. The order of the refusals, and that a role may speak for a user, are this project's.
+-- How a conversation is started, after factotum(4) of the Plan 9 manual: a template names the protocol and the role,
+-- and what the key must be like. The order of the refusals, and that a role may speak for a user, are this project's.
 use Rattle.std.specs.Prelude.{◌≡◌, ℕ, List, [], ◌∷◌, Bool, true, false, false, not, ◌&&◌, ◌||◌, nat_le, length, filter, codes, Option, Some, None, unwrap_or, Result, Ok, Err, if◌then◌else◌}
 use Rattle.std.specs.List.{list_any}
 use Rattle.std.specs.Str.{bytes_eq}
@@ -47,11 +47,13 @@ says name text template = is_text_of (value_of name template) text
 
 -- a role of p9sk1, or of p9any
 abbrev pub names_role : List Attr → Bool
-names_role template = says (codes "role") (codes "client") template || (says (codes "role") (codes "server") template || says (codes "role") (codes "speakfor") template)
+names_role template = says (codes "role") (codes "client") template
+    || (says (codes "role") (codes "server") template || says (codes "role") (codes "speakfor") template)
 
 -- it is to speak for somebody who is no user
 abbrev pub speaks_for_nobody : List Attr → Bool
-speaks_for_nobody template = says (codes "role") (codes "speakfor") template && not (is_some_user (value_of (codes "user") template))
+speaks_for_nobody template =
+    says (codes "role") (codes "speakfor") template && not (is_some_user (value_of (codes "user") template))
 
 -- the rules of a start of a protocol that has these three roles, in order
 abbrev pub rules_of : List ℕ → List Attr → List (Rule StartFault)
@@ -89,5 +91,6 @@ Starts (Err fault) template = start_fault template ≡ Some fault
 
 -- of a start that speaks for somebody the user, or that he is none
 abbrev pub Speaks : Result Role StartFault → List Attr → Type 0
-Speaks (Ok role) template = (is_some_user (value_of (codes "user") template) ≡ true) × (role ≡ Speakfor (unwrap_or (value_of (codes "user") template) []))
+Speaks (Ok role) template = (is_some_user (value_of (codes "user") template) ≡ true)
+    × (role ≡ Speakfor (unwrap_or (value_of (codes "user") template) []))
 Speaks (Err fault) template = (is_some_user (value_of (codes "user") template) ≡ false) × (fault ≡ BadUser)

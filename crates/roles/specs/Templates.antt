@@ -54,7 +54,8 @@ ask_dom_part (Speakfor user) known = []
 unfoldable pub asked : List ℕ → Role → List Attr → Option (List ℕ) → List Attr
 asked protocol role start dom =
     given_as (codes "proto") protocol
-    ∷ (dom_part dom ++ (others_part role start ++ (user_part (others_part role start) ++ ask_dom_part role (is_some dom))))
+    ∷ (dom_part dom ++ (others_part role start
+    ++ (user_part (others_part role start) ++ ask_dom_part role (is_some dom))))
 
 -- what p9sk1 asks for in a domain that came with a message
 abbrev pub asked_in : Start → List ℕ → List Attr
@@ -62,7 +63,8 @@ asked_in start dom = asked (codes "p9sk1") (role_of start.template) start.templa
 
 -- what p9sk1 asks for at its start: the domain is that of the start, if it has one
 abbrev pub asked_first : Start → List Attr
-asked_first start = asked (codes "p9sk1") (role_of start.template) start.template (value_of (codes "dom") start.template)
+asked_first start = asked (codes "p9sk1") (role_of start.template) start.template
+    (value_of (codes "dom") start.template)
 
 -- the template as it is shown to who is to bring a key
 unfoldable pub shown_text : List Attr → List ℕ

@@ -27,7 +27,8 @@ proof_under ticket bytes = authenticator_of (opened ticket.key.0 bytes)
 
 -- an authenticator of this kind for a challenge, sealed under the key of a ticket
 abbrev pub proof_for : ℕ → List ℕ → Ticket → List ℕ
-proof_for kind challenge ticket = sealed ticket.key.0 (authenticator_text (record { num = kind; chal = challenge; id = 0 }))
+proof_for kind challenge ticket =
+    sealed ticket.key.0 (authenticator_text (record { num = kind; chal = challenge; id = 0 }))
 
 -- what follows from the request that bytes are, where they are one, and else the cause
 abbrev pub with_request : {S : Type 0} → Cause → Result TicketReq FieldFault → (TicketReq → Verdict S) → Verdict S

@@ -19,4 +19,8 @@ pub record IsAuthenticator (bytes : List ℕ) (a : Authenticator) : Type 0 where
 
 -- the authenticator that 13 bytes are
 unfoldable pub authenticator_of : List ℕ → Authenticator
-authenticator_of bytes = record { num = slice_index bytes 0; chal = field 1 8 bytes; id = from_le_bytes w32 (field 9 4 bytes) }
+authenticator_of bytes = record {
+  num = slice_index bytes 0;
+  chal = field 1 8 bytes;
+  id = from_le_bytes w32 (field 9 4 bytes);
+}

@@ -38,7 +38,14 @@ request_fields bytes = do
   authdom ← name_in 29 48 bytes
   hostid ← name_in 85 28 bytes
   uid ← name_in 113 28 bytes
-  Ok (record { kind = slice_index bytes 0; authid = authid; authdom = authdom; chal = field 77 8 bytes; hostid = hostid; uid = uid })
+  Ok (record {
+    kind = slice_index bytes 0;
+    authid = authid;
+    authdom = authdom;
+    chal = field 77 8 bytes;
+    hostid = hostid;
+    uid = uid;
+  })
 
 -- the request that the first 141 bytes are, or what is wrong with them
 unfoldable pub request_of : List ℕ → Result TicketReq FieldFault

@@ -31,4 +31,10 @@ unfoldable pub ticket_of : List ℕ → Result Ticket FieldFault
 ticket_of bytes = do
   cuid ← name_in 9 28 bytes
   suid ← name_in 37 28 bytes
-  Ok (record { num = slice_index bytes 0; chal = field 1 8 bytes; cuid = cuid; suid = suid; key = record { 0 = field 65 7 bytes } })
+  Ok (record {
+    num = slice_index bytes 0;
+    chal = field 1 8 bytes;
+    cuid = cuid;
+    suid = suid;
+    key = record { 0 = field 65 7 bytes };
+  })

@@ -1,5 +1,5 @@
--- What was done with the questions of one file, and with the lines of a log: lists of calls, the newest first, so that 'the
--- calls before' one are the rest of the list.
+-- What was done with the questions of one file, and with the lines of a log: lists of calls, the newest first, so
+-- that 'the calls before' one are the rest of the list.
 use Rattle.std.specs.Prelude.{ℕ, ◌+◌, List, [], ◌∷◌, ◌++◌, drop, ◌==◌, Option, Some, None, if◌then◌else◌}
 use Rattle.side_files.specs.declared.line.PromptKind.{PromptKind}
 use Rattle.side_files.specs.Questions.{Questions, no_questions, next_line, asked_by, read, replied, withdrawn}

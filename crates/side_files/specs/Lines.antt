@@ -1,5 +1,5 @@
--- The lines of questions, after factotum(4) of the Plan 9 manual, and what a read of a file of lines finds. Their exact form
--- is this project's.
+-- The lines of questions, after factotum(4) of the Plan 9 manual, and what a read of a file of lines finds. Their
+-- exact form is this project's.
 use Rattle.std.specs.Prelude.{◌≡◌, ℕ, List, [], ◌∷◌, ◌++◌, Bool, true, false, nat_lt, length, codes, Option, Some, None, Result, Ok, Err, if◌then◌else◌}
 use Rattle.std.specs.Fmt.{decimal}
 use Rattle.side_files.specs.declared.line.PromptKind.{PromptKind}

@@ -7,8 +7,9 @@ use Rattle.side_files.specs.declared.prompt.Asker.{Asker}
 use Rattle.side_files.specs.Lines.{question_line}
 use Rattle.side_files.specs.Askers.{asker_in, without_tag, without_conv, without_asked}
 
--- what is asked for; how many questions were asked; those that nobody has read, and those that were read and not replied
--- to, in the order in which they were asked; and the line of the next question, where it was made before it is asked
+-- what is asked for; how many questions were asked; those that nobody has read, and those that were read and not
+-- replied to, in the order in which they were asked; and the line of the next question, where it was made before it
+-- is asked
 pub record Questions : Type 0 where
   pub kind : PromptKind
   pub asked : ℕ
@@ -49,7 +50,12 @@ with_line about q = record q { reserved = Some (next_line q about) }
 
 -- a conversation asks by a line, under the next tag
 abbrev pub asked_by : ℕ → List ℕ → Questions → Questions
-asked_by conv line q = record q { asked = q.asked + 1; unread = q.unread ++ prompt (q.asked + 1) conv line ∷ []; reserved = None }
+asked_by conv line q = record q {
+  asked = q.asked + 1;
+  unread = q.unread
+      ++ prompt (q.asked + 1) conv line ∷ [];
+  reserved = None;
+}
 
 -- what waits for a reply once the first question is read, if there is one
 abbrev pub opens : List Prompt → List Asker

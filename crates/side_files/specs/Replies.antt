@@ -1,5 +1,5 @@
--- What is written to a file of questions, after factotum(4) of the Plan 9 manual: a tag, and whether it is agreed. Its exact
--- form is this project's.
+-- What is written to a file of questions, after factotum(4) of the Plan 9 manual: a tag, and whether it is agreed.
+-- Its exact form is this project's.
 use Rattle.std.specs.Prelude.{ℕ, List, [], ◌∷◌, Bool, false, codes, Option, Some, None, Result, Ok, Err, option_map, if◌then◌else◌}
 use Rattle.std.specs.Str.{bytes_eq}
 use Rattle.attr_tuples.specs.declared.attr.Attr.{Attr}

@@ -16,7 +16,8 @@ pub record SameBut {N K F : Type 0} (old new : TcpDialer N K F) : Type 0 where
 -- What was found of the servers of an order, the newest first, and which of them are left: each in turn has failed.
 pub data Passed : List ℕ → List ℕ → List Finding → Type 0 where
   NobodyYet : {order : List ℕ} → Passed order order []
-  Another : {order left : List ℕ} {found : List Finding} (i moment : ℕ) → Passed order (i ∷ left) found → Passed order left (HasFailed i moment ∷ found)
+  Another : {order left : List ℕ} {found : List Finding} (i moment : ℕ) → Passed order (i ∷ left) found
+      → Passed order left (HasFailed i moment ∷ found)
 
 -- These findings came, the newest first.
 abbrev pub AllFound : List Finding → Option (ℕ → Option ℕ) → Option (ℕ → Option ℕ) → Type 0

@@ -1,5 +1,5 @@
--- Which servers failed lately, and in which order all are tried. What was found of servers is a list, the newest first; the
--- definitions are the project's own.
+-- Which servers failed lately, and in which order all are tried. What was found of servers is a list, the newest
+-- first; the definitions are the project's own.
 use Rattle.std.specs.Prelude.{◌≡◌, ℕ, zero, suc, ◌+◌, ◌-◌, List, [], ◌∷◌, ◌++◌, Bool, false, not, ◌==◌, nat_lt, Option, Some, None, option_map, slice_index_or, if◌then◌else◌, ⊤}
 use Rattle.std.specs.Time.{instant_nanos}
 use Rattle.std.specs.declared.time.Instant.{Instant}

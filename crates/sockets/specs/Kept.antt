@@ -1,5 +1,6 @@
--- The connections that a dialer keeps, by the numbers of the conversations, and which it keeps after an exchange. What they
--- are is optional, since those that several dialers share aren't told. The definitions are the project's own.
+-- The connections that a dialer keeps, by the numbers of the conversations, and which it keeps after an exchange.
+-- What they are is optional, since those that several dialers share aren't told. The definitions are the project's
+-- own.
 use Rattle.std.specs.Prelude.{◌≡◌, ◌≢◌, ℕ, Bool, true, false, Option, Some, None, Result, Ok, Err, ⊤}
 use Rattle.std.specs.BTreeMap.{BTreeMap, get}
 use Rattle.std.specs.Ordering.{nat_cmp}
@@ -8,7 +9,8 @@ use Rattle.wire_base.specs.declared.shape.Shape.TheVariants.{Tickets, Challenge,
 use Rattle.wire_streams.specs.declared.dialer.Dial.{Dial}
 use Rattle.wire_streams.specs.declared.dialer.Dial.TheVariants.{Heard, Failed, NoMemory}
 
--- what stands under a conversation's number: nothing, a place for the connection by which it is asked now, or a connection
+-- what stands under a conversation's number: nothing, a place for the connection by which it is asked now, or a
+-- connection
 pub data Standing : Type 0 where
   Free : Standing
   Asked : Standing
@@ -38,7 +40,8 @@ standing_in places conv = standing_of (get nat_cmp places conv)
 abbrev pub Moves : (Standing → Standing) → ℕ → Option (ℕ → Standing) → Option (ℕ → Standing) → Type 0
 Moves step conv None new = ⊤
 Moves step conv (Some old) None = ⊥
-Moves step conv (Some old) (Some new) = (new conv ≡ step (old conv)) × ((other : ℕ) → other ≢ conv → new other ≡ old other)
+Moves step conv (Some old) (Some new) =
+    (new conv ≡ step (old conv)) × ((other : ℕ) → other ≢ conv → new other ≡ old other)
 
 -- What stands under the number of an exchange after it. Where memory ran out nothing has changed.
 abbrev pub kept_after : Shape → Dial → Standing → Standing

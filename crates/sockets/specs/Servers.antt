@@ -1,5 +1,6 @@
--- The text that names the authentication servers: addresses with commas between them, each the path of a Unix socket or a
--- host, a colon and a port. The definitions are the project's own; the most bytes of a path are those of a socket's address.
+-- The text that names the authentication servers: addresses with commas between them, each the path of a Unix socket
+-- or a host, a colon and a port. The definitions are the project's own; the most bytes of a path are those of a
+-- socket's address.
 use Rattle.std.specs.Prelude.{ℕ, ◌+◌, ◌-◌, ◌*◌, List, [], ◌∷◌, Bool, false, ◌&&◌, ◌==◌, nat_le, nat_lt, length, drop, reverse, Option, Some, None, Result, Ok, Err, if◌then◌else◌}
 use Rattle.sockets.specs.Endings.{is_digit}
 use Rattle.sockets.specs.declared.servers.AddressFault.{AddressFault}

@@ -3,12 +3,12 @@ ghost use Rattle.std.specs.Prelude.{◌≡◌, ◌<◌, ◌≤◌, IfOk, length}
 
 use crate::listening_socket::Socket;
 use client_doors::{Address, HasAddress};
-use wire_streams::{Got, Offer, Offers, Put, ReadSource, Sink, Source, Watched};
 use std::alloc::Global;
 use std::io::{self, ErrorKind, Read, Write};
 use std::os::fd::RawFd;
 use std::sync::Arc;
 use wire_base::NoMemory;
+use wire_streams::{Got, Offer, Offers, Put, ReadSource, Sink, Source, Watched};
 
 /// One of the two that hold a connection.
 #[derive(Drop)]

@@ -21,7 +21,8 @@ key_option bytes = if length bytes == 7 then Some bytes else None
 
 -- a call that appends a spelling to these bytes: done, it stands behind them; refused, it has that fault, and the bytes
 -- stand in front of whatever else does
-pub record Writes (spelled : Spelling) (before : List ℕ) (result : Result Unit SpellFault) (after : List ℕ) : Type 0 where
+pub record Writes (spelled : Spelling) (before : List ℕ) (result : Result Unit SpellFault)
+    (after : List ℕ) : Type 0 where
   pub done : OnOk result (behind before spelled ≡ Ok after)
   pub no_atom : result ≡ Err NoAtom → spelled ≡ Err NoAtom
   pub bad_seal : result ≡ Err BadSeal → spelled ≡ Err BadSeal

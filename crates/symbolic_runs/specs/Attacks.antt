@@ -1,5 +1,5 @@
--- Runs written out that show why the laws of agreement have their premises, and what the protocols don't give. The newest
--- event stands first.
+-- Runs written out that show why the laws of agreement have their premises, and what the protocols don't give. The
+-- newest event stands first.
 use Rattle.std.specs.Prelude.{ℕ, List, [], ◌∷◌, ◌==◌, codes, Some, if◌then◌else◌, true}
 use Rattle.symbolic_runs.specs.declared.kind.MacKind.TheVariants.{Cram}
 use Rattle.symbolic_runs.specs.Trees.{Tree, plain, nonce, long_key, ticket_key, password, seal, digest}
@@ -10,8 +10,8 @@ use Rattle.symbolic_runs.specs.Runs.{Setting, starts, moves, serves, Run}
 use Rattle.symbolic_runs.specs.Agreement.{Acceptance, IsUnder, Matches, ClientAcceptance, IsAnswered}
 use Rattle.symbolic_runs.specs.Cast.{srv, other, ann, eve, field, domain, asked, offered, eight, seven, tickets_for, at_the_end}
 
--- A betrayed server: who has its key makes a ticket with any key in it, and the server accepts ann, for whom nothing was
--- granted.
+-- A betrayed server: who has its key makes a ticket with any key in it, and the server accepts ann, for whom nothing
+-- was granted.
 abbrev pub betrayed_server : Setting
 betrayed_server = record {
   compromised = srv ∷ [];
@@ -38,8 +38,8 @@ betrayed_server_run = moves 0 (accepts (field ann)) ∷ betrayed_server_past
 abbrev pub without_grant : Acceptance betrayed_server betrayed_server_run
 without_grant = at_the_end betrayed_server betrayed_server_past 0 (field ann) (λ i. true)
 
--- A betrayed speaker: eve may speak for ann, and her key was betrayed. Who has it asks for tickets in her name, opens hers,
--- and is accepted as ann, though neither ann's key nor the server's was betrayed and no client took part.
+-- A betrayed speaker: eve may speak for ann, and her key was betrayed. Who has it asks for tickets in her name, opens
+-- hers, and is accepted as ann, though neither ann's key nor the server's was betrayed and no client took part.
 abbrev pub speaker_grant : Grant
 speaker_grant = tickets_for srv (Some eve) eve ann (nonce 0)
 
@@ -75,8 +75,8 @@ IsUnderNone s run a = (number : ℕ) → IsUnder s run a number → ⊥
 abbrev pub IsUnmatched : Setting → Run → Type 0
 IsUnmatched s past = (number : ℕ) (user : List ℕ) (conv : ℕ) → Matches s past number user conv → ⊥
 
--- An exposed grant: the server's key was betrayed. Who has it opens the ticket that ann's client hands on and answers that
--- client, which accepts, though there is no server at all.
+-- An exposed grant: the server's key was betrayed. Who has it opens the ticket that ann's client hands on and answers
+-- that client, which accepts, though there is no server at all.
 abbrev pub exposed_grant : Grant
 exposed_grant = tickets_for srv (Some ann) ann ann (plain eight)
 
@@ -106,7 +106,13 @@ abbrev pub exposed_run : Run
 exposed_run = moves 0 (accepts (field ann)) ∷ exposed_past
 
 abbrev pub exposed_acceptance : ClientAcceptance exposed_server exposed_run
-exposed_acceptance = record { conv = 0; user = field ann; past = exposed_past; stands = record { later = []; place = λ i. exposed_run }; by_a_client = λ i. client }
+exposed_acceptance = record {
+  conv = 0;
+  user = field ann;
+  past = exposed_past;
+  stands = record { later = []; place = λ i. exposed_run };
+  by_a_client = λ i. client;
+}
 
 -- nobody answered a client
 abbrev pub IsUnanswered : (s : Setting) (run : Run) → ClientAcceptance s run → Type 0

@@ -33,7 +33,12 @@ domain = codes "x"
 
 -- the fields of a request: of which server, in whose name, for which user
 abbrev pub asked : List ℕ → List ℕ → List ℕ → Fields
-asked server host user = record { authid = field server; authdom = name_field 48 domain; hostid = field host; uid = field user }
+asked server host user = record {
+  authid = field server;
+  authdom = name_field 48 domain;
+  hostid = field host;
+  uid = field user;
+}
 
 -- what a p9sk1 server sends: its name alone
 abbrev pub offered : List ℕ → Fields
@@ -58,12 +63,31 @@ before_eight = answer_challenge ∷ codes "8    "
 
 -- tickets for a server and a host's client, for a user for whom the host may speak
 abbrev pub tickets_for : List ℕ → Option (List ℕ) → List ℕ → List ℕ → Tree → Grant
-tickets_for server key host user chal = record { used = keys (Some server) key; speakers = user ∷ host ∷ []; chal = chal; host = field host; user = field user }
+tickets_for server key host user chal = record {
+  used = keys (Some server) key;
+  speakers = user ∷ host ∷ [];
+  chal = chal;
+  host = field host;
+  user = field user;
+}
 
 -- a vouch for a user's right answer
 abbrev pub vouch_for : List ℕ → List ℕ → Tree → Grant
-vouch_for server user chal = record { used = key_and_password (Some server) user; speakers = user ∷ []; chal = chal; host = field user; user = field user }
+vouch_for server user chal = record {
+  used = key_and_password (Some server) user;
+  speakers = user ∷ [];
+  chal = chal;
+  host = field user;
+  user = field user;
+}
 
 -- the acceptance with which a run ends
-abbrev pub at_the_end : (s : Setting) (past : Run) (conv : ℕ) (user : List ℕ) → is_server (s.role conv) ≡ true → Acceptance s (moves conv (accepts user) ∷ past)
-at_the_end s past conv user server = record { conv = conv; user = user; past = past; stands = record { later = []; place = λ i. moves conv (accepts user) ∷ past }; by_a_server = server }
+abbrev pub at_the_end : (s : Setting) (past : Run) (conv : ℕ) (user : List ℕ) → is_server (s.role conv) ≡ true
+    → Acceptance s (moves conv (accepts user) ∷ past)
+at_the_end s past conv user server = record {
+  conv = conv;
+  user = user;
+  past = past;
+  stands = record { later = []; place = λ i. moves conv (accepts user) ∷ past };
+  by_a_server = server;
+}

@@ -12,7 +12,8 @@ mutual
     by_knowing : {t : Tree} (index : ℕ) → slice_get known index ≡ Some t → Derives known t
     in_public : (bytes : List ℕ) → Derives known (plain bytes)
     by_joining : {ts : Trees} → DerivesAll known ts → Derives known (joined ts)
-    by_parting : {ts : Trees} {t : Tree} (index : ℕ) → piece_at ts index ≡ Some t → Derives known (joined ts) → Derives known t
+    by_parting : {ts : Trees} {t : Tree} (index : ℕ) → piece_at ts index ≡ Some t → Derives known (joined ts)
+        → Derives known t
     by_sealing : {k t : Tree} → Derives known k → Derives known t → Derives known (seal k t)
     by_opening : {k t : Tree} → Derives known (seal k t) → Derives known k → Derives known t
     by_digesting : {kind : MacKind} {p t : Tree} → Derives known p → Derives known t → Derives known (digest kind p t)
@@ -26,7 +27,8 @@ mutual
 -- the pieces at these places
 abbrev pub pieces_at : List Tree → List ℕ → Option Trees
 pieces_at done [] = Some none
-pieces_at done (place ∷ places) = option_and_then (λ t. option_map (piece t) (pieces_at done places)) (slice_get done place)
+pieces_at done (place ∷ places) =
+    option_and_then (λ t. option_map (piece t) (pieces_at done places)) (slice_get done place)
 
 -- the piece of a joined tree
 abbrev pub part_of : Tree → ℕ → Option Tree
@@ -43,14 +45,18 @@ conclusion known done (Known index) = slice_get known index
 conclusion known done (Public bytes) = Some (plain bytes)
 conclusion known done (Join places) = option_map joined (pieces_at done places)
 conclusion known done (Part of index) = option_and_then (λ t. part_of t index) (slice_get done of)
-conclusion known done (SealUp key body) = option_and_then (λ k. option_map (seal k) (slice_get done body)) (slice_get done key)
-conclusion known done (OpenUp sealed key) = option_and_then (λ s. option_and_then (body_of s) (slice_get done key)) (slice_get done sealed)
-conclusion known done (MacUp kind secret body) = option_and_then (λ p. option_map (digest kind p) (slice_get done body)) (slice_get done secret)
+conclusion known done (SealUp key body) =
+    option_and_then (λ k. option_map (seal k) (slice_get done body)) (slice_get done key)
+conclusion known done (OpenUp sealed key) =
+    option_and_then (λ s. option_and_then (body_of s) (slice_get done key)) (slice_get done sealed)
+conclusion known done (MacUp kind secret body) =
+    option_and_then (λ p. option_map (digest kind p) (slice_get done body)) (slice_get done secret)
 
 -- the conclusions of all steps, behind those that stand already; none where a step's rule doesn't hold
 abbrev pub conclusions_after : List Tree → List Tree → List ProofStep → Option (List Tree)
 conclusions_after known done [] = Some done
-conclusions_after known done (step ∷ steps) = option_and_then (λ t. conclusions_after known (done ++ t ∷ []) steps) (conclusion known done step)
+conclusions_after known done (step ∷ steps) =
+    option_and_then (λ t. conclusions_after known (done ++ t ∷ []) steps) (conclusion known done step)
 
 abbrev pub conclusions : List Tree → List ProofStep → Option (List Tree)
 conclusions known steps = conclusions_after known [] steps
@@ -58,4 +64,5 @@ conclusions known steps = conclusions_after known [] steps
 -- these trees are what the steps conclude: one each, and each by its step's rule from those before it
 pub record IsProof (known : List Tree) (steps : List ProofStep) (ends : List Tree) : Type 0 where
   pub one_each : length ends ≡ length steps
-  pub each : (index : ℕ) (step : ProofStep) (t : Tree) → slice_get steps index ≡ Some step → slice_get ends index ≡ Some t → conclusion known (take index ends) step ≡ Some t
+  pub each : (index : ℕ) (step : ProofStep) (t : Tree) → slice_get steps index ≡ Some step
+      → slice_get ends index ≡ Some t → conclusion known (take index ends) step ≡ Some t

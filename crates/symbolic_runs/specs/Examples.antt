@@ -1,5 +1,5 @@
--- Runs written out that the laws of agreement speak of: logins in which something goes another way than in a plain one. The
--- newest event stands first.
+-- Runs written out that the laws of agreement speak of: logins in which something goes another way than in a plain
+-- one. The newest event stands first.
 use Rattle.std.specs.Prelude.{ℕ, List, [], ◌∷◌, ◌==◌, codes, Some, None, if◌then◌else◌}
 use Rattle.wire_base.specs.Names.{name_field}
 use Rattle.symbolic_runs.specs.declared.kind.MacKind.TheVariants.{Apop, Cram}
@@ -10,8 +10,8 @@ use Rattle.symbolic_runs.specs.Sessions.{Grant, got, gives_tickets, gives_challe
 use Rattle.symbolic_runs.specs.Runs.{Setting, starts, moves, serves, Run}
 use Rattle.symbolic_runs.specs.Cast.{srv, ann, bob, field, domain, asked, offered, eight, digits, before_challenge, before_eight, tickets_for, vouch_for}
 
--- A p9sk1 server accepts bob by a mail login: the network asks for a mail challenge with the server's own word, has bob's
--- mail client answer it, and hands the server what the authentication server vouches with.
+-- A p9sk1 server accepts bob by a mail login: the network asks for a mail challenge with the server's own word, has
+-- bob's mail client answer it, and hands the server what the authentication server vouches with.
 abbrev pub crossed_grant : Grant
 crossed_grant = vouch_for srv bob (nonce 1)
 
@@ -39,16 +39,19 @@ challenged =
     ∷ []
 
 abbrev pub answered : Run
-answered = serves 0 (got 1 (pair (request (mail_request Apop) (asked srv srv bob) (nonce 1)) bobs_digits)) ∷ moves 0 (gives bobs_digits) ∷ challenged
+answered = serves 0 (got 1 (pair (request (mail_request Apop) (asked srv srv bob) (nonce 1)) bobs_digits))
+    ∷ moves 0 (gives bobs_digits) ∷ challenged
 
 abbrev pub crossed_past : Run
-crossed_past = moves 1 (takes (pair (vouched_ticket crossed_grant 1) (vouched_proof crossed_grant 1))) ∷ serves 0 (gives_vouch Apop 1 0) ∷ answered
+crossed_past = moves 1 (takes (pair (vouched_ticket crossed_grant 1) (vouched_proof crossed_grant 1)))
+    ∷ serves 0 (gives_vouch Apop 1 0) ∷ answered
 
 abbrev pub crossed_run : Run
 crossed_run = moves 1 (accepts (field bob)) ∷ crossed_past
 
--- The other way round: a mail server accepts ann by a p9sk1 login. The network hands the server's word to ann's p9sk1 client
--- as a p9sk1 server's challenge, and what that client gives to the server as the authentication server's answer.
+-- The other way round: a mail server accepts ann by a p9sk1 login. The network hands the server's word to ann's p9sk1
+-- client as a p9sk1 server's challenge, and what that client gives to the server as the authentication server's
+-- answer.
 abbrev pub reversed_grant : Grant
 reversed_grant = tickets_for srv (Some ann) ann ann (nonce 1)
 
@@ -91,8 +94,8 @@ reversed_past =
 abbrev pub reversed_run : Run
 reversed_run = moves 1 (accepts (field ann)) ∷ reversed_past
 
--- Two clients hold one ticket: the network hands one request of a server to two conversations of ann, and one answer of the
--- authentication server to both. The server accepts once.
+-- Two clients hold one ticket: the network hands one request of a server to two conversations of ann, and one answer
+-- of the authentication server to both. The server accepts once.
 abbrev pub shared_grant : Grant
 shared_grant = tickets_for srv (Some ann) ann ann (nonce 1)
 
@@ -128,13 +131,14 @@ both_heard =
     ∷ []
 
 abbrev pub shared_past : Run
-shared_past = moves 1 (takes shared_message) ∷ moves 2 (gives shared_message) ∷ moves 0 (gives shared_message) ∷ both_heard
+shared_past = moves 1 (takes shared_message) ∷ moves 2 (gives shared_message) ∷ moves 0 (gives shared_message)
+    ∷ both_heard
 
 abbrev pub shared_run : Run
 shared_run = moves 1 (accepts (field ann)) ∷ shared_past
 
--- A key is made up: the authentication server has no key of bob, and makes the client's ticket under a key that nobody has.
--- Bob's client can't open it.
+-- A key is made up: the authentication server has no key of bob, and makes the client's ticket under a key that
+-- nobody has. Bob's client can't open it.
 abbrev pub unknown : Setting
 unknown = record {
   compromised = [];

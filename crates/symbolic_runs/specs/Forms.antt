@@ -56,11 +56,14 @@ pair a b = joined (piece a (piece b none))
 
 -- a request to the authentication server
 abbrev pub request : List ℕ → Fields → Tree → Tree
-request kind fields chal = joined (piece (plain kind) (piece (plain fields.authid) (piece (plain fields.authdom) (piece chal (piece (plain fields.hostid) (piece (plain fields.uid) none))))))
+request kind fields chal = joined (piece (plain kind)
+    (piece (plain fields.authid)
+    (piece (plain fields.authdom) (piece chal (piece (plain fields.hostid) (piece (plain fields.uid) none))))))
 
 -- a ticket before it is sealed: its number, the challenge, the client's user, the server's user and the key
 abbrev pub ticket : List ℕ → Tree → List ℕ → List ℕ → Tree → Tree
-ticket number chal cuid suid key = joined (piece (plain number) (piece chal (piece (plain cuid) (piece (plain suid) (piece key none)))))
+ticket number chal cuid suid key =
+    joined (piece (plain number) (piece chal (piece (plain cuid) (piece (plain suid) (piece key none)))))
 
 -- an authenticator before it is sealed: its number, the challenge and the id 0
 abbrev pub authenticator : List ℕ → Tree → Tree
@@ -68,7 +71,8 @@ authenticator number chal = joined (piece (plain number) (piece chal (piece (pla
 
 -- the answer to a ticket request: what is for the client, and what it hands on
 abbrev pub tickets : Tree → Tree → Tree
-tickets for_the_client for_the_server = joined (piece (plain answer_ok) (piece for_the_client (piece for_the_server none)))
+tickets for_the_client for_the_server =
+    joined (piece (plain answer_ok) (piece for_the_client (piece for_the_server none)))
 
 -- the client's 85 bytes: the ticket as it came, and an authenticator
 abbrev pub client_message : Tree → Tree → Tree → Tree
@@ -84,4 +88,5 @@ vouch for_the_server proof = joined (piece (plain answer_ok) (piece for_the_serv
 
 -- the challenge of a mail login: `<`, the digits of the word of the request, `@`, the domain and `>`
 abbrev pub mail_challenge : List ℕ → ℕ → Tree
-mail_challenge domain number = joined (piece (plain (60 ∷ [])) (piece (challenge number) (piece (plain (64 ∷ (domain ++ 62 ∷ []))) none)))
+mail_challenge domain number =
+    joined (piece (plain (60 ∷ [])) (piece (challenge number) (piece (plain (64 ∷ (domain ++ 62 ∷ []))) none)))

@@ -20,7 +20,13 @@ pub record Login : Type 0 where
 
 -- what the authentication server grants: tickets sealed under both keys
 abbrev pub p9sk1_grant : Login → Grant
-p9sk1_grant login = record { used = keys (Some login.host) (Some login.user); speakers = login.user ∷ []; chal = nonce 1; host = login.cuid; user = login.suid }
+p9sk1_grant login = record {
+  used = keys (Some login.host) (Some login.user);
+  speakers = login.user ∷ [];
+  chal = nonce 1;
+  host = login.cuid;
+  user = login.suid;
+}
 
 -- the client holds the key of the user, the server its own; nobody is compromised
 abbrev pub p9sk1_setting : Login → Setting
@@ -61,10 +67,11 @@ p9sk1_login_after login before =
 abbrev pub p9sk1_login : Login → Run
 p9sk1_login login = p9sk1_login_after login (starts ∷ starts ∷ [])
 
--- the same after the server's offers and the client's choice went to and fro; what comes of them is what the network makes
--- of them
+-- the same after the server's offers and the client's choice went to and fro; what comes of them is what the network
+-- makes of them
 abbrev pub p9any_login : Login → List ℕ → List ℕ → List ℕ → List ℕ → Run
-p9any_login login offers heard choice taken = p9sk1_login_after login (talks 1 taken ∷ talks 0 choice ∷ talks 0 heard ∷ talks 1 offers ∷ starts ∷ starts ∷ [])
+p9any_login login offers heard choice taken =
+    p9sk1_login_after login (talks 1 taken ∷ talks 0 choice ∷ talks 0 heard ∷ talks 1 offers ∷ starts ∷ starts ∷ [])
 
 -- what is put into a mail login: the names of the client's password and of the server's key, the fields of the two
 -- questions, the bytes before the challenge
@@ -78,7 +85,13 @@ pub record MailLogin : Type 0 where
 
 -- what the authentication server grants: a ticket sealed under the server's key
 abbrev pub mail_grant : MailLogin → Grant
-mail_grant login = record { used = key_and_password (Some login.host) login.user; speakers = login.user ∷ []; chal = nonce 1; host = login.second.uid; user = login.second.uid }
+mail_grant login = record {
+  used = key_and_password (Some login.host) login.user;
+  speakers = login.user ∷ [];
+  chal = nonce 1;
+  host = login.second.uid;
+  user = login.second.uid;
+}
 
 -- the client holds the user's password, the server its own key
 abbrev pub mail_setting : MacKind → MailLogin → Setting

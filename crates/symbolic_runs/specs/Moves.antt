@@ -45,13 +45,17 @@ pub data Row (own : Own) : Role → List Move → Move → Type 0 where
   client_challenge : Row own client [] (gives own.word)
   client_request : {t : Tree} → Row own client (gives own.word ∷ []) (takes t)
   client_question : (fields asked : Fields) {chal : Tree} → AreFields fields →
-      Row own client (takes (request ticket_request fields chal) ∷ gives own.word ∷ []) (asks (request ticket_request asked chal))
+      Row own client (takes (request ticket_request fields chal) ∷ gives own.word ∷ [])
+      (asks (request ticket_request asked chal))
   client_answer : {q r w t : Tree} → Row own client (asks q ∷ takes r ∷ gives w ∷ []) (hears t)
   client_ticket : (asked : Fields) {chal key handed r w : Tree} {cuid suid : List ℕ} → AreNames cuid suid →
-      Row own client (hears (tickets (seal own.key (ticket for_client chal cuid suid key)) handed) ∷ asks (request ticket_request asked chal) ∷ takes r ∷ gives w ∷ []) (gives (client_message handed key chal))
+      Row own client (hears (tickets (seal own.key (ticket for_client chal cuid suid key)) handed)
+      ∷ asks (request ticket_request asked chal) ∷ takes r ∷ gives w ∷ []) (gives (client_message handed key chal))
   client_proof : {g a q r w t : Tree} → Row own client (gives g ∷ hears a ∷ asks q ∷ takes r ∷ gives w ∷ []) (takes t)
   client_accepts : {chal key handed q r w : Tree} {cuid suid : List ℕ} →
-      Row own client (takes (server_message key own.word) ∷ gives (client_message handed key chal) ∷ hears (tickets (seal own.key (ticket for_client chal cuid suid key)) handed) ∷ asks q ∷ takes r ∷ gives w ∷ []) (accepts suid)
+      Row own client (takes (server_message key own.word) ∷ gives (client_message handed key chal)
+      ∷ hears (tickets (seal own.key (ticket for_client chal cuid suid key)) handed) ∷ asks q ∷ takes r ∷ gives w
+      ∷ []) (accepts suid)
   -- p9sk1's server: the client's challenge, the request, the ticket with an authenticator, its own authenticator
   server_challenge : {t : Tree} → Row own server [] (takes t)
   server_request : {y : Tree} (fields : Fields) →
@@ -59,25 +63,38 @@ pub data Row (own : Own) : Role → List Move → Move → Type 0 where
   server_ticket : {y t : Tree} (fields : Fields) →
       Row own server (gives (request ticket_request fields own.word) ∷ takes y ∷ []) (takes t)
   server_accepts : {y key : Tree} (fields : Fields) {cuid suid : List ℕ} → AreNames cuid suid →
-      Row own server (takes (pair (seal own.key (ticket for_server own.word cuid suid key)) (seal key (authenticator by_client own.word))) ∷ gives (request ticket_request fields own.word) ∷ takes y ∷ []) (accepts suid)
+      Row own server (takes
+      (pair (seal own.key (ticket for_server own.word cuid suid key)) (seal key (authenticator by_client own.word)))
+      ∷ gives (request ticket_request fields own.word) ∷ takes y ∷ []) (accepts suid)
   server_proof : {y key : Tree} (fields : Fields) {cuid suid : List ℕ} →
-      Row own server (accepts suid ∷ takes (pair (seal own.key (ticket for_server own.word cuid suid key)) (seal key (authenticator by_client own.word))) ∷ gives (request ticket_request fields own.word) ∷ takes y ∷ []) (gives (server_message key y))
+      Row own server (accepts suid
+      ∷ takes (pair (seal own.key (ticket for_server own.word cuid suid key))
+      (seal key (authenticator by_client own.word))) ∷ gives (request ticket_request fields own.word) ∷ takes y
+      ∷ []) (gives (server_message key y))
   -- a mail client: the challenge, and its digest
   mail_client_challenge : {kind : MacKind} {t : Tree} → Row own (mail_client kind) [] (takes t)
-  mail_client_answer : {kind : MacKind} {t : Tree} → Row own (mail_client kind) (takes t ∷ []) (gives (digest kind own.password t))
+  mail_client_answer : {kind : MacKind} {t : Tree}
+      → Row own (mail_client kind) (takes t ∷ []) (gives (digest kind own.password t))
   -- a mail server: the question for a challenge and its answer, the challenge handed on, the user, the digest, the
   -- question whether it is right and its answer
-  mail_question : {kind : MacKind} (fields : Fields) → Row own (mail_server kind) [] (asks (request (mail_request kind) fields own.word))
+  mail_question : {kind : MacKind} (fields : Fields)
+      → Row own (mail_server kind) [] (asks (request (mail_request kind) fields own.word))
   mail_answer : {kind : MacKind} {q t : Tree} → Row own (mail_server kind) (asks q ∷ []) (hears t)
   mail_challenge_on : {kind : MacKind} {q t : Tree} {head : List ℕ} → length head ≡ 6 →
       Row own (mail_server kind) (hears (pair (plain head) t) ∷ asks q ∷ []) (gives t)
   mail_user : {kind : MacKind} {q a t u : Tree} → Row own (mail_server kind) (gives t ∷ hears a ∷ asks q ∷ []) (takes u)
-  mail_digest : {kind : MacKind} {q a t r : Tree} {user : List ℕ} → Row own (mail_server kind) (takes (plain user) ∷ gives t ∷ hears a ∷ asks q ∷ []) (takes r)
+  mail_digest : {kind : MacKind} {q a t r : Tree} {user : List ℕ}
+      → Row own (mail_server kind) (takes (plain user) ∷ gives t ∷ hears a ∷ asks q ∷ []) (takes r)
   mail_second_question : {kind : MacKind} {q a t r : Tree} {user : List ℕ} (fields : Fields) →
-      Row own (mail_server kind) (takes r ∷ takes (plain user) ∷ gives t ∷ hears a ∷ asks q ∷ []) (asks (pair (request (mail_request kind) fields own.word) r))
+      Row own (mail_server kind) (takes r ∷ takes (plain user) ∷ gives t ∷ hears a ∷ asks q ∷ [])
+      (asks (pair (request (mail_request kind) fields own.word) r))
   mail_second_answer : {kind : MacKind} {q a t r u v : Tree} {user : List ℕ} →
       Row own (mail_server kind) (asks v ∷ takes r ∷ takes (plain user) ∷ gives t ∷ hears a ∷ asks q ∷ []) (hears u)
-  mail_accepts : {kind : MacKind} {q a t r key : Tree} {user cuid suid : List ℕ} (fields : Fields) → AreNames cuid suid → name_text cuid ≡ user → name_text suid ≡ user →
-      Row own (mail_server kind) (hears (vouch (seal own.key (ticket for_server own.word cuid suid key)) (seal key (authenticator by_client own.word))) ∷ asks (pair (request (mail_request kind) fields own.word) r) ∷ takes r ∷ takes (plain user) ∷ gives t ∷ hears a ∷ asks q ∷ []) (accepts suid)
+  mail_accepts : {kind : MacKind} {q a t r key : Tree} {user cuid suid : List ℕ} (fields : Fields) → AreNames cuid suid
+      → name_text cuid ≡ user → name_text suid ≡ user →
+      Row own (mail_server kind)
+      (hears (vouch (seal own.key (ticket for_server own.word cuid suid key))
+      (seal key (authenticator by_client own.word))) ∷ asks (pair (request (mail_request kind) fields own.word) r)
+      ∷ takes r ∷ takes (plain user) ∷ gives t ∷ hears a ∷ asks q ∷ []) (accepts suid)
   -- a test failed behind what came, or none followed: nothing comes behind this
   breaks : {role : Role} {before : List Move} → Row own role before fails

@@ -22,16 +22,16 @@ answers_to (refuses number bytes) = Some number
 abbrev pub turn : ℕ → Run → ℕ
 turn conv past = length (moves_of conv past)
 
--- the turns in which a role gives a message to the network: a p9sk1 client its challenge and its ticket, a p9sk1 server its
--- request and its authenticator, a mail client its digest, a mail server the challenge
+-- the turns in which a role gives a message to the network: a p9sk1 client its challenge and its ticket, a p9sk1
+-- server its request and its authenticator, a mail client its digest, a mail server the challenge
 abbrev pub turns_that_give : Role → List ℕ
 turns_that_give client = 0 ∷ 4 ∷ []
 turns_that_give server = 1 ∷ 4 ∷ []
 turns_that_give (mail_client kind) = 1 ∷ []
 turns_that_give (mail_server kind) = 2 ∷ []
 
--- the turns in which it asks the authentication server: a p9sk1 client for its tickets, a mail server for a challenge and
--- whether the answer to it is right
+-- the turns in which it asks the authentication server: a p9sk1 client for its tickets, a mail server for a challenge
+-- and whether the answer to it is right
 abbrev pub turns_that_ask : Role → List ℕ
 turns_that_ask client = 2 ∷ []
 turns_that_ask server = []

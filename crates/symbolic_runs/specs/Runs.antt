@@ -6,8 +6,9 @@ use Rattle.symbolic_runs.specs.Derivations.{Derives}
 use Rattle.symbolic_runs.specs.Moves.{Role, Move, takes, hears, gives, asks, Own, Row}
 use Rattle.symbolic_runs.specs.Sessions.{Grant, Deed, got, deed_labels, SessionRow}
 
--- the setting of a run: the names whose keys and passwords are betrayed, the authentication server's domain, the role and
--- the holder of each conversation by the number of its start, and what was used and granted at each request by its number
+-- the setting of a run: the names whose keys and passwords are betrayed, the authentication server's domain, the role
+-- and the holder of each conversation by the number of its start, and what was used and granted at each request by
+-- its number
 pub record Setting : Type 0 where
   pub compromised : List (List ℕ)
   pub domain : List ℕ
@@ -47,7 +48,9 @@ moves_of conv (event ∷ past) = moves_of conv past
 -- what a session did
 abbrev pub deeds_of : ℕ → Run → List Deed
 deeds_of session [] = []
-deeds_of session (serves other deed ∷ past) = if other == session then deed ∷ deeds_of session past else deeds_of session past
+deeds_of session (serves other deed ∷ past) =
+    if other == session then deed ∷ deeds_of session past
+    else deeds_of session past
 deeds_of session (event ∷ past) = deeds_of session past
 
 -- how many requests came
@@ -89,9 +92,14 @@ Arrives s past deed = Unit
 pub data IsRun (s : Setting) : Run → Type 0 where
   begins : IsRun s []
   then_starts : {past : Run} → IsRun s past → IsRun s (starts ∷ past)
-  then_talks : {past : Run} {conv : ℕ} {bytes : List ℕ} → IsRun s past → conv < started past → moves_of conv past ≡ [] → IsRun s (talks conv bytes ∷ past)
-  then_moves : {past : Run} {conv : ℕ} {move : Move} → IsRun s past → conv < started past → Row (own_of s conv) (s.role conv) (moves_of conv past) move → Comes s past move → IsRun s (moves conv move ∷ past)
-  then_serves : {past : Run} {session : ℕ} {deed : Deed} → IsRun s past → SessionRow s.domain s.grants (deeds_of session past) deed → Arrives s past deed → IsRun s (serves session deed ∷ past)
+  then_talks : {past : Run} {conv : ℕ} {bytes : List ℕ} → IsRun s past → conv < started past → moves_of conv past ≡ []
+      → IsRun s (talks conv bytes ∷ past)
+  then_moves : {past : Run} {conv : ℕ} {move : Move} → IsRun s past → conv < started past
+      → Row (own_of s conv) (s.role conv) (moves_of conv past) move → Comes s past move
+      → IsRun s (moves conv move ∷ past)
+  then_serves : {past : Run} {session : ℕ} {deed : Deed} → IsRun s past
+      → SessionRow s.domain s.grants (deeds_of session past) deed → Arrives s past deed
+      → IsRun s (serves session deed ∷ past)
 
 pub record IsSymbolicRun (s : Setting) (run : Run) : Type 0 where
   pub short : length run < 2 ^ 31

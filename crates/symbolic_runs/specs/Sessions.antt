@@ -5,8 +5,8 @@ use Rattle.symbolic_runs.specs.declared.kind.MacKind.{MacKind}
 use Rattle.symbolic_runs.specs.Trees.{Tree, plain, long_key, ticket_key, junk_key, password, seal, digest, same_kind}
 use Rattle.symbolic_runs.specs.Forms.{ticket_request, for_server, for_client, by_client, mail_request, Fields, AreFields, pair, request, ticket, authenticator, tickets, vouch, mail_challenge}
 
--- what was used at a request: the names whose keys seal the tickets for the server and the client, or the name whose key
--- seals the ticket for the server and the name of the password; no name where the key was made up
+-- what was used at a request: the names whose keys seal the tickets for the server and the client, or the name whose
+-- key seals the ticket for the server and the name of the password; no name where the key was made up
 pub data Used : Type 0 where
   keys : Option (List ℕ) → Option (List ℕ) → Used
   key_and_password : Option (List ℕ) → List ℕ → Used
@@ -52,13 +52,16 @@ key_for_client (key_and_password server name) number = junk_key (2 * number + 1)
 
 -- the tickets of a request, and what vouches for a right answer: a ticket, and an authenticator under its key
 abbrev pub ticket_for_client : Grant → ℕ → Tree
-ticket_for_client grant number = seal (key_for_client grant.used number) (ticket for_client grant.chal grant.host grant.user (ticket_key number))
+ticket_for_client grant number =
+    seal (key_for_client grant.used number) (ticket for_client grant.chal grant.host grant.user (ticket_key number))
 
 abbrev pub ticket_for_server : Grant → ℕ → Tree
-ticket_for_server grant number = seal (key_for_server grant.used number) (ticket for_server grant.chal grant.host grant.user (ticket_key number))
+ticket_for_server grant number =
+    seal (key_for_server grant.used number) (ticket for_server grant.chal grant.host grant.user (ticket_key number))
 
 abbrev pub vouched_ticket : Grant → ℕ → Tree
-vouched_ticket grant number = seal (key_for_server grant.used number) (ticket for_server grant.chal grant.user grant.user (ticket_key number))
+vouched_ticket grant number =
+    seal (key_for_server grant.used number) (ticket for_server grant.chal grant.user grant.user (ticket_key number))
 
 abbrev pub vouched_proof : Grant → ℕ → Tree
 vouched_proof grant number = seal (ticket_key number) (authenticator by_client grant.chal)
@@ -96,13 +99,23 @@ MaySpeak speakers None = Unit
 
 -- the next deed of a session after its deeds, the newest first
 pub data SessionRow (domain : List ℕ) (grants : ℕ → Grant) : List Deed → Deed → Type 0 where
-  comes : {before : List Deed} {number : ℕ} {t : Tree} → is_idle before ≡ true → SessionRow domain grants before (got number t)
-  grants_tickets : {before : List Deed} {number : ℕ} (fields : Fields) (server client : Option (List ℕ)) → AreFields fields →
+  comes : {before : List Deed} {number : ℕ} {t : Tree} → is_idle before ≡ true
+      → SessionRow domain grants before (got number t)
+  grants_tickets : {before : List Deed} {number : ℕ} (fields : Fields) (server client : Option (List ℕ))
+      → AreFields fields →
       (grants number).used ≡ keys server client → MaySpeak (grants number).speakers client →
-      SessionRow domain grants (got number (request ticket_request fields (grants number).chal) ∷ before) (gives_tickets number)
-  challenges : {before : List Deed} {number : ℕ} (fields : Fields) {chal : Tree} {kind : MacKind} {head : List ℕ} → AreFields fields → held before kind ≡ None → length head ≡ 6 →
-      SessionRow domain grants (got number (request (mail_request kind) fields chal) ∷ before) (gives_challenge kind number head)
-  vouches : {before : List Deed} {number first : ℕ} (fields : Fields) {kind : MacKind} (server : Option (List ℕ)) (name : List ℕ) → AreFields fields →
-      (grants number).used ≡ key_and_password server name → Contains (grants number).speakers name → held before kind ≡ Some first →
-      SessionRow domain grants (got number (pair (request (mail_request kind) fields (grants number).chal) (digest kind (password name) (mail_challenge domain first))) ∷ before) (gives_vouch kind number first)
-  refusal : {before : List Deed} {number : ℕ} {t : Tree} {bytes : List ℕ} → SessionRow domain grants (got number t ∷ before) (refuses number bytes)
+      SessionRow domain grants (got number (request ticket_request fields (grants number).chal) ∷ before)
+      (gives_tickets number)
+  challenges : {before : List Deed} {number : ℕ} (fields : Fields) {chal : Tree} {kind : MacKind} {head : List ℕ}
+      → AreFields fields → held before kind ≡ None → length head ≡ 6 →
+      SessionRow domain grants (got number (request (mail_request kind) fields chal) ∷ before)
+      (gives_challenge kind number head)
+  vouches : {before : List Deed} {number first : ℕ} (fields : Fields) {kind : MacKind} (server : Option (List ℕ))
+      (name : List ℕ) → AreFields fields →
+      (grants number).used ≡ key_and_password server name → Contains (grants number).speakers name
+      → held before kind ≡ Some first →
+      SessionRow domain grants
+      (got number (pair (request (mail_request kind) fields (grants number).chal)
+      (digest kind (password name) (mail_challenge domain first))) ∷ before) (gives_vouch kind number first)
+  refusal : {before : List Deed} {number : ℕ} {t : Tree} {bytes : List ℕ}
+      → SessionRow domain grants (got number t ∷ before) (refuses number bytes)

@@ -1,6 +1,6 @@
--- What bytes a term stands for. A reading gives each atom its bytes; a joined term is its pieces in order, a seal is the
--- body sealed under the key (Plan 9's encrypt(2)), a digest its 32 digits (RFC 1939, RFC 2195). The first fault from the
--- left is told, the key before the body and the secret before the text.
+-- What bytes a term stands for. A reading gives each atom its bytes; a joined term is its pieces in order, a seal is
+-- the body sealed under the key (Plan 9's encrypt(2)), a digest its 32 digits (RFC 1939, RFC 2195). The first fault
+-- from the left is told, the key before the body and the secret before the text.
 use Rattle.std.specs.Prelude.{ℕ, List, [], ◌∷◌, ◌++◌, length, not, ◌&&◌, ◌==◌, nat_lt, Option, Some, None, Result, Ok, Err, if◌then◌else◌}
 use Rattle.sealing.specs.Sealing.{sealed}
 use Rattle.sealing.specs.Answer.{apop_digits, cram_digits}
@@ -22,7 +22,9 @@ bytes_of (a ∷ others) atom = if same_tree a.0 atom then Some a.1 else bytes_of
 -- a reading in which an atom has these bytes, in place of others that it had
 abbrev pub with_atom : Tree → List ℕ → Atoms → Atoms
 with_atom atom bytes [] = (atom, bytes) ∷ []
-with_atom atom bytes (a ∷ others) = if same_tree a.0 atom then (atom, bytes) ∷ others else a ∷ with_atom atom bytes others
+with_atom atom bytes (a ∷ others) =
+    if same_tree a.0 atom then (atom, bytes) ∷ others
+    else a ∷ with_atom atom bytes others
 
 abbrev pub Spelling : Type 0
 Spelling = Result (List ℕ) SpellFault
@@ -48,10 +50,13 @@ abbrev mutual
   pub spelling : Atoms → Tree → Spelling
   spelling atoms (plain bytes) = Ok bytes
   spelling atoms (joined pieces) = spelling_all atoms pieces
-  spelling atoms (seal k t) = and_then (spelling atoms k) (λ key. and_then (spelling atoms t) (λ body. seal_bytes key body))
-  spelling atoms (digest kind p t) = and_then (spelling atoms p) (λ secret. and_then (spelling atoms t) (λ text. Ok (digest_bytes kind secret text)))
+  spelling atoms (seal k t) =
+      and_then (spelling atoms k) (λ key. and_then (spelling atoms t) (λ body. seal_bytes key body))
+  spelling atoms (digest kind p t) =
+      and_then (spelling atoms p) (λ secret. and_then (spelling atoms t) (λ text. Ok (digest_bytes kind secret text)))
   spelling atoms atom = atom_bytes (bytes_of atoms atom)
 
   pub spelling_all : Atoms → Trees → Spelling
   spelling_all atoms none = Ok []
-  spelling_all atoms (piece t ts) = and_then (spelling atoms t) (λ first. and_then (spelling_all atoms ts) (λ rest. Ok (first ++ rest)))
+  spelling_all atoms (piece t ts) =
+      and_then (spelling atoms t) (λ first. and_then (spelling_all atoms ts) (λ rest. Ok (first ++ rest)))

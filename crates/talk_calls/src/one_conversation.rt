@@ -9,8 +9,8 @@ ghost use Rattle.talks.specs.Standings.{outcome_of};
 use conversations::{Asks, Conversation, phase};
 use key_ring::KeyRing;
 use roles::Outcome;
-use talks::{Asking, RpcAnswer};
 use std::alloc::Global;
+use talks::{Asking, RpcAnswer};
 use wire_base::NoMemory;
 
 /// As `Conversation::is_resting`.

@@ -14,12 +14,12 @@ ghost use Rattle.agent_talks.specs.Asking.{is_asker};
 ghost use Rattle.agent_talks.specs.Files.{Files};
 ghost use Rattle.agent_talks.specs.Logging.{Logs, SameLogs, logged_talk, calls_in, logged_by, talks_in};
 
+use agent_talks::{LineFiles, LoggedTalks};
 use attr_tuples::Tuple;
 use key_ring::KeyRing;
 use side_files::PromptKind;
 use std::alloc::Global;
 use talks::Asking;
-use agent_talks::{LineFiles, LoggedTalks};
 use wire_base::{Bytes, NoMemory};
 
 /// As `build_start`.

@@ -1,13 +1,13 @@
 // Conversations that ask their users for a key, and what becomes of them when they are told, or end.
 use crate::expect::{expect, expect_told};
+use agent_talks::AskingTalks;
 use file_tree::Node;
 use key_ring::KeyRing;
-use talks::{Asking, Request};
 use side_files::PromptKind;
 use std::alloc::Global;
 use std::process::Abort;
 use std::test::Fail;
-use agent_talks::AskingTalks;
+use talks::{Asking, Request};
 use wire_base::NoMemory;
 
 const WORD: [u8; 8] = *b"\x01#Eg\x89\xab\xcd\xef";

@@ -1,10 +1,10 @@
 // What tests expect of a value: one call each, so that what is shown of a failure is proved once.
 
 use agent_talks::Told;
-use talks::print_answer;
 use std::alloc::Global;
 use std::fmt::Debug;
 use std::process::Abort;
+use talks::print_answer;
 use wire_base::{Bytes, NoMemory};
 
 /// The test fails here unless the two are equal.

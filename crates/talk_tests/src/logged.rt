@@ -1,14 +1,14 @@
 // What becomes of conversations, as the log tells it.
 use crate::expect::expect;
 use crate::rings::ring_of;
+use agent_talks::LoggedTalks;
 use file_tree::Node;
 use key_ring::KeyRing;
-use talks::{Asking, Request};
 use side_files::PromptKind;
 use std::alloc::Global;
 use std::process::Abort;
 use std::test::Fail;
-use agent_talks::LoggedTalks;
+use talks::{Asking, Request};
 use wire_base::NoMemory;
 
 const WORD: [u8; 8] = *b"\x01#Eg\x89\xab\xcd\xef";

@@ -5,10 +5,10 @@ use crate::rings::ring_of;
 use agent_talks::{Talks, Told};
 use conversations::Asks;
 use key_ring::KeyRing;
-use talks::{Asking, Request};
 use std::alloc::Global;
 use std::process::Abort;
 use std::test::Fail;
+use talks::{Asking, Request};
 use wire_base::NoMemory;
 
 const WORD: [u8; 8] = *b"\x01#Eg\x89\xab\xcd\xef";

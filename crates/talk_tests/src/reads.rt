@@ -4,10 +4,10 @@ use agent_requests::Shared;
 use file_tree::Node;
 use key_ring::ListedRing;
 use mailboxes::Read;
-use talks::Request;
 use std::alloc::Global;
 use std::process::Abort;
 use std::test::Fail;
+use talks::Request;
 use wire_base::{Bytes, NoMemory};
 
 const WORD: [u8; 8] = *b"\x01#Eg\x89\xab\xcd\xef";

@@ -2,10 +2,10 @@
 use crate::expect::expect;
 use mailboxes::{ErrorText, Mailboxes, Read, Reply, SettledFor, ToldAnswer};
 use nine::put_flush;
-use talks::{RpcAnswer, answer_fits};
 use std::alloc::Global;
 use std::process::Abort;
 use std::test::Fail;
+use talks::{RpcAnswer, answer_fits};
 use wire_base::{Bytes, NoMemory};
 
 const WAITED_FOR: Read = Read {

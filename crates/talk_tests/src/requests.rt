@@ -6,10 +6,10 @@ use attr_tuples::print_tuple;
 use conversations::{Asks, Conversation};
 use key_ring::KeyRing;
 use roles::Outcome;
-use talks::{Asking, Request, print_answer};
 use std::alloc::Global;
 use std::process::Abort;
 use std::test::Fail;
+use talks::{Asking, Request, print_answer};
 use wire_base::{Bytes, NoMemory, Shape};
 
 const WORD: [u8; 8] = *b"\x01#Eg\x89\xab\xcd\xef";

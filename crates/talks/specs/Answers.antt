@@ -26,7 +26,11 @@ text_or_none (Some text) = text
 
 -- what a role is told of a key: its DES key, its user and its domain
 abbrev pub told_key : KeyEntry → SkKey
-told_key key = record { des = record { 0 = des_key key.tuple }; user = text_or_none (value_of (codes "user") key.tuple); dom = text_or_none (value_of (codes "dom") key.tuple) }
+told_key key = record {
+  des = record { 0 = des_key key.tuple };
+  user = text_or_none (value_of (codes "user") key.tuple);
+  dom = text_or_none (value_of (codes "dom") key.tuple);
+}
 
 -- the attributes of a key that was chosen
 abbrev pub key_attrs : Option KeyEntry → List Attr
@@ -89,4 +93,6 @@ info_answer false outcome = a.NoInfo
 -- the attributes of a start together with those of the key, where there are few enough
 abbrev pub attributes : List Attr → Option KeyEntry → List Attr
 attributes template None = template
-attributes template (Some key) = if nat_le (length (merged template key.tuple)) 36 then merged template key.tuple else template
+attributes template (Some key) =
+    if nat_le (length (merged template key.tuple)) 36 then merged template key.tuple
+    else template

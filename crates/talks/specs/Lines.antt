@@ -1,5 +1,6 @@
--- The lines that a conversation writes into the log, each with its newline: that it has started, that its role is done and
--- whom it accepted, and why it broke. After factotum(4) of the Plan 9 manual (log); the exact texts are this project's.
+-- The lines that a conversation writes into the log, each with its newline: that it has started, that its role is
+-- done and whom it accepted, and why it broke. After factotum(4) of the Plan 9 manual (log); the exact texts are this
+-- project's.
 use Rattle.std.specs.Prelude.{ℕ, List, [], ◌∷◌, ◌++◌, drop, length, Bool, false, not, ◌&&◌, codes, Option, Some, None, is_some, if◌then◌else◌}
 use Rattle.std.specs.Fmt.{decimal}
 use Rattle.attr_tuples.specs.Words.{value_text}
@@ -16,7 +17,9 @@ use Rattle.talks.specs.Standings.{Begun, Standing, outcome_of}
 
 -- the protocol and the role that a start names
 abbrev pub role_text : List Attr → List ℕ
-role_text template = codes " proto=" ++ (value_text (text_or_none (value_of (codes "proto") template)) ++ (codes " role=" ++ value_text (text_or_none (value_of (codes "role") template))))
+role_text template = codes " proto=" ++
+    (value_text (text_or_none (value_of (codes "proto") template))
+    ++ (codes " role=" ++ value_text (text_or_none (value_of (codes "role") template))))
 
 -- the conversation of a number has started
 abbrev pub start_line : ℕ → List Attr → List ℕ
@@ -72,8 +75,11 @@ end_part conv template before now = if is_end before then [] else end_line conv 
 
 -- it starts between them; that is told where the further lines are wanted
 abbrev pub start_part : Bool → ℕ → List Attr → Option Outcome → Option Outcome → List (List ℕ)
-start_part debug conv template before now = if debug && (not (is_some before) && is_some now) then start_line conv template ∷ [] else []
+start_part debug conv template before now =
+    if debug && (not (is_some before) && is_some now) then start_line conv template ∷ []
+    else []
 
 -- the lines of a conversation that stood so and stands so now
 abbrev pub log_lines : Bool → ℕ → Standing → Standing → List (List ℕ)
-log_lines debug conv before now = start_part debug conv (start_template now.begun) (outcome_of before) (outcome_of now) ++ end_part conv (start_template now.begun) (outcome_of before) (outcome_of now)
+log_lines debug conv before now = start_part debug conv (start_template now.begun) (outcome_of before) (outcome_of now)
+    ++ end_part conv (start_template now.begun) (outcome_of before) (outcome_of now)

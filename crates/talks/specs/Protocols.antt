@@ -1,5 +1,5 @@
--- What the role of a conversation says, whatever its protocol: each question is asked of the role that the start's template
--- names. p9any chooses a domain of p9sk1, which is spoken then.
+-- What the role of a conversation says, whatever its protocol: each question is asked of the role that the start's
+-- template names. p9any chooses a domain of p9sk1, which is spoken then.
 use Rattle.std.specs.Prelude.{ℕ, List, codes, Bool, true, false, Option, if◌then◌else◌}
 use Rattle.attr_tuples.specs.declared.attr.Attr.{Attr}
 use Rattle.roles.specs.declared.answer.Gave.{Gave}
@@ -31,7 +31,14 @@ protocol_of template =
 
 -- p9sk1, as the role that p9any leads to
 abbrev pub p9sk1 : Inner
-p9sk1 = record { name = codes "p9sk1"; answers = sk.answer_after; puts = sk.puts_after; needs = sk.need_after; ends = sk.outcome_after; ended = sk.ended_after }
+p9sk1 = record {
+  name = codes "p9sk1";
+  answers = sk.answer_after;
+  puts = sk.puts_after;
+  needs = sk.need_after;
+  ends = sk.outcome_after;
+  ended = sk.ended_after;
+}
 
 -- why a template starts no conversation, if it starts none
 abbrev pub refuses_by : Protocol → List Attr → Option StartFault

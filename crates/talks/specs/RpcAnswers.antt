@@ -1,4 +1,5 @@
--- The texts of rpc's answers. Their words are after factotum(4) of the Plan 9 manual, each exact text is this project's.
+-- The texts of rpc's answers. Their words are after factotum(4) of the Plan 9 manual, each exact text is this
+-- project's.
 use Rattle.std.specs.Prelude.{ℕ, List, [], ◌++◌, codes}
 use Rattle.std.specs.Fmt.{decimal}
 use Rattle.attr_tuples.specs.Printing.{public_text}

@@ -1,6 +1,7 @@
--- How a key is searched for among the keys of a moment. After factotum(4) of the Plan 9 manual: a key with the attribute
--- `confirm` is used only where the user agrees, who is asked through the file confirm; where there is no key, he is asked
--- for one through the file needkey. What a file that nobody has open comes to, and the order, are this project's.
+-- How a key is searched for among the keys of a moment. After factotum(4) of the Plan 9 manual: a key with the
+-- attribute `confirm` is used only where the user agrees, who is asked through the file confirm; where there is no
+-- key, he is asked for one through the file needkey. What a file that nobody has open comes to, and the order, are
+-- this project's.
 use Rattle.std.specs.Prelude.{ℕ, List, Bool, not, ◌&&◌, ◌||◌, ◌==◌, nat_lt, length, filter, find, position, take, codes, is_some, Option, Some, None, unwrap_or, if◌then◌else◌}
 use Rattle.std.specs.List.{list_any}
 use Rattle.attr_tuples.specs.declared.attr.Attr.{Attr}

@@ -25,4 +25,5 @@ past passed test none one keys = past_at none one (find (λ key. not (test key))
 
 -- what is found among further keys, where some before them were passed over or none
 abbrev pub found_past : Bool → Said → Asking → List KeyEntry → Found
-found_past passed said asking keys = past passed (is_passed_over said asking) (λ some. none_past some said asking) (one_left said) keys
+found_past passed said asking keys =
+    past passed (is_passed_over said asking) (λ some. none_past some said asking) (one_left said) keys

@@ -22,14 +22,18 @@ Stands (c.Mail m) start talk = In Mail mail.Stands m start talk
 
 -- where offers are needed, it is answered so, and they are met
 abbrev pub TellsOffered : Conv → Gave → List ℕ → Type 0
-TellsOffered old gave list = (start : Start) (talk : List Call) → Stands old start talk → IsOffers (needs start talk) → gave ≡ answers start talk (offered list)
+TellsOffered old gave list = (start : Start) (talk : List Call) → Stands old start talk → IsOffers (needs start talk)
+    → gave ≡ answers start talk (offered list)
 
 abbrev pub KeepsOffered : Conv → Conv → List ℕ → Type 0
-KeepsOffered old new list = (start : Start) (talk : List Call) → Stands old start talk → IsOffers (needs start talk) → Stands new start (offered list ∷ talk)
+KeepsOffered old new list = (start : Start) (talk : List Call) → Stands old start talk → IsOffers (needs start talk)
+    → Stands new start (offered list ∷ talk)
 
 -- the same of a pick
 abbrev pub TellsPicked : Conv → Gave → ℕ → Type 0
-TellsPicked old gave place = (start : Start) (talk : List Call) → Stands old start talk → IsPick (needs start talk) → gave ≡ answers start talk (picked place)
+TellsPicked old gave place = (start : Start) (talk : List Call) → Stands old start talk → IsPick (needs start talk)
+    → gave ≡ answers start talk (picked place)
 
 abbrev pub KeepsPicked : Conv → Conv → ℕ → Type 0
-KeepsPicked old new place = (start : Start) (talk : List Call) → Stands old start talk → IsPick (needs start talk) → Stands new start (picked place ∷ talk)
+KeepsPicked old new place = (start : Start) (talk : List Call) → Stands old start talk → IsPick (needs start talk)
+    → Stands new start (picked place ∷ talk)

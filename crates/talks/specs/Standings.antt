@@ -1,6 +1,6 @@
--- How a conversation of rpc stands after what it met: with what it was started, what its role met since, and what became
--- of its latest request. After factotum(4) of the Plan 9 manual: a write is a request, and the read that follows it carries
--- it out and is its answer. A call that can't come changes nothing.
+-- How a conversation of rpc stands after what it met: with what it was started, what its role met since, and what
+-- became of its latest request. After factotum(4) of the Plan 9 manual: a write is a request, and the read that
+-- follows it carries it out and is its answer. A call that can't come changes nothing.
 use Rattle.std.specs.Prelude.{ℕ, List, [], ◌∷◌, ◌++◌, Bool, true, false, Option, Some, None, codes, option_map}
 use Rattle.attr_tuples.specs.declared.attr.Attr.{Attr}
 use Rattle.attr_tuples.specs.Matching.{value_of}
@@ -70,8 +70,8 @@ in_phase s phase = record { begun = s.begun; phase = phase; starting = s.startin
 abbrev pub answered : Standing → RpcAnswer → Standing
 answered s answer = in_phase s (Kept answer)
 
--- what follows on a move that is answered so: what the role needs is got for it, and where it needs nothing the answer is
--- there
+-- what follows on a move that is answered so: what the role needs is got for it, and where it needs nothing the
+-- answer is there
 abbrev pub phase_after : Need → RpcAnswer → Phase
 phase_after (Key template) answer = Seeking
 phase_after (Offers template) answer = Seeking
@@ -85,7 +85,12 @@ with_move b move = record { start = b.start; moves = move ∷ b.moves; key = b.k
 
 -- the role met a move, which is answered so where it needs nothing
 abbrev pub moved : Standing → Begun → RpcAnswer → Standing
-moved s b answer = record { begun = Some b; phase = phase_after (needs b.start b.moves) answer; starting = s.starting; said = s.said }
+moved s b answer = record {
+  begun = Some b;
+  phase = phase_after (needs b.start b.moves) answer;
+  starting = s.starting;
+  said = s.said;
+}
 
 -- a move is made, and where it is done this is the answer
 abbrev pub make_move : Standing → Begun → Move → RpcAnswer → Standing
@@ -103,7 +108,8 @@ begin template word = record { start = start_with template word; moves = []; key
 
 abbrev pub started : Standing → List ℕ → List Attr → Option StartFault → Standing
 started s word template (Some fault) = answered s (start_answer fault)
-started s word template None = moved (record { begun = s.begun; phase = s.phase; starting = true; said = s.said }) (begin template word) a.Ok
+started s word template None =
+    moved (record { begun = s.begun; phase = s.phase; starting = true; said = s.said }) (begin template word) a.Ok
 
 abbrev pub start_by : Standing → List ℕ → Option (List Attr) → Standing
 start_by s word None = answered s a.BadTemplate
@@ -123,7 +129,8 @@ carried_out s word (starts text) = begin_once s word text s.begun
 carried_out s word reads = if_begun s s.begun (λ b. make_move s b get (a.Got (puts b.start b.moves get)))
 carried_out s word (writes message) = if_begun s s.begun (λ b. make_move s b (give message) a.Ok)
 carried_out s word asks_info = answered s (info_of s.begun)
-carried_out s word asks_attributes = if_begun s s.begun (λ b. answered s (a.Attributes (attributes b.start.template b.key)))
+carried_out s word asks_attributes =
+    if_begun s s.begun (λ b. answered s (a.Attributes (attributes b.start.template b.key)))
 
 -- ---- what is needed is searched for
 
@@ -181,7 +188,12 @@ taken_back false (Some b) = Some (with_move b undone)
 
 -- it is taken back with this answer
 abbrev pub refused : Standing → RpcAnswer → Standing
-refused s answer = record { begun = taken_back s.starting s.begun; phase = Kept answer; starting = s.starting; said = s.said }
+refused s answer = record {
+  begun = taken_back s.starting s.begun;
+  phase = Kept answer;
+  starting = s.starting;
+  said = s.said;
+}
 
 abbrev pub needs_key : Standing → RpcAnswer
 needs_key s = a.NeedKey (template_of s.begun)
@@ -200,11 +212,16 @@ kept_key key Nothing = Some key
 
 -- the role is told of the key
 abbrev pub chosen_for : KeyEntry → Begun → Begun
-chosen_for key b = record { start = b.start; moves = told_of_key key ∷ b.moves; key = kept_key key (needs b.start (told_of_key key ∷ b.moves)) }
+chosen_for key b = record {
+  start = b.start;
+  moves = told_of_key key ∷ b.moves;
+  key = kept_key key (needs b.start (told_of_key key ∷ b.moves));
+}
 
 abbrev pub with_key : Standing → KeyEntry → Option Begun → Standing
 with_key s key None = s
-with_key s key (Some b) = moved s (chosen_for key b) (move_answer a.Ok (Some key) (answers b.start b.moves (told_of_key key)))
+with_key s key (Some b) =
+    moved s (chosen_for key b) (move_answer a.Ok (Some key) (answers b.start b.moves (told_of_key key)))
 
 -- a move that no request makes is made, which is answered `ok` where it is done
 abbrev pub made : Standing → Move → Option Begun → Standing
@@ -236,7 +253,12 @@ says_of serial true said = record { agreed = said.agreed ++ serial ∷ []; denie
 says_of serial false said = record { agreed = said.agreed; denied = said.denied ++ serial ∷ []; asked = said.asked }
 
 abbrev pub told_of : ℕ → Bool → Standing → Standing
-told_of serial agrees s = record { begun = s.begun; phase = Seeking; starting = s.starting; said = says_of serial agrees s.said }
+told_of serial agrees s = record {
+  begun = s.begun;
+  phase = Seeking;
+  starting = s.starting;
+  said = says_of serial agrees s.said;
+}
 
 -- ---- what each call comes to
 
@@ -284,7 +306,11 @@ outcome_unless false begun = option_map (λ b. ends b.start b.moves) begun
 
 -- how it stands as to its end, once it has started
 abbrev pub outcome_of : Standing → Option Outcome
-outcome_of s = elim s.starting [ true ↦ outcome_unless (waits_for_user s.phase) s.begun | false ↦ option_map (λ b. ends b.start b.moves) s.begun ]
+outcome_of s = elim s.starting [
+  | true ↦ outcome_unless (waits_for_user s.phase) s.begun
+  | false ↦ option_map
+      (λ b. ends b.start b.moves) s.begun
+]
 
 -- the key that it has chosen
 abbrev pub key_of : Standing → Option KeyEntry

@@ -11,7 +11,6 @@ use agent_serving::{Again, HubSpawner, ServeEnd, Tools, serve};
 use auth_server::{AuthCore, Session};
 use auth_tables::{parse_keys, parse_speaks};
 use frames::{LOG_IN, READ_KEYS};
-use wire_streams::{Dial, Dialer, Got, ListenFault, Listener, MemListener, MemWords, Offer, Offers, Put, Sink, Source, SteadySink, SteadySource, Watched};
 use sockets::{ThreadSpawner, Unstarted};
 use std::alloc::Global;
 use std::os::fd::RawFd;
@@ -19,6 +18,10 @@ use std::sync::Arc;
 use std::sync::atomic::{AtomicU64, Ordering};
 use std::test::Fail;
 use wire_base::{Bytes, Shape, Text, get_u32};
+use wire_streams::{
+    Dial, Dialer, Got, ListenFault, Listener, MemListener, MemWords, Offer, Offers, Put, Sink,
+    Source, SteadySink, SteadySource, Watched,
+};
 
 /// The users of the authentication server.
 const KEYS: &[u8; 43] = b"user=ann !password=a\nuser=srv !password=b\n\n";

@@ -11,7 +11,6 @@ use agent_lines::LineEnd;
 use agent_serving::{Job, JobEnd, PromptsEnd, ServeEnd, run_job, serve};
 use attr_tuples::Tuple;
 use prompters::{Chain, Deny, Limited, Prompter};
-use wire_streams::{AtOnce, MemDialer, MemListener, MemSink, MemSource, MemSpawner, MemWords};
 use std::alloc::Global;
 use std::process::Abort;
 use std::sync::Wait;
@@ -19,6 +18,7 @@ use std::sync::atomic::{AtomicU64, Ordering};
 use std::test::Fail;
 use std::thread::join;
 use wire_base::{Bytes, get_u32};
+use wire_streams::{AtOnce, MemDialer, MemListener, MemSink, MemSource, MemSpawner, MemWords};
 
 type ServedJob = Job<MemSource, MemSink>;
 

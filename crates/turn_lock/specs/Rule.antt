@@ -1,5 +1,6 @@
--- The rule of the turn lock. Word 0 numbers the turns: it is even while the turn is free, and odd while a seat has it. The one
--- slot holds the value, or is out with the seat that has the turn. The rule holds between any two atomic steps.
+-- The rule of the turn lock. Word 0 numbers the turns: it is even while the turn is free, and odd while a seat has
+-- it. The one slot holds the value, or is out with the seat that has the turn. The rule holds between any two atomic
+-- steps.
 use Rattle.std.specs.Prelude.{◌≡◌, ℕ, ◌%◌, ◌<◌, List, [], ◌∷◌, length, All, true, false, Option, Some, ◌⊎◌}
 use mathlib.Core.Option.{some, none}
 use mathlib.Core.Option as maybe
@@ -37,8 +38,8 @@ IsFree turns = turns % 2 ≡ 0
 abbrev pub IsTaken : ℕ → Type 0
 IsTaken turns = turns % 2 ≡ 1
 
--- What the rule alone knows: the history, the number of the turn, the view that has it where it is taken, which view has a
--- number, and how many views there are
+-- What the rule alone knows: the history, the number of the turn, the view that has it where it is taken, which view
+-- has a number, and how many views there are
 pub record Book (E : Type 0) : Type 0 where
   pub log : Front E
   pub turns : ℕ
@@ -69,11 +70,14 @@ HoldsTurn {E} views j = (v : View E) × (get_elem? views j ≡ some v) × (v.sta
 
 -- some view has this front, or was told of it
 abbrev pub IsSeen : {E : Type 0} → Front E → List (View E) → Type 0
-IsSeen {E} log views = (j : ℕ) × (v : View E) × (get_elem? views j ≡ some v) × ((v.seen.front ≡ log) ⊎ (v.told.front ≡ log))
+IsSeen {E} log views = (j : ℕ) × (v : View E) × (get_elem? views j ≡ some v)
+    × ((v.seen.front ≡ log) ⊎ (v.told.front ≡ log))
 
 module _ {S E : Type 0} (stands : List E → S → Type 0) where
-  -- while the turn is free the slot is at home with a value that stands for the history; else it is out, and a view has the turn
-  pub record IsSlot (log : Front E) (turns holder : ℕ) (homes : List (maybe.Option (Option S))) (views : List (View E)) : Type 0 where
+  -- while the turn is free the slot is at home with a value that stands for the history; else it is out, and a view
+  -- has the turn
+  pub record IsSlot (log : Front E) (turns holder : ℕ) (homes : List (maybe.Option (Option S)))
+      (views : List (View E)) : Type 0 where
     pub free : IsFree turns → (state : S) × (homes ≡ some (Some state) ∷ []) × stands (events log) state
     pub taken : IsTaken turns → (homes ≡ none ∷ []) × HoldsTurn views holder
 

@@ -33,7 +33,8 @@ module _ {S E : Type 0} (s : State (Option S) (View E)) where
 
   -- while the slot is at home there is a longest front for which its value stands
   abbrev pub StandsForLongest : (List E → S → Type 0) → Type 0
-  StandsForLongest stands = (state : S) → s.homes ≡ some (Some state) ∷ [] → (log : Front E) × IsLongest log × stands (events log) state
+  StandsForLongest stands =
+      (state : S) → s.homes ≡ some (Some state) ∷ [] → (log : Front E) × IsLongest log × stands (events log) state
 
   -- nobody has the number of a seat that would come now, nor is there an entry with it
   abbrev pub NextIsNobodys : Type 0
@@ -42,26 +43,31 @@ module _ {S E : Type 0} (s : State (Option S) (View E)) where
   abbrev pub NextHasNoEntries : Type 0
   NextHasNoEntries = (j : ℕ) (sight : Sight E) → IsSight j sight → own (length s.views ∷ []) sight.front ≡ []
 
-  -- of what seats have seen or were told: the fronts are of one history; a number is with one seat, not both seen and told,
-  -- and was made; a front holds no entry of another's number that the front beside the number lacks, nor one with a
-  -- number that wasn't made
+  -- of what seats have seen or were told: the fronts are of one history; a number is with one seat, not both seen
+  -- and told, and was made; a front holds no entry of another's number that the front beside the number lacks, nor
+  -- one with a number that wasn't made
   abbrev pub SightsAreOfOneHistory : Type 0
-  SightsAreOfOneHistory = (j k : ℕ) (one other : Sight E) → IsSight j one → IsSight k other → Begins one.front other.front ⊎ Begins other.front one.front
+  SightsAreOfOneHistory = (j k : ℕ) (one other : Sight E) → IsSight j one → IsSight k other
+      → Begins one.front other.front ⊎ Begins other.front one.front
 
   abbrev pub NumbersHaveOneSeat : Type 0
-  NumbersHaveOneSeat = (j k n : ℕ) (one other : Sight E) → IsSight j one → IsSight k other → among one.numbers n ≡ true → among other.numbers n ≡ true → j ≡ k
+  NumbersHaveOneSeat = (j k n : ℕ) (one other : Sight E) → IsSight j one → IsSight k other → among one.numbers n ≡ true
+      → among other.numbers n ≡ true → j ≡ k
 
   abbrev pub SeenAndToldAreApart : Type 0
-  SeenAndToldAreApart = (j n : ℕ) (v : View E) → IsView j v → among v.seen.numbers n ≡ true → among v.told.numbers n ≡ false
+  SeenAndToldAreApart =
+      (j n : ℕ) (v : View E) → IsView j v → among v.seen.numbers n ≡ true → among v.told.numbers n ≡ false
 
   abbrev pub NumbersWereMade : Type 0
   NumbersWereMade = (j n : ℕ) (sight : Sight E) → IsSight j sight → among sight.numbers n ≡ true → n < length s.views
 
   abbrev pub NumbersHaveTheirEntries : Type 0
-  NumbersHaveTheirEntries = (j k : ℕ) (one other : Sight E) → IsSight j one → IsSight k other → Begins (own one.numbers other.front) (own one.numbers one.front)
+  NumbersHaveTheirEntries = (j k : ℕ) (one other : Sight E) → IsSight j one → IsSight k other
+      → Begins (own one.numbers other.front) (own one.numbers one.front)
 
   abbrev pub EntriesWereMade : Type 0
-  EntriesWereMade = (j : ℕ) (sight : Sight E) → IsSight j sight → All (λ (entry : Entry E). entry.seat < length s.views) sight.front
+  EntriesWereMade = (j : ℕ) (sight : Sight E) → IsSight j sight
+      → All (λ (entry : Entry E). entry.seat < length s.views) sight.front
 
 -- it is so in every state that keeps the rule
 abbrev pub Always : {S E : Type 0} → (List E → S → Type 0) → (State (Option S) (View E) → Type 0) → Type 0

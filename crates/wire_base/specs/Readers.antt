@@ -19,7 +19,9 @@ abbrev pub ◌>>=◌ : {A B : Type 0} → Result A ℕ → (A → Result B ℕ) 
 
 -- a number of so many bytes, the lowest first
 abbrev pub number : Width → Reader ℕ
-number w bytes at = if nat_lt (length (drop at bytes)) (byte_len w) then Err at else Ok (from_le_bytes w (take (byte_len w) (drop at bytes)), at + byte_len w)
+number w bytes at =
+    if nat_lt (length (drop at bytes)) (byte_len w) then Err at
+    else Ok (from_le_bytes w (take (byte_len w) (drop at bytes)), at + byte_len w)
 
 -- a length of so many bytes, and then that many bytes
 unfoldable pub block : Width → Reader (List ℕ)

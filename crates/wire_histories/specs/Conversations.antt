@@ -1,5 +1,5 @@
--- What a conversation's talk leaves in the record. The talk is the list of all its calls; what each comes to is what its
--- role says (factotum(4) and authsrv(6) of the Plan 9 manual). The form of the record is this project's.
+-- What a conversation's talk leaves in the record. The talk is the list of all its calls; what each comes to is what
+-- its role says (factotum(4) and authsrv(6) of the Plan 9 manual). The form of the record is this project's.
 use Rattle.std.specs.Prelude.{ℕ, List, [], ◌∷◌, ◌++◌, Bool, true, false, not, ◌&&◌, if◌then◌else◌}
 use Rattle.wire_histories.specs.declared.step.Protocol.{Protocol}
 use Rattle.wire_histories.specs.declared.step.Protocol.TheVariants as protocol
@@ -53,11 +53,13 @@ role_as Mail part side = side_as side
 
 -- a start, with the protocol and the role that its template names
 abbrev pub started_by : Start → Act
-started_by start = started (protocol_as (protocol_of start.template) (proto_of start.template)) (role_as (protocol_of start.template) (role_of start.template) (side_of start.template)) start.word
+started_by start = started (protocol_as (protocol_of start.template) (proto_of start.template))
+    (role_as (protocol_of start.template) (role_of start.template) (side_of start.template)) start.word
 
 -- ---- how a conversation speaks
 
--- what its calls are answered behind a talk, the bytes that are got by them, what is needed behind a talk, and how it ends
+-- what its calls are answered behind a talk, the bytes that are got by them, what is needed behind a talk, and how it
+-- ends
 pub record Speaker : Type 0 where
   pub answers : List Call → Call → Gave
   pub puts : List Call → Call → List ℕ
@@ -65,7 +67,12 @@ pub record Speaker : Type 0 where
   pub ends : List Call → Outcome
 
 abbrev pub speaks : Spoken → Start → Speaker
-speaks p start = record { answers = answers_by p start; puts = puts_by p start; needs = needs_by p start; ends = ends_by p start }
+speaks p start = record {
+  answers = answers_by p start;
+  puts = puts_by p start;
+  needs = needs_by p start;
+  ends = ends_by p start;
+}
 
 abbrev pub speaker : Start → Speaker
 speaker start = speaks (protocol_of start.template) start
@@ -91,8 +98,8 @@ asked_now (Offers template) = []
 asked_now (Pick templates) = []
 asked_now (Exchange request shape) = asked request ∷ []
 
--- an answer to a write with which its bytes were taken: the move was made, or broke the conversation, or the last move was
--- made before
+-- an answer to a write with which its bytes were taken: the move was made, or broke the conversation, or the last
+-- move was made before
 abbrev pub is_taken : Gave → Bool
 is_taken g.Ok = true
 is_taken g.Wait = true
@@ -130,7 +137,10 @@ if_found before now act = if before && not now then act ∷ [] else []
 -- what a call of a talk leaves of itself. A write comes only where nothing is needed, an answer of the authentication
 -- server only where it was asked
 abbrev pub done_by : Speaker → Act → List Call → Call → List Act
-done_by s first before (give b) = if not (needs_any (s.needs before)) && (is_taken (s.answers before (give b)) && not (seeks s (give b ∷ before))) then took b ∷ [] else []
+done_by s first before (give b) =
+    if not (needs_any (s.needs before)) && (is_taken (s.answers before (give b)) && not (seeks s (give b ∷ before)))
+    then took b ∷ []
+    else []
 done_by s first before get = if is_given (s.answers before get) then gave (s.puts before get) ∷ [] else []
 done_by s first before (heard b) = if is_asked (s.needs before) then answered b ∷ [] else []
 done_by s first before unheard = if is_asked (s.needs before) then unanswered ∷ [] else []
@@ -154,7 +164,8 @@ end_by before now = if is_over before then [] else ended_as now
 
 -- the step of an input stands before the steps that it causes
 abbrev pub acts_by : Speaker → Act → List Call → Call → List Act
-acts_by s first before call = end_by (s.ends before) (s.ends (call ∷ before)) ++ (asks_by (s.needs before) (s.needs (call ∷ before)) ++ done_by s first before call)
+acts_by s first before call = end_by (s.ends before) (s.ends (call ∷ before))
+    ++ (asks_by (s.needs before) (s.needs (call ∷ before)) ++ done_by s first before call)
 
 -- all that the calls of a talk leave behind its first act, the newest first
 abbrev pub acts_from : Speaker → Act → List Call → List Act

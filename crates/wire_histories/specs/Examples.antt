@@ -1,5 +1,5 @@
--- A history written out, so that what is legal speaks of something: a client of APOP whose node has a key of the user mrose
--- with the password tanstaaf answers the challenge of RFC 1939, and its next read is told that it is done.
+-- A history written out, so that what is legal speaks of something: a client of APOP whose node has a key of the user
+-- mrose with the password tanstaaf answers the challenge of RFC 1939, and its next read is told that it is done.
 use Rattle.std.specs.Prelude.{ℕ, List, [], ◌∷◌, codes, Some, None, if◌then◌else◌}
 use Rattle.std.specs.Str.{bytes_eq}
 use Rattle.sealing.specs.Answer.{apop_digits}
@@ -26,7 +26,8 @@ abbrev pub eight_zeros : List ℕ
 eight_zeros = 0 ∷ 0 ∷ 0 ∷ 0 ∷ 0 ∷ 0 ∷ 0 ∷ 0 ∷ []
 
 abbrev pub mail_start : Start
-mail_start = start_with (given_as (codes "proto") (codes "apop") ∷ given_as (codes "role") (codes "client") ∷ []) eight_zeros
+mail_start = start_with (given_as (codes "proto") (codes "apop") ∷ given_as (codes "role") (codes "client")
+    ∷ []) eight_zeros
 
 abbrev pub mail_history : History
 mail_history =

@@ -1,7 +1,7 @@
 -- The record of a network as a history: the steps of several agents' conversations and of an authentication server's
 -- sessions, the newest first. (The record itself is kept in the order in which it was made.) What a step says of one
--- conversation or one session stands here without its name and without the number of a message. Answers to requests that
--- were refused carry no message, and say nothing here.
+-- conversation or one session stands here without its name and without the number of a message. Answers to requests
+-- that were refused carry no message, and say nothing here.
 use Rattle.std.specs.Prelude.{◌≡◌, ℕ, ◌+◌, List, [], ◌∷◌, ◌++◌, Option, Some, None, if◌then◌else◌}
 use Rattle.std.specs.Str.{bytes_eq}
 use Rattle.wire_histories.specs.declared.step.Protocol.{Protocol}

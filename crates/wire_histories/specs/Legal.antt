@@ -1,7 +1,7 @@
--- Which histories a network can have. A setting says how each conversation started and what met its needs for keys, offers
--- and picks, and what the authentication server knows. Each conversation does what a talk of its own leaves, and each
--- session what requests of its own leave. Nothing ties what is taken to what was given: what comes may be lost, repeated,
--- turned round, changed or made up. A history may end between the steps of one event.
+-- Which histories a network can have. A setting says how each conversation started and what met its needs for keys,
+-- offers and picks, and what the authentication server knows. Each conversation does what a talk of its own leaves,
+-- and each session what requests of its own leave. Nothing ties what is taken to what was given: what comes may be
+-- lost, repeated, turned round, changed or made up. A history may end between the steps of one event.
 use Rattle.std.specs.Prelude.{◌≡◌, ℕ, List, [], ◌++◌, All, None, Some, Option, true}
 use Rattle.wire_base.specs.Names.{IsName}
 use Rattle.attr_tuples.specs.Attributes.{is_tuple}
@@ -42,8 +42,8 @@ abbrev pub IsMet : Call → Type 0
 IsMet (found key password) = IsRingKey key
 IsMet call = Unit {0}
 
--- a conversation may be so: its template is a tuple that starts one, it has a word of eight bytes, and it is told keys such
--- as a ring has
+-- a conversation may be so: its template is a tuple that starts one, it has a word of eight bytes, and it is told
+-- keys such as a ring has
 pub record MayBe (spoken : Spoken) : Type 0 where
   pub tuple : is_tuple spoken.start.template ≡ true
   pub fits : fits_start spoken.start.template ≡ true

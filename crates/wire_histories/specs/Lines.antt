@@ -29,7 +29,8 @@ role_name Speakfor = codes "speakfor"
 
 -- the words of a step
 abbrev pub step_words : Step → List ℕ
-step_words (Start conv protocol role random) = codes "start" ++ (word conv ++ (word (protocol_name protocol) ++ (word (role_name role) ++ word (encode_lower random))))
+step_words (Start conv protocol role random) = codes "start" ++ (word conv
+    ++ (word (protocol_name protocol) ++ (word (role_name role) ++ word (encode_lower random))))
 step_words (Out number conv bytes) = codes "out" ++ (word (decimal number) ++ (word conv ++ word (encode_lower bytes)))
 step_words (In conv bytes) = codes "in" ++ (word conv ++ word (encode_lower bytes))
 step_words (Ask number conv bytes) = codes "ask" ++ (word (decimal number) ++ (word conv ++ word (encode_lower bytes)))
@@ -39,8 +40,10 @@ step_words (Accept conv cuid suid) = codes "accept" ++ (word conv ++ (word (valu
 step_words (Fail conv cause) = codes "fail" ++ (word conv ++ word cause)
 step_words (Reply conv answer) = codes "reply" ++ (word conv ++ word answer)
 step_words (Refused node answer) = codes "refused" ++ (word node ++ word answer)
-step_words (AsGot session bytes words) = codes "asgot" ++ (word session ++ (word (encode_lower bytes) ++ flat_map (λ w. word (encode_lower w)) words))
-step_words (AsGave number session bytes) = codes "asgave" ++ (word (decimal number) ++ (word session ++ word (encode_lower bytes)))
+step_words (AsGot session bytes words) =
+    codes "asgot" ++ (word session ++ (word (encode_lower bytes) ++ flat_map (λ w. word (encode_lower w)) words))
+step_words (AsGave number session bytes) =
+    codes "asgave" ++ (word (decimal number) ++ (word session ++ word (encode_lower bytes)))
 step_words (AsEnd session) = codes "asend" ++ word session
 
 -- the line of a step

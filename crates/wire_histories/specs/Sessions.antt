@@ -1,5 +1,5 @@
--- What a session of the authentication server leaves in the record, by its requests, the newest first. A request of a kind
--- that isn't served ends the session without an answer; so does, with its answer, one wrong answer too many.
+-- What a session of the authentication server leaves in the record, by its requests, the newest first. A request of a
+-- kind that isn't served ends the session without an answer; so does, with its answer, one wrong answer too many.
 use Rattle.std.specs.Prelude.{◌≡◌, ℕ, ◌<◌, List, [], ◌∷◌, ◌++◌, All, Bool, false, not, ◌||◌, length, Option, Some, None, if◌then◌else◌}
 use Rattle.sealing.specs.Fitting.{IsBlock}
 use Rattle.auth_server.specs.Requests.{Asked, is_served, kind_of, needed}
@@ -31,7 +31,9 @@ IsSession known (asked ∷ before) = MayCome known before asked × IsSession kno
 
 -- what an answered request leaves, and one that isn't answered
 abbrev pub replies_to : Knowledge → List Asked → Asked → List Deal
-replies_to known before asked = if is_served (kind_of asked.request) then replied (answer known before asked) ∷ [] else []
+replies_to known before asked =
+    if is_served (kind_of asked.request) then replied (answer known before asked) ∷ []
+    else []
 
 abbrev pub ends_by : Bool → List Deal
 ends_by over = if over then ended ∷ [] else []
@@ -39,4 +41,5 @@ ends_by over = if over then ended ∷ [] else []
 -- all that its requests leave, the newest first
 abbrev pub session_deals : Knowledge → List Asked → List Deal
 session_deals known [] = []
-session_deals known (asked ∷ before) = ends_by (has_ended known (asked ∷ before)) ++ (replies_to known before asked ++ requested asked.request asked.words ∷ session_deals known before)
+session_deals known (asked ∷ before) = ends_by (has_ended known (asked ∷ before))
+    ++ (replies_to known before asked ++ requested asked.request asked.words ∷ session_deals known before)

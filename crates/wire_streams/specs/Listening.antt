@@ -1,5 +1,5 @@
--- What one call of a listener takes of the connections to come, which are optional, since a listener need not tell them.
--- The definitions are the project's own.
+-- What one call of a listener takes of the connections to come, which are optional, since a listener need not tell
+-- them. The definitions are the project's own.
 use Rattle.std.specs.Prelude.{◌≡◌, List, ◌∷◌, ◌++◌, Option, None, Some, Result, Ok, Err, ⊤}
 use Rattle.wire_streams.specs.declared.listener.ListenFault.{ListenFault}
 

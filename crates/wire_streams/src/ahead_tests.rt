@@ -1,7 +1,6 @@
 // Reads of a source that is read ahead, by what they give.
-use crate::ReadAhead;
+use crate::{Got, MemSource, ReadAhead, Source};
 use std::test::Fail;
-use crate::{Got, MemSource, Source};
 
 // Twenty bytes in a room of eight, of which the second read fails once.
 #[test]

@@ -4,10 +4,10 @@ ghost use Rattle.wire_streams.specs.Causes.{CountsOutcome};
 ghost use Rattle.wire_streams.specs.Streams.{read_failed};
 ghost use Rattle.wire_streams.specs.Ahead.{Refills};
 
+use crate::{Got, Source};
 use std::alloc::Global;
 use std::marker::Model;
 use wire_base::NoMemory;
-use crate::{Got, Source};
 
 /// Bytes that were read and not handed out. They are overwritten as soon as they are handed out, or at last.
 pub(crate) struct Held {

@@ -2,9 +2,9 @@
 ghost use Rattle.std.specs.Prelude.{◌≡◌, ◌<◌, ◌≤◌, IfOk, length};
 
 use crate::held_ahead::Held;
+use crate::{Got, Source};
 use std::alloc::Global;
 use wire_base::NoMemory;
-use crate::{Got, Source};
 
 /// A source that gives what another gives, and reads of that one as many bytes at a time as its room has, whatever is asked
 /// of it. What it hands out is overwritten in its room, and what it read and hasn't handed out when it is dropped.

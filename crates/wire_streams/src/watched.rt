@@ -1,6 +1,6 @@
 // What may be waited for by a descriptor.
-use std::os::fd::RawFd;
 use crate::{MemSource, SteadySource};
+use std::os::fd::RawFd;
 
 /// What may have a descriptor by which the system tells that there is something.
 pub trait Watched {

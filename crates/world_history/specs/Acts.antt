@@ -1,6 +1,6 @@
--- What happens to a network, as a list of acts, the newest first: what stands behind an act is all that happened before it.
--- An act is a line of a script whose bytes are spelled out. The names of nodes, of conversations and of sessions are three
--- kinds of names.
+-- What happens to a network, as a list of acts, the newest first: what stands behind an act is all that happened
+-- before it. An act is a line of a script whose bytes are spelled out. The names of nodes, of conversations and of
+-- sessions are three kinds of names.
 use Rattle.std.specs.Prelude.{ℕ, zero, suc, ◌+◌, max, List, [], ◌∷◌, ◌++◌, map, filter, find, Bool, true, false, not, ◌==◌, codes, Option, if◌then◌else◌}
 use Rattle.std.specs.List.{list_any}
 use Rattle.std.specs.Str.{bytes_eq}
@@ -80,7 +80,8 @@ least_fid held = least_from (highest held) 2 held
 -- the conversations that are open, the oldest first
 abbrev pub talks : List Act → List Talk
 talks [] = []
-talks (Opened node conv ∷ before) = talks before ++ record { conv = conv; node = node; fid = least_fid (fids_on node (talks before)) } ∷ []
+talks (Opened node conv ∷ before) =
+    talks before ++ record { conv = conv; node = node; fid = least_fid (fids_on node (talks before)) } ∷ []
 talks (Closed conv ∷ before) = filter (λ t. not (bytes_eq t.conv conv)) (talks before)
 talks (act ∷ before) = talks before
 

@@ -1,7 +1,7 @@
--- How a network drives an agent, by requests on its connection 0, and what the agent puts out: its replies, and its questions
--- for the authentication server. Each event is followed by takes up to the one that finds no reply, and by takes of questions
--- up to the one that finds none; a connection to the authentication server that is to be given up causes nothing. After
--- section 5 of the Plan 9 manual; which fids, tags and counts are used is this project's.
+-- How a network drives an agent, by requests on its connection 0, and what the agent puts out: its replies, and its
+-- questions for the authentication server. Each event is followed by takes up to the one that finds no reply, and by
+-- takes of questions up to the one that finds none; a connection to the authentication server that is to be given up
+-- causes nothing. After section 5 of the Plan 9 manual; which fids, tags and counts are used is this project's.
 use Rattle.std.specs.Prelude.{ℕ, zero, suc, ◌+◌, List, [], ◌∷◌, ◌++◌, length, replicate, filter, Bool, true, false, not, codes, if◌then◌else◌}
 use Rattle.std.specs.List.{list_any}
 use Rattle.nine.specs.declared.message.TBody.{TBody}
@@ -30,11 +30,15 @@ first_left (reply ∷ rest) = reply ∷ []
 -- take, at most so often, up to the take that finds no reply: the history, and the replies
 abbrev pub take_up : ℕ → History → History
 take_up zero history = history
-take_up (suc n) history = if is_reply (answer history (Take 0)).0 then take_up n (Take 0 ∷ history) else Take 0 ∷ history
+take_up (suc n) history =
+    if is_reply (answer history (Take 0)).0 then take_up n (Take 0 ∷ history)
+    else Take 0 ∷ history
 
 abbrev pub taken_up : ℕ → History → List RMsg
 taken_up zero history = []
-taken_up (suc n) history = if is_reply (answer history (Take 0)).0 then first_left (untaken (deeds history) 0) ++ taken_up n (Take 0 ∷ history) else []
+taken_up (suc n) history =
+    if is_reply (answer history (Take 0)).0 then first_left (untaken (deeds history) 0) ++ taken_up n (Take 0 ∷ history)
+    else []
 
 -- a take for each reply that is left, and the one that finds none
 abbrev pub takes_of : History → ℕ
@@ -54,11 +58,15 @@ hands_out other = false
 -- take questions, at most so often, up to the take that finds none: the history, and the questions
 abbrev pub ask_up : ℕ → History → History
 ask_up zero history = history
-ask_up (suc n) history = if hands_out (answer history TakeAsk).0 then ask_up n (TakeAsk ∷ history) else TakeAsk ∷ history
+ask_up (suc n) history =
+    if hands_out (answer history TakeAsk).0 then ask_up n (TakeAsk ∷ history)
+    else TakeAsk ∷ history
 
 abbrev pub asked_up : ℕ → History → List Question
 asked_up zero history = []
-asked_up (suc n) history = if hands_out (answer history TakeAsk).0 then question_in (answer history TakeAsk) ++ asked_up n (TakeAsk ∷ history) else []
+asked_up (suc n) history =
+    if hands_out (answer history TakeAsk).0 then question_in (answer history TakeAsk) ++ asked_up n (TakeAsk ∷ history)
+    else []
 
 -- how much is to be handed out: connections that are to be given up, and questions
 abbrev pub left_to_hand : List Deed → ℕ
@@ -162,4 +170,6 @@ opened fid history = drive (opens fid) (walked fid history)
 
 -- the agent refuses that
 abbrev pub refuses_open : ℕ → History → Bool
-refuses_open fid history = if is_refused (replies_to (walks fid (codes "rpc")) history) then true else is_refused (replies_to (opens fid) (walked fid history))
+refuses_open fid history =
+    if is_refused (replies_to (walks fid (codes "rpc")) history) then true
+    else is_refused (replies_to (opens fid) (walked fid history))

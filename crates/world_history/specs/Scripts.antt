@@ -1,5 +1,6 @@
--- What a script comes to: its lines are carried out in order, up to the first that is refused. Of a line its form is looked at
--- first, then the names that it takes from others, then the messages, and then whether it can be carried out.
+-- What a script comes to: its lines are carried out in order, up to the first that is refused. Of a line its form is
+-- looked at first, then the names that it takes from others, then the messages, and then whether it can be carried
+-- out.
 use Rattle.std.specs.Prelude.{ℕ, ◌+◌, List, [], ◌∷◌, ◌++◌, length, take, drop, Bool, false, not, ◌&&◌, ◌||◌, ◌==◌, nat_le, nat_lt, slice_get, Option, Some, None, is_some, option_map, Result, Ok, Err, if◌then◌else◌}
 use Rattle.attr_tuples.specs.Forms.{is_dom}
 use Rattle.hex.specs.Hex.{decode_of}
@@ -28,7 +29,9 @@ use Rattle.world_history.specs.Worlds.{fid_for, has_ended, history, known, messa
 -- a piece of the bytes of a line, where its message is recorded and is long enough
 abbrev pub part_in : ℕ → ℕ → Option (List ℕ) → Option (List ℕ)
 part_in at size None = None
-part_in at size (Some message) = if nat_le (at + size) (length message) then Some (take size (drop at message)) else None
+part_in at size (Some message) =
+    if nat_le (at + size) (length message) then Some (take size (drop at message))
+    else None
 
 abbrev pub piece_in : List (List ℕ) → Piece → Option (List ℕ)
 piece_in recorded (p.Spelled digits) = Some (result_unwrap_or (decode_of digits) [])
@@ -83,9 +86,11 @@ act_of acts recorded (l.Open node conv) = Some (Opened node conv)
 act_of acts recorded (l.Start conv word tuple) = Some (Started conv word tuple)
 act_of acts recorded (l.Read conv) = Some (Got conv)
 act_of acts recorded (l.Write conv bytes) = option_map (λ given. Given conv given) (spelled recorded bytes)
-act_of acts recorded (l.Answer conv bytes) = option_map (λ given. Answered conv given (call_now acts conv)) (spelled recorded bytes)
+act_of acts recorded (l.Answer conv bytes) =
+    option_map (λ given. Answered conv given (call_now acts conv)) (spelled recorded bytes)
 act_of acts recorded (l.NoAnswer conv) = Some (Unanswered conv (call_now acts conv))
-act_of acts recorded (l.AsGive session bytes first second third) = option_map (λ given. Asked session given (first ∷ second ∷ third ∷ [])) (spelled recorded bytes)
+act_of acts recorded (l.AsGive session bytes first second third) =
+    option_map (λ given. Asked session given (first ∷ second ∷ third ∷ [])) (spelled recorded bytes)
 act_of acts recorded (l.Close conv) = Some (Closed conv)
 
 -- the most nodes, the most bytes of a request and of an answer
@@ -109,16 +114,20 @@ has_length size (Some wanted) = size == wanted
 
 -- a request to a session isn't one: it is empty, or is of a kind that is served and hasn't its length
 abbrev pub is_misshaped : List Act → List ℕ → List ℕ → Bool
-is_misshaped acts session request = length request == 0 || (is_served (kind_of request) && not (has_length (length request) (needed (held (known acts) (requests acts session)) (kind_of request))))
+is_misshaped acts session request = length request == 0
+    || (is_served (kind_of request)
+    && not (has_length (length request) (needed (held (known acts) (requests acts session)) (kind_of request))))
 
--- an act can't be done: its name is taken; too many nodes; no question is outstanding; the session ended; the bytes are too
--- many, or have not their length; the table or the agent refuses it; a table is told of once the server was asked
+-- an act can't be done: its name is taken; too many nodes; no question is outstanding; the session ended; the bytes
+-- are too many, or have not their length; the table or the agent refuses it; a table is told of once the server was
+-- asked
 unfoldable pub is_unfit : List Act → Act → Bool
 is_unfit acts (Domain dom) = was_asked acts || not (is_dom dom)
 is_unfit acts (KeyLine tuple) = was_asked acts || is_bad_line fits_keys (key_lines acts) tuple
 is_unfit acts (SpeakLine tuple) = was_asked acts || is_bad_line fits_speaks (speak_lines acts) tuple
 is_unfit acts (Made node) = is_node acts node || nat_le most_nodes (length (nodes acts))
-is_unfit acts (Opened node conv) = has_name conv (opened_names acts) || refuses_open (fid_for acts node) (history acts node)
+is_unfit acts (Opened node conv) =
+    has_name conv (opened_names acts) || refuses_open (fid_for acts node) (history acts node)
 is_unfit acts (Given conv bytes) = nat_lt most_request (length (request_text (gives bytes)))
 is_unfit acts (Answered conv bytes call) = not (is_some (outstanding acts conv)) || nat_lt most_answer (length bytes)
 is_unfit acts (Unanswered conv call) = not (is_some (outstanding acts conv))

@@ -7,7 +7,8 @@ use Rattle.world_scripts.specs.Scripts.{Numbered}
 use Rattle.world_history.specs.declared.tables.Tables.{Tables}
 use Rattle.world_history.specs.Told.{told_dom, told_keys, told_speaks}
 
--- a table of keys gives what these lines do where none of them is bad, and nothing where this is the number of a bad one
+-- a table of keys gives what these lines do where none of them is bad, and nothing where this is the number of a bad
+-- one
 abbrev pub GivesKeys : Option ℕ → List (List ℕ) → List KeyLine → Type 0
 GivesKeys None lines table = (user : List ℕ) → key_of user table ≡ key_of user (keys_in (counted lines))
 GivesKeys (Some bad) lines table = (user : List ℕ) → key_of user table ≡ None

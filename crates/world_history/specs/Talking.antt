@@ -1,6 +1,7 @@
--- What is recorded of a conversation: the steps that follow on a request that is written and read, on the answer to its
--- question, and on its closing. They are read off the replies that came, the questions, and how the conversation stands as to
--- its end. The rules are this project's; the words of answers are after factotum(4) of the Plan 9 manual.
+-- What is recorded of a conversation: the steps that follow on a request that is written and read, on the answer to
+-- its question, and on its closing. They are read off the replies that came, the questions, and how the conversation
+-- stands as to its end. The rules are this project's; the words of answers are after factotum(4) of the Plan 9
+-- manual.
 use Rattle.std.specs.Prelude.{ℕ, ◌+◌, List, [], ◌∷◌, ◌++◌, length, drop, nat_eq, Bool, true, false, not, ◌&&◌, ◌||◌, codes, Option, Some, None, is_some, if◌then◌else◌}
 use Rattle.std.specs.List.{starts_with}
 use Rattle.std.specs.Str.{bytes_eq}
@@ -27,7 +28,8 @@ use Rattle.world_history.specs.Driving.{drive, is_refused, no_word, questions_to
 
 -- ---- what came of an event
 
--- what comes of an event on a conversation: the replies, its questions, and how it stood as to its end before and stands now
+-- what comes of an event on a conversation: the replies, its questions, and how it stood as to its end before and
+-- stands now
 pub record Came : Type 0 where
   pub replies : List RMsg
   pub questions : List Question
@@ -39,7 +41,12 @@ outcome_in fid history = outcome_at (deeds history) 0 fid
 
 -- what comes of an event on the conversation of a fid
 abbrev pub came : ℕ → Event → History → Came
-came fid event history = record { replies = replies_to event history; questions = questions_to event history; before = outcome_in fid history; now = outcome_in fid (drive event history) }
+came fid event history = record {
+  replies = replies_to event history;
+  questions = questions_to event history;
+  before = outcome_in fid history;
+  now = outcome_in fid (drive event history);
+}
 
 -- ---- the words of answers
 
@@ -90,8 +97,8 @@ is_broken other = false
 abbrev pub breaks : Option Outcome → Option Outcome → Bool
 breaks before now = not (is_end before) && is_broken now
 
--- an answer: what is ok is nothing by itself, or the message behind it; any other is recorded where it isn't what tells that
--- the conversation broke
+-- an answer: what is ok is nothing by itself, or the message behind it; any other is recorded where it isn't what
+-- tells that the conversation broke
 unfoldable pub answer_steps : ℕ → List ℕ → Bool → List ℕ → List Step
 answer_steps number conv broke text =
     if bytes_eq text (codes "ok") then []
@@ -144,7 +151,8 @@ role_named tuple =
     else Client
 
 unfoldable pub start_step : List ℕ → List ℕ → List ℕ → Step
-start_step conv word text = let tuple = tuple_in (few_of text) in s.Start conv (protocol_named tuple) (role_named tuple) word
+start_step conv word text =
+    let tuple = tuple_in (few_of text) in s.Start conv (protocol_named tuple) (role_named tuple) word
 
 -- ---- requests
 
@@ -170,7 +178,9 @@ word_of (gives bytes) = no_word
 
 -- the step of the request itself: the conversation has started, or took the bytes
 abbrev pub own_steps : List ℕ → Asks → Came → List Step
-own_steps conv (starts word tuple) c = if not (is_some c.before) && is_some c.now then start_step conv word tuple ∷ [] else []
+own_steps conv (starts word tuple) c =
+    if not (is_some c.before) && is_some c.now then start_step conv word tuple ∷ []
+    else []
 own_steps conv gets c = []
 own_steps conv (gives bytes) c = if is_taken c.replies then s.In conv bytes ∷ [] else []
 

@@ -1,5 +1,5 @@
--- What a run of a script knows of the server that was read ahead, at each of its lines: behind the acts so far, and before the
--- lines that are left.
+-- What a run of a script knows of the server that was read ahead, at each of its lines: behind the acts so far, and
+-- before the lines that are left.
 use Rattle.std.specs.Prelude.{◌≡◌, ℕ, ◌+◌, ◌<◌, ◌^◌, List, [], ◌∷◌, ◌++◌, Bool, true, false, ◌||◌, length, Option, Some, None, Ok}
 use Rattle.auth_tables.specs.Lines.{first_bad}
 use Rattle.auth_tables.specs.Keys.{fits_keys}
@@ -30,8 +30,8 @@ pub record IsTelling (left : List Numbered) (acts : List Act) (tables : Tables) 
   pub keys : GivesKeys tables.bad_key (key_lines acts ++ told_keys left) tables.core.keys
   pub speaks : GivesSpeaks tables.bad_speak (speak_lines acts ++ told_speaks left) tables.core.speaks
 
--- what is known of the server between acts and the lines that are left: until it was asked they tell of it, and since then it
--- knows what the acts told
+-- what is known of the server between acts and the lines that are left: until it was asked they tell of it, and since
+-- then it knows what the acts told
 pub record Tells (left : List Numbered) (acts : List Act) (tables : Tables) : Type 0 where
   pub before : was_asked acts ≡ false → IsTelling left acts tables
   pub since : was_asked acts ≡ true → known acts ≡ knowledge tables.core
@@ -40,7 +40,8 @@ pub record Tells (left : List Numbered) (acts : List Act) (tables : Tables) : Ty
 
 -- it holds at the first line
 abbrev pub TellsFirst : Type 0
-TellsFirst = (script : List ℕ) (tables : Tables) → IsToldBy (script_lines script) tables → Tells (script_lines script) [] tables
+TellsFirst = (script : List ℕ) (tables : Tables) → IsToldBy (script_lines script) tables
+    → Tells (script_lines script) [] tables
 
 -- and behind each line that is carried out
 abbrev pub TellsOn : Type 0

@@ -1,5 +1,5 @@
--- What the lines of a script tell of its authentication server: those before the first request to it, and before the first that
--- has no line's form.
+-- What the lines of a script tell of its authentication server: those before the first request to it, and before the
+-- first that has no line's form.
 use Rattle.std.specs.Prelude.{ℕ, List, [], ◌∷◌, ◌++◌, Option, Some, None, codes}
 use Rattle.std.specs.List.{filter_map, flat_map}
 use Rattle.world_scripts.specs.Lines.{ScriptLine, Dom, AsKey, AsSpeak, AsGive}

@@ -1,4 +1,5 @@
--- What is done to one agent of a network: what its history is then, what is recorded, and the questions that come of it.
+-- What is done to one agent of a network: what its history is then, what is recorded, and the questions that come of
+-- it.
 use Rattle.std.specs.Prelude.{ℕ, List, [], ◌∷◌, false}
 use Rattle.std.specs.List.{flat_map}
 use Rattle.nine.specs.declared.message.RMsg.{RMsg}
@@ -48,7 +49,8 @@ unfoldable pub turn_steps : ℕ → Turn → History → List Step
 turn_steps number (tells node line) h = told_steps node (replies_to (writes 1 line) h)
 turn_steps number (lets_open fid) h = []
 turn_steps number (asks conv fid what) h = request_steps number conv fid what h
-turn_steps number (hears conv fid call bytes) h = s.Heard conv bytes ∷ following number conv (came fid (events.Answer call bytes) h)
+turn_steps number (hears conv fid call bytes) h =
+    s.Heard conv bytes ∷ following number conv (came fid (events.Answer call bytes) h)
 turn_steps number (misses conv fid call) h = s.Unheard conv ∷ following number conv (came fid (NoAnswer call) h)
 turn_steps number (closes conv fid) h = all_reply_steps number conv false (replies_to (clunks fid) h)
 

@@ -1,6 +1,6 @@
--- A network after some acts: the history of each of its agents, the requests of each session of the authentication server, and
--- the record, which is the list of the steps that the acts cause, in order. Messages are numbered from 0 in the order in
--- which they are recorded.
+-- A network after some acts: the history of each of its agents, the requests of each session of the authentication
+-- server, and the record, which is the list of the steps that the acts cause, in order. Messages are numbered from 0
+-- in the order in which they are recorded.
 use Rattle.std.specs.Prelude.{ℕ, List, [], ◌∷◌, ◌++◌, length, Bool, true, false, Option, Some, None, if◌then◌else◌}
 use Rattle.std.specs.List.{filter_map}
 use Rattle.std.specs.Str.{bytes_eq}
@@ -69,8 +69,8 @@ abbrev pub last_call : List Question → Option ℕ → Option ℕ
 last_call [] call = call
 last_call (q ∷ more) call = last_call more (Some q.call)
 
--- the question of a conversation that is outstanding behind what was done: what it is asked may raise one, which then is the
--- last; an answer, and that there is none, end it
+-- the question of a conversation that is outstanding behind what was done: what it is asked may raise one, which then
+-- is the last; an answer, and that there is none, end it
 abbrev pub call_behind : List ℕ → Turn → List Question → Option ℕ → Option ℕ
 call_behind conv (asks name fid what) raised call = if bytes_eq name conv then last_call raised call else call
 call_behind conv (hears name fid number bytes) raised call = if bytes_eq name conv then last_call raised None else call
@@ -79,7 +79,8 @@ call_behind conv turn raised call = call
 
 abbrev pub call_by : List Act → List ℕ → Option Done → Option ℕ → Option ℕ
 call_by before conv None call = call
-call_by before conv (Some done) call = call_behind conv done.turn (turn_questions done.turn (history before done.node)) call
+call_by before conv (Some done) call =
+    call_behind conv done.turn (turn_questions done.turn (history before done.node)) call
 
 -- the number of the question of a conversation that is outstanding, if one is
 abbrev pub outstanding : List Act → List ℕ → Option ℕ
@@ -99,13 +100,19 @@ known acts = record {
 -- the requests that a session answered, the newest first
 abbrev pub requests : List Act → List ℕ → List req.Asked
 requests [] session = []
-requests (Asked name request words ∷ before) session = if bytes_eq name session then (if is_served (kind_of request) then asked_so request words ∷ requests before session else requests before session) else requests before session
+requests (Asked name request words ∷ before) session =
+    if bytes_eq name session
+    then (if is_served (kind_of request) then asked_so request words ∷ requests before session
+    else requests before session)
+    else requests before session
 requests (act ∷ before) session = requests before session
 
 -- it was given a request of a kind that isn't served, which ended it
 abbrev pub was_misasked : List Act → List ℕ → Bool
 was_misasked [] session = false
-was_misasked (Asked name request words ∷ before) session = if bytes_eq name session then (if is_served (kind_of request) then was_misasked before session else true) else was_misasked before session
+was_misasked (Asked name request words ∷ before) session =
+    if bytes_eq name session then (if is_served (kind_of request) then was_misasked before session else true)
+    else was_misasked before session
 was_misasked (act ∷ before) session = was_misasked before session
 
 -- it has ended: so, or by too many wrong answers
@@ -129,7 +136,8 @@ steps_to number before (Some done) = turn_steps number done.turn (history before
 
 -- the steps of an act behind others, from this message on
 abbrev pub steps_by : ℕ → List Act → Act → List Step
-steps_by number before (Asked session request words) = session_steps (known before) number session (requests before session) (asked_so request words)
+steps_by number before (Asked session request words) =
+    session_steps (known before) number session (requests before session) (asked_so request words)
 steps_by number before act = steps_to number before (done_by before act)
 
 -- the message that a step records, if it does

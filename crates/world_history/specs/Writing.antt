@@ -1,5 +1,5 @@
--- What recording some steps leaves where it is cut off. Content is optional: the words on what was written hold where it is
--- told.
+-- What recording some steps leaves where it is cut off. Content is optional: the words on what was written hold where
+-- it is told.
 use Rattle.std.specs.Prelude.{◌≡◌, ℕ, List, ◌++◌, Bool, true, false, Option, Result, Ok, Err}
 use Rattle.std.specs.List.{flat_map}
 use Rattle.wire_streams.specs.Streams.{Gains}

@@ -19,9 +19,10 @@ pub record PlaysAll (left_old left_new holds_old holds_new : Option (List ℕ)) 
   pub written : Gains holds_old holds_new (lines_of (world script))
   pub promised : IsPromised script
 
--- a script was read to its end; this is its first line that is refused, for this cause, and the lines of its record, which is
--- that of the lines before it, were written
-pub record PlaysUpTo (line : ℕ) (cause : ScriptCause) (left_old left_new holds_old holds_new : Option (List ℕ)) : Type 0 where
+-- a script was read to its end; this is its first line that is refused, for this cause, and the lines of its record,
+-- which is that of the lines before it, were written
+pub record PlaysUpTo (line : ℕ) (cause : ScriptCause)
+    (left_old left_new holds_old holds_new : Option (List ℕ)) : Type 0 where
   pub script : List ℕ
   pub read : ReadsFile left_old left_new script
   pub refused : (play script).refused ≡ Some (line, cause)
@@ -50,9 +51,12 @@ abbrev pub WorldSo : Status → Option (List ℕ) → Option (List ℕ) → Opti
 WorldSo Fine left_old left_new holds_old holds_new = PlaysAll left_old left_new holds_old holds_new
 WorldSo ReadFault left_old left_new holds_old holds_new = ReadsPart left_old left_new × (holds_new ≡ holds_old)
 WorldSo WriteFault left_old left_new holds_old holds_new = PlaysFront left_old left_new holds_old holds_new
-WorldSo (BadScript line cause) left_old left_new holds_old holds_new = PlaysUpTo line cause left_old left_new holds_old holds_new
-WorldSo NoMemory left_old left_new holds_old holds_new = (holds_new ≡ holds_old) ⊎ PlaysSome left_old left_new holds_old holds_new
-WorldSo (Flood limit) left_old left_new holds_old holds_new = (limit ≡ most_file) × FloodsFile left_old left_new × (holds_new ≡ holds_old)
+WorldSo (BadScript line cause) left_old left_new holds_old holds_new =
+    PlaysUpTo line cause left_old left_new holds_old holds_new
+WorldSo NoMemory left_old left_new holds_old holds_new =
+    (holds_new ≡ holds_old) ⊎ PlaysSome left_old left_new holds_old holds_new
+WorldSo (Flood limit) left_old left_new holds_old holds_new =
+    (limit ≡ most_file) × FloodsFile left_old left_new × (holds_new ≡ holds_old)
 WorldSo status left_old left_new holds_old holds_new = ⊥
 
 -- a script is told, it isn't too long, and none of its lines is refused

@@ -1,5 +1,5 @@
--- What `gen` has written when it ends: a line on the record of the script of a number, which is run. Content is optional: the
--- words on it hold where it is told.
+-- What `gen` has written when it ends: a line on the record of the script of a number, which is run. Content is
+-- optional: the words on it hold where it is told.
 use Rattle.std.specs.Prelude.{◌≡◌, ℕ, List, [], ◌∷◌, ◌++◌, length, filter, Bool, true, false, codes, Option, Some, None}
 use Rattle.std.specs.Fmt.{decimal}
 use Rattle.wire_streams.specs.Streams.{Gains}
@@ -32,7 +32,8 @@ told rounds accepted failed messages = codes "rounds " ++ (decimal rounds ++ (co
 
 -- the line of a record of so many rounds
 abbrev pub summary : ℕ → List Step → List ℕ
-summary rounds record_of = told rounds (length (filter is_accept record_of)) (length (filter is_fail record_of)) (length (messages_in record_of))
+summary rounds record_of = told rounds (length (filter is_accept record_of)) (length (filter is_fail record_of))
+    (length (messages_in record_of))
 
 -- ---- the ends
 
@@ -49,7 +50,8 @@ pub record SumsFront (number rounds : ℕ) (holds_old holds_new : Option (List �
   pub promised : IsPromised (gen_text number rounds)
 
 -- this line is the first that was refused, for this cause, and nothing was written
-pub record RefusesMade (line : ℕ) (cause : ScriptCause) (number rounds : ℕ) (holds_old holds_new : Option (List ℕ)) : Type 0 where
+pub record RefusesMade (line : ℕ) (cause : ScriptCause) (number rounds : ℕ)
+    (holds_old holds_new : Option (List ℕ)) : Type 0 where
   pub refused : (play (gen_text number rounds)).refused ≡ Some (line, cause)
   pub untouched : holds_new ≡ holds_old
   pub promised : IsPromised (gen_text number rounds)
@@ -58,6 +60,7 @@ pub record RefusesMade (line : ℕ) (cause : ScriptCause) (number rounds : ℕ) 
 abbrev pub GenSo : Status → ℕ → ℕ → Option (List ℕ) → Option (List ℕ) → Type 0
 GenSo Fine number rounds holds_old holds_new = Sums number rounds holds_old holds_new
 GenSo WriteFault number rounds holds_old holds_new = SumsFront number rounds holds_old holds_new
-GenSo (BadScript line cause) number rounds holds_old holds_new = RefusesMade line cause number rounds holds_old holds_new
+GenSo (BadScript line cause) number rounds holds_old holds_new =
+    RefusesMade line cause number rounds holds_old holds_new
 GenSo NoMemory number rounds holds_old holds_new = holds_new ≡ holds_old
 GenSo status number rounds holds_old holds_new = ⊥

@@ -1,5 +1,6 @@
--- The words of `world` and of `gen` behind the program's name, as lists of bytes: the command's name, and for `gen` two options,
--- each with a value behind it. Options go by their long names (getopt_long(3), Argument Syntax), without `=` or `--` alone.
+-- The words of `world` and of `gen` behind the program's name, as lists of bytes: the command's name, and for `gen`
+-- two options, each with a value behind it. Options go by their long names (getopt_long(3), Argument Syntax), without
+-- `=` or `--` alone.
 use Rattle.std.specs.Prelude.{◌≡◌, ◌==◌, ◌&&◌, nat_le, nat_lt, length, slice_index, ℕ, List, [], ◌∷◌, Bool, true, false, codes, if◌then◌else◌, Option, Some, None, is_some, ◌⊎◌}
 use Rattle.std.specs.List.{list_all}
 use Rattle.std.specs.Str.{bytes_eq}
@@ -51,7 +52,10 @@ both number rounds = None
 
 -- the values of the options, where the words are those of `gen`
 abbrev pub gen_given : List (List ℕ) → Option GenWords
-gen_given words = if has_gen_form words then both (plain_number (gen_value (codes "--number") words)) (rounds_of (gen_value (codes "--rounds") words)) else None
+gen_given words =
+    if has_gen_form words
+    then both (plain_number (gen_value (codes "--number") words)) (rounds_of (gen_value (codes "--rounds") words))
+    else None
 
 -- the words are those of `gen`
 abbrev pub is_gen : List (List ℕ) → Bool
@@ -59,4 +63,5 @@ is_gen words = is_some (gen_given words)
 
 -- why words give none: they aren't those of `gen`, or they have their form and memory ran out
 abbrev pub IsUnreadGen : List (List ℕ) → Status → Type 0
-IsUnreadGen words status = ((status ≡ Usage) × (is_gen words ≡ false)) ⊎ ((status ≡ NoMemory) × (has_gen_form words ≡ true))
+IsUnreadGen words status =
+    ((status ≡ Usage) × (is_gen words ≡ false)) ⊎ ((status ≡ NoMemory) × (has_gen_form words ≡ true))

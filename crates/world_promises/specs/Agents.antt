@@ -1,5 +1,5 @@
--- What a turn does to an agent, in the words of its conversations: what comes of a request that is read, of an answer of the
--- authentication server, and of a closing.
+-- What a turn does to an agent, in the words of its conversations: what comes of a request that is read, of an answer
+-- of the authentication server, and of a closing.
 use Rattle.std.specs.Prelude.{◌≡◌, ℕ, List, [], ◌∷◌, map, Bool, true, false, Option, Some, None}
 use Rattle.std.specs.Str.{bytes_eq}
 use Rattle.nine.specs.declared.message.RMsg.{RMsg}
@@ -70,7 +70,8 @@ questions_in phase need = []
 -- its answer is read; or that is longer than the read may hold, and gives no message
 pub data Answers : List RBody → Phase → Type 0 where
   reads_all : {told : List RBody} {phase : Phase} → told ≡ answers_in phase → Answers told phase
-  reads_none : {told : List RBody} {phase : Phase} (text : List ℕ) → told ≡ r.Error text ∷ [] → answer_acts phase ≡ [] → Answers told phase
+  reads_none : {told : List RBody} {phase : Phase} (text : List ℕ) → told ≡ r.Error text ∷ [] → answer_acts phase ≡ []
+      → Answers told phase
 
 pub record Comes (c : Came) (old new : Standing) : Type 0 where
   pub replies : Answers (bodies c) new.phase
@@ -115,11 +116,14 @@ write_of fid what = writes fid (request_text what)
 
 pub data RequestDoes : ℕ → ℕ → Asks → History → Type 0 where
   -- the write is refused
-  is_turned_away : {number fid : ℕ} {what : Asks} {h : History} → is_refused (replies_to (write_of fid what) h) ≡ true → GiveNothing (replies_to (write_of fid what) h) → RequestDoes number fid what h
+  is_turned_away : {number fid : ℕ} {what : Asks} {h : History} → is_refused (replies_to (write_of fid what) h) ≡ true
+      → GiveNothing (replies_to (write_of fid what) h) → RequestDoes number fid what h
   -- the read is
-  isnt_read : {number fid : ℕ} {what : Asks} {h : History} → is_refused (replies_to (write_of fid what) h) ≡ false → IsUnread number fid what (drive (write_of fid what) h) → RequestDoes number fid what h
+  isnt_read : {number fid : ℕ} {what : Asks} {h : History} → is_refused (replies_to (write_of fid what) h) ≡ false
+      → IsUnread number fid what (drive (write_of fid what) h) → RequestDoes number fid what h
   -- neither is
-  is_carried : {number fid : ℕ} {what : Asks} {h : History} → is_refused (replies_to (write_of fid what) h) ≡ false → IsCarried number fid what (drive (write_of fid what) h) → RequestDoes number fid what h
+  is_carried : {number fid : ℕ} {what : Asks} {h : History} → is_refused (replies_to (write_of fid what) h) ≡ false
+      → IsCarried number fid what (drive (write_of fid what) h) → RequestDoes number fid what h
 
 -- ---- the authentication server, and closing
 
@@ -130,7 +134,8 @@ pub record AnswerDoes (number fid : ℕ) (event : Event) (call : Move) (h : Hist
   pub stood : standing_of (deeds h) number ≡ on_server begun starting said
   pub asked : is_asked (needs begun.start begun.moves) ≡ true
   pub stands : begun_in (event ∷ h) number ≡ (made (on_server begun starting said) call (Some begun)).begun
-  pub comes : Comes (came fid event h) (on_server begun starting said) (made (on_server begun starting said) call (Some begun))
+  pub comes : Comes (came fid event h) (on_server begun starting said)
+      (made (on_server begun starting said) call (Some begun))
 
 abbrev pub CloseDoes : ℕ → History → Type 0
 CloseDoes fid h = GiveNothing (replies_to (clunks fid) h)
@@ -145,7 +150,8 @@ Leaves number turn h = begun_in (after turn h) number ≡ begun_in h number
 abbrev pub EventsLeave : ℕ → Turn → History → Type 0
 EventsLeave number (tells node line) h = Unit {0}
 EventsLeave number (lets_open fid) h = Unit {0}
-EventsLeave number (asks conv fid what) h = is_refused (replies_to (write_of fid what) h) ≡ false → Stays number (reads fid (word_of what)) (drive (write_of fid what) h)
+EventsLeave number (asks conv fid what) h = is_refused (replies_to (write_of fid what) h) ≡ false
+    → Stays number (reads fid (word_of what)) (drive (write_of fid what) h)
 EventsLeave number (hears conv fid call bytes) h = Stays number (events.Answer call bytes) h
 EventsLeave number (misses conv fid call) h = Stays number (NoAnswer call) h
 EventsLeave number (closes conv fid) h = Unit {0}
@@ -178,7 +184,9 @@ NextIsNew before = (node : List ℕ) → begun_in (history before node) (opened_
 
 -- each act does so to the conversations of its node, before which the next one is new
 pub record AgentDoes (before : List Act) (act : Act) : Type 0 where
-  pub turns : (done : Done) (name : List ℕ) (place : Place) → done_by before act ≡ Some done → place_of before name ≡ Some place → bytes_eq done.node place.node ≡ true → DoesTo (bytes_eq (conv_in done.turn) name) place.number done.turn (history before place.node)
+  pub turns : (done : Done) (name : List ℕ) (place : Place) → done_by before act ≡ Some done
+      → place_of before name ≡ Some place → bytes_eq done.node place.node ≡ true
+      → DoesTo (bytes_eq (conv_in done.turn) name) place.number done.turn (history before place.node)
   pub opens : NextIsNew before
 
 abbrev pub AgentsDo : List Act → Type 0

@@ -1,4 +1,5 @@
--- What is so of the acts of a script: each fits behind those before it, is one that a line can spell, and names what there is.
+-- What is so of the acts of a script: each fits behind those before it, is one that a line can spell, and names what
+-- there is.
 use Rattle.std.specs.Prelude.{◌≡◌, List, [], ◌∷◌, All, true, false, length}
 use Rattle.wire_base.specs.Texts.{is_text}
 use Rattle.sealing.specs.Fitting.{IsBlock}

@@ -21,4 +21,5 @@ ConversationsAre acts = (name : List ℕ) → IsConversation ((setting acts).spo
 
 -- each conversation that has started was told keys such as a ring has
 abbrev pub KeysAreOfRings : List Act → Type 0
-KeysAreOfRings acts = (name : List ℕ) (place : Place) (b : Begun) → place_of acts name ≡ Some place → (standing_at acts place).begun ≡ Some b → All IsMet (spoken_by place.node b).met
+KeysAreOfRings acts = (name : List ℕ) (place : Place) (b : Begun) → place_of acts name ≡ Some place
+    → (standing_at acts place).begun ≡ Some b → All IsMet (spoken_by place.node b).met

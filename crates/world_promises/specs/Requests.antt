@@ -1,4 +1,5 @@
--- What a request that a network makes of a conversation does to an agent of which all was taken. It serves proofs alone.
+-- What a request that a network makes of a conversation does to an agent of which all was taken. It serves proofs
+-- alone.
 use Rattle.std.specs.Prelude.{◌≡◌, ℕ, List, length, ◌==◌, true, false, Some}
 use Rattle.roles.specs.Starts.{Start}
 use Rattle.agent_history.specs.Conversations.{conv_of}
@@ -22,8 +23,11 @@ IsWorded start = length start.word ≡ 8
 
 -- the conversation that a fid has open does what is asked of it
 abbrev pub RequestsDo : Type 0
-RequestsDo = (number fid : ℕ) (what : Asks) (h : History) → BegunWith IsWorded (begun_in h number) → IsIdle h → conv_of (deeds h) 0 fid ≡ Some number → Runs (requested fid what h) → Requested number fid what h
+RequestsDo = (number fid : ℕ) (what : Asks) (h : History) → BegunWith IsWorded (begun_in h number) → IsIdle h
+    → conv_of (deeds h) 0 fid ≡ Some number → Runs (requested fid what h) → Requested number fid what h
 
 -- and any other one stays as it is
 abbrev pub RequestsLeave : Type 0
-RequestsLeave = (other number fid : ℕ) (conv : List ℕ) (what : Asks) (h : History) → IsIdle h → conv_of (deeds h) 0 fid ≡ Some number → (other == number) ≡ false → Runs (requested fid what h) → EventsLeave other (asks conv fid what) h
+RequestsLeave = (other number fid : ℕ) (conv : List ℕ) (what : Asks) (h : History) → IsIdle h
+    → conv_of (deeds h) 0 fid ≡ Some number → (other == number) ≡ false → Runs (requested fid what h)
+    → EventsLeave other (asks conv fid what) h

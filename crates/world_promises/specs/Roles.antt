@@ -1,4 +1,5 @@
--- What is so of each role that a conversation may have, whatever it met: how its answers, its needs and its end go together.
+-- What is so of each role that a conversation may have, whatever it met: how its answers, its needs and its end go
+-- together.
 use Rattle.std.specs.Prelude.{◌≡◌, ℕ, List, [], ◌∷◌, true, false}
 use Rattle.roles.specs.declared.answer.Gave.TheVariants as g
 use Rattle.roles.specs.declared.need.Need.TheVariants.{Nothing}
@@ -21,13 +22,18 @@ pub record IsRole (s : Speaker) : Type 0 where
   pub goes_on : (talk : List Call) → is_sought (s.needs talk) ≡ true → s.ends talk ≡ Running
   -- a message that is got needs nothing and ends nothing, and isn't waited for
   pub got : (talk : List Call) → s.needs talk ≡ Nothing → s.needs (get ∷ talk) ≡ Nothing
-  pub given : (talk : List Call) → s.needs talk ≡ Nothing → is_given (s.answers talk get) ≡ true → end_by (s.ends talk) (s.ends (get ∷ talk)) ≡ []
+  pub given : (talk : List Call) → s.needs talk ≡ Nothing → is_given (s.answers talk get) ≡ true
+      → end_by (s.ends talk) (s.ends (get ∷ talk)) ≡ []
   pub at_once : (talk : List Call) → s.needs talk ≡ Nothing → s.answers talk get ≡ g.Wait → ⊥
   -- bytes by which something is needed are taken; one thing is, or the write is undone
-  pub taken : (talk : List Call) (b : List ℕ) → s.needs talk ≡ Nothing → needs_any (s.needs (give b ∷ talk)) ≡ true → is_taken (s.answers talk (give b)) ≡ true
-  pub one : (talk : List Call) (b : List ℕ) (call : Call) → s.needs talk ≡ Nothing → meets (s.needs (give b ∷ talk)) call ≡ true → is_sought (s.needs (call ∷ give b ∷ talk)) ≡ false
-  pub undoes : (talk : List Call) (b : List ℕ) → s.needs talk ≡ Nothing → is_sought (s.needs (give b ∷ talk)) ≡ true → s.needs (undone ∷ give b ∷ talk) ≡ Nothing
-  pub unended : (talk : List Call) (b : List ℕ) → s.needs talk ≡ Nothing → is_sought (s.needs (give b ∷ talk)) ≡ true → s.ends (undone ∷ give b ∷ talk) ≡ s.ends talk
+  pub taken : (talk : List Call) (b : List ℕ) → s.needs talk ≡ Nothing → needs_any (s.needs (give b ∷ talk)) ≡ true
+      → is_taken (s.answers talk (give b)) ≡ true
+  pub one : (talk : List Call) (b : List ℕ) (call : Call) → s.needs talk ≡ Nothing
+      → meets (s.needs (give b ∷ talk)) call ≡ true → is_sought (s.needs (call ∷ give b ∷ talk)) ≡ false
+  pub undoes : (talk : List Call) (b : List ℕ) → s.needs talk ≡ Nothing → is_sought (s.needs (give b ∷ talk)) ≡ true
+      → s.needs (undone ∷ give b ∷ talk) ≡ Nothing
+  pub unended : (talk : List Call) (b : List ℕ) → s.needs talk ≡ Nothing → is_sought (s.needs (give b ∷ talk)) ≡ true
+      → s.ends (undone ∷ give b ∷ talk) ≡ s.ends talk
   -- what is found is taken
   pub met : (talk : List Call) (call : Call) → meets (s.needs talk) call ≡ true → is_taken (s.answers talk call) ≡ true
   -- behind an answer of the authentication server nothing is needed

@@ -1,5 +1,5 @@
--- The setting of the record of a network: how each of its conversations started and what met its needs, read off the history
--- of its agent, and what the lines of the authentication server's tables say.
+-- The setting of the record of a network: how each of its conversations started and what met its needs, read off the
+-- history of its agent, and what the lines of the authentication server's tables say.
 use Rattle.std.specs.Prelude.{ℕ, List, [], ◌∷◌, map, Option, Some, None, option_map, if◌then◌else◌}
 use Rattle.std.specs.Str.{bytes_eq}
 use Rattle.auth_tables.specs.Lines.{counted}
@@ -21,7 +21,11 @@ abbrev pub merged : List SpeakLine → List SpeakLine
 merged lines = map (λ line. (line.0, names_in lines line.0)) lines
 
 abbrev pub server_of : List Act → Server
-server_of acts = record { dom = domain acts; keys = keys_in (counted (key_lines acts)); speaks = merged (speaks_in (counted (speak_lines acts))) }
+server_of acts = record {
+  dom = domain acts;
+  keys = keys_in (counted (key_lines acts));
+  speaks = merged (speaks_in (counted (speak_lines acts)));
+}
 
 -- ---- conversations
 
@@ -33,7 +37,9 @@ pub record Place : Type 0 where
 -- of a conversation of a name, closed or not
 abbrev pub place_of : List Act → List ℕ → Option Place
 place_of [] conv = None
-place_of (Opened node name ∷ before) conv = if bytes_eq name conv then Some (record { node = node; number = opened_talks (deeds (history before node)) }) else place_of before conv
+place_of (Opened node name ∷ before) conv =
+    if bytes_eq name conv then Some (record { node = node; number = opened_talks (deeds (history before node)) })
+    else place_of before conv
 place_of (act ∷ before) conv = place_of before conv
 
 -- how it stands

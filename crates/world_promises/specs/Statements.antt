@@ -1,6 +1,6 @@
--- What is promised of every script: of each front of its record, the newest step first, and of its setting, under every reading
--- of words as terms and every labelling under which that front is clean. So it is promised of a run that was cut short, and of
--- what was recorded before a step that isn't clean.
+-- What is promised of every script: of each front of its record, the newest step first, and of its setting, under
+-- every reading of words as terms and every labelling under which that front is clean. So it is promised of a run
+-- that was cut short, and of what was recorded before a step that isn't clean.
 use Rattle.std.specs.Prelude.{◌≡◌, ℕ, ◌≤◌, List, ◌++◌, length, reverse}
 use Rattle.symbolic_runs.specs.Spellings.{Atoms}
 use Rattle.wire_histories.specs.Histories.{History}
@@ -19,19 +19,21 @@ IsFront later past script = later ++ past ≡ reverse (world script)
 
 -- each front of the record of a script that is no longer than one may be is one that a network can have
 abbrev pub FrontsAreLegal : List ℕ → Type 0
-FrontsAreLegal script = (later past : History) → length script ≤ most_script → IsFront later past script → IsLegal past (setting (play script).acts)
+FrontsAreLegal script = (later past : History) → length script ≤ most_script → IsFront later past script
+    → IsLegal past (setting (play script).acts)
 
 -- this holds of each front of such a record that is clean
 abbrev pub OfCleanScript : (History → Setting → Atoms → Labelling → Type 0) → List ℕ → Type 0
-OfCleanScript P script = (later past : History) (atoms : Atoms) (l : Labelling) → length script ≤ most_script → IsFront later past script
+OfCleanScript P script =
+    (later past : History) (atoms : Atoms) (l : Labelling) → length script ≤ most_script → IsFront later past script
     → IsClean past (setting (play script).acts) atoms l → P past (setting (play script).acts) atoms l
 
 abbrev pub OfEveryCleanScript : (History → Setting → Atoms → Labelling → Type 0) → Type 0
 OfEveryCleanScript P = (script : List ℕ) → OfCleanScript P script
 
--- all that is promised of one script: each front of its record is one that a network can have; where it is clean it is a
--- symbolic run, and each message that it gives is spelled by its label; no uncompromised secret derives from what the network
--- saw; each acceptance has its partner; and no ticket serves twice
+-- all that is promised of one script: each front of its record is one that a network can have; where it is clean it
+-- is a symbolic run, and each message that it gives is spelled by its label; no uncompromised secret derives from
+-- what the network saw; each acceptance has its partner; and no ticket serves twice
 pub record IsPromised (script : List ℕ) : Type 0 where
   pub legal : FrontsAreLegal script
   pub bridged : OfCleanScript IsBridged script

@@ -1,5 +1,6 @@
--- What the record tells of a request of a conversation, by how the conversation stood before and stands now: the same rules as
--- those by which steps are read off replies, in the words of a conversation's acts. The newest act comes first.
+-- What the record tells of a request of a conversation, by how the conversation stood before and stands now: the same
+-- rules as those by which steps are read off replies, in the words of a conversation's acts. The newest act comes
+-- first.
 use Rattle.std.specs.Prelude.{◌≡◌, ℕ, List, [], ◌∷◌, ◌++◌, drop, Bool, true, false, not, ◌&&◌, codes, Option, Some, None, is_some, if◌then◌else◌}
 use Rattle.std.specs.Str.{bytes_eq}
 use Rattle.key_lists.specs.CtlLines.{few_of}
@@ -58,7 +59,10 @@ is_taken_in phase = true
 
 -- the request itself: the conversation has started, or took the bytes
 abbrev pub own_acts : List ℕ → RpcRequest → Standing → Standing → List Act
-own_acts word (rpc.starts text) before now = if not (is_some (outcome_of before)) && is_some (outcome_of now) then started_by (start_with (tuple_in (few_of text)) word) ∷ [] else []
+own_acts word (rpc.starts text) before now =
+    if not (is_some (outcome_of before)) && is_some (outcome_of now)
+    then started_by (start_with (tuple_in (few_of text)) word) ∷ []
+    else []
 own_acts word (rpc.writes message) before now = if is_taken_in now.phase then took message ∷ [] else []
 own_acts word request before now = []
 
@@ -99,7 +103,9 @@ pub data Searches : Standing → Standing → Type 0 where
   -- nothing is
   rests : {now : Standing} → (now.phase ≡ Seeking → ⊥) → Searches now now
   -- this is found, which is what is needed
-  finds : {before : Standing} {now : Standing} (came : Found) → before.phase ≡ Seeking → is_for (need_in before.begun) came ≡ true → asks_nobody came ≡ true → Searches (sought before came) now → Searches before now
+  finds : {before : Standing} {now : Standing} (came : Found) → before.phase ≡ Seeking
+      → is_for (need_in before.begun) came ≡ true → asks_nobody came ≡ true → Searches (sought before came) now
+      → Searches before now
 
 -- ---- the laws
 
@@ -112,8 +118,14 @@ is_driven request = false
 
 -- it leaves in the talk of its conversation what is recorded of it
 abbrev pub RequestsLeave : Type 0
-RequestsLeave = (begun : Option Begun) (said : Said) (word : List ℕ) (request : RpcRequest) (now : Standing) → need_in begun ≡ Nothing → is_driven request ≡ true → Searches (carried_out (idle begun (Waiting request) said) word request) now → acts_in now.begun ≡ request_acts word request (idle begun (Waiting request) said) now ++ acts_in begun
+RequestsLeave = (begun : Option Begun) (said : Said) (word : List ℕ) (request : RpcRequest) (now : Standing)
+    → need_in begun ≡ Nothing → is_driven request ≡ true
+    → Searches (carried_out (idle begun (Waiting request) said) word request) now
+    → acts_in now.begun ≡ request_acts word request (idle begun (Waiting request) said) now ++ acts_in begun
 
 -- so do an answer of the authentication server to a question, and its absence
 abbrev pub AnswersLeave : Move → Act → Type 0
-AnswersLeave call act = (b : Begun) (starting : Bool) (said : Said) → is_asked (needs b.start b.moves) ≡ true → acts_in (made (on_server b starting said) call (Some b)).begun ≡ answer_recorded act (on_server b starting said) (made (on_server b starting said) call (Some b)) ++ acts_in (Some b)
+AnswersLeave call act = (b : Begun) (starting : Bool) (said : Said) → is_asked (needs b.start b.moves) ≡ true
+    → acts_in (made (on_server b starting said) call (Some b)).begun
+    ≡ answer_recorded act (on_server b starting said) (made (on_server b starting said) call (Some b))
+    ++ acts_in (Some b)

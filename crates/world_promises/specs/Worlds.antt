@@ -20,11 +20,13 @@ pub record IsSeated (acts : List Act) (conv : List ℕ) (t : Talk) (place : Plac
   pub node : t.node ≡ place.node
   pub seat : conv_of (deeds (history acts t.node)) 0 t.fid ≡ Some place.number
   -- its question that is outstanding is one of the agent's
-  pub asks : (call : ℕ) → outstanding acts conv ≡ Some call → asker (deeds (history acts t.node)) call ≡ Some place.number
+  pub asks : (call : ℕ) → outstanding acts conv ≡ Some call
+      → asker (deeds (history acts t.node)) call ≡ Some place.number
 
 pub record AreSeated (acts : List Act) : Type 0 where
   pub idle : (node : List ℕ) → is_node acts node ≡ true → IsIdle (history acts node)
-  pub seats : (conv : List ℕ) (t : Talk) (place : Place) → talk_of acts conv ≡ Some t → place_of acts conv ≡ Some place → IsSeated acts conv t place
+  pub seats : (conv : List ℕ) (t : Talk) (place : Place) → talk_of acts conv ≡ Some t → place_of acts conv ≡ Some place
+      → IsSeated acts conv t place
 
 -- ---- the laws
 
@@ -47,4 +49,5 @@ ScriptsRun = (script : List ℕ) → length script ≤ most_script → AllRun (p
 
 -- so its record is legal
 abbrev pub ScriptsAreLegal : Type 0
-ScriptsAreLegal = (script : List ℕ) → length script ≤ most_script → IsLegal (reverse (world script)) (setting (play script).acts)
+ScriptsAreLegal = (script : List ℕ) → length script ≤ most_script
+    → IsLegal (reverse (world script)) (setting (play script).acts)

@@ -24,16 +24,19 @@ looked_up found = record { node = found.node; fid = found.fid; call = found.call
 
 abbrev pub FindsSo : List (List ℕ × Option Talk) → List ℕ → Result Found Stop → Type 0
 FindsSo talks conv (Ok found) = still_open (lookup (bytes_eq conv) talks) ≡ Some (looked_up found)
-FindsSo talks conv (Err (stop.Refused cause)) = (cause ≡ UnknownConv) × (still_open (lookup (bytes_eq conv) talks) ≡ None)
+FindsSo talks conv (Err (stop.Refused cause)) =
+    (cause ≡ UnknownConv) × (still_open (lookup (bytes_eq conv) talks) ≡ None)
 FindsSo talks conv (Err stop.NoMemory) = Unit {0}
 
 abbrev pub SpellsSo : List Step → List Piece → Result (List ℕ) Stop → Type 0
 SpellsSo recorded pieces (Ok bytes) = spelled (messages_in recorded) pieces ≡ Some bytes
-SpellsSo recorded pieces (Err (stop.Refused cause)) = (cause ≡ NoSuchMessage) × (spelled (messages_in recorded) pieces ≡ None)
+SpellsSo recorded pieces (Err (stop.Refused cause)) =
+    (cause ≡ NoSuchMessage) × (spelled (messages_in recorded) pieces ≡ None)
 SpellsSo recorded pieces (Err stop.NoMemory) = Unit {0}
 
 -- a node that was made is never refused
 abbrev pub TakesSo : List ℕ → Turn → Nodes → List Step → Result Turned Stop → Nodes → Type 0
-TakesSo node turn old recorded (Ok turned) new = (v : View) → NodesAre v old → v.is node ≡ true → TurnsTo (length (messages_in recorded)) node turn v turned new
+TakesSo node turn old recorded (Ok turned) new =
+    (v : View) → NodesAre v old → v.is node ≡ true → TurnsTo (length (messages_in recorded)) node turn v turned new
 TakesSo node turn old recorded (Err (stop.Refused cause)) new = (v : View) → NodesAre v old → v.is node ≡ true → ⊥
 TakesSo node turn old recorded (Err stop.NoMemory) new = Unit {0}

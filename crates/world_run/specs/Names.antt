@@ -15,7 +15,9 @@ put_under name value entries other = if bytes_eq name other then Some value else
 
 -- what a name finds once what stands under a name was changed
 abbrev pub changed_under : {X : Type 0} → List ℕ → (X → X) → List (List ℕ × X) → List ℕ → Option X
-changed_under name change entries other = if bytes_eq name other then option_map change (lookup (bytes_eq other) entries) else lookup (bytes_eq other) entries
+changed_under name change entries other =
+    if bytes_eq name other then option_map change (lookup (bytes_eq other) entries)
+    else lookup (bytes_eq other) entries
 
 -- a conversation with a question outstanding, or none
 abbrev pub with_call : Option ℕ → Talk → Talk

@@ -1,5 +1,5 @@
--- What carrying out lines one after the other comes to. This serves proofs alone. Content is optional: the words on what was
--- written hold where it is told.
+-- What carrying out lines one after the other comes to. This serves proofs alone. Content is optional: the words on
+-- what was written hold where it is told.
 use Rattle.std.specs.Prelude.{◌≡◌, ℕ, List, ◌∷◌, ◌++◌, Bool, true, false, Option, Some, None, Ok, Err}
 use Rattle.std.specs.List.{flat_map}
 use Rattle.wire_streams.specs.Streams.{Gains}
@@ -19,7 +19,8 @@ use Rattle.world_run.specs.Runs.{RunsFrom, is_fault}
 use Rattle.world_run.specs.Standing.{Stands}
 
 -- a line was carried out, and all of its steps were recorded and written
-pub record Goes (line : Numbered) (left : List Numbered) (acts : List Act) (new : Run) (old : List Step) (before now : Option (List ℕ)) : Type 0 where
+pub record Goes (line : Numbered) (left : List Numbered) (acts : List Act) (new : Run) (old : List Step)
+    (before now : Option (List ℕ)) : Type 0 where
   pub act : Act
   pub fits : judged acts (line_of line.text) ≡ Ok act
   pub stands : Stands left (act ∷ acts) new
@@ -32,11 +33,14 @@ abbrev pub EndsBy : WorldEnd → Played → List Step → List Step → Option (
 EndsBy end played old new before now = RunsFrom end played old new before now
 
 abbrev pub PlaysOne : Numbered → Run → Option WorldEnd → Run → Option (List ℕ) → Option (List ℕ) → Type 0
-PlaysOne line old None new before now = (left : List Numbered) (acts : List Act) → Stands (line ∷ left) acts old → Goes line left acts new old.recorded before now
-PlaysOne line old (Some end) new before now = (left : List Numbered) (acts : List Act) → Stands (line ∷ left) acts old → EndsBy end (plays acts (line ∷ left)) old.recorded new.recorded before now
+PlaysOne line old None new before now = (left : List Numbered) (acts : List Act) → Stands (line ∷ left) acts old
+    → Goes line left acts new old.recorded before now
+PlaysOne line old (Some end) new before now = (left : List Numbered) (acts : List Act) → Stands (line ∷ left) acts old
+    → EndsBy end (plays acts (line ∷ left)) old.recorded new.recorded before now
 
 abbrev pub PlaysAll : List Numbered → Run → WorldEnd → Run → Option (List ℕ) → Option (List ℕ) → Type 0
-PlaysAll lines old end new before now = (acts : List Act) → Stands lines acts old → EndsBy end (plays acts lines) old.recorded new.recorded before now
+PlaysAll lines old end new before now =
+    (acts : List Act) → Stands lines acts old → EndsBy end (plays acts lines) old.recorded new.recorded before now
 
 -- a write failed
 abbrev pub write_failed : Option WorldEnd → Bool

@@ -1,5 +1,5 @@
--- What a run of a script has recorded and written when it ends. Content is optional: the words on what was written hold where
--- it is told.
+-- What a run of a script has recorded and written when it ends. Content is optional: the words on what was written
+-- hold where it is told.
 use Rattle.std.specs.Prelude.{◌≡◌, ℕ, List, [], ◌++◌, Bool, true, false, Option, Some, None}
 use Rattle.wire_streams.specs.Streams.{Gains}
 use Rattle.wire_histories.specs.declared.step.Step.{Step}
@@ -18,7 +18,8 @@ pub record RunsAll (played : Played) (old new : List Step) (before now : Option 
   pub all : new ≡ steps played.acts
   pub written : Gains before now (lines_of more)
 
--- the first of them were recorded, and of their lines a front was written where a write failed, and all where memory ran out
+-- the first of them were recorded, and of their lines a front was written where a write failed, and all where memory
+-- ran out
 pub record RunsPart (cut : Cut) (played : Played) (old new : List Step) (before now : Option (List ℕ)) : Type 0 where
   pub more : List Step
   pub recorded : new ≡ old ++ more
@@ -29,7 +30,8 @@ pub record RunsPart (cut : Cut) (played : Played) (old new : List Step) (before 
 -- a run that ended so behind what was recorded, where the lines that were left come to this
 abbrev pub RunsFrom : WorldEnd → Played → List Step → List Step → Option (List ℕ) → Option (List ℕ) → Type 0
 RunsFrom Done played old new before now = (played.refused ≡ None) × RunsAll played old new before now
-RunsFrom (Bad line cause) played old new before now = (played.refused ≡ Some (line, cause)) × RunsAll played old new before now
+RunsFrom (Bad line cause) played old new before now =
+    (played.refused ≡ Some (line, cause)) × RunsAll played old new before now
 RunsFrom WriteFault played old new before now = RunsPart cut.WriteFault played old new before now
 RunsFrom NoMemory played old new before now = RunsPart cut.NoMemory played old new before now
 

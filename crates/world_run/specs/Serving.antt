@@ -10,5 +10,6 @@ end_if session ends = if ends then AsEnd session ∷ [] else []
 
 abbrev pub served_steps : ℕ → List ℕ → List ℕ → List (List ℕ) → Served → List ℕ → List Step
 served_steps number session request words served.Refused answer = []
-served_steps number session request words (served.Answered ends) answer = AsGot session request words ∷ AsGave number session answer ∷ end_if session ends
+served_steps number session request words (served.Answered ends) answer =
+    AsGot session request words ∷ AsGave number session answer ∷ end_if session ends
 served_steps number session request words served.Ended answer = AsGot session request words ∷ AsEnd session ∷ []

@@ -1,5 +1,5 @@
--- What the sessions of an authentication server are by their names, and what a request to one comes to. This serves proofs
--- alone.
+-- What the sessions of an authentication server are by their names, and what a request to one comes to. This serves
+-- proofs alone.
 use Rattle.std.specs.Prelude.{◌≡◌, ℕ, List, [], ◌∷◌, ◌++◌, length, Bool, true, false, not, ◌&&◌, ◌||◌, ◌==◌, Option, Some, None, if◌then◌else◌}
 use Rattle.std.specs.Map.{lookup}
 use Rattle.std.specs.Str.{bytes_eq}
@@ -44,7 +44,8 @@ ClientIs known requests misasked None = IsNew requests misasked
 ClientIs known requests misasked (Some client) = IsClient known requests misasked client
 
 abbrev pub ClientsAre : Knowledge → View → List (List ℕ × Client) → Type 0
-ClientsAre known v clients = (name : List ℕ) → ClientIs known (v.requests name) (v.misasked name) (lookup (bytes_eq name) clients)
+ClientsAre known v clients =
+    (name : List ℕ) → ClientIs known (v.requests name) (v.misasked name) (lookup (bytes_eq name) clients)
 
 -- ---- what happens
 
@@ -66,50 +67,61 @@ misasked name v = record {
 
 -- a request isn't one: it is empty, or is of a kind that is served and hasn't its length
 abbrev pub is_misshaped : Knowledge → List Asked → List ℕ → Bool
-is_misshaped known requests request = length request == 0 || (is_served (kind_of request) && not (has_length (length request) (needed (held known requests) (kind_of request))))
+is_misshaped known requests request = length request == 0
+    || (is_served (kind_of request)
+    && not (has_length (length request) (needed (held known requests) (kind_of request))))
 
 -- what a request is to a session
 abbrev pub FitsSo : Knowledge → List Asked → List ℕ → Fit → Type 0
 FitsSo known requests request fit.Unfit = is_misshaped known requests request ≡ true
-FitsSo known requests request fit.Unserved = (is_misshaped known requests request ≡ false) × (is_served (kind_of request) ≡ false)
-FitsSo known requests request fit.Served = (is_misshaped known requests request ≡ false) × (is_served (kind_of request) ≡ true)
+FitsSo known requests request fit.Unserved =
+    (is_misshaped known requests request ≡ false) × (is_served (kind_of request) ≡ false)
+FitsSo known requests request fit.Served =
+    (is_misshaped known requests request ≡ false) × (is_served (kind_of request) ≡ true)
 
 -- a session that stands so takes no such request
 abbrev pub is_refused : Knowledge → List Asked → Bool → List ℕ → Bool
 is_refused known requests misasked request = has_ended known misasked requests || is_misshaped known requests request
 
 -- what one session makes of a request
-pub record OneAnswers (known : Knowledge) (requests : List Asked) (misasked : Bool) (asked : Asked) (over : Bool) (old new : List ℕ) (left : Client) : Type 0 where
+pub record OneAnswers (known : Knowledge) (requests : List Asked) (misasked : Bool) (asked : Asked) (over : Bool)
+    (old new : List ℕ) (left : Client) : Type 0 where
   pub fits : is_refused known requests misasked asked.request ≡ false
   pub served : is_served (kind_of asked.request) ≡ true
   pub put : new ≡ old ++ answer known requests asked
   pub ends : over ≡ is_over known (asked ∷ requests)
   pub client : IsClient known (asked ∷ requests) misasked left
 
-pub record OneEnds (known : Knowledge) (requests : List Asked) (misasked : Bool) (asked : Asked) (left : Client) : Type 0 where
+pub record OneEnds (known : Knowledge) (requests : List Asked) (misasked : Bool) (asked : Asked)
+    (left : Client) : Type 0 where
   pub fits : is_refused known requests misasked asked.request ≡ false
   pub served : is_served (kind_of asked.request) ≡ false
   pub client : IsClient known requests true left
 
 abbrev pub OneServes : Knowledge → List Asked → Bool → Asked → Served → List ℕ → List ℕ → Client → Type 0
-OneServes known requests misasked asked served.Refused old new client = is_refused known requests misasked asked.request ≡ true
-OneServes known requests misasked asked (served.Answered ends) old new client = OneAnswers known requests misasked asked ends old new client
+OneServes known requests misasked asked served.Refused old new client =
+    is_refused known requests misasked asked.request ≡ true
+OneServes known requests misasked asked (served.Answered ends) old new client =
+    OneAnswers known requests misasked asked ends old new client
 OneServes known requests misasked asked served.Ended old new client = OneEnds known requests misasked asked client
 
 -- the same among others, by its name
-pub record Answers (known : Knowledge) (v : View) (name : List ℕ) (asked : Asked) (over : Bool) (old new : List ℕ) (left : List (List ℕ × Client)) : Type 0 where
+pub record Answers (known : Knowledge) (v : View) (name : List ℕ) (asked : Asked) (over : Bool) (old new : List ℕ)
+    (left : List (List ℕ × Client)) : Type 0 where
   pub fits : is_refused known (v.requests name) (v.misasked name) asked.request ≡ false
   pub served : is_served (kind_of asked.request) ≡ true
   pub put : new ≡ old ++ answer known (v.requests name) asked
   pub ends : over ≡ is_over known (asked ∷ v.requests name)
   pub clients : ClientsAre known (answered name asked v) left
 
-pub record Ends (known : Knowledge) (v : View) (name : List ℕ) (asked : Asked) (left : List (List ℕ × Client)) : Type 0 where
+pub record Ends (known : Knowledge) (v : View) (name : List ℕ) (asked : Asked)
+    (left : List (List ℕ × Client)) : Type 0 where
   pub fits : is_refused known (v.requests name) (v.misasked name) asked.request ≡ false
   pub served : is_served (kind_of asked.request) ≡ false
   pub clients : ClientsAre known (misasked name v) left
 
 abbrev pub ServesSo : Knowledge → View → List ℕ → Asked → Served → List ℕ → List ℕ → List (List ℕ × Client) → Type 0
-ServesSo known v name asked served.Refused old new clients = is_refused known (v.requests name) (v.misasked name) asked.request ≡ true
+ServesSo known v name asked served.Refused old new clients =
+    is_refused known (v.requests name) (v.misasked name) asked.request ≡ true
 ServesSo known v name asked (served.Answered ends) old new clients = Answers known v name asked ends old new clients
 ServesSo known v name asked served.Ended old new clients = Ends known v name asked clients

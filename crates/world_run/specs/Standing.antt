@@ -30,7 +30,11 @@ use Rattle.world_run.specs.declared.stops.Stop.TheVariants as stop
 -- ---- what is known by name
 
 abbrev pub nodes_by : List Act → n.View
-nodes_by acts = record { is = λ name. is_node acts name; history = λ name. history acts name; held = λ name. conv_on name (talks acts) }
+nodes_by acts = record {
+  is = λ name. is_node acts name;
+  history = λ name. history acts name;
+  held = λ name. conv_on name (talks acts);
+}
 
 abbrev pub sessions_by : List Act → s.View
 sessions_by acts = record { requests = λ name. requests acts name; misasked = λ name. was_misasked acts name }
@@ -63,7 +67,8 @@ Stands left acts run = StandsWith left acts (steps acts) run
 -- ---- a line
 
 -- it was carried out, and its steps are to be recorded
-pub record IsDone (left : List Numbered) (acts : List Act) (line : Option ScriptLine) (made_steps : List Step) (run : Run) : Type 0 where
+pub record IsDone (left : List Numbered) (acts : List Act) (line : Option ScriptLine) (made_steps : List Step)
+    (run : Run) : Type 0 where
   pub act : Act
   pub fits : judged acts line ≡ Ok act
   pub made : made_steps ≡ steps_by (length (messages acts)) acts act
@@ -76,11 +81,13 @@ Comes left acts line (Err stop.NoMemory) run = Unit {0}
 
 -- what a run comes to by a text
 abbrev pub CarriesText : List ℕ → Run → Result (Vec Step) Stop → Run → Type 0
-CarriesText text old result new = (number : ℕ) (left : List Numbered) (acts : List Act) → Stands (record { number = number; text = text } ∷ left) acts old → Comes left acts (line_of text) result new
+CarriesText text old result new = (number : ℕ) (left : List Numbered) (acts : List Act)
+    → Stands (record { number = number; text = text } ∷ left) acts old → Comes left acts (line_of text) result new
 
 -- and by a line, whatever text it is read off
 abbrev pub Carries : ScriptLine → Run → Result (Vec Step) Stop → Run → Type 0
-Carries line old result new = (before : Numbered) (left : List Numbered) (acts : List Act) → line_of before.text ≡ Some line → Stands (before ∷ left) acts old → Comes left acts (Some line) result new
+Carries line old result new = (before : Numbered) (left : List Numbered) (acts : List Act)
+    → line_of before.text ≡ Some line → Stands (before ∷ left) acts old → Comes left acts (Some line) result new
 
 -- what its parts that are written to an agent are bounded by
 abbrev pub IsShort : ScriptLine → Type 0
@@ -102,8 +109,12 @@ pub record IsAskedBy (acts : List Act) (line : Option ScriptLine) (conv : List �
   pub closed : is_some (talk_of acts conv) ≡ false → judged acts line ≡ Err UnknownConv
 
 abbrev pub Asked : List ℕ → Asks → Run → Result (Vec Step) Stop → Run → Type 0
-Asked conv what old result new = (before : Numbered) (left : List Numbered) (acts : List Act) → IsAskedBy acts (line_of before.text) conv what → Stands (before ∷ left) acts old → Comes left acts (line_of before.text) result new
+Asked conv what old result new = (before : Numbered) (left : List Numbered) (acts : List Act)
+    → IsAskedBy acts (line_of before.text) conv what → Stands (before ∷ left) acts old
+    → Comes left acts (line_of before.text) result new
 
 -- the same of one that was looked up
 abbrev pub AskedIt : Found → List ℕ → Asks → Run → Result (Vec Step) Stop → Run → Type 0
-AskedIt found conv what old result new = (before : Numbered) (left : List Numbered) (acts : List Act) → IsOpen acts conv found.node found.fid found.call → judged acts (line_of before.text) ≡ Ok (act_for conv what) → Stands (before ∷ left) acts old → Comes left acts (line_of before.text) result new
+AskedIt found conv what old result new = (before : Numbered) (left : List Numbered) (acts : List Act)
+    → IsOpen acts conv found.node found.fid found.call → judged acts (line_of before.text) ≡ Ok (act_for conv what)
+    → Stands (before ∷ left) acts old → Comes left acts (line_of before.text) result new

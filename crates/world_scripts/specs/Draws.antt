@@ -1,5 +1,5 @@
--- Random words of eight bytes out of a number: the generator ChaCha20 (RFC 8439), made of the number as rand_core makes one
--- of a u64, gives 32 bits at a time, and two of these make a word.
+-- Random words of eight bytes out of a number: the generator ChaCha20 (RFC 8439), made of the number as rand_core
+-- makes one of a u64, gives 32 bits at a time, and two of these make a word.
 use Rattle.std.specs.Prelude.{ℕ, zero, suc, List, [], ◌∷◌, ◌++◌}
 use Rattle.std.specs.Int.{w32, to_le_bytes}
 use Rattle.rand_core.specs.Pcg32Seed.{pcg32_seed}

@@ -20,13 +20,19 @@ lines_text lines = flat_map line lines
 abbrev pub word : ℕ → List (List ℕ) → List ℕ
 word n words = slice_index_or words n []
 
--- how many words a round draws, and what they are for: the start of the client, that of the server, and the three of the
--- authentication server
+-- how many words a round draws, and what they are for: the start of the client, that of the server, and the three of
+-- the authentication server
 abbrev pub words_of_round : ℕ
 words_of_round = 5
 
 abbrev pub drawn : List (List ℕ) → Drawn
-drawn words = record { client = word 0 words; server = word 1 words; first = word 2 words; second = word 3 words; third = word 4 words }
+drawn words = record {
+  client = word 0 words;
+  server = word 1 words;
+  first = word 2 words;
+  second = word 3 words;
+  third = word 4 words;
+}
 
 -- ---- the script
 
@@ -40,13 +46,15 @@ opening =
     ∷ Ctl (codes "b") (codes "key proto=p9sk1 dom=x user=srv !password=srvpass")
     ∷ []
 
--- so many rounds from this one on, where the first message of the round before it and its own have these numbers, by the words
--- that are left
+-- so many rounds from this one on, where the first message of the round before it and its own have these numbers, by
+-- the words that are left
 abbrev pub rounds_from : ℕ → ℕ → ℕ → ℕ → List (List ℕ) → List ScriptLine
 rounds_from zero round before first words = []
 rounds_from (suc n) round before first words =
-    round_lines round before first (drawn words) ++ rounds_from n (round + 1) first (first + recorded (kind_of round)) (drop 5 words)
+    round_lines round before first (drawn words)
+    ++ rounds_from n (round + 1) first (first + recorded (kind_of round)) (drop 5 words)
 
 -- the script of a number
 unfoldable pub gen_text : ℕ → ℕ → List ℕ
-gen_text number rounds = lines_text (opening ++ rounds_from rounds 0 0 0 (draws (words_of_round * rounds) (generator_of number)))
+gen_text number rounds =
+    lines_text (opening ++ rounds_from rounds 0 0 0 (draws (words_of_round * rounds) (generator_of number)))

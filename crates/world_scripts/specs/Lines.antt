@@ -1,5 +1,5 @@
--- The lines of a script: what each says, and how it is written. Words have one blank between. A name is 1 to 16 of `a` to
--- `z` and `0` to `9`; a word of random bytes is 16 hexadecimal digits in lower case.
+-- The lines of a script: what each says, and how it is written. Words have one blank between. A name is 1 to 16 of
+-- `a` to `z` and `0` to `9`; a word of random bytes is 16 hexadecimal digits in lower case.
 use Rattle.std.specs.Prelude.{◌≡◌, ℕ, List, ◌∷◌, ◌++◌, Bool, true, ◌&&◌, ◌||◌, ◌==◌, nat_le, nat_lt, length, codes}
 use Rattle.std.specs.List.{list_all}
 use Rattle.hex.specs.Hex.{encode_lower}
@@ -47,7 +47,9 @@ line_text (Write conv pieces) = codes "write" ++ word (conv ++ word (pieces_text
 line_text (Answer conv pieces) = codes "answer" ++ word (conv ++ word (pieces_text pieces))
 line_text (NoAnswer conv) = codes "noanswer" ++ word conv
 line_text (AsGive session pieces first second third) =
-    codes "asgive" ++ word (session ++ word (pieces_text pieces ++ word (encode_lower first ++ word (encode_lower second ++ word (encode_lower third)))))
+    codes "asgive" ++ word
+    (session ++ word (pieces_text pieces
+    ++ word (encode_lower first ++ word (encode_lower second ++ word (encode_lower third)))))
 line_text (Close conv) = codes "close" ++ word conv
 
 -- ---- which lines can be written
@@ -80,7 +82,8 @@ is_formed (Read conv) = is_name conv
 is_formed (Write conv pieces) = is_name conv && are_pieces pieces
 is_formed (Answer conv pieces) = is_name conv && are_pieces pieces
 is_formed (NoAnswer conv) = is_name conv
-is_formed (AsGive session pieces first second third) = is_name session && (are_pieces pieces && (is_random first && (is_random second && is_random third)))
+is_formed (AsGive session pieces first second third) =
+    is_name session && (are_pieces pieces && (is_random first && (is_random second && is_random third)))
 is_formed (Close conv) = is_name conv
 
 -- a text is that of a line that can be written

@@ -1,6 +1,6 @@
--- Bytes as a script writes them: pieces joined by `+`. A piece is `x` and hexadecimal digits in either case, `m` and the
--- number of a message, or `m` and the number of a message, the place of a byte of it and how many bytes from there on.
--- Numbers are decimal without zeros in front, and below 2^32.
+-- Bytes as a script writes them: pieces joined by `+`. A piece is `x` and hexadecimal digits in either case, `m` and
+-- the number of a message, or `m` and the number of a message, the place of a byte of it and how many bytes from
+-- there on. Numbers are decimal without zeros in front, and below 2^32.
 use Rattle.std.specs.Prelude.{ℕ, ◌^◌, ◌%◌, List, ◌∷◌, ◌++◌, Bool, ◌&&◌, ◌||◌, ◌==◌, nat_le, nat_lt, length, map}
 use Rattle.std.specs.List.{list_all, join_with_byte}
 use Rattle.std.specs.Fmt.{decimal}

@@ -1,5 +1,5 @@
--- How a line is read, from the left. What a text is read as and how a line is written are given apart; that they agree is
--- a law.
+-- How a line is read, from the left. What a text is read as and how a line is written are given apart; that they
+-- agree is a law.
 use Rattle.std.specs.Prelude.{ℕ, ◌+◌, ◌-◌, ◌*◌, ◌^◌, List, [], ◌∷◌, Bool, true, ◌&&◌, ◌||◌, ◌==◌, nat_le, nat_lt, length, Option, Some, None, option_map, codes, if◌then◌else◌}
 use Rattle.std.specs.List.{find, list_all, slice_split}
 use Rattle.std.specs.Result.{result_unwrap_or}
@@ -33,7 +33,9 @@ is_lower_digit b = nat_le 48 b && nat_le b 57 || nat_le 97 b && nat_le b 102
 
 -- the eight bytes that a text spells
 abbrev pub random_of : List ℕ → Option (List ℕ)
-random_of text = if (length text == 16) && list_all is_lower_digit text then Some (result_unwrap_or (decode_of text) []) else None
+random_of text =
+    if (length text == 16) && list_all is_lower_digit text then Some (result_unwrap_or (decode_of text) [])
+    else None
 
 -- a name and what stands behind the blank behind it
 abbrev pub name_before : List ℕ → Option (List ℕ × List ℕ)
@@ -61,7 +63,9 @@ behind n (b ∷ digits) = behind (10 * n + (b - 48)) digits
 
 -- the number behind a number, where a text is digits and the number is below 2^32
 abbrev pub number_behind : ℕ → List ℕ → Option ℕ
-number_behind n text = if list_all is_decimal_digit text && nat_lt (behind n text) (2 ^ 32) then Some (behind n text) else None
+number_behind n text =
+    if list_all is_decimal_digit text && nat_lt (behind n text) (2 ^ 32) then Some (behind n text)
+    else None
 
 -- a text is empty, or begins with a zero that isn't all of it
 abbrev pub is_padded : List ℕ → Bool
@@ -129,7 +133,8 @@ verb_name v.AsGive = codes "asgive"
 verb_name v.Close = codes "close"
 
 abbrev pub verbs : List Verb
-verbs = v.Dom ∷ v.AsKey ∷ v.AsSpeak ∷ v.Node ∷ v.Ctl ∷ v.Open ∷ v.Start ∷ v.Read ∷ v.Write ∷ v.Answer ∷ v.NoAnswer ∷ v.AsGive ∷ v.Close ∷ []
+verbs = v.Dom ∷ v.AsKey ∷ v.AsSpeak ∷ v.Node ∷ v.Ctl ∷ v.Open ∷ v.Start ∷ v.Read ∷ v.Write ∷ v.Answer ∷ v.NoAnswer
+    ∷ v.AsGive ∷ v.Close ∷ []
 
 -- the verb whose name a text is
 abbrev pub verb_of : List ℕ → Option Verb

@@ -1,5 +1,5 @@
--- One round of a script that is made of random words: a conversation of each of two nodes, between which somebody carries
--- messages.
+-- One round of a script that is made of random words: a conversation of each of two nodes, between which somebody
+-- carries messages.
 use Rattle.std.specs.Prelude.{ℕ, ◌+◌, ◌%◌, List, [], ◌∷◌, ◌++◌, ◌==◌, codes, replicate, if◌then◌else◌}
 use Rattle.std.specs.Fmt.{decimal}
 use Rattle.world_scripts.specs.Pieces.{Whole, Spelled}
@@ -26,21 +26,25 @@ session_of round = name 114 round
 
 -- ---- kinds of rounds
 
--- what the server is given in the end: the client's own message, that of the round before, none since the client's question
--- isn't answered, zeros
+-- what the server is given in the end: the client's own message, that of the round before, none since the client's
+-- question isn't answered, zeros
 abbrev pub kind_of : ℕ → Kind
-kind_of round = if round % 4 == 0 then Honest else if round % 4 == 1 then Replayed else if round % 4 == 2 then Unanswered else Blank
+kind_of round =
+    if round % 4 == 0 then Honest
+    else if round % 4 == 1 then Replayed
+    else if round % 4 == 2 then Unanswered
+    else Blank
 
--- how many messages a round records: both challenges and the question; the answer and the client's message behind it; the
--- server's last one
+-- how many messages a round records: both challenges and the question; the answer and the client's message behind it;
+-- the server's last one
 abbrev pub recorded : Kind → ℕ
 recorded Honest = 6
 recorded Replayed = 5
 recorded Unanswered = 3
 recorded Blank = 5
 
--- the question of a round whose first message has this number, the authentication server's answer to it, the client's message
--- behind it, and the server's last one
+-- the question of a round whose first message has this number, the authentication server's answer to it, the client's
+-- message behind it, and the server's last one
 abbrev pub question_of : ℕ → ℕ
 question_of first = first + 2
 
@@ -99,7 +103,9 @@ zeros = replicate 170 48
 -- how it goes on, where the round before had its first message at this number
 abbrev pub middle : Kind → ℕ → ℕ → ℕ → Drawn → List ScriptLine
 middle Honest round before first drawn =
-    answering round first drawn ++ gives (server_of round) (proof_of first) ∷ Read (server_of round) ∷ gives (client_of round) (last_of first) ∷ []
+    answering round first drawn
+    ++ gives (server_of round) (proof_of first) ∷ Read (server_of round) ∷ gives (client_of round) (last_of first)
+    ∷ []
 middle Replayed round before first drawn = answering round first drawn ++ gives (server_of round) (proof_of before) ∷ []
 middle Unanswered round before first drawn = NoAnswer (client_of round) ∷ []
 middle Blank round before first drawn = answering round first drawn ++ Write (server_of round) (Spelled zeros ∷ []) ∷ []
@@ -109,4 +115,5 @@ abbrev pub ending : ℕ → List ScriptLine
 ending round = Close (client_of round) ∷ Close (server_of round) ∷ []
 
 abbrev pub round_lines : ℕ → ℕ → ℕ → Drawn → List ScriptLine
-round_lines round before first drawn = starting round drawn ++ (challenging round first ++ (middle (kind_of round) round before first drawn ++ ending round))
+round_lines round before first drawn = starting round drawn
+    ++ (challenging round first ++ (middle (kind_of round) round before first drawn ++ ending round))

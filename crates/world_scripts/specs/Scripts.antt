@@ -15,7 +15,9 @@ is_skipped (b ∷ line) = b == 35
 -- the lines that aren't skipped, the first of all having a number
 abbrev pub numbered : ℕ → List (List ℕ) → List Numbered
 numbered n [] = []
-numbered n (line ∷ lines) = if is_skipped line then numbered (n + 1) lines else record { number = n; text = line } ∷ numbered (n + 1) lines
+numbered n (line ∷ lines) =
+    if is_skipped line then numbered (n + 1) lines
+    else record { number = n; text = line } ∷ numbered (n + 1) lines
 
 -- the lines of a script, numbered from 1 on
 abbrev pub script_lines : List ℕ → List Numbered

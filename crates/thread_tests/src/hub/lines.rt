@@ -7,11 +7,13 @@ use super::{new_hub, submit};
 use agent_history::{Event, StepAnswer};
 use agent_hub::{Hub, HubSeat};
 use agent_lines::{LineEnd, serve_line};
-use wire_streams::{AtOnce, Got, MemSink, MemSource, MemWords, Offer, Offers, Put, Sink, Source, WordFault, Words};
 use std::alloc::Global;
 use std::process::Abort;
 use std::sync::Wait;
 use std::test::Fail;
+use wire_streams::{
+    AtOnce, Got, MemSink, MemSource, MemWords, Offer, Offers, Put, Sink, Source, WordFault, Words,
+};
 
 /// As many words as a connection draws here.
 const MANY: usize = 16;
