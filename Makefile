@@ -1,6 +1,6 @@
 # make alone lists what can be made.
 .POSIX:
-.PHONY: help build demo attacks test faults wakes prove bench soak install uninstall deb clean
+.PHONY: help build demo attacks test faults wakes starve prove bench soak install uninstall deb clean
 
 PREFIX = /usr/local
 VERSION = 0.1
@@ -13,6 +13,7 @@ help:
 	@echo 'make test    builds without proofs and runs every row, stored run and test: minutes'
 	@echo 'make faults  starts, floods, stops and cuts off the programs that are built, and says what was not as their pages say'
 	@echo 'make wakes   shows that no wake-up is lost, and finds wrong bodies that lose one: up to half an hour'
+	@echo 'make starve  plays sessions and scripts while one allocation fails, for each of them: some minutes'
 	@echo 'make prove   runs the gate: every proof, wrong body, test and program: over an hour from nothing'
 	@echo 'make bench   measures it and its codec beside plain C programs, the server and the ciphers beside OpenSSL'
 	@echo 'make soak    ten minutes of mixed load on two agents: no wrong reply, no growth, no thread left'
@@ -51,6 +52,10 @@ wakes:
 	@scripts/need rt python3
 	@scripts/wake_ups
 	@scripts/wakes
+
+starve:
+	@scripts/need rt python3 openssl
+	@scripts/starve
 
 prove:
 	@scripts/need rt git bash awk python3
