@@ -2,7 +2,9 @@
 //! the library; here the real input and output are opened, and the process ends with the number of how it ended.
 #![tactic(auto)]
 
-use host_edge::{Form, Program, command_words, find_asked, hold_standard, tell_asked, tell_usage};
+use host_edge::{
+    Form, Program, WordsFault, command_words, find_asked, hold_standard, tell_asked, tell_usage,
+};
 use nine_print::{ShowEnd, show};
 use std::io::Eprint;
 use std::process::ExitCode;
@@ -54,6 +56,7 @@ fn main(rt: HostRuntime) -> ExitCode {
     let _held = hold_standard(&rt);
     match command_words(&rt) {
         Ok(words) => ExitCode::from(run(&rt, words.as_slice())),
-        Err(_) => ExitCode::from(refuse(&rt, &[])),
+        Err(WordsFault::NoText) => ExitCode::from(refuse(&rt, &[])),
+        Err(WordsFault::NoMemory) => ExitCode::from(ShowEnd::NoMemory.number()),
     }
 }
