@@ -15,7 +15,7 @@ help:
 	@echo 'make wakes   shows that no wake-up is lost, and finds wrong bodies that lose one: up to half an hour'
 	@echo 'make starve  plays sessions and scripts while one allocation fails, for each of them: some minutes'
 	@echo 'make prove   runs the gate: every proof, wrong body, test and program: over an hour from nothing'
-	@echo 'make bench   measures it and its codec beside plain C programs, the server and the ciphers beside OpenSSL'
+	@echo 'make bench   measures the programs and the codec beside plain C programs, the server and the ciphers beside OpenSSL'
 	@echo 'make soak    ten minutes of mixed load on two agents: no wrong reply, no growth, no thread left'
 	@echo 'make install puts programs, manual pages and systemd units under DESTDIR and PREFIX (make uninstall removes them)'
 	@echo 'make deb     makes a package for Debian out of them, and checks it where mmdebstrap and lintian are'
@@ -66,8 +66,12 @@ prove:
 bench: build
 	@bench/pipe
 	@bench/rpc
+	@bench/lists
+	@bench/rings
 	@bench/serve
 	@bench/authsrv
+	@bench/tickets
+	@bench/gen
 	@bench/codec
 	@bench/ciphers
 
