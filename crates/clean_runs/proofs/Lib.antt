@@ -45,3 +45,6 @@ mod Taken
 mod Forms
 mod LoginLaw
 mod WordLaw
+mod ActLemmas
+mod WithinActs
+mod LegalLogin
