@@ -54,7 +54,7 @@ use Rattle.clean_runs.specs.Login.{Secrets, Word, ann, answer_bytes, choice_byte
 use Rattle.clean_runs.specs.ExampleStatements.{AreBytes, AreFresh, LoginIsLegal}
 use Rattle.clean_runs.proofs.ActLemmas as talk
 use Rattle.clean_runs.proofs.LoginLaw.{login_is_clean}
-use Rattle.clean_runs.proofs.Readings.{small}
+use Rattle.clean_runs.proofs.MailOf.{block_7, block_8, fits_ann, fits_srv, fits_x}
 use Rattle.clean_runs.proofs.WithinActs.{Comes, comes}
 
 -- ---- the login as one whose messages all arrive
@@ -63,10 +63,10 @@ abbrev words : Secrets → List (List ℕ)
 words k = word_bytes k.first ∷ word_bytes k.second ∷ word_bytes k.third ∷ []
 
 abbrev cs : Secrets → Start
-cs k = start_as (codes "client") k.client
+cs k = start_as (codes "p9any") (codes "client") k.client
 
 abbrev ss : Secrets → Start
-ss k = start_as (codes "server") k.server
+ss k = start_as (codes "p9any") (codes "server") k.server
 
 abbrev of : Secrets → Login
 of k = record {
@@ -80,24 +80,6 @@ of k = record {
   before = [];
   words = words k;
 }
-
-block_8 : (w : Word) → AreBytes (word_bytes w) → IsBlock 8 (word_bytes w)
-block_8 w h = record { whole = refl; bytes = h }
-
-block_7 : (w : Word) → AreBytes (word_bytes w) → IsBlock 7 (key_bytes w)
-block_7 w h = record { whole = refl; bytes = All-take (λ n. n < 256) 7 (word_bytes w) h }
-
-fits_ann : FitsName 28 ann
-unfolding is_text is_utf8 chars encode
-fits_ann = record { short = record { text = refl; short = omega arith }; bytes = small ann refl }
-
-fits_srv : FitsName 28 srv
-unfolding is_text is_utf8 chars encode
-fits_srv = record { short = record { text = refl; short = omega arith }; bytes = small srv refl }
-
-fits_x : FitsName 48 (codes "x")
-unfolding is_text is_utf8 chars encode
-fits_x = record { short = record { text = refl; short = omega arith }; bytes = small (codes "x") refl }
 
 is_client : (k : Secrets) → role_of (of k).client.template ≡ Server → ⊥
 unfolding role_of value_of

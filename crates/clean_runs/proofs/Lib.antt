@@ -48,3 +48,6 @@ mod WordLaw
 mod ActLemmas
 mod WithinActs
 mod LegalLogin
+mod MailOf
+mod MailClean
+mod LegalMail

@@ -11,6 +11,7 @@ use Rattle.wire_histories.specs.Legal.{IsLegal, Setting, Spoken}
 use Rattle.clean_runs.specs.Labels.{Labelling}
 use Rattle.clean_runs.specs.Clean.{IsClean}
 use Rattle.clean_runs.specs.Runs.{role_by}
+use Rattle.clean_runs.specs.MailLogin as mail
 use Rattle.clean_runs.specs.Login.{HasKey, Secrets, conv_c, conv_s, key_bytes, labelling, login, login_setting, reading, spoken, word_bytes}
 
 abbrev pub AreBytes : List ℕ → Type 0
@@ -55,6 +56,30 @@ pub record IsLegalAndClean (history : History) (z : Setting) (atoms : Atoms) (l 
 abbrev pub LoginIsLegal : Type 0
 LoginIsLegal = (k : Secrets) → AreFresh k
     → IsLegalAndClean (login k) (login_setting k (spoken k)) (reading k) labelling
+
+-- the words, keys and passwords of a login by APOP are bytes; the keys differ, those that are made up too, and so do
+-- the passwords
+pub record AreFreshInMail (k : mail.Secrets) : Type 0 where
+  pub server : AreBytes (word_bytes k.server)
+  pub client : AreBytes (word_bytes k.client)
+  pub first : AreBytes (word_bytes k.first)
+  pub second : AreBytes (word_bytes k.second)
+  pub third : AreBytes (word_bytes k.third)
+  pub fourth : AreBytes (word_bytes k.fourth)
+  pub fifth : AreBytes (word_bytes k.fifth)
+  pub sixth : AreBytes (word_bytes k.sixth)
+  pub ann_key : AreBytes (word_bytes k.ann_key)
+  pub srv_key : AreBytes (word_bytes k.srv_key)
+  pub ann_password : AreBytes k.ann_password
+  pub srv_password : AreBytes k.srv_password
+  pub keys : AreDifferent (key_bytes k.first ∷ key_bytes k.second ∷ key_bytes k.third ∷ key_bytes k.fourth
+      ∷ key_bytes k.fifth ∷ key_bytes k.sixth ∷ key_bytes k.ann_key ∷ key_bytes k.srv_key ∷ [])
+  pub passwords : AreDifferent (k.ann_password ∷ k.srv_password ∷ [])
+
+-- so is the record of such a login
+abbrev pub MailLoginIsLegal : Type 0
+MailLoginIsLegal = (k : mail.Secrets) → AreFreshInMail k
+    → IsLegalAndClean (mail.login k) (mail.setting k) (mail.reading k) mail.labelling
 
 -- a role uses the word of its start
 abbrev pub uses_word : Role → Bool

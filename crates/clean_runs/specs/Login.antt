@@ -139,9 +139,9 @@ tables k = record {
   speaks = [];
 }
 
--- what both start by: p9any in a role, with a word
-abbrev pub start_as : List ℕ → Word → Start
-start_as role word = start_with (given_as (codes "proto") (codes "p9any") ∷ given_as (codes "role") role
+-- what both start by: a protocol in a role, with a word
+abbrev pub start_as : List ℕ → List ℕ → Word → Start
+start_as protocol role word = start_with (given_as (codes "proto") protocol ∷ given_as (codes "role") role
     ∷ []) (word_bytes word)
 
 -- the key of a user in the domain
@@ -152,14 +152,14 @@ key_of user key = record { des = record { 0 = key_bytes key }; user = user; dom 
 abbrev pub spoken_c : Secrets → Spoken
 spoken_c k = record {
   node = codes "a";
-  start = start_as (codes "client") k.client;
+  start = start_as (codes "p9any") (codes "client") k.client;
   met = found (key_of ann k.ann_key) (Some k.ann_password) ∷ picked 0 ∷ [];
 }
 
 abbrev pub spoken_s : Secrets → Spoken
 spoken_s k = record {
   node = codes "b";
-  start = start_as (codes "server") k.server;
+  start = start_as (codes "p9any") (codes "server") k.server;
   met = found (key_of srv k.srv_key) (Some k.srv_password) ∷ offered (codes "p9sk1@x") ∷ [];
 }
 

@@ -81,10 +81,10 @@ both l = sealed_ticket l ++ sealed_proof l
 
 -- ---- that it fits
 
-fits_first : (l : MailLogin) → MayMail l → FitsRequest (request_about [] l)
+pub fits_first : (l : MailLogin) → MayMail l → FitsRequest (request_about [] l)
 fits_first l may = record { authid = may.server_user.fits.short; authdom = may.dom_name; chal = may.server_word.whole; hostid = may.server_user.fits.short; uid = nobody_is_name }
 
-fits_then : (l : MailLogin) → MayMail l → FitsRequest (request_about l.user l)
+pub fits_then : (l : MailLogin) → MayMail l → FitsRequest (request_about l.user l)
 fits_then l may = record { authid = may.server_user.fits.short; authdom = may.dom_name; chal = may.server_word.whole; hostid = may.server_user.fits.short; uid = may.user.fits.short }
 
 fits_ticket : (l : MailLogin) → MayMail l → FitsTicket (ticket l)
@@ -260,7 +260,7 @@ then_read l may =
     is_first (b ∷ front) rest long = refl
 
 -- the challenge that is held behind the first request
-abbrev given_out : MailLogin → Challenge
+abbrev pub given_out : MailLogin → Challenge
 given_out l = record { kind = request_kind (proto l); text = challenge l }
 
 pub held_is : (l : MailLogin) → MayMail l → held l.known (asked_so (first_request l) l.words ∷ l.before) ≡ Some (given_out l)
