@@ -1,6 +1,6 @@
 -- What a talk leaves in the record, and what met its needs, call by call: each call by what is needed and how it stands
 -- before and behind it, what it is answered and what is got.
-use Rattle.std.proofs.Common.{◌≡◌, ℕ, List, [], ◌∷◌, ◌++◌, Bool, false, not, ◌&&◌, if◌then◌else◌, refl, ap, ◌∙◌}
+use Rattle.std.proofs.Common.{◌≡◌, ℕ, List, [], ◌∷◌, ◌++◌, not, ◌&&◌, if◌then◌else◌, refl, ap}
 use Rattle.roles.specs.declared.answer.Gave.{Gave}
 use Rattle.roles.specs.declared.key.SkKey.{SkKey}
 use Rattle.roles.specs.declared.need.Need.{Need}
@@ -10,7 +10,7 @@ use Rattle.roles.specs.Talks.{Call, give, get, found, heard, offered, picked}
 use Rattle.talks.specs.Talks.{needs_any}
 use Rattle.std.specs.Prelude.{Option}
 use Rattle.wire_histories.specs.Histories.{Act, gave, took, answered}
-use Rattle.wire_histories.specs.Conversations.{Speaker, acts_by, acts_from, asks_by, end_by, if_found, is_asked, is_given, is_taken, meets, met_by, seeks, waiting}
+use Rattle.wire_histories.specs.Conversations.{Speaker, acts_from, asks_by, end_by, if_found, is_asked, is_given, is_taken, meets, met_by, waiting}
 
 -- behind a talk: how it has ended, what is needed, the request that waits where something is searched for, what it left
 -- and what met its needs

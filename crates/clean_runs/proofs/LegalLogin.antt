@@ -1,12 +1,10 @@
 -- That the login is a history that a network can have: each side's talk leaves what the record says of it.
-use Rattle.std.proofs.Common.{◌≡◌, ℕ, ◌+◌, ◌<◌, List, [], ◌∷◌, ◌++◌, length, nat_le, Bool, true, false, All, Option, Some, None, Ok, if◌then◌else◌, refl, sym, ap, subst, ◌∙◌, inl, inr, arith, codes}
-use Rattle.std.specs.List.{list_any}
+use Rattle.std.proofs.Common.{◌≡◌, ℕ, ◌+◌, List, [], ◌∷◌, ◌++◌, nat_le, Bool, false, All, Some, None, Ok, refl, ap, subst, ◌∙◌, inl, inr, arith, codes}
 use Rattle.std.specs.Str.{bytes_eq, is_utf8, chars}
 use lib.Utf8.{encode}
 use Rattle.std.proofs.lemmas.Bool.{cases_Bool}
-use Rattle.std.proofs.lemmas.List.Elements.{All-cons, All-nil, All-take}
+use Rattle.std.proofs.lemmas.List.Elements.{All-cons, All-nil}
 use Rattle.std.proofs.lemmas.Slice.Eq.{bytes_eq-Decides}
-use Rattle.wire_base.specs.Names.{IsName, name_field}
 use Rattle.wire_base.specs.Texts.{is_text}
 use Rattle.attr_tuples.specs.Matching.{value_of}
 use Rattle.sealing.specs.Authenticator.{authenticator_text}
@@ -21,9 +19,8 @@ use Rattle.auth_server.specs.Answers.{Knowledge, answer, is_over, wrong_by}
 use Rattle.roles.specs.declared.answer.Gave.TheVariants as g
 use Rattle.roles.specs.declared.answer.Cause.TheVariants.{BadKey, WrongKind}
 use Rattle.roles.specs.declared.need.Need.{Need}
-use Rattle.roles.specs.declared.need.Need.TheVariants.{Nothing, Key, Offers, Pick, Exchange}
-use Rattle.roles.specs.declared.need.Outcome.TheVariants.{Running, Accepted}
-use Rattle.roles.specs.declared.stage.Role.{Role}
+use Rattle.roles.specs.declared.need.Need.TheVariants.{Nothing, Key}
+use Rattle.roles.specs.declared.need.Outcome.TheVariants.{Running}
 use Rattle.roles.specs.declared.stage.Role.TheVariants.{Server}
 use Rattle.roles.specs.declared.stage.Stage.TheVariants as p
 use Rattle.roles.specs.Courses.{accepted as accepts_as, answer_need, key_need, need_unless, outcome_unless}
@@ -39,23 +36,23 @@ use Rattle.conv_p9any.specs.Talks.{Standing, choosing, within}
 use Rattle.conv_p9any.specs.Texts.{text_in}
 use Rattle.talks.specs.Protocols.{P9any as ByP9any, protocol_of}
 use Rattle.complete_logins.specs.Choices.{p9sk1}
-use Rattle.complete_logins.specs.Logins.{IsUser, Login, MayLogIn}
+use Rattle.complete_logins.specs.Logins.{Login, MayLogIn}
 use Rattle.complete_logins.proofs.PassLemmas.{at}
 use Rattle.complete_logins.proofs.MessageLemmas.{length_request, request_read}
 use Rattle.complete_logins.proofs.LoginLaws as alone
 use Rattle.complete_logins.proofs.WithinLemmas.{Leads, Passes, passes_by}
-use Rattle.wire_histories.specs.Histories.{Act, Deal, started, gave, took, asked, answered, accepted, requested, replied, acts_of, deals_of}
+use Rattle.wire_histories.specs.Histories.{Act, started, gave, took, asked, answered, accepted, requested, replied, acts_of, deals_of}
 use Rattle.wire_histories.specs.declared.step.Protocol.TheVariants.{P9any}
 use Rattle.wire_histories.specs.declared.step.Role.TheVariants.{Client as Clients, Server as Serves}
 use Rattle.wire_histories.specs.Conversations.{Speaker, speaks, talk_acts, met_in}
 use Rattle.wire_histories.specs.Sessions.{MayCome, ends_by, session_deals}
-use Rattle.wire_histories.specs.Legal.{IsConversation, IsLegal, IsMet, IsRingKey, IsServed, IsTalk, MayBe, known_to}
-use Rattle.clean_runs.specs.Login.{Secrets, Word, ann, answer_bytes, choice_bytes, conv_c, conv_s, key_bytes, key_of, labelling, login, login_setting, name_28, offer_bytes, proof_bytes, request_bytes, session_r, shown_bytes, spoken, spoken_c, spoken_s, srv, start_as, tables, ticket_bytes, word_bytes}
+use Rattle.wire_histories.specs.Legal.{IsConversation, IsLegal, IsMet, IsRingKey, IsServed, MayBe}
+use Rattle.clean_runs.specs.Login.{Secrets, Word, ann, answer_bytes, choice_bytes, conv_c, conv_s, key_bytes, key_of, login, login_setting, offer_bytes, proof_bytes, request_bytes, session_r, shown_bytes, spoken, spoken_c, spoken_s, srv, start_as, tables, word_bytes}
 use Rattle.clean_runs.specs.ExampleStatements.{AreBytes, AreFresh, LoginIsLegal}
 use Rattle.clean_runs.proofs.ActLemmas as talk
 use Rattle.clean_runs.proofs.LoginLaw.{login_is_clean}
 use Rattle.clean_runs.proofs.MailOf.{block_7, block_8, fits_ann, fits_srv, fits_x}
-use Rattle.clean_runs.proofs.WithinActs.{Comes, comes}
+use Rattle.clean_runs.proofs.WithinActs.{comes}
 
 -- ---- the login as one whose messages all arrive
 

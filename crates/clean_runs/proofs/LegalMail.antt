@@ -1,6 +1,6 @@
 -- That the login by APOP is a history that a network can have: each side's talk and the session leave what the record says
 -- of them.
-use Rattle.std.proofs.Common.{◌≡◌, ℕ, ◌+◌, ◌<◌, List, [], ◌∷◌, ◌++◌, length, nat_le, Bool, false, All, Some, None, Ok, refl, sym, ap, subst, ◌∙◌, inl, inr, arith, length-append}
+use Rattle.std.proofs.Common.{◌≡◌, ℕ, ◌+◌, List, [], ◌∷◌, ◌++◌, length, nat_le, Bool, false, All, Some, None, Ok, refl, sym, ap, subst, ◌∙◌, inl, inr, arith, length-append}
 use Rattle.std.proofs.lemmas.Bool.{cases_Bool}
 use Rattle.std.proofs.lemmas.List.Elements.{All-cons, All-nil}
 use Rattle.std.proofs.lemmas.Slice.Eq.{bytes_eq-Decides}
@@ -16,22 +16,22 @@ use Rattle.sealing.specs.Request.{request_of, request_text}
 use Rattle.sealing.specs.Ticket.{ticket_text}
 use Rattle.auth_server.specs.Requests.{Asked, asked_so, kind_of, needed}
 use Rattle.auth_server.specs.Standing.{knowledge}
-use Rattle.auth_server.specs.Answers.{Knowledge, answer, challenge_answer, challenge_at, held, is_over, judged, wrong_by, wrong_mail}
+use Rattle.auth_server.specs.Answers.{Knowledge, answer, challenge_answer, challenge_at, held, is_over, wrong_by}
 use Rattle.roles.specs.declared.answer.Cause.TheVariants.{BadKey}
 use Rattle.roles.specs.declared.answer.Gave.{Gave}
 use Rattle.roles.specs.declared.answer.Gave.TheVariants as g
 use Rattle.roles.specs.declared.need.Need.{Need}
-use Rattle.roles.specs.declared.need.Need.TheVariants.{Nothing, Key, Exchange}
+use Rattle.roles.specs.declared.need.Need.TheVariants.{Nothing, Key}
 use Rattle.roles.specs.declared.need.Outcome.{Outcome}
-use Rattle.roles.specs.declared.need.Outcome.TheVariants.{Running, Accepted, Finished}
+use Rattle.roles.specs.declared.need.Outcome.TheVariants.{Running, Finished}
 use Rattle.roles.specs.Courses.{accepted as accepts_as}
 use Rattle.roles.specs.Starts.{Start}
 use Rattle.roles.specs.Talks.{Call, give, get, found, heard}
 use Rattle.conv_challenge.specs.declared.stage.Stage.{Stage}
 use Rattle.conv_challenge.specs.declared.stage.Stage.TheVariants as m
 use Rattle.conv_challenge.specs.Clients.{digits_by}
-use Rattle.conv_challenge.specs.Courses.{course, need_after, need_at, need_of, outcome_after, outcome_at, outcome_of, answer_after, puts_after}
-use Rattle.conv_challenge.specs.Starts.{asked_by_client, asked_by_server, names_proto, proto_of, side_of, start_fault}
+use Rattle.conv_challenge.specs.Courses.{need_after, need_at, need_of, outcome_after, outcome_at, outcome_of}
+use Rattle.conv_challenge.specs.Starts.{asked_by_client, asked_by_server, proto_of, side_of, start_fault}
 use Rattle.talks.specs.Protocols.{Mail, protocol_of}
 use Rattle.complete_logins.specs.MailLogins.{MailLogin, MayMail}
 use Rattle.complete_logins.proofs.MessageLemmas.{length_request, request_read}
@@ -42,8 +42,8 @@ use Rattle.wire_histories.specs.declared.step.Protocol.TheVariants.{Apop}
 use Rattle.wire_histories.specs.declared.step.Role.TheVariants.{Client as Clients, Server as Serves}
 use Rattle.wire_histories.specs.Conversations.{Speaker, speaks, talk_acts, met_in}
 use Rattle.wire_histories.specs.Sessions.{IsLong, MayCome, ends_by, session_deals}
-use Rattle.wire_histories.specs.Legal.{IsConversation, IsLegal, IsMet, IsRingKey, IsServed, IsTalk, MayBe}
-use Rattle.clean_runs.specs.Login.{ann, conv_c, conv_s, key_of, session_r, srv, start_as, word_bytes}
+use Rattle.wire_histories.specs.Legal.{IsConversation, IsLegal, IsMet, IsServed, MayBe}
+use Rattle.clean_runs.specs.Login.{ann, conv_c, conv_s, key_of, session_r, srv, word_bytes}
 use Rattle.clean_runs.specs.MailLogin.{Secrets, challenge_bytes, checked_bytes, digits as login_digits, first_words, given_bytes, login, mail_key, request_bytes, setting, spoken, spoken_c, spoken_s, tables, then_words, vouch_bytes}
 use Rattle.clean_runs.specs.ExampleStatements.{AreFreshInMail, MailLoginIsLegal}
 use Rattle.clean_runs.proofs.ActLemmas as talk

@@ -1,6 +1,6 @@
 -- The record of the login by APOP is clean: what is taken is spelled by its label, which was given right before it or is
 -- bytes that anybody may know, what passed its tests has the form of its move, and what is read differs.
-use Rattle.std.proofs.Common.{◌≡◌, ℕ, zero, suc, ◌<◌, List, [], ◌∷◌, ◌++◌, append-nil, length, Bool, Option, None, Some, Ok, true, false, inl, inr, refl, sym, ap, subst, ◌∙◌, arith, codes}
+use Rattle.std.proofs.Common.{◌≡◌, ℕ, zero, suc, ◌<◌, List, [], ◌∷◌, ◌++◌, append-nil, length, None, Some, Ok, true, inl, inr, refl, sym, ap, subst, ◌∙◌, arith, codes}
 use Rattle.std.proofs.lemmas.Bool.{cases_Bool}
 use Rattle.std.proofs.lemmas.List.Elements.{All-head, All-tail, All-take}
 use Rattle.std.proofs.lemmas.Slice.Eq.{bytes_eq-Decides}
@@ -23,12 +23,11 @@ use Rattle.complete_logins.proofs.MailLaws.{request_about, then_read}
 use Rattle.auth_tables.specs.Keys.{UserKey}
 use Rattle.auth_tables.specs.Speaks.{may_speak}
 use Rattle.symbolic_runs.specs.Trees.{long_key, nonce, ticket_key}
-use Rattle.symbolic_runs.specs.Spellings.{spelling}
 use Rattle.symbolic_runs.specs.Derivations.{by_knowing, in_public}
 use Rattle.symbolic_runs.specs.declared.kind.MacKind.TheVariants as mac
 use Rattle.symbolic_runs.specs.Forms.{AreFields, mail_request, pair, request}
 use Rattle.symbolic_runs.specs.Moves.{AreNames}
-use Rattle.clean_runs.specs.Clean.{AtEachPlace, FormsStep, GivesBytes, GivesSevens, IsClean, LabelsStep, Reads, ReadsHolder, ReadsPassword, ReadsStep, ReadsTable, is_challenge, is_key, is_nonce, is_password}
+use Rattle.clean_runs.specs.Clean.{FormsStep, GivesBytes, GivesSevens, IsClean, LabelsStep, Reads, ReadsHolder, ReadsPassword, ReadsStep, ReadsTable, is_challenge, is_key, is_nonce, is_password}
 use Rattle.symbolic_runs.specs.Sessions.{Grant, vouch_given}
 use Rattle.clean_runs.specs.Runs.{grant_by, setting_of}
 use Rattle.clean_runs.specs.Login.{Word, ann, key_bytes, name_28, srv, user_key, word_bytes}
@@ -65,8 +64,8 @@ bytes_at (x ∷ xs) h (suc i) = bytes_at xs (All-tail (λ n. n < 256) x xs h) i
 differ : (a b : Word) → AreBytes (word_bytes a) → AreBytes (word_bytes b) → (key_bytes a ≡ key_bytes b → ⊥) → encode_lower (word_bytes a) ≡ encode_lower (word_bytes b) → ⊥
 differ a b bytes_a bytes_b keys_differ same =
     let back : word_bytes a ≡ word_bytes b = sym (ap (λ r. result_unwrap_or r []) (decode_of-encode_lower (word_bytes a) (bytes_at (word_bytes a) bytes_a)))
-        ∙ ap (λ text. result_unwrap_or (decode_of text) []) same
-        ∙ ap (λ r. result_unwrap_or r []) (decode_of-encode_lower (word_bytes b) (bytes_at (word_bytes b) bytes_b)) in
+    ∙ ap (λ text. result_unwrap_or (decode_of text) []) same
+    ∙ ap (λ r. result_unwrap_or r []) (decode_of-encode_lower (word_bytes b) (bytes_at (word_bytes b) bytes_b)) in
     keys_differ (ap (take 7) back)
 
 challenges : (k : Secrets) → AreFreshInMail k → AreDifferent (encode_lower (word_bytes k.first) ∷ encode_lower (word_bytes k.fourth) ∷ [])

@@ -1,5 +1,5 @@
 -- The login by APOP as one whose messages all arrive.
-use Rattle.std.proofs.Common.{◌≡◌, ℕ, ◌<◌, List, [], ◌∷◌, Some, refl, arith, codes}
+use Rattle.std.proofs.Common.{◌<◌, [], Some, refl, arith, codes}
 use Rattle.std.specs.Str.{is_utf8, chars}
 use lib.Utf8.{encode}
 use Rattle.std.proofs.lemmas.List.Elements.{All-nil, All-take}

@@ -1,16 +1,15 @@
 -- What a call of p9sk1 comes to that is spoken where p9any led to it: what is needed and how it ends behind it, what it
 -- is answered and what is got.
-use Rattle.std.proofs.Common.{◌≡◌, ℕ, List, [], ◌∷◌, ◌++◌, ap, ◌∙◌}
+use Rattle.std.proofs.Common.{◌≡◌, ℕ, List, ◌∷◌, ◌++◌, ap, ◌∙◌}
 use Rattle.roles.specs.declared.answer.Gave.{Gave}
 use Rattle.roles.specs.declared.need.Need.{Need}
 use Rattle.roles.specs.declared.need.Outcome.{Outcome}
 use Rattle.roles.specs.declared.stage.Stage.{Stage}
-use Rattle.roles.specs.Courses.{course, need_at, need_of, outcome_at, outcome_of}
+use Rattle.roles.specs.Courses.{need_at, need_of, outcome_at, outcome_of}
 use Rattle.roles.specs.Starts.{Start}
 use Rattle.roles.specs.Talks.{Call}
 use Rattle.conv_p9any.specs.Courses as choice
 use Rattle.complete_logins.specs.Choices.{p9sk1}
-use Rattle.complete_logins.proofs.PassLemmas.{at}
 use Rattle.complete_logins.proofs.LoginLaws.{Passes}
 use Rattle.complete_logins.proofs.WithinLemmas.{AllInner, IsInner, Leads, call_within, need_within, outcome_within}
 
