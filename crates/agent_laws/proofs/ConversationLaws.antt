@@ -59,16 +59,16 @@ both_same a b c d e = let parts = and_parts (eqb a b) (eqb c d) e in (eqb-true a
 
 -- ---- each fid that has rpc open has a conversation, and no other has
 
-abbrev is_at : ℕ → ℕ → Speaker → Bool
+abbrev pub is_at : ℕ → ℕ → Speaker → Bool
 is_at conn fid s = eqb s.conn conn && eqb s.fid fid
 
-abbrev speaks_at : List Deed → ℕ → ℕ → Bool
+abbrev pub speaks_at : List Deed → ℕ → ℕ → Bool
 speaks_at done conn fid = list_any (is_at conn fid) (speakers done)
 
-abbrev on_rpc : Option FidState → Bool
+abbrev pub on_rpc : Option FidState → Bool
 on_rpc o = names Rpc o && is_open o
 
-abbrev OpenersSpeak : List Deed → Type 0
+abbrev pub OpenersSpeak : List Deed → Type 0
 OpenersSpeak done = (conn fid : ℕ) → speaks_at done conn fid ≡ on_rpc (fid_of done conn fid)
 
 -- those of a connection, or of a fid of it, that leave
@@ -134,7 +134,7 @@ opens_rpc false true mode theirs mine xs s conn fid n e same named rests h =
     h ∙ closed mine (ap is_open (sym (same refl)) ∙ rests) ∙ sym (names_opened mode mine (ap is_some (sym (same refl)) ∙ named) ∙ ap (names Rpc) (sym (same refl)) ∙ n)
 opens_rpc false false mode theirs mine xs s conn fid n e same named rests h = h
 
-openers_more : (conn : ℕ) → KeepsOf (is_done conn) OpenersSpeak
+pub openers_more : (conn : ℕ) → KeepsOf (is_done conn) OpenersSpeak
 openers_more c done (OfFids at (Versioned msize)) kind fits h = λ conn fid. leave_conn (eqb at conn) at conn fid (speakers done) (fid_of done conn fid) refl (h conn fid)
 openers_more c done (OfConnection at Hung) kind fits h = λ conn fid. leave_conn (eqb at conn) at conn fid (speakers done) (fid_of done conn fid) refl (h conn fid)
 openers_more c done (OfFids at (Clunked f)) kind fits h = λ conn fid. leave_fid (eqb at conn && eqb f fid) at f conn fid (speakers done) (fid_of done conn fid) refl (h conn fid)

@@ -1,9 +1,9 @@
 -- The reads that wait: which they are, that those which are settled are swept in their event, and that a frame has no
 -- reply only where it is such a read.
 use Rattle.std.proofs.Common.{◌≡◌, ℕ, ◌+◌, ◌<◌, ◌≤◌, List, [], ◌∷◌, ◌++◌, length, map, Bool, true, false, cond, eqb, ◌&&◌, not, Option, Some, None, refl, sym, ap, subst, ◌∙◌, inl, inr, arith, ◌||◌}
-use Rattle.std.specs.Prelude.{Result, Ok, Err, is_some, find}
+use Rattle.std.specs.Prelude.{◌⊎◌, Result, Ok, Err, is_some, find}
 use Rattle.std.specs.List.{filter, list_all, list_any, AllByRecursion, IsDistinct}
-use Rattle.std.proofs.lemmas.Bool.{cases_Bool, and_from, and_parts, eqb-true, or_parts, eq-eqb}
+use Rattle.std.proofs.lemmas.Bool.{cases_Bool, and_from, and_parts, eqb-true, or_left, or_parts, eq-eqb}
 use Rattle.attr_tuples.proofs.EqualityLemmas.{eqb_swap}
 use Rattle.nine.specs.declared.message.RMsg.{RMsg}
 use Rattle.nine.specs.declared.message.RBody.{RBody}
@@ -16,14 +16,17 @@ use Rattle.talks.specs.Calls as calls
 use Rattle.talks.specs.Standings.{Phase, Resting, Waiting as IsStored, Seeking, OnConfirm, OnNeedkey, OnServer, Kept}
 use Rattle.agent_history.specs.declared.event.Event.{Event}
 use Rattle.agent_history.specs.declared.event.Event.TheVariants.{Request, Hang, Answer, NoAnswer, NoRoom, Take, TakeAsk, Stop}
-use Rattle.agent_history.specs.Deeds.{Deed, OfFids, OfKeys, OfReplies, OfConnection, OfTalk, Raised, HandedOut, OfPrompts, OfLog, DropTaken, Swept, Halted, Versioned, Attached, Walked, Opened, Listed, Browsed, Clunked, Answered, Awaited, Settled, Flushed, Taken, Entered, Hung, fid_of, names, was_hung, was_opened}
+use Rattle.agent_history.specs.Deeds.{Deed, OfFids, OfKeys, OfReplies, OfConnection, OfTalk, Raised, HandedOut, OfPrompts, OfLog, DropTaken, Swept, Halted, Versioned, Attached, Walked, Opened, Listed, Browsed, Clunked, Answered, Awaited, Settled, Flushed, Taken, Entered, Hung, fid_of, holder_of, names, was_hung, was_opened}
 use Rattle.agent_history.specs.Replies.{Wait, fid_given_up, first_of, has_settled, is_unsettled, settle_fid, settle_tag, settled_by, swept, untaken, waits, waits_for, waits_under}
-use Rattle.agent_history.specs.Conversations.{asker, resumed, conv_of, standing_of, Due, NoneDue, DropDue, QuestionDue, due, given_up_by}
+use Rattle.agent_history.specs.Conversations.{Speaker, asker, fits, speakers, resumed, conv_of, standing_of, Due, NoneDue, DropDue, QuestionDue, due, given_up_by}
 use Rattle.agent_history.specs.Requests.{Call, answered, body_for, body_to, call_of, granted, is_rpc, reply_of, after, after_frame, after_granted, answer_read, carried, is_resting, phase_in, reading, reading_answer, reading_talk, refusal, talk_read, line_read_reply, reading_line}
 use Rattle.agent_history.specs.Histories.{History, deeds, does, entered, handing, taking}
-use Rattle.agent_laws.specs.Laws.{AllTold, AreWaiting, IsBehind, as_it_came, may_wait, may_wait_on}
+use Rattle.agent_laws.specs.Laws.{AllTold, AreWaiting, IsAnswerTold, IsLineTold, IsOverTold, IsToldBy, IsToldOf, IsBehind, as_it_came, may_wait, may_wait_on}
 use Rattle.agent_laws.proofs.SettleLaws.{tag_length, tag_same}
-use Rattle.agent_laws.proofs.KindLaws.{KeepsOf, is_done, Fits, is_met}
+use Rattle.agent_laws.proofs.KindLaws.{IsToldSomehow, KeepsOf, is_done, Fits, is_met}
+use Rattle.agent_laws.proofs.MetLaws.{line_holder}
+use Rattle.agent_laws.proofs.ConversationLaws.{OpenersSpeak, is_at, openers_more}
+use Rattle.agent_laws.proofs.ExclusiveLaws.{Opener, names_it, none_opened, opener_more}
 use Rattle.agent_laws.proofs.GrowLaws.{either_way, history_grows, last_or_not, Passed, is_pending, none_refuses, read_count, KeepsAny, carried_any}
 use Rattle.agent_laws.proofs.FitLaws.{counts_fit}
 use Rattle.agent_history.specs.SideFiles.{is_line_file, lines_in}
@@ -516,35 +519,97 @@ unfolding IsDistinct
 found_under test wait [] e h = absurd cc
 found_under test wait (v ∷ ws) e h = under_step test v wait ws (test v) e h.0 (λ f. found_under test wait ws f h.1)
 
-abbrev WellTold : List Deed → Type 0
-WellTold done = AllWell done × AllTold done
+-- ---- what it is told is by the file that its fid has open
+
+or_behind : (x y : Bool) → y ≡ true → (x || y) ≡ true
+or_behind true y e = refl
+or_behind false y e = e
+
+-- the conversation of a number, and who has it open, stands among the others
+speaks_step : (conv conn fid : ℕ) (s v : Speaker) (xs : List Speaker) (b : Bool) → s.conn ≡ conn → s.fid ≡ fid → cond b (Some v) (find (λ x. eqb x.conv conv) xs) ≡ Some s
+    → (find (λ x. eqb x.conv conv) xs ≡ Some s → list_any (is_at conn fid) xs ≡ true) → list_any (is_at conn fid) (v ∷ xs) ≡ true
+speaks_step conv conn fid s v xs true at_conn at_fid e more =
+    let same : v ≡ s = cc in
+    or_left (is_at conn fid v) (list_any (is_at conn fid) xs) (and_from (eqb v.conn conn) (eqb v.fid fid) (eq-eqb v.conn conn (ap (λ (x : Speaker). x.conn) same ∙ at_conn)) (eq-eqb v.fid fid (ap (λ (x : Speaker). x.fid) same ∙ at_fid)))
+speaks_step conv conn fid s v xs false at_conn at_fid e more = or_behind (is_at conn fid v) (list_any (is_at conn fid) xs) (more e)
+
+speaks_there : (conv conn fid : ℕ) (s : Speaker) (xs : List Speaker) → s.conn ≡ conn → s.fid ≡ fid → find (λ x. eqb x.conv conv) xs ≡ Some s → list_any (is_at conn fid) xs ≡ true
+speaks_there conv conn fid s [] at_conn at_fid e = absurd cc
+speaks_there conv conn fid s (v ∷ xs) at_conn at_fid e = speaks_step conv conn fid s v xs (eqb v.conv conv) at_conn at_fid e (speaks_there conv conn fid s xs at_conn at_fid)
+
+took_speakers : (b : Bool) (conv : ℕ) (done : List Deed) → speakers (cond b (OfTalk conv calls.Took ∷ done) done) ≡ speakers done
+took_speakers true conv done = refl
+took_speakers false conv done = refl
+
+-- a fid that has a file open is of it
+is_file : (node : Node) (o : Option FidState) → (names node o && is_open o) ≡ true → node_of o ≡ node
+is_file node o h = names_it node o (and_parts (names node o) (is_open o) h).0
+
+on_answer : (done : List Deed) (conn : ℕ) (wait : Wait) (body : RBody) → OpenersSpeak done → IsAnswerTold done conn wait body → node_of (fid_of done conn wait.fid) ≡ Rpc
+on_answer done conn wait body speak t =
+    let s : Speaker = record { conv = t.conv; conn = conn; fid = wait.fid } in
+    let before = speaks_there t.conv conn wait.fid s (speakers t.earlier) refl refl t.speaks in
+    let same : speakers done ≡ speakers t.earlier = ap speakers t.took ∙ took_speakers (fits wait.count t.answer) t.conv t.earlier in
+    is_file Rpc (fid_of done conn wait.fid) (sym (speak conn wait.fid) ∙ ap (list_any (is_at conn wait.fid)) same ∙ before)
+
+-- of a file that isn't rpc
+of_file : (node : Node) (done : List Deed) (conn : ℕ) (wait : Wait) (body : RBody) → Opener done → IsLineTold node done conn wait body ⊎ IsOverTold node done conn wait body → node_of (fid_of done conn wait.fid) ≡ node
+of_file node done conn wait body opener (inl t) =
+    is_file node (fid_of done conn wait.fid) (opener node conn wait.fid (ap (λ (d : List Deed). holder_of d node) t.read ∙ line_holder node node t.earlier ∙ t.holds))
+of_file node done conn wait body opener (inr t) = is_file node (fid_of done conn wait.fid) (opener node conn wait.fid t.holds)
+
+by_file : (node : Node) (done : List Deed) (conn : ℕ) (wait : Wait) (body : RBody) → IsLineTold node done conn wait body ⊎ IsOverTold node done conn wait body → IsToldBy node done conn wait body
+by_file Confirm done conn wait body t = t
+by_file Needkey done conn wait body t = t
+by_file Log done conn wait body t = t
+by_file Root done conn wait body t = t
+by_file Factotum done conn wait body t = t
+by_file Ctl done conn wait body t = t
+by_file Proto done conn wait body t = t
+by_file Rpc done conn wait body (inl t) = absurd (let no_way : Nothing ≡ First t.line = t.first in cc)
+by_file Rpc done conn wait body (inr t) = absurd (let no_way : Nothing ≡ TooLong = t.over in cc)
+
+told_by_file : (done : List Deed) (conn : ℕ) (wait : Wait) (body : RBody) → OpenersSpeak done → Opener done → IsToldSomehow done conn wait body → IsToldOf done conn wait body
+told_by_file done conn wait body speak opener (inl t) = subst (λ (n : Node). IsToldBy n done conn wait body) (sym (on_answer done conn wait body speak t)) t
+told_by_file done conn wait body speak opener (inr (node, t)) = subst (λ (n : Node). IsToldBy n done conn wait body) (sym (of_file node done conn wait body opener t)) (by_file node done conn wait body t)
+
+record WellTold (done : List Deed) : Type 0 where
+  well : AllWell done
+  told : AllTold done
+  speak : OpenersSpeak done
+  opener : Opener done
 
 told_more : (c : ℕ) (done : List Deed) (deed : Deed) → is_done c deed ≡ true → Fits done deed → WellTold done → AllTold (deed ∷ done)
 told_more c done (OfReplies conn (Settled tag body)) kind fits h = (
-  (fits.wait, subst (λ (n : ℕ). find (λ w. eqb w.tag n) (waits done conn) ≡ Some fits.wait) fits.under (found_under fits.test fits.wait (waits done conn) fits.found (h.0 conn).tags), fits.waited, fits.told_so),
-  h.1,
+  (fits.wait, subst (λ (n : ℕ). find (λ w. eqb w.tag n) (waits done conn) ≡ Some fits.wait) fits.under (found_under fits.test fits.wait (waits done conn) fits.found (h.well conn).tags), fits.waited, told_by_file done conn fits.wait body h.speak h.opener fits.told_so),
+  h.told,
 )
-told_more c done (OfReplies conn (Answered tag body)) kind fits h = h.1
-told_more c done (OfReplies conn (Awaited tag fid count)) kind fits h = h.1
-told_more c done (OfReplies conn (Flushed tag)) kind fits h = h.1
-told_more c done (OfReplies conn Taken) kind fits h = h.1
-told_more c done (OfFids at deed) kind fits h = h.1
-told_more c done (OfKeys at deed) kind fits h = h.1
-told_more c done (OfConnection at deed) kind fits h = h.1
-told_more c done (OfTalk conv call) kind fits h = h.1
-told_more c done (Raised conv) kind fits h = h.1
-told_more c done HandedOut kind fits h = h.1
-told_more c done DropTaken kind fits h = h.1
-told_more c done (OfPrompts about doing) kind fits h = h.1
-told_more c done (OfLog doing) kind fits h = h.1
-told_more c done Swept kind fits h = h.1
-told_more c done Halted kind fits h = h.1
+told_more c done (OfReplies conn (Answered tag body)) kind fits h = h.told
+told_more c done (OfReplies conn (Awaited tag fid count)) kind fits h = h.told
+told_more c done (OfReplies conn (Flushed tag)) kind fits h = h.told
+told_more c done (OfReplies conn Taken) kind fits h = h.told
+told_more c done (OfFids at deed) kind fits h = h.told
+told_more c done (OfKeys at deed) kind fits h = h.told
+told_more c done (OfConnection at deed) kind fits h = h.told
+told_more c done (OfTalk conv call) kind fits h = h.told
+told_more c done (Raised conv) kind fits h = h.told
+told_more c done HandedOut kind fits h = h.told
+told_more c done DropTaken kind fits h = h.told
+told_more c done (OfPrompts about doing) kind fits h = h.told
+told_more c done (OfLog doing) kind fits h = h.told
+told_more c done Swept kind fits h = h.told
+told_more c done Halted kind fits h = h.told
 
 well_told : (c : ℕ) → KeepsOf (is_done c) WellTold
-well_told c done deed kind fits h = (well_more c done deed kind fits h.0, told_more c done deed kind fits h)
+well_told c done deed kind fits h = record {
+  well = well_more c done deed kind fits h.well;
+  told = told_more c done deed kind fits h;
+  speak = openers_more c done deed kind fits h.speak;
+  opener = opener_more c done deed kind fits h.opener;
+}
 
 pub all_told : (H : History) → AllTold (deeds H)
-all_told H = (history_grows WellTold well_told (λ conn. none_well (λ fid. false), tt) H).1
+all_told H = (history_grows WellTold well_told (record { well = λ conn. none_well (λ fid. false); told = tt; speak = λ c f. refl; opener = none_opened }) H).told
 
 -- ---- between two events none is settled
 
