@@ -25,7 +25,7 @@ use Rattle.agent_laws.specs.Laws.{AllTold, AreWaiting, IsAnswerTold, IsLineTold,
 use Rattle.agent_laws.proofs.SettleLaws.{tag_length, tag_same}
 use Rattle.agent_laws.proofs.KindLaws.{IsToldSomehow, KeepsOf, is_done, Fits, is_met}
 use Rattle.agent_laws.proofs.MetLaws.{line_holder}
-use Rattle.agent_laws.proofs.ConversationLaws.{OpenersSpeak, is_at, openers_more}
+use Rattle.agent_laws.proofs.ConversationLaws.{OpenersSpeak, is_at, openers_more, speaks_there}
 use Rattle.agent_laws.proofs.ExclusiveLaws.{Opener, names_it, none_opened, opener_more}
 use Rattle.agent_laws.proofs.GrowLaws.{either_way, history_grows, last_or_not, Passed, is_pending, none_refuses, read_count, KeepsAny, carried_any}
 use Rattle.agent_laws.proofs.FitLaws.{counts_fit}
@@ -520,22 +520,6 @@ found_under test wait [] e h = absurd cc
 found_under test wait (v ∷ ws) e h = under_step test v wait ws (test v) e h.0 (λ f. found_under test wait ws f h.1)
 
 -- ---- what it is told is by the file that its fid has open
-
-or_behind : (x y : Bool) → y ≡ true → (x || y) ≡ true
-or_behind true y e = refl
-or_behind false y e = e
-
--- the conversation of a number, and who has it open, stands among the others
-speaks_step : (conv conn fid : ℕ) (s v : Speaker) (xs : List Speaker) (b : Bool) → s.conn ≡ conn → s.fid ≡ fid → cond b (Some v) (find (λ x. eqb x.conv conv) xs) ≡ Some s
-    → (find (λ x. eqb x.conv conv) xs ≡ Some s → list_any (is_at conn fid) xs ≡ true) → list_any (is_at conn fid) (v ∷ xs) ≡ true
-speaks_step conv conn fid s v xs true at_conn at_fid e more =
-    let same : v ≡ s = cc in
-    or_left (is_at conn fid v) (list_any (is_at conn fid) xs) (and_from (eqb v.conn conn) (eqb v.fid fid) (eq-eqb v.conn conn (ap (λ (x : Speaker). x.conn) same ∙ at_conn)) (eq-eqb v.fid fid (ap (λ (x : Speaker). x.fid) same ∙ at_fid)))
-speaks_step conv conn fid s v xs false at_conn at_fid e more = or_behind (is_at conn fid v) (list_any (is_at conn fid) xs) (more e)
-
-speaks_there : (conv conn fid : ℕ) (s : Speaker) (xs : List Speaker) → s.conn ≡ conn → s.fid ≡ fid → find (λ x. eqb x.conv conv) xs ≡ Some s → list_any (is_at conn fid) xs ≡ true
-speaks_there conv conn fid s [] at_conn at_fid e = absurd cc
-speaks_there conv conn fid s (v ∷ xs) at_conn at_fid e = speaks_step conv conn fid s v xs (eqb v.conv conv) at_conn at_fid e (speaks_there conv conn fid s xs at_conn at_fid)
 
 took_speakers : (b : Bool) (conv : ℕ) (done : List Deed) → speakers (cond b (OfTalk conv calls.Took ∷ done) done) ≡ speakers done
 took_speakers true conv done = refl

@@ -36,7 +36,7 @@ use Rattle.agent_history.specs.Deeds.{Deed, OfFids, OfKeys, OfConnection, OfTalk
 use Rattle.key_lists.specs.CtlLines.{OnKeys, after_lines, line_over, lines_fault, read_line}
 use Rattle.agent_history.specs.Replies.{Wait, is_unsettled, too_small, untaken, waits}
 use Rattle.agent_history.specs.SideFiles.{askers, is_line_file, line_read, lines_in}
-use Rattle.agent_history.specs.Conversations.{asking, questions, standing_of, Speaker, speaker_of, then_took, told, stands}
+use Rattle.agent_history.specs.Conversations.{asking, conv_of, questions, standing_of, Speaker, speaker_of, then_took, told, stands}
 use Rattle.agent_history.specs.Requests.{Call, body_to, call_of, is_rpc, least_msize, most_waits, tag_of}
 use Rattle.agent_history.specs.Histories.{History, deeds, answer, is_reply}
 
@@ -367,6 +367,25 @@ abbrev pub AllTold : List Deed → Type 0
 AllTold [] = Unit {0}
 AllTold (OfReplies conn (Settled tag body) ∷ before) = IsTold before conn tag body × AllTold before
 AllTold (deed ∷ before) = AllTold before
+
+-- a read waits under the tag whose fid has a conversation open, which only a fid that has rpc open has
+abbrev pub waits_on_rpc : List Deed → ℕ → ℕ → Bool
+waits_on_rpc done conn tag =
+    list_any (λ wait. wait.tag == tag && is_some (conv_of done conn wait.fid)) (waits done conn)
+
+-- a read that was told something: its connection, its tag, and what it was told
+pub record ToldRead : Type 0 where
+  pub conn : ℕ
+  pub tag : ℕ
+  pub body : RBody
+
+-- what the reads of files of lines were told that waited, the newest first
+abbrev pub lines_told : List Deed → List ToldRead
+lines_told [] = []
+lines_told (OfReplies conn (Settled tag body) ∷ before) =
+    if waits_on_rpc before conn tag then lines_told before
+    else record { conn = conn; tag = tag; body = body } ∷ lines_told before
+lines_told (deed ∷ before) = lines_told before
 
 -- whether a reply gives what was read
 abbrev pub gives_content : RBody → Bool
