@@ -43,7 +43,7 @@ use Rattle.agent_history.specs.Conversations.{Speaker, all_shut, all_withdrawn, 
 use Rattle.agent_history.specs.Requests.{Call, Test, least_msize, most_msize, most_waits, is_rpc, has_answer, phase_in, phase_of, reading_answer, reading_talk, carrying_out, finds_none, line_deed, lines_done, reading_line, replying, said_by, stored}
 use Rattle.agent_laws.specs.Laws.{all_prompted, asks_user, each_once, is_on_server, waits_on, IsLogged}
 use Rattle.agent_laws.proofs.AskLaws.{all_weaker, no_question, open_stands, or_more}
-use Rattle.agent_laws.proofs.SettleLaws.{settled_any, tag_length}
+use Rattle.agent_laws.proofs.SettleLaws.{find_passes, settled_any, speaker_found, tag_length}
 use Rattle.agent_laws.proofs.KindLaws.{AskersStay, AsksNobody, Fits, FitsIf, IsKnown, IsToldSomehow, KeepsIf, KeepsOf, SettleFits, SizeFits, WaitFits, handed_of_met, is_handed, is_line, is_met, is_spoken, met_of_spoken, same_number}
 use Rattle.agent_laws.proofs.PromptLaws.{Prompted, Within, all_members, all_there, asker_waits, askers_in, asks_nobody, replied_none, waits_so, withdrawn_none, withdrawn_within, within_any}
 
@@ -336,15 +336,6 @@ pub found_fits : (count : ℕ) (lines : List (List ℕ)) (line : List ℕ) → f
 found_fits count [] line e = absurd cc
 found_fits count (other ∷ lines) line e = found_step count other line (ltb count (length other)) refl e
 
--- what is found passes
-find_step : (test : Wait → Bool) (v wait : Wait) (ws : List Wait) (b : Bool) → test v ≡ b → cond b (Some v) (find test ws) ≡ Some wait → (find test ws ≡ Some wait → test wait ≡ true) → test wait ≡ true
-find_step test v wait ws true e f more = let same : v ≡ wait = cc in ap test (sym same) ∙ e
-find_step test v wait ws false e f more = more f
-
-find_passes : (test : Wait → Bool) (wait : Wait) (ws : List Wait) → find test ws ≡ Some wait → test wait ≡ true
-find_passes test wait [] e = absurd cc
-find_passes test wait (v ∷ ws) e = find_step test v wait ws (test v) refl e (find_passes test wait ws)
-
 -- a read of a fid that isn't settled
 abbrev pub is_reader : ℕ → Wait → Bool
 is_reader fid wait = eqb wait.fid fid && is_unsettled wait
@@ -519,15 +510,6 @@ line_file_grows Known P call k fid count node TooLong done w p = p
 line_file_grows Known P call k fid count node (First line) done w p = line_grows_of Known P (handed_of_met Known P (met_of_spoken Known P call.conn k)) node done p
 
 -- ---- answers that come
-
--- the conversation of a number is found under it
-speaker_step : (conv : ℕ) (v s : Speaker) (xs : List Speaker) (b : Bool) → eqb v.conv conv ≡ b → cond b (Some v) (find (λ x. eqb x.conv conv) xs) ≡ Some s → (find (λ x. eqb x.conv conv) xs ≡ Some s → s.conv ≡ conv) → s.conv ≡ conv
-speaker_step conv v s xs true e f more = let same : v ≡ s = cc in ap (λ (x : Speaker). x.conv) (sym same) ∙ eqb-true v.conv conv e
-speaker_step conv v s xs false e f more = more f
-
-speaker_found : (conv : ℕ) (s : Speaker) (xs : List Speaker) → find (λ x. eqb x.conv conv) xs ≡ Some s → s.conv ≡ conv
-speaker_found conv s [] e = absurd cc
-speaker_found conv s (v ∷ xs) e = speaker_step conv v s xs (eqb v.conv conv) refl e (speaker_found conv s xs)
 
 -- a read of rpc is told the answer of the conversation that its fid has open
 answer_told : (done before : List Deed) (conv : ℕ) (s : Speaker) (answer : RpcAnswer) (wait : Wait) → speaker_of done conv ≡ Some s → (standing_of done conv).phase ≡ Kept answer → reader done s.conn s.fid ≡ Some wait → before ≡ then_took conv wait.count answer done

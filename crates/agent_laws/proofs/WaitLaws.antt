@@ -1,9 +1,9 @@
 -- The reads that wait: which they are, that those which are settled are swept in their event, and that a frame has no
 -- reply only where it is such a read.
 use Rattle.std.proofs.Common.{◌≡◌, ℕ, ◌+◌, ◌<◌, ◌≤◌, List, [], ◌∷◌, ◌++◌, length, map, Bool, true, false, cond, eqb, ◌&&◌, not, Option, Some, None, refl, sym, ap, subst, ◌∙◌, inl, inr, arith, ◌||◌}
-use Rattle.std.specs.Prelude.{◌⊎◌, Result, Ok, Err, is_some, find}
+use Rattle.std.specs.Prelude.{Result, Ok, Err, is_some, find}
 use Rattle.std.specs.List.{filter, list_all, list_any, AllByRecursion, IsDistinct}
-use Rattle.std.proofs.lemmas.Bool.{cases_Bool, and_from, and_parts, eqb-true, or_left, or_parts, eq-eqb}
+use Rattle.std.proofs.lemmas.Bool.{cases_Bool, and_from, and_parts, eqb-true, or_parts, eq-eqb}
 use Rattle.attr_tuples.proofs.EqualityLemmas.{eqb_swap}
 use Rattle.nine.specs.declared.message.RMsg.{RMsg}
 use Rattle.nine.specs.declared.message.RBody.{RBody}
@@ -16,17 +16,17 @@ use Rattle.talks.specs.Calls as calls
 use Rattle.talks.specs.Standings.{Phase, Resting, Waiting as IsStored, Seeking, OnConfirm, OnNeedkey, OnServer, Kept}
 use Rattle.agent_history.specs.declared.event.Event.{Event}
 use Rattle.agent_history.specs.declared.event.Event.TheVariants.{Request, Hang, Answer, NoAnswer, NoRoom, Take, TakeAsk, Stop}
-use Rattle.agent_history.specs.Deeds.{Deed, OfFids, OfKeys, OfReplies, OfConnection, OfTalk, Raised, HandedOut, OfPrompts, OfLog, DropTaken, Swept, Halted, Versioned, Attached, Walked, Opened, Listed, Browsed, Clunked, Answered, Awaited, Settled, Flushed, Taken, Entered, Hung, fid_of, holder_of, names, was_hung, was_opened}
+use Rattle.agent_history.specs.Deeds.{Deed, OfFids, OfKeys, OfReplies, OfConnection, OfTalk, Raised, HandedOut, OfPrompts, OfLog, DropTaken, Swept, Halted, Versioned, Attached, Walked, Opened, Listed, Browsed, Clunked, Answered, Awaited, Settled, Flushed, Taken, Entered, Hung, fid_of, names, was_hung, was_opened}
 use Rattle.agent_history.specs.Replies.{Wait, fid_given_up, first_of, has_settled, is_unsettled, settle_fid, settle_tag, settled_by, swept, untaken, waits, waits_for, waits_under}
-use Rattle.agent_history.specs.Conversations.{Speaker, asker, fits, speakers, resumed, conv_of, standing_of, Due, NoneDue, DropDue, QuestionDue, due, given_up_by}
+use Rattle.agent_history.specs.Conversations.{asker, resumed, conv_of, standing_of, Due, NoneDue, DropDue, QuestionDue, due, given_up_by}
 use Rattle.agent_history.specs.Requests.{Call, answered, body_for, body_to, call_of, granted, is_rpc, reply_of, after, after_frame, after_granted, answer_read, carried, is_resting, phase_in, reading, reading_answer, reading_talk, refusal, talk_read, line_read_reply, reading_line}
 use Rattle.agent_history.specs.Histories.{History, deeds, does, entered, handing, taking}
-use Rattle.agent_laws.specs.Laws.{AllTold, AreWaiting, IsAnswerTold, IsLineTold, IsOverTold, IsToldBy, IsToldOf, IsBehind, as_it_came, may_wait, may_wait_on}
+use Rattle.agent_laws.specs.Laws.{AllTold, AreWaiting, IsBehind, as_it_came, may_wait, may_wait_on}
 use Rattle.agent_laws.proofs.SettleLaws.{tag_length, tag_same}
-use Rattle.agent_laws.proofs.KindLaws.{IsToldSomehow, KeepsOf, is_done, Fits, is_met}
-use Rattle.agent_laws.proofs.MetLaws.{line_holder}
-use Rattle.agent_laws.proofs.ConversationLaws.{OpenersSpeak, is_at, openers_more, speaks_there}
-use Rattle.agent_laws.proofs.ExclusiveLaws.{Opener, names_it, none_opened, opener_more}
+use Rattle.agent_laws.proofs.KindLaws.{KeepsOf, is_done, Fits, is_met}
+use Rattle.agent_laws.proofs.FileLaws.{told_by_file}
+use Rattle.agent_laws.proofs.ConversationLaws.{OpenersSpeak, openers_more}
+use Rattle.agent_laws.proofs.ExclusiveLaws.{Opener, none_opened, opener_more}
 use Rattle.agent_laws.proofs.GrowLaws.{either_way, history_grows, last_or_not, Passed, is_pending, none_refuses, read_count, KeepsAny, carried_any}
 use Rattle.agent_laws.proofs.FitLaws.{counts_fit}
 use Rattle.agent_history.specs.SideFiles.{is_line_file, lines_in}
@@ -518,44 +518,6 @@ found_under : (test : Wait → Bool) (wait : Wait) (ws : List Wait) → find tes
 unfolding IsDistinct
 found_under test wait [] e h = absurd cc
 found_under test wait (v ∷ ws) e h = under_step test v wait ws (test v) e h.0 (λ f. found_under test wait ws f h.1)
-
--- ---- what it is told is by the file that its fid has open
-
-took_speakers : (b : Bool) (conv : ℕ) (done : List Deed) → speakers (cond b (OfTalk conv calls.Took ∷ done) done) ≡ speakers done
-took_speakers true conv done = refl
-took_speakers false conv done = refl
-
--- a fid that has a file open is of it
-is_file : (node : Node) (o : Option FidState) → (names node o && is_open o) ≡ true → node_of o ≡ node
-is_file node o h = names_it node o (and_parts (names node o) (is_open o) h).0
-
-on_answer : (done : List Deed) (conn : ℕ) (wait : Wait) (body : RBody) → OpenersSpeak done → IsAnswerTold done conn wait body → node_of (fid_of done conn wait.fid) ≡ Rpc
-on_answer done conn wait body speak t =
-    let s : Speaker = record { conv = t.conv; conn = conn; fid = wait.fid } in
-    let before = speaks_there t.conv conn wait.fid s (speakers t.earlier) refl refl t.speaks in
-    let same : speakers done ≡ speakers t.earlier = ap speakers t.took ∙ took_speakers (fits wait.count t.answer) t.conv t.earlier in
-    is_file Rpc (fid_of done conn wait.fid) (sym (speak conn wait.fid) ∙ ap (list_any (is_at conn wait.fid)) same ∙ before)
-
--- of a file that isn't rpc
-of_file : (node : Node) (done : List Deed) (conn : ℕ) (wait : Wait) (body : RBody) → Opener done → IsLineTold node done conn wait body ⊎ IsOverTold node done conn wait body → node_of (fid_of done conn wait.fid) ≡ node
-of_file node done conn wait body opener (inl t) =
-    is_file node (fid_of done conn wait.fid) (opener node conn wait.fid (ap (λ (d : List Deed). holder_of d node) t.read ∙ line_holder node node t.earlier ∙ t.holds))
-of_file node done conn wait body opener (inr t) = is_file node (fid_of done conn wait.fid) (opener node conn wait.fid t.holds)
-
-by_file : (node : Node) (done : List Deed) (conn : ℕ) (wait : Wait) (body : RBody) → IsLineTold node done conn wait body ⊎ IsOverTold node done conn wait body → IsToldBy node done conn wait body
-by_file Confirm done conn wait body t = t
-by_file Needkey done conn wait body t = t
-by_file Log done conn wait body t = t
-by_file Root done conn wait body t = t
-by_file Factotum done conn wait body t = t
-by_file Ctl done conn wait body t = t
-by_file Proto done conn wait body t = t
-by_file Rpc done conn wait body (inl t) = absurd (let no_way : Nothing ≡ First t.line = t.first in cc)
-by_file Rpc done conn wait body (inr t) = absurd (let no_way : Nothing ≡ TooLong = t.over in cc)
-
-told_by_file : (done : List Deed) (conn : ℕ) (wait : Wait) (body : RBody) → OpenersSpeak done → Opener done → IsToldSomehow done conn wait body → IsToldOf done conn wait body
-told_by_file done conn wait body speak opener (inl t) = subst (λ (n : Node). IsToldBy n done conn wait body) (sym (on_answer done conn wait body speak t)) t
-told_by_file done conn wait body speak opener (inr (node, t)) = subst (λ (n : Node). IsToldBy n done conn wait body) (sym (of_file node done conn wait body opener t)) (by_file node done conn wait body t)
 
 record WellTold (done : List Deed) : Type 0 where
   well : AllWell done
