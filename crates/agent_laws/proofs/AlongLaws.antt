@@ -1,9 +1,9 @@
 -- Two lists of deeds that are the same as they are shown: in public, in their keys without secrets, in the numbers of their
 -- questions for the authentication server, and in how each conversation stands. What conversations do next is the same of both.
-use Rattle.std.proofs.Common.{◌≡◌, ℕ, zero, suc, ◌+◌, List, [], ◌∷◌, ◌++◌, length, map, Bool, true, false, cond, eqb, Option, Some, None, refl, sym, ap, ◌∙◌, subst, codes}
+use Rattle.std.proofs.Common.{◌≡◌, ℕ, zero, suc, ◌+◌, List, [], ◌∷◌, ◌++◌, length, map, Bool, true, false, cond, eqb, ◌&&◌, ◌||◌, Option, Some, None, refl, sym, ap, ◌∙◌, subst, codes}
 use Rattle.std.specs.Prelude.{find, option_map, is_some}
 use Rattle.std.specs.List.{filter, list_any}
-use Rattle.std.proofs.lemmas.Bool.{eqb-true}
+use Rattle.std.proofs.lemmas.Bool.{and_from, and_parts, eq-eqb, eqb-true, or_left}
 use Rattle.std.proofs.lemmas.List.{map-append}
 use Rattle.nine.specs.declared.message.RBody.{RBody}
 use Rattle.nine.specs.declared.message.RBody.TheVariants as r
@@ -23,11 +23,11 @@ use Rattle.talks.specs.Calls as calls
 use Rattle.talks.specs.Lines.{log_lines}
 use Rattle.talks.specs.Standings.{Begun, Phase, Resting, Waiting, Seeking, OnConfirm, OnNeedkey, OnServer, Kept, Standing, finds, is_for, need_in, sought_if, standing, template_of, then_stands}
 use Rattle.agent_history.specs.Deeds.{Deed, FidDeed, OfFids, OfReplies, OfConnection, ConnectionDeed, OfTalk, Raised, OfPrompts, OfLog, Swept, Halted, Awaited, Settled, Flushed, fid_of, holder_of, is_debug, keys_of}
-use Rattle.agent_history.specs.Replies.{Wait, reader, too_small, waits}
+use Rattle.agent_history.specs.Replies.{Wait, is_unsettled, reader, too_small, waits}
 use Rattle.agent_history.specs.SideFiles.{is_line_file, all_served, line_read, lines_in, serve_first, serve_read, serve_reads, served, served_to}
 use Rattle.agent_history.specs.Conversations.{Question, Speaker, asking, deliver_to, delivered, fits, give_to, logged, met, of_speakers, prompting, questions, raised, raising, reader_of, seeking, seeking_all, sought, sought_once, speaker_of, speakers, standing_of, talk, then_logged, then_raised, then_sought, then_took, told}
 use Rattle.agent_history.specs.Requests.{is_rpc, has_answer, is_resting}
-use Rattle.agent_laws.specs.Laws.{is_on_server}
+use Rattle.agent_laws.specs.Laws.{ToldRead, is_on_server, lines_told, waits_on_rpc}
 use Rattle.agent_laws.proofs.SizedLaws.{Serves, alike, debug_sized, fid_sized, holder_sized, lines_sized, readers_counted, readers_plain, serves_met, sight, speakers_sized, waits_sized}
 use Rattle.agent_laws.proofs.MetLaws.{chain_grows, first_holder, raised_then, then_logged_grows}
 use Rattle.agent_laws.proofs.GrowLaws.{nothing_known, without_tests}
@@ -36,6 +36,7 @@ use Rattle.file_tree.specs.Calls.{node_of}
 use Rattle.agent_laws.proofs.LeadLaws.{NextNeed}
 use Rattle.agent_laws.proofs.HiddenLaws.{hidden_list}
 use Rattle.agent_laws.proofs.KindLaws.{same_number, handed_of_met, is_met}
+use Rattle.agent_laws.proofs.ConversationLaws.{found_any, is_at, or_behind, speaks_there}
 use Rattle.agent_laws.proofs.PublicLaws.{plain, plain_length, plains}
 use Rattle.agent_laws.proofs.SeekLaws.{ShownFound, Chooses, WantsConsent, WantsKey, IsDenied, FindsNone, HasOffers, HasPick, shown_found}
 use Rattle.agent_laws.proofs.ShownLaws.{led_of, Shown, ShownPhase, Idle, Waits, Seeks, AtConfirm, AtNeedkey, AtServer, shown, shown_phase, sought_is_shown, sought_shown, told_in}
@@ -56,6 +57,7 @@ pub record Along (a b : List Deed) : Type 0 where
   pub asked : numbers a ≡ numbers b
   pub asks : raised a ≡ raised b
   pub talks : (n : ℕ) → shown (standing_of a n) ≡ shown (standing_of b n)
+  pub settled : lines_told a ≡ lines_told b
 
 -- ---- a deed that no conversation met
 
@@ -80,21 +82,49 @@ left_numbers one other a b e f =
 pub along_fids : (conn : ℕ) (deed : FidDeed) (a b : List Deed) → Along a b → Along (OfFids conn deed ∷ a) (OfFids conn deed ∷ b)
 along_fids conn deed a b s =
     let shown : sight (OfFids conn deed ∷ a) ≡ sight (OfFids conn deed ∷ b) = ap (λ (d : List Deed). OfFids conn deed ∷ d) s.public in
-    record { public = shown; keys = s.keys; asked = left_numbers (speakers (OfFids conn deed ∷ a)) (speakers (OfFids conn deed ∷ b)) a b (alike speakers speakers_sized (OfFids conn deed ∷ a) (OfFids conn deed ∷ b) shown) s.asked; asks = s.asks; talks = s.talks }
+    record { public = shown; keys = s.keys; asked = left_numbers (speakers (OfFids conn deed ∷ a)) (speakers (OfFids conn deed ∷ b)) a b (alike speakers speakers_sized (OfFids conn deed ∷ a) (OfFids conn deed ∷ b) shown) s.asked; asks = s.asks; talks = s.talks; settled = s.settled }
 
 pub along_connection : (conn : ℕ) (deed : ConnectionDeed) (a b : List Deed) → Along a b → Along (OfConnection conn deed ∷ a) (OfConnection conn deed ∷ b)
 along_connection conn deed a b s =
     let shown : sight (OfConnection conn deed ∷ a) ≡ sight (OfConnection conn deed ∷ b) = ap (λ (d : List Deed). OfConnection conn deed ∷ d) s.public in
-    record { public = shown; keys = s.keys; asked = left_numbers (speakers (OfConnection conn deed ∷ a)) (speakers (OfConnection conn deed ∷ b)) a b (alike speakers speakers_sized (OfConnection conn deed ∷ a) (OfConnection conn deed ∷ b) shown) s.asked; asks = s.asks; talks = s.talks }
+    record { public = shown; keys = s.keys; asked = left_numbers (speakers (OfConnection conn deed ∷ a)) (speakers (OfConnection conn deed ∷ b)) a b (alike speakers speakers_sized (OfConnection conn deed ∷ a) (OfConnection conn deed ∷ b) shown) s.asked; asks = s.asks; talks = s.talks; settled = s.settled }
 
 pub along_prompts : (kind : PromptKind) (call : side.Call) (a b : List Deed) → Along a b → Along (OfPrompts kind call ∷ a) (OfPrompts kind call ∷ b)
-along_prompts kind call a b s = record { public = ap (λ (d : List Deed). OfPrompts kind call ∷ d) s.public; keys = s.keys; asked = s.asked; asks = s.asks; talks = s.talks }
+along_prompts kind call a b s = record { public = ap (λ (d : List Deed). OfPrompts kind call ∷ d) s.public; keys = s.keys; asked = s.asked; asks = s.asks; talks = s.talks; settled = s.settled }
 
 pub along_log : (call : side.LogCall) (a b : List Deed) → Along a b → Along (OfLog call ∷ a) (OfLog call ∷ b)
-along_log call a b s = record { public = ap (λ (d : List Deed). OfLog call ∷ d) s.public; keys = s.keys; asked = s.asked; asks = s.asks; talks = s.talks }
+along_log call a b s = record { public = ap (λ (d : List Deed). OfLog call ∷ d) s.public; keys = s.keys; asked = s.asked; asks = s.asks; talks = s.talks; settled = s.settled }
 
-pub along_settled : (conn tag : ℕ) (one other : RBody) (a b : List Deed) → Along a b → Along (OfReplies conn (Settled tag one) ∷ a) (OfReplies conn (Settled tag other) ∷ b)
-along_settled conn tag one other a b s = record { public = ap (λ (d : List Deed). OfReplies conn (Settled tag r.Flush) ∷ d) s.public; keys = s.keys; asked = s.asked; asks = s.asks; talks = s.talks }
+-- whether a read of rpc waits under a tag is public
+abbrev on_rpc_of : List Speaker → ℕ → ℕ → Wait → Bool
+on_rpc_of standing conn tag wait = eqb wait.tag tag && is_some (option_map (λ s. s.conv) (find (λ s. eqb s.conn conn && eqb s.fid wait.fid) standing))
+
+any_of_plain : (standing : List Speaker) (conn tag : ℕ) (ws : List Wait) → list_any (on_rpc_of standing conn tag) (plains ws) ≡ list_any (on_rpc_of standing conn tag) ws
+any_of_plain standing conn tag [] = refl
+any_of_plain standing conn tag (w ∷ ws) = ap (λ (b : Bool). on_rpc_of standing conn tag w || b) (any_of_plain standing conn tag ws)
+
+rpc_alike : (conn tag : ℕ) (a b : List Deed) → sight a ≡ sight b → waits_on_rpc a conn tag ≡ waits_on_rpc b conn tag
+rpc_alike conn tag a b e =
+    sym (any_of_plain (speakers a) conn tag (waits a conn))
+    ∙ ap (list_any (on_rpc_of (speakers a) conn tag)) (sym (waits_sized a conn) ∙ ap (λ (d : List Deed). plains (waits d conn)) e ∙ waits_sized b conn)
+    ∙ any_of_plain (speakers a) conn tag (waits b conn)
+    ∙ ap (λ (ss : List Speaker). list_any (on_rpc_of ss conn tag) (waits b conn)) (alike speakers speakers_sized a b e)
+
+told_step : (conn tag : ℕ) (one other : RBody) (x y : Bool) (xs ys : List ToldRead) → x ≡ y → (y ≡ false → one ≡ other) → xs ≡ ys
+    → cond x xs (record { conn = conn; tag = tag; body = one } ∷ xs) ≡ cond y ys (record { conn = conn; tag = tag; body = other } ∷ ys)
+told_step conn tag one other x true xs ys e same f = rw e f
+told_step conn tag one other x false xs ys e same f = rw (e, same refl, f) refl
+
+-- a read is told; the same of both, where it isn't one of rpc
+pub along_settled : (conn tag : ℕ) (one other : RBody) (a b : List Deed) → Along a b → (waits_on_rpc b conn tag ≡ false → one ≡ other) → Along (OfReplies conn (Settled tag one) ∷ a) (OfReplies conn (Settled tag other) ∷ b)
+along_settled conn tag one other a b s same = record {
+  public = ap (λ (d : List Deed). OfReplies conn (Settled tag r.Flush) ∷ d) s.public;
+  keys = s.keys;
+  asked = s.asked;
+  asks = s.asks;
+  talks = s.talks;
+  settled = told_step conn tag one other (waits_on_rpc a conn tag) (waits_on_rpc b conn tag) (lines_told a) (lines_told b) (rpc_alike conn tag a b s.public) same s.settled;
+}
 
 -- a read of a file waits; of one of rpc the sizes may differ
 sized_alike : (conn tag fid : ℕ) (x y : Bool) (m n : ℕ) → x ≡ y → (y ≡ false → m ≡ n) → OfReplies conn (Awaited tag fid (cond x 0 m)) ≡ OfReplies conn (Awaited tag fid (cond y 0 n))
@@ -112,16 +142,17 @@ along_awaited conn tag fid m n a b s size = record {
   asked = s.asked;
   asks = s.asks;
   talks = s.talks;
+  settled = s.settled;
 }
 
 pub along_flushed : (conn tag : ℕ) (a b : List Deed) → Along a b → Along (OfReplies conn (Flushed tag) ∷ a) (OfReplies conn (Flushed tag) ∷ b)
-along_flushed conn tag a b s = record { public = ap (λ (d : List Deed). OfReplies conn (Flushed tag) ∷ d) s.public; keys = s.keys; asked = s.asked; asks = s.asks; talks = s.talks }
+along_flushed conn tag a b s = record { public = ap (λ (d : List Deed). OfReplies conn (Flushed tag) ∷ d) s.public; keys = s.keys; asked = s.asked; asks = s.asks; talks = s.talks; settled = s.settled }
 
 pub along_swept : (a b : List Deed) → Along a b → Along (Swept ∷ a) (Swept ∷ b)
-along_swept a b s = record { public = ap (λ (d : List Deed). Swept ∷ d) s.public; keys = s.keys; asked = s.asked; asks = s.asks; talks = s.talks }
+along_swept a b s = record { public = ap (λ (d : List Deed). Swept ∷ d) s.public; keys = s.keys; asked = s.asked; asks = s.asks; talks = s.talks; settled = s.settled }
 
 pub along_halted : (a b : List Deed) → Along a b → Along (Halted ∷ a) (Halted ∷ b)
-along_halted a b s = record { public = ap (λ (d : List Deed). Halted ∷ d) s.public; keys = s.keys; asked = refl; asks = s.asks; talks = s.talks }
+along_halted a b s = record { public = ap (λ (d : List Deed). Halted ∷ d) s.public; keys = s.keys; asked = refl; asks = s.asks; talks = s.talks; settled = s.settled }
 
 pub along_either : (x : Bool) (one other xs ys : List Deed) → Along one other → Along xs ys → Along (cond x one xs) (cond x other ys)
 along_either true one other xs ys p q = p
@@ -141,7 +172,7 @@ talk_step conv one other a b n false e f g = g
 
 pub along_talk : (conv : ℕ) (one other : calls.Call) (a b : List Deed) → Along a b → shown (standing (one ∷ talk a conv)) ≡ shown (standing (other ∷ talk b conv)) → numbers (OfTalk conv one ∷ a) ≡ numbers (OfTalk conv other ∷ b)
     → Along (OfTalk conv one ∷ a) (OfTalk conv other ∷ b)
-along_talk conv one other a b s e f = record { public = s.public; keys = s.keys; asked = f; asks = s.asks; talks = λ n. talk_step conv one other a b n (eqb conv n) refl e (s.talks n) }
+along_talk conv one other a b s e f = record { public = s.public; keys = s.keys; asked = f; asks = s.asks; talks = λ n. talk_step conv one other a b n (eqb conv n) refl e (s.talks n); settled = s.settled }
 
 -- an answer was read, of one of both
 took_step : (done : List Deed) (conv n : ℕ) (x : Bool) → shown (standing (cond x (calls.Took ∷ talk done n) (talk done n))) ≡ shown (standing_of done n)
@@ -149,10 +180,10 @@ took_step done conv n true = took_is_shown (talk done n)
 took_step done conv n false = refl
 
 took_one : (conv : ℕ) (a b : List Deed) → Along a b → Along (OfTalk conv calls.Took ∷ a) b
-took_one conv a b s = record { public = s.public; keys = s.keys; asked = s.asked; asks = s.asks; talks = λ n. took_step a conv n (eqb conv n) ∙ s.talks n }
+took_one conv a b s = record { public = s.public; keys = s.keys; asked = s.asked; asks = s.asks; talks = λ n. took_step a conv n (eqb conv n) ∙ s.talks n; settled = s.settled }
 
 took_other : (conv : ℕ) (a b : List Deed) → Along a b → Along a (OfTalk conv calls.Took ∷ b)
-took_other conv a b s = record { public = s.public; keys = s.keys; asked = s.asked; asks = s.asks; talks = λ n. s.talks n ∙ sym (took_step b conv n (eqb conv n)) }
+took_other conv a b s = record { public = s.public; keys = s.keys; asked = s.asked; asks = s.asks; talks = λ n. s.talks n ∙ sym (took_step b conv n (eqb conv n)); settled = s.settled }
 
 pub along_took : (conv count most : ℕ) (one other : RpcAnswer) (a b : List Deed) → Along a b → Along (then_took conv count one a) (then_took conv most other b)
 along_took conv count most one other a b s = by_it (fits count one) (fits most other)
@@ -360,6 +391,7 @@ along_raised conv a b s = record {
       ∙ sym (map-append numbered (questions b) (record { call = raised b + 1; conv = conv; handed = false } ∷ []));
   asks = ap (λ (n : ℕ). n + 1) s.asks;
   talks = s.talks;
+  settled = s.settled;
 }
 
 along_then_raised : (conv : ℕ) (a b : List Deed) → Along a b → Along (then_raised conv a) (then_raised conv b)
@@ -403,8 +435,8 @@ along_line Proto a b s = s
 
 along_read : (node : Node) (conn tag : ℕ) (what : LineFound) (a b : List Deed) → Along a b → Along (serve_read node conn tag what a) (serve_read node conn tag what b)
 along_read node conn tag Nothing a b s = s
-along_read node conn tag TooLong a b s = along_settled conn tag too_small too_small a b s
-along_read node conn tag (First line) a b s = along_settled conn tag (r.Read line) (r.Read line) (line_read node a) (line_read node b) (along_line node a b s)
+along_read node conn tag TooLong a b s = along_settled conn tag too_small too_small a b s (λ no. refl)
+along_read node conn tag (First line) a b s = along_settled conn tag (r.Read line) (r.Read line) (line_read node a) (line_read node b) (along_line node a b s) (λ no. refl)
 
 -- the read that waits is of the same tag and size
 along_first : (node : Node) (conn : ℕ) (o p : Option Wait) (a b : List Deed) → Along a b → option_map plain o ≡ option_map plain p → option_map (λ w. w.count) o ≡ option_map (λ w. w.count) p → Along (serve_first node conn o a) (serve_first node conn p b)
@@ -501,15 +533,43 @@ along_met conv one other a b before p q s =
 
 -- ---- an answer that is delivered
 
-along_give : (conv conn : ℕ) (one other : RpcAnswer) (o p : Option Wait) (a b : List Deed) → Along a b → option_map plain o ≡ option_map plain p → Along (give_to conv conn one o a) (give_to conv conn other p b)
-along_give conv conn one other None None a b s e = s
-along_give conv conn one other None (Some w) a b s e = absurd cc
-along_give conv conn one other (Some v) None a b s e = absurd cc
-along_give conv conn one other (Some v) (Some w) a b s e =
+-- the read that waits for the answers of a conversation waits on rpc
+took_rpc : (conv conn tag : ℕ) (x : Bool) (done : List Deed) → waits_on_rpc (cond x (OfTalk conv calls.Took ∷ done) done) conn tag ≡ waits_on_rpc done conn tag
+took_rpc conv conn tag true done = refl
+took_rpc conv conn tag false done = refl
+
+waits_step : (standing : List Speaker) (conn fid : ℕ) (v w : Wait) (ws : List Wait) (x : Bool) → (eqb v.fid fid && is_unsettled v) ≡ x → is_some (option_map (λ s. s.conv) (find (λ s. eqb s.conn conn && eqb s.fid fid) standing)) ≡ true → cond x (Some v) (find (λ u. eqb u.fid fid && is_unsettled u) ws) ≡ Some w
+    → (find (λ u. eqb u.fid fid && is_unsettled u) ws ≡ Some w → list_any (on_rpc_of standing conn w.tag) ws ≡ true) → list_any (on_rpc_of standing conn w.tag) (v ∷ ws) ≡ true
+waits_step standing conn fid v w ws true is speaks e more =
+    let same : v ≡ w = cc in
+    let at_fid = eqb-true v.fid fid (and_parts (eqb v.fid fid) (is_unsettled v) is).0 in
+    or_left (on_rpc_of standing conn w.tag v) (list_any (on_rpc_of standing conn w.tag) ws)
+    (and_from (eqb v.tag w.tag) (is_some (option_map (λ s. s.conv) (find (λ s. eqb s.conn conn && eqb s.fid v.fid) standing)))
+    (eq-eqb v.tag w.tag (ap (λ (x : Wait). x.tag) same))
+    (ap (λ (n : ℕ). is_some (option_map (λ s. s.conv) (find (λ s. eqb s.conn conn && eqb s.fid n) standing))) at_fid ∙ speaks))
+waits_step standing conn fid v w ws false is speaks e more = or_behind (on_rpc_of standing conn w.tag v) (list_any (on_rpc_of standing conn w.tag) ws) (more e)
+
+waits_there : (standing : List Speaker) (conn fid : ℕ) (w : Wait) (ws : List Wait) → is_some (option_map (λ s. s.conv) (find (λ s. eqb s.conn conn && eqb s.fid fid) standing)) ≡ true → find (λ u. eqb u.fid fid && is_unsettled u) ws ≡ Some w → list_any (on_rpc_of standing conn w.tag) ws ≡ true
+waits_there standing conn fid w [] speaks e = absurd cc
+waits_there standing conn fid w (v ∷ ws) speaks e = waits_step standing conn fid v w ws (eqb v.fid fid && is_unsettled v) refl speaks e (waits_there standing conn fid w ws speaks)
+
+on_rpc_there : (conv : ℕ) (who : Speaker) (w : Wait) (done : List Deed) → speaker_of done conv ≡ Some who → reader_of done who ≡ Some w → waits_on_rpc done who.conn w.tag ≡ true
+on_rpc_there conv who w done found e =
+    waits_there (speakers done) who.conn who.fid w (waits done who.conn)
+    (found_any (is_at who.conn who.fid) (speakers done) ∙ speaks_there conv who.conn who.fid who (speakers done) refl refl found) e
+
+along_give : (conv : ℕ) (who : Speaker) (one other : RpcAnswer) (o p : Option Wait) (a b : List Deed) → Along a b → option_map plain o ≡ option_map plain p → speaker_of b conv ≡ Some who → reader_of b who ≡ p → Along (give_to conv who.conn one o a) (give_to conv who.conn other p b)
+along_give conv who one other None None a b s e found here = s
+along_give conv who one other None (Some w) a b s e found here = absurd cc
+along_give conv who one other (Some v) None a b s e found here = absurd cc
+along_give conv who one other (Some v) (Some w) a b s e found here =
     let it : plain v ≡ plain w = cc in
     let tag : v.tag ≡ w.tag = ap (λ (x : Wait). x.tag) it in
-    subst (λ (n : ℕ). Along (give_to conv conn one (Some v) a) (OfReplies conn (Settled n (told w.count other)) ∷ then_took conv w.count other b)) tag
-    (along_settled conn v.tag (told v.count one) (told w.count other) (then_took conv v.count one a) (then_took conv w.count other b) (along_took conv v.count w.count one other a b s))
+    let on_rpc : waits_on_rpc (then_took conv w.count other b) who.conn v.tag ≡ true =
+        took_rpc conv who.conn v.tag (fits w.count other) b ∙ ap (waits_on_rpc b who.conn) tag ∙ on_rpc_there conv who w b found here in
+    subst (λ (n : ℕ). Along (give_to conv who.conn one (Some v) a) (OfReplies who.conn (Settled n (told w.count other)) ∷ then_took conv w.count other b)) tag
+    (along_settled who.conn v.tag (told v.count one) (told w.count other) (then_took conv v.count one a) (then_took conv w.count other b) (along_took conv v.count w.count one other a b s)
+    (λ no. absurd (let no_way : true ≡ false = sym on_rpc ∙ no in cc)))
 
 abbrev pub answer_in : Phase → RpcAnswer
 answer_in (Kept answer) = answer
@@ -534,15 +594,15 @@ deliver_by conv (OnConfirm serial) o done = refl
 deliver_by conv OnNeedkey o done = refl
 deliver_by conv OnServer o done = refl
 
-along_kept : (conv : ℕ) (one other : RpcAnswer) (o : Option Speaker) (a b : List Deed) → Along a b → Along (kept_for conv one o a) (kept_for conv other o b)
-along_kept conv one other None a b s = s
-along_kept conv one other (Some who) a b s = along_give conv who.conn one other (reader_of a who) (reader_of b who) a b s (readers_plain who.conn who.fid a b s.public)
+along_kept : (conv : ℕ) (one other : RpcAnswer) (o : Option Speaker) (a b : List Deed) → Along a b → speaker_of b conv ≡ o → Along (kept_for conv one o a) (kept_for conv other o b)
+along_kept conv one other None a b s found = s
+along_kept conv one other (Some who) a b s found = along_give conv who one other (reader_of a who) (reader_of b who) a b s (readers_plain who.conn who.fid a b s.public) found refl
 
-along_deliver : (conv : ℕ) (p q : Phase) (o : Option Speaker) (a b : List Deed) → Along a b → has_answer p ≡ has_answer q → Along (deliver_to conv p o a) (deliver_to conv q o b)
-along_deliver conv p q o a b s e =
+along_deliver : (conv : ℕ) (p q : Phase) (o : Option Speaker) (a b : List Deed) → Along a b → has_answer p ≡ has_answer q → speaker_of b conv ≡ o → Along (deliver_to conv p o a) (deliver_to conv q o b)
+along_deliver conv p q o a b s e found =
     subst (λ (d : List Deed). Along d (deliver_to conv q o b)) (sym (deliver_by conv p o a))
     (subst (λ (d : List Deed). Along (cond (has_answer p) (kept_for conv (answer_in p) o a) a) d) (sym (deliver_by conv q o b))
-    (along_choice (has_answer p) (has_answer q) (kept_for conv (answer_in p) o a) (kept_for conv (answer_in q) o b) a b e (λ is. along_kept conv (answer_in p) (answer_in q) o a b s) (λ is. s)))
+    (along_choice (has_answer p) (has_answer q) (kept_for conv (answer_in p) o a) (kept_for conv (answer_in q) o b) a b e (λ is. along_kept conv (answer_in p) (answer_in q) o a b s found) (λ is. s)))
 
 speaking : (a b : List Deed) → Along a b → (conv : ℕ) → speaker_of a conv ≡ speaker_of b conv
 speaking a b s conv = ap (find (λ s. eqb s.conv conv)) (alike speakers speakers_sized a b s.public)
@@ -550,7 +610,7 @@ speaking a b s conv = ap (find (λ s. eqb s.conv conv)) (alike speakers speakers
 pub along_delivered : (conv : ℕ) (a b : List Deed) → Along a b → has_answer (standing_of a conv).phase ≡ has_answer (standing_of b conv).phase → Along (delivered conv a) (delivered conv b)
 along_delivered conv a b s e =
     subst (λ (o : Option Speaker). Along (delivered conv a) (deliver_to conv (standing_of b conv).phase o b)) (speaking a b s conv)
-    (along_deliver conv (standing_of a conv).phase (standing_of b conv).phase (speaker_of a conv) a b s e)
+    (along_deliver conv (standing_of a conv).phase (standing_of b conv).phase (speaker_of a conv) a b s e (sym (speaking a b s conv)))
 
 -- where its request doesn't rest, a conversation that waits for nothing has an answer
 abbrev idles : ShownPhase → Bool

@@ -3,7 +3,7 @@
 use Rattle.std.proofs.Common.{◌≡◌, ℕ, ◌+◌, ◌≤◌, List, [], ◌∷◌, ◌++◌, length, map, Bool, true, false, cond, eqb, ltb, ◌&&◌, ◌||◌, not, Option, Some, None, refl, sym, ap, subst, ◌∙◌, inl, inr, arith}
 use Rattle.std.specs.Prelude.{find, is_some, option_map}
 use Rattle.std.specs.List.{filter, list_all, list_any, AllByRecursion, IsDistinct}
-use Rattle.std.proofs.lemmas.Bool.{cases_Bool, and_from, and_parts, eqb-true, eq-eqb, ltb-true, lt-ltb, or_parts}
+use Rattle.std.proofs.lemmas.Bool.{cases_Bool, and_from, and_parts, eqb-true, eq-eqb, ltb-true, lt-ltb, or_left, or_parts}
 use Rattle.attr_tuples.proofs.EqualityLemmas.{eqb_swap}
 use Rattle.file_tree.specs.declared.tree.Node.{Node}
 use Rattle.file_tree.specs.declared.tree.Node.TheVariants.{Root, Factotum, Rpc, Ctl, Confirm, Needkey, Proto, Log}
@@ -59,16 +59,16 @@ both_same a b c d e = let parts = and_parts (eqb a b) (eqb c d) e in (eqb-true a
 
 -- ---- each fid that has rpc open has a conversation, and no other has
 
-abbrev is_at : ℕ → ℕ → Speaker → Bool
+abbrev pub is_at : ℕ → ℕ → Speaker → Bool
 is_at conn fid s = eqb s.conn conn && eqb s.fid fid
 
-abbrev speaks_at : List Deed → ℕ → ℕ → Bool
+abbrev pub speaks_at : List Deed → ℕ → ℕ → Bool
 speaks_at done conn fid = list_any (is_at conn fid) (speakers done)
 
-abbrev on_rpc : Option FidState → Bool
+abbrev pub on_rpc : Option FidState → Bool
 on_rpc o = names Rpc o && is_open o
 
-abbrev OpenersSpeak : List Deed → Type 0
+abbrev pub OpenersSpeak : List Deed → Type 0
 OpenersSpeak done = (conn fid : ℕ) → speaks_at done conn fid ≡ on_rpc (fid_of done conn fid)
 
 -- those of a connection, or of a fid of it, that leave
@@ -134,7 +134,7 @@ opens_rpc false true mode theirs mine xs s conn fid n e same named rests h =
     h ∙ closed mine (ap is_open (sym (same refl)) ∙ rests) ∙ sym (names_opened mode mine (ap is_some (sym (same refl)) ∙ named) ∙ ap (names Rpc) (sym (same refl)) ∙ n)
 opens_rpc false false mode theirs mine xs s conn fid n e same named rests h = h
 
-openers_more : (conn : ℕ) → KeepsOf (is_done conn) OpenersSpeak
+pub openers_more : (conn : ℕ) → KeepsOf (is_done conn) OpenersSpeak
 openers_more c done (OfFids at (Versioned msize)) kind fits h = λ conn fid. leave_conn (eqb at conn) at conn fid (speakers done) (fid_of done conn fid) refl (h conn fid)
 openers_more c done (OfConnection at Hung) kind fits h = λ conn fid. leave_conn (eqb at conn) at conn fid (speakers done) (fid_of done conn fid) refl (h conn fid)
 openers_more c done (OfFids at (Clunked f)) kind fits h = λ conn fid. leave_fid (eqb at conn && eqb f fid) at f conn fid (speakers done) (fid_of done conn fid) refl (h conn fid)
@@ -157,13 +157,29 @@ openers_more c done (OfLog doing) kind fits h = h
 openers_more c done Swept kind fits h = h
 openers_more c done Halted kind fits h = λ conn fid. refl
 
-found_any : (p : Speaker → Bool) (xs : List Speaker) → is_some (option_map (λ s. s.conv) (find p xs)) ≡ list_any p xs
+pub found_any : (p : Speaker → Bool) (xs : List Speaker) → is_some (option_map (λ s. s.conv) (find p xs)) ≡ list_any p xs
 found_any p [] = refl
 found_any p (s ∷ xs) = step (p s) (found_any p xs)
   where
     step : (b : Bool) → is_some (option_map (λ x. x.conv) (find p xs)) ≡ list_any p xs → is_some (option_map (λ x. x.conv) (cond b (Some s) (find p xs))) ≡ (b || list_any p xs)
     step true more = refl
     step false more = more
+
+pub or_behind : (x y : Bool) → y ≡ true → (x || y) ≡ true
+or_behind true y e = refl
+or_behind false y e = e
+
+-- the conversation of a number, and who has it open, stands among the others
+speaks_step : (conv conn fid : ℕ) (s v : Speaker) (xs : List Speaker) (b : Bool) → s.conn ≡ conn → s.fid ≡ fid → cond b (Some v) (find (λ x. eqb x.conv conv) xs) ≡ Some s
+    → (find (λ x. eqb x.conv conv) xs ≡ Some s → list_any (is_at conn fid) xs ≡ true) → list_any (is_at conn fid) (v ∷ xs) ≡ true
+speaks_step conv conn fid s v xs true at_conn at_fid e more =
+    let same : v ≡ s = cc in
+    or_left (is_at conn fid v) (list_any (is_at conn fid) xs) (and_from (eqb v.conn conn) (eqb v.fid fid) (eq-eqb v.conn conn (ap (λ (x : Speaker). x.conn) same ∙ at_conn)) (eq-eqb v.fid fid (ap (λ (x : Speaker). x.fid) same ∙ at_fid)))
+speaks_step conv conn fid s v xs false at_conn at_fid e more = or_behind (is_at conn fid v) (list_any (is_at conn fid) xs) (more e)
+
+pub speaks_there : (conv conn fid : ℕ) (s : Speaker) (xs : List Speaker) → s.conn ≡ conn → s.fid ≡ fid → find (λ x. eqb x.conv conv) xs ≡ Some s → list_any (is_at conn fid) xs ≡ true
+speaks_there conv conn fid s [] at_conn at_fid e = absurd cc
+speaks_there conv conn fid s (v ∷ xs) at_conn at_fid e = speaks_step conv conn fid s v xs (eqb v.conv conv) at_conn at_fid e (speaks_there conv conn fid s xs at_conn at_fid)
 
 pub openers_speak : (H : History) (conn fid : ℕ) → is_some (conv_of (deeds H) conn fid) ≡ has_open (deeds H) Rpc conn fid
 openers_speak H conn fid = found_any (is_at conn fid) (speakers (deeds H)) ∙ history_grows OpenersSpeak openers_more (λ c f. refl) H conn fid

@@ -20,7 +20,7 @@ use Rattle.agent_laws.proofs.GrowLaws.{history_grows}
 abbrev pub Has : Node → Option FidState → Type 0
 Has node o = (names node o && is_open o) ≡ true
 
-named : (node : Node) (o : Option FidState) → Has node o → names node o ≡ true
+pub named : (node : Node) (o : Option FidState) → Has node o → names node o ≡ true
 named node o h = (and_parts (names node o) (is_open o) h).0
 
 opens : (node : Node) (o : Option FidState) → Has node o → is_open o ≡ true
@@ -46,7 +46,7 @@ is_opened : (mode : ℕ) (o : Option FidState) → is_some o ≡ true → is_ope
 is_opened mode None s = absurd cc
 is_opened mode (Some state) s = refl
 
-names_it : (node : Node) (o : Option FidState) → names node o ≡ true → node_of o ≡ node
+pub names_it : (node : Node) (o : Option FidState) → names node o ≡ true → node_of o ≡ node
 names_it node None n = absurd cc
 names_it node (Some state) n = one_path state.node node (eqb-true (file state.node).path (file node).path n)
 
@@ -171,7 +171,7 @@ opener_opened true done node at f conn fid mode n held rests h e =
 opener_opened false done node at f conn fid mode n held rests h e =
     still_has (eqb at conn && eqb f fid) node (opened mode (fid_of done conn fid)) (fid_of done conn fid) (another_rests done node at f conn fid rests (h e)) (h e)
 
-opener_more : (conn : ℕ) → KeepsOf (is_done conn) Opener
+pub opener_more : (conn : ℕ) → KeepsOf (is_done conn) Opener
 opener_more c done (OfFids at (Versioned msize)) own fits h node conn fid e =
     let was = stayed (λ holder. eqb holder.0 at) (holder_of done node) (conn, fid) e in
     still_has (eqb at conn) node None (fid_of done conn fid) (eqb_swap at conn ∙ was.1) (h node conn fid was.0)
@@ -201,7 +201,7 @@ opener_more c done (OfLog doing) own fits h node conn fid e = h node conn fid e
 opener_more c done Swept own fits h node conn fid e = h node conn fid e
 opener_more c done Halted own fits h node conn fid e = absurd cc
 
-none_opened : Opener []
+pub none_opened : Opener []
 none_opened node conn fid e = absurd cc
 
 pub holder_opens : (H : History) → Opener (deeds H)

@@ -37,8 +37,8 @@ use Rattle.agent_history.specs.Replies.{Wait, fid_given_up, first_of, is_unsettl
 use Rattle.agent_history.specs.Conversations.{conv_of, fits, standing_of, told, Due, NoneDue, DropDue, QuestionDue, due, all_withdrawn, ended_by, given_up_by}
 use Rattle.agent_history.specs.Requests.{Call, after_frame, answer_read, answered, body_for, body_to, call_of, carried, content_of, ctl_text, effective, granted, is_known, is_rpc, least_msize, most_msize, piece, proto_text, read_reply, replied, reply_of, tag_of, talk_read, write_reply, written, line_read_reply}
 use Rattle.agent_history.specs.Histories.{History, deeds, does, entered, handing, taking}
-use Rattle.agent_laws.specs.Laws.{gives_content, given, longest_reply, most_read, put_out, reply_to, IsToldOf}
-use Rattle.agent_laws.proofs.KindLaws.{SizeFits, is_asked, is_done, is_told_so, FitsIf, KeepsIf, asked_by_met, is_handed, met_by_handed}
+use Rattle.agent_laws.specs.Laws.{gives_content, given, longest_reply, most_read, put_out, reply_to}
+use Rattle.agent_laws.proofs.KindLaws.{IsToldSomehow, SizeFits, is_asked, is_done, is_told_so, FitsIf, KeepsIf, asked_by_met, is_handed, met_by_handed}
 use Rattle.agent_laws.proofs.MetLaws.{found_fits, given_up_grows, withdrawn_speakers}
 use Rattle.agent_laws.proofs.GrowLaws.{answer_does, either_way, frame_grows, history_grows, last_or_not, no_answer_does, no_room_does, swept_grows, hang_speakers}
 use Rattle.agent_laws.proofs.ReplyLaws.{given_in_order, frames_put_out}
@@ -457,11 +457,11 @@ told_fits : (o : Option ℕ) (count : ℕ) (answer : RpcAnswer) → SizeFits o �
 told_fits o count answer h small =
     told_each (FitsIn (longest_reply o)) count answer (λ fitting. omega (arith, fitting, read_fits o count h small)) (omega (arith, room_least o h))
 
-told_so_fits : (o : Option ℕ) (done : List Deed) (conn : ℕ) (wait : Wait) (body : RBody) → SizeFits o → wait.count ≤ most_read o → IsToldOf done conn wait body → FitsIn (longest_reply o) body
-told_so_fits o done conn wait body h small (inl told_) = subst (FitsIn (longest_reply o)) (sym told_.1) (told_fits o wait.count told_.0 h small)
-told_so_fits o done conn wait body h small (inr (inl (node, earlier, line, is, held, first, e))) =
-    subst (FitsIn (longest_reply o)) (sym e) (omega (arith, found_fits wait.count (lines_in earlier node) line first, read_fits o wait.count h small))
-told_so_fits o done conn wait body h small (inr (inr (node, held, over, e))) = subst (FitsIn (longest_reply o)) (sym e) (omega (arith, room_least o h))
+told_so_fits : (o : Option ℕ) (done : List Deed) (conn : ℕ) (wait : Wait) (body : RBody) → SizeFits o → wait.count ≤ most_read o → IsToldSomehow done conn wait body → FitsIn (longest_reply o) body
+told_so_fits o done conn wait body h small (inl t) = subst (FitsIn (longest_reply o)) (sym t.says) (told_fits o wait.count t.answer h small)
+told_so_fits o done conn wait body h small (inr (node, inl t)) =
+    subst (FitsIn (longest_reply o)) (sym t.says) (omega (arith, found_fits wait.count (lines_in t.earlier node) t.line t.first, read_fits o wait.count h small))
+told_so_fits o done conn wait body h small (inr (node, inr t)) = subst (FitsIn (longest_reply o)) (sym t.says) (omega (arith, room_least o h))
 
 append_waiting : (o : Option ℕ) (ws : List Wait) (w : Wait) → Waiting o ws → WaitFitsIn o w → Waiting o (ws ++ w ∷ [])
 append_waiting o [] w h f = (f, tt)

@@ -1,11 +1,12 @@
 -- What was tested before each deed, and the kinds of deeds of which something is kept.
 use Rattle.std.proofs.Common.{◌≡◌, ℕ, ◌≤◌, ◌<◌, List, ◌∷◌, length, Bool, true, false, eqb, ltb, ◌&&◌, not, Option, Some, None, refl}
-use Rattle.std.specs.Prelude.{find, is_some}
+use Rattle.std.specs.Prelude.{◌⊎◌, find, is_some}
 use Rattle.std.specs.List.{list_all, list_any}
 use Rattle.std.proofs.lemmas.Bool.{eq-eqb}
 use Rattle.nine.specs.declared.message.RBody.{RBody}
 use Rattle.file_tree.specs.declared.tree.FidState.{FidState}
 use Rattle.file_tree.specs.Tree.{is_exclusive}
+use Rattle.file_tree.specs.declared.tree.Node.{Node}
 use Rattle.file_tree.specs.Calls.{is_open, node_of}
 use Rattle.key_lists.specs.Lists.{KeyList, add_fault, delete_fault}
 use Rattle.key_lists.specs.Edits.{KeyEdit, Add, Delete}
@@ -18,7 +19,7 @@ use Rattle.agent_history.specs.Replies.{Wait, is_unsettled, waits, waits_for, wa
 use Rattle.agent_history.specs.SideFiles.{askers}
 use Rattle.agent_history.specs.Conversations.{asking, questions, speakers, standing_of, stands}
 use Rattle.agent_history.specs.Requests.{least_msize, most_msize, most_talks, most_waits, is_rpc}
-use Rattle.agent_laws.specs.Laws.{FollowsSearch, IsLogged, IsToldOf, all_asked, all_prompted, asks_user, may_wait_on, most_read, waits_on}
+use Rattle.agent_laws.specs.Laws.{FollowsSearch, IsAnswerTold, IsLineTold, IsLogged, IsOverTold, all_asked, all_prompted, asks_user, may_wait_on, most_read, waits_on}
 
 -- ---- what was tested before a deed
 
@@ -48,6 +49,10 @@ pub record WaitFits (done : List Deed) (conn tag fid count : ℕ) : Type 0 where
   pub few : length (waits done conn) < most_waits
   pub size : count ≤ most_read (msize_of done conn)
 
+-- a read is told an answer, or what it finds in some file of lines
+abbrev pub IsToldSomehow : List Deed → ℕ → Wait → RBody → Type 0
+IsToldSomehow done conn wait body = IsAnswerTold done conn wait body ⊎ ((node : Node) × (IsLineTold node done conn wait body ⊎ IsOverTold node done conn wait body))
+
 -- a read that is settled is one that waits, and is told an answer or a line
 pub record SettleFits (done : List Deed) (conn tag : ℕ) (body : RBody) : Type 0 where
   pub test : Wait → Bool
@@ -55,7 +60,7 @@ pub record SettleFits (done : List Deed) (conn tag : ℕ) (body : RBody) : Type 
   pub found : find test (waits done conn) ≡ Some wait
   pub waited : is_unsettled wait ≡ true
   pub under : wait.tag ≡ tag
-  pub told_so : IsToldOf done conn wait body
+  pub told_so : IsToldSomehow done conn wait body
 
 -- a conversation that raises a question waits for the server; and where this is known of the questions before it, it
 -- stands and has no other

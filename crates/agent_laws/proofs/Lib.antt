@@ -22,6 +22,7 @@ mod SecretLaws
 mod AlikeLaws
 mod WriteLaws
 pub mod ConversationLaws
+mod FileLaws
 mod WaitLaws
 mod PublicLaws
 mod SeenLaws

@@ -41,10 +41,10 @@ use Rattle.agent_history.specs.Replies.{Wait, is_unsettled, reader, settle_tag, 
 use Rattle.agent_history.specs.SideFiles.{all_served, askers, file_of, line_read, lines_in, prompt_calls, prompts_of, serve_first, serve_read, serve_reads, served, served_to}
 use Rattle.agent_history.specs.Conversations.{Speaker, all_shut, all_withdrawn, asking, closed, conv_of, deliver_to, delivered, ended_by, fits, give_to, given_up_by, logged, met, shut, sought, then_logged, questions, raising, reader_of, resumed, seeking, speaker_of, speakers, standing_of, talk, then_raised, then_took, told, stands, then_sought, sought_once, seeking_all}
 use Rattle.agent_history.specs.Requests.{Call, Test, least_msize, most_msize, most_waits, is_rpc, has_answer, phase_in, phase_of, reading_answer, reading_talk, carrying_out, finds_none, line_deed, lines_done, reading_line, replying, said_by, stored}
-use Rattle.agent_laws.specs.Laws.{IsToldOf, all_prompted, asks_user, each_once, is_on_server, waits_on, IsLogged}
+use Rattle.agent_laws.specs.Laws.{all_prompted, asks_user, each_once, is_on_server, waits_on, IsLogged}
 use Rattle.agent_laws.proofs.AskLaws.{all_weaker, no_question, open_stands, or_more}
-use Rattle.agent_laws.proofs.SettleLaws.{settled_any, tag_length}
-use Rattle.agent_laws.proofs.KindLaws.{AskersStay, AsksNobody, Fits, FitsIf, IsKnown, KeepsIf, KeepsOf, SettleFits, SizeFits, WaitFits, handed_of_met, is_handed, is_line, is_met, is_spoken, met_of_spoken, same_number}
+use Rattle.agent_laws.proofs.SettleLaws.{find_passes, settled_any, speaker_found, tag_length}
+use Rattle.agent_laws.proofs.KindLaws.{AskersStay, AsksNobody, Fits, FitsIf, IsKnown, IsToldSomehow, KeepsIf, KeepsOf, SettleFits, SizeFits, WaitFits, handed_of_met, is_handed, is_line, is_met, is_spoken, met_of_spoken, same_number}
 use Rattle.agent_laws.proofs.PromptLaws.{Prompted, Within, all_members, all_there, asker_waits, askers_in, asks_nobody, replied_none, waits_so, withdrawn_none, withdrawn_within, within_any}
 
 -- ---- a list of tests of which none holds
@@ -336,25 +336,16 @@ pub found_fits : (count : ℕ) (lines : List (List ℕ)) (line : List ℕ) → f
 found_fits count [] line e = absurd cc
 found_fits count (other ∷ lines) line e = found_step count other line (ltb count (length other)) refl e
 
--- what is found passes
-find_step : (test : Wait → Bool) (v wait : Wait) (ws : List Wait) (b : Bool) → test v ≡ b → cond b (Some v) (find test ws) ≡ Some wait → (find test ws ≡ Some wait → test wait ≡ true) → test wait ≡ true
-find_step test v wait ws true e f more = let same : v ≡ wait = cc in ap test (sym same) ∙ e
-find_step test v wait ws false e f more = more f
-
-find_passes : (test : Wait → Bool) (wait : Wait) (ws : List Wait) → find test ws ≡ Some wait → test wait ≡ true
-find_passes test wait [] e = absurd cc
-find_passes test wait (v ∷ ws) e = find_step test v wait ws (test v) refl e (find_passes test wait ws)
-
 -- a read of a fid that isn't settled
 abbrev pub is_reader : ℕ → Wait → Bool
 is_reader fid wait = eqb wait.fid fid && is_unsettled wait
 
 -- it is told something of what it may hold
-reader_fits : (done : List Deed) (conn fid : ℕ) (wait : Wait) (body : RBody) → reader done conn fid ≡ Some wait → IsToldOf done conn wait body → SettleFits done conn wait.tag body
+reader_fits : (done : List Deed) (conn fid : ℕ) (wait : Wait) (body : RBody) → reader done conn fid ≡ Some wait → IsToldSomehow done conn wait body → SettleFits done conn wait.tag body
 reader_fits done conn fid wait body e told = record { test = is_reader fid; wait = wait; found = e; waited = (and_parts (eqb wait.fid fid) (is_unsettled wait) (find_passes (is_reader fid) wait (waits done conn) e)).1; under = refl; told_so = told }
 
 -- reading a line opens and closes no file
-line_holder : (node of : Node) (done : List Deed) → holder_of (line_read node done) of ≡ holder_of done of
+pub line_holder : (node of : Node) (done : List Deed) → holder_of (line_read node done) of ≡ holder_of done of
 line_holder Confirm of done = refl
 line_holder Needkey of done = refl
 line_holder Log of done = refl
@@ -373,19 +364,23 @@ pub first_holder : (node of : Node) (conn : ℕ) (o : Option Wait) (done : List 
 first_holder node of conn None done = refl
 first_holder node of conn (Some wait) done = serve_holder node of conn wait.tag (found wait.count (lines_in done node)) done
 
+-- a read that waits for a fid is of it
+reader_fid : (done : List Deed) (conn fid : ℕ) (wait : Wait) → reader done conn fid ≡ Some wait → wait.fid ≡ fid
+reader_fid done conn fid wait e = eqb-true wait.fid fid (and_parts (eqb wait.fid fid) (is_unsettled wait) (find_passes (is_reader fid) wait (waits done conn) e)).0
+
 -- the fid of the read that is told has the file open
 own_fid : (done : List Deed) (node : Node) (conn fid : ℕ) (wait : Wait) → reader done conn fid ≡ Some wait → holder_of done node ≡ Some (conn, fid) → holder_of done node ≡ Some (conn, wait.fid)
 own_fid done node conn fid wait e held =
-    held ∙ ap (λ (n : ℕ). Some (conn, n)) (sym (eqb-true wait.fid fid (and_parts (eqb wait.fid fid) (is_unsettled wait) (find_passes (is_reader fid) wait (waits done conn) e)).0))
+    held ∙ ap (λ (n : ℕ). Some (conn, n)) (sym (reader_fid done conn fid wait e))
 
 serve_grows : (Known : Type 0) (P : List Deed → Type 0) → KeepsIf Known is_handed P → (node : Node) (conn fid : ℕ) (wait : Wait) (what : Found) (done : List Deed) → reader done conn fid ≡ Some wait → holder_of done node ≡ Some (conn, fid) → found wait.count (lines_in done node) ≡ what → P done
     → P (serve_read node conn wait.tag what done)
 serve_grows Known P k node conn fid wait Nothing done e held f p = p
 serve_grows Known P k node conn fid wait TooLong done e held f p =
-    k done (OfReplies conn (Settled wait.tag too_small)) refl (reader_fits done conn fid wait too_small e (inr (inr (node, own_fid done node conn fid wait e held, f, refl)))) p
+    k done (OfReplies conn (Settled wait.tag too_small)) refl (reader_fits done conn fid wait too_small e (inr (node, inr (record { holds = own_fid done node conn fid wait e held; over = f; says = refl })))) p
 serve_grows Known P k node conn fid wait (First line) done e held f p =
     k (line_read node done) (OfReplies conn (Settled wait.tag (r.Read line))) refl
-    (reader_fits (line_read node done) conn fid wait (r.Read line) (ap (find (is_reader fid)) (line_waits node done conn) ∙ e) (inr (inl (node, done, line, refl, own_fid done node conn fid wait e held, f, refl))))
+    (reader_fits (line_read node done) conn fid wait (r.Read line) (ap (find (is_reader fid)) (line_waits node done conn) ∙ e) (inr (node, inl (record { line = line; earlier = done; read = refl; holds = own_fid done node conn fid wait e held; first = f; says = refl }))))
     (line_grows_of Known P k node done p)
 
 first_grows : (Known : Type 0) (P : List Deed → Type 0) → KeepsIf Known is_handed P → (node : Node) (conn fid : ℕ) (o : Option Wait) (done : List Deed) → reader done conn fid ≡ o → holder_of done node ≡ Some (conn, fid) → P done → P (serve_first node conn o done)
@@ -516,27 +511,46 @@ line_file_grows Known P call k fid count node (First line) done w p = line_grows
 
 -- ---- answers that come
 
--- a read is told
-told_grows : (Known : Type 0) (P : List Deed → Type 0) → KeepsIf Known is_handed P → (conv conn fid : ℕ) (answer : RpcAnswer) (o : Option Wait) (done : List Deed) → reader done conn fid ≡ o → P done → P (give_to conv conn answer o done)
-told_grows Known P k conv conn fid answer None done e p = p
-told_grows Known P k conv conn fid answer (Some wait) done e p = by_cases (fits wait.count answer)
-  where
-    by_cases : (b : Bool) → P (OfReplies conn (Settled wait.tag (told wait.count answer)) ∷ cond b (OfTalk conv calls.Took ∷ done) done)
-    by_cases true = k (OfTalk conv calls.Took ∷ done) (OfReplies conn (Settled wait.tag (told wait.count answer))) refl (reader_fits (OfTalk conv calls.Took ∷ done) conn fid wait (told wait.count answer) e (inl (answer, refl))) (k done (OfTalk conv calls.Took) refl tt p)
-    by_cases false = k done (OfReplies conn (Settled wait.tag (told wait.count answer))) refl (reader_fits done conn fid wait (told wait.count answer) e (inl (answer, refl))) p
+-- a read of rpc is told the answer of the conversation that its fid has open
+answer_told : (done before : List Deed) (conv : ℕ) (s : Speaker) (answer : RpcAnswer) (wait : Wait) → speaker_of done conv ≡ Some s → (standing_of done conv).phase ≡ Kept answer → reader done s.conn s.fid ≡ Some wait → before ≡ then_took conv wait.count answer done
+    → IsToldSomehow before s.conn wait (told wait.count answer)
+answer_told done before conv s answer wait found kept e took = inl (record {
+  conv = conv;
+  answer = answer;
+  earlier = done;
+  took = took;
+  speaks = found ∙ ap (λ (n : ℕ). Some (record { conv = n; conn = s.conn; fid = s.fid })) (speaker_found conv s (speakers done) found)
+      ∙ ap (λ (n : ℕ). Some (record { conv = conv; conn = s.conn; fid = n })) (sym (reader_fid done s.conn s.fid wait e));
+  kept = kept;
+  says = refl;
+})
 
-deliver_grows : (Known : Type 0) (P : List Deed → Type 0) → KeepsIf Known is_handed P → (conv : ℕ) (ph : Phase) (o : Option Speaker) (done : List Deed) → P done → P (deliver_to conv ph o done)
-deliver_grows Known P k conv (Kept answer) (Some s) done p = told_grows Known P k conv s.conn s.fid answer (reader_of done s) done refl p
-deliver_grows Known P k conv (Kept answer) None done p = p
-deliver_grows Known P k conv Resting o done p = p
-deliver_grows Known P k conv (Waiting request) o done p = p
-deliver_grows Known P k conv Seeking o done p = p
-deliver_grows Known P k conv (OnConfirm serial) o done p = p
-deliver_grows Known P k conv OnNeedkey o done p = p
-deliver_grows Known P k conv OnServer o done p = p
+-- a read is told
+told_grows : (Known : Type 0) (P : List Deed → Type 0) → KeepsIf Known is_handed P → (conv : ℕ) (s : Speaker) (answer : RpcAnswer) (o : Option Wait) (done : List Deed) → speaker_of done conv ≡ Some s → (standing_of done conv).phase ≡ Kept answer → reader done s.conn s.fid ≡ o → P done → P (give_to conv s.conn answer o done)
+told_grows Known P k conv s answer None done found kept e p = p
+told_grows Known P k conv s answer (Some wait) done found kept e p = by_cases (fits wait.count answer) refl
+  where
+    by_cases : (b : Bool) → fits wait.count answer ≡ b → P (OfReplies s.conn (Settled wait.tag (told wait.count answer)) ∷ cond b (OfTalk conv calls.Took ∷ done) done)
+    by_cases true is =
+        let before = OfTalk conv calls.Took ∷ done in
+        let took : before ≡ then_took conv wait.count answer done = sym (ap (λ (b : Bool). cond b before done) is) in
+        k before (OfReplies s.conn (Settled wait.tag (told wait.count answer))) refl (reader_fits before s.conn s.fid wait (told wait.count answer) e (answer_told done before conv s answer wait found kept e took)) (k done (OfTalk conv calls.Took) refl tt p)
+    by_cases false is =
+        let took : done ≡ then_took conv wait.count answer done = sym (ap (λ (b : Bool). cond b (OfTalk conv calls.Took ∷ done) done) is) in
+        k done (OfReplies s.conn (Settled wait.tag (told wait.count answer))) refl (reader_fits done s.conn s.fid wait (told wait.count answer) e (answer_told done done conv s answer wait found kept e took)) p
+
+deliver_grows : (Known : Type 0) (P : List Deed → Type 0) → KeepsIf Known is_handed P → (conv : ℕ) (ph : Phase) (o : Option Speaker) (done : List Deed) → (standing_of done conv).phase ≡ ph → speaker_of done conv ≡ o → P done → P (deliver_to conv ph o done)
+deliver_grows Known P k conv (Kept answer) (Some s) done kept found p = told_grows Known P k conv s answer (reader_of done s) done found kept refl p
+deliver_grows Known P k conv (Kept answer) None done kept found p = p
+deliver_grows Known P k conv Resting o done kept found p = p
+deliver_grows Known P k conv (Waiting request) o done kept found p = p
+deliver_grows Known P k conv Seeking o done kept found p = p
+deliver_grows Known P k conv (OnConfirm serial) o done kept found p = p
+deliver_grows Known P k conv OnNeedkey o done kept found p = p
+deliver_grows Known P k conv OnServer o done kept found p = p
 
 pub delivered_grows : (Known : Type 0) (P : List Deed → Type 0) → KeepsIf Known is_handed P → (conv : ℕ) (done : List Deed) → P done → P (delivered conv done)
-delivered_grows Known P k conv done p = deliver_grows Known P k conv (standing_of done conv).phase (speaker_of done conv) done p
+delivered_grows Known P k conv done p = deliver_grows Known P k conv (standing_of done conv).phase (speaker_of done conv) done refl refl p
 
 -- what a conversation meets that waited, where it stands and has no question any more
 pub resumed_grows : (Known : Type 0) (P : List Deed → Type 0) → Sees Known P → KeepsIf Known is_met P → (came : calls.Call) (o : Option ℕ) (done : List Deed)

@@ -27,7 +27,7 @@ use Rattle.agent_history.specs.SideFiles.{is_line_file, kind_at, lines_in}
 use Rattle.agent_history.specs.Conversations.{Due, NoneDue, DropDue, QuestionDue, Question, Speaker, asker, conv_of, due, given_up_by, hand_first, questions, raised, resumed, speakers, standing_of, stands, talk}
 use Rattle.agent_history.specs.Requests.{Call, after, after_frame, after_granted, body_to, call_of, effective, granted, granted_body, is_elsewhere, is_over, is_resting, is_rpc, lacks_version, lets_read, lets_write, lines_done, phase_in, phase_of, reading, reading_file, reading_line, reading_talk, refusal, repeats_tag, replied, replying, stored, writing}
 use Rattle.agent_history.specs.Histories.{History, deeds, does, entered, handing, most_events, taking}
-use Rattle.agent_laws.specs.Laws.{all_open, asks_server, in_public, is_on_server, unsized}
+use Rattle.agent_laws.specs.Laws.{all_open, asks_server, in_public, is_on_server, lines_told, unsized}
 use Rattle.agent_laws.specs.Shown.{ShownRequest, ShownResult, came_to, shown_content}
 use Rattle.agent_laws.specs.Redaction.{Redacted, Stays, Unread, Came, CtlWritten, RpcWritten, RpcRead, ServerAnswered, ShownLine, shown_line, answer_result, body_redaction, ctl_redaction, message_redaction, redact, redaction, result_in, rpc_read_redaction, rpc_redaction}
 use Rattle.agent_laws.proofs.SizedLaws.{alike, entered_serves, halted_sized, hung_sized, keys_sized, opened_sized, serves, settled_sized, sight, sized_sight, speakers_sized}
@@ -51,19 +51,19 @@ use Rattle.agent_laws.proofs.FrameLaws.{Beside, bad_frame, framed, framed_alike,
 
 replied_one : (call : Call) (o : Option RBody) (a b : List Deed) → Along a b → Along (replied call o a) b
 replied_one call None a b s = s
-replied_one call (Some body) a b s = record { public = s.public; keys = s.keys; asked = s.asked; asks = s.asks; talks = s.talks }
+replied_one call (Some body) a b s = record { public = s.public; keys = s.keys; asked = s.asked; asks = s.asks; talks = s.talks; settled = s.settled }
 
 replied_other : (call : Call) (o : Option RBody) (a b : List Deed) → Along a b → Along a (replied call o b)
 replied_other call None a b s = s
-replied_other call (Some body) a b s = record { public = s.public; keys = s.keys; asked = s.asked; asks = s.asks; talks = s.talks }
+replied_other call (Some body) a b s = record { public = s.public; keys = s.keys; asked = s.asked; asks = s.asks; talks = s.talks; settled = s.settled }
 
 taking_one : (at : ℕ) (left : List RMsg) (a b : List Deed) → Along a b → Along (taking at left a) b
 taking_one at [] a b s = s
-taking_one at (reply ∷ rest) a b s = record { public = s.public; keys = s.keys; asked = s.asked; asks = s.asks; talks = s.talks }
+taking_one at (reply ∷ rest) a b s = record { public = s.public; keys = s.keys; asked = s.asked; asks = s.asks; talks = s.talks; settled = s.settled }
 
 taking_other : (at : ℕ) (left : List RMsg) (a b : List Deed) → Along a b → Along a (taking at left b)
 taking_other at [] a b s = s
-taking_other at (reply ∷ rest) a b s = record { public = s.public; keys = s.keys; asked = s.asked; asks = s.asks; talks = s.talks }
+taking_other at (reply ∷ rest) a b s = record { public = s.public; keys = s.keys; asked = s.asked; asks = s.asks; talks = s.talks; settled = s.settled }
 
 hand_step : (q : Question) (qs : List Question) (x : Bool) → map numbered (hand_first qs) ≡ map numbered qs → map numbered (cond x (q ∷ hand_first qs) (record { call = q.call; conv = q.conv; handed = true } ∷ qs)) ≡ map numbered (q ∷ qs)
 hand_step q qs true e = ap (λ (ns : List (ℕ × ℕ)). numbered q ∷ ns) e
@@ -75,13 +75,13 @@ handed_numbers (q ∷ qs) = hand_step q qs q.handed (handed_numbers qs)
 
 handing_one : (o : Due) (a b : List Deed) → Along a b → Along (handing o a) b
 handing_one NoneDue a b s = s
-handing_one (DropDue drop) a b s = record { public = s.public; keys = s.keys; asked = s.asked; asks = s.asks; talks = s.talks }
-handing_one (QuestionDue question) a b s = record { public = s.public; keys = s.keys; asked = handed_numbers (questions a) ∙ s.asked; asks = s.asks; talks = s.talks }
+handing_one (DropDue drop) a b s = record { public = s.public; keys = s.keys; asked = s.asked; asks = s.asks; talks = s.talks; settled = s.settled }
+handing_one (QuestionDue question) a b s = record { public = s.public; keys = s.keys; asked = handed_numbers (questions a) ∙ s.asked; asks = s.asks; talks = s.talks; settled = s.settled }
 
 handing_other : (o : Due) (a b : List Deed) → Along a b → Along a (handing o b)
 handing_other NoneDue a b s = s
-handing_other (DropDue drop) a b s = record { public = s.public; keys = s.keys; asked = s.asked; asks = s.asks; talks = s.talks }
-handing_other (QuestionDue question) a b s = record { public = s.public; keys = s.keys; asked = s.asked ∙ sym (handed_numbers (questions b)); asks = s.asks; talks = s.talks }
+handing_other (DropDue drop) a b s = record { public = s.public; keys = s.keys; asked = s.asked; asks = s.asks; talks = s.talks; settled = s.settled }
+handing_other (QuestionDue question) a b s = record { public = s.public; keys = s.keys; asked = s.asked ∙ sym (handed_numbers (questions b)); asks = s.asks; talks = s.talks; settled = s.settled }
 
 swept_alike : (x y : List Deed) → Along x y → Along (swept x) (swept y)
 swept_alike x y s = along_choice (has_settled x) (has_settled y) _ _ x y (alike has_settled settled_sized x y s.public) (λ is. along_swept x y s) (λ is. s)
@@ -175,6 +175,11 @@ lines_unsized conn (Debug ∷ more) done = lines_unsized conn more (OfKeys conn 
 lines_sight : (conn : ℕ) (lines : List CtlLine) (done : List Deed) → sight (lines_done conn lines done) ≡ key_deeds conn (map public_line lines) (sight done)
 lines_sight conn lines done = ap in_public (lines_unsized conn lines done) ∙ lines_public conn lines (unsized done)
 
+lines_keep_told : (conn : ℕ) (lines : List CtlLine) (done : List Deed) → lines_told (lines_done conn lines done) ≡ lines_told done
+lines_keep_told conn [] done = refl
+lines_keep_told conn (OnKeys edit ∷ more) done = lines_keep_told conn more (OfKeys conn (Edited edit) ∷ done)
+lines_keep_told conn (Debug ∷ more) done = lines_keep_told conn more (OfKeys conn Switched ∷ done)
+
 lines_alike : (conn : ℕ) (xs ys : List CtlLine) (a b : List Deed) → Along a b → map public_line xs ≡ map public_line ys → all_open (lines_done conn xs a) ≡ true → all_open (lines_done conn ys b) ≡ true → Along (lines_done conn xs a) (lines_done conn ys b)
 lines_alike conn xs ys a b s e one other =
     let shown = lines_sight conn xs a ∙ ap (λ (ls : List KeyDeed). key_deeds conn ls (sight a)) e ∙ ap (key_deeds conn (map public_line ys)) s.public ∙ sym (lines_sight conn ys b) in
@@ -184,6 +189,7 @@ lines_alike conn xs ys a b s e one other =
       asked = lines_numbers conn xs a ∙ s.asked ∙ sym (lines_numbers conn ys b);
       asks = lines_raised conn xs a ∙ s.asks ∙ sym (lines_raised conn ys b);
       talks = λ n. ap (λ (l : List calls.Call). shown_talk l) (lines_talk conn xs a n) ∙ s.talks n ∙ sym (ap (λ (l : List calls.Call). shown_talk l) (lines_talk conn ys b n));
+      settled = lines_keep_told conn xs a ∙ s.settled ∙ sym (lines_keep_told conn ys b);
     }
   where
     shown_talk : List calls.Call → Shown
@@ -597,7 +603,7 @@ first_alike : (x y : Redacted) (xs ys : List Redacted) → x ∷ xs ≡ y ∷ ys
 first_alike x y xs ys e = let one : x ≡ y = cc in let more : xs ≡ ys = cc in (one, more)
 
 redacted_along : (H K : History) → redact H ≡ redact K → Along (deeds H) (deeds K)
-redacted_along [] [] e = record { public = refl; keys = refl; asked = refl; asks = refl; talks = λ n. refl }
+redacted_along [] [] e = record { public = refl; keys = refl; asked = refl; asks = refl; talks = λ n. refl; settled = refl }
 redacted_along [] (f ∷ K) e = absurd cc
 redacted_along (d ∷ H) [] e = absurd cc
 redacted_along (d ∷ H) (f ∷ K) e =
@@ -608,6 +614,10 @@ redacted_along (d ∷ H) (f ∷ K) e =
 
 pub redacted_alike : (H K : History) → redact H ≡ redact K → in_public (unsized (deeds H)) ≡ in_public (unsized (deeds K))
 redacted_alike H K e = (redacted_along H K e).public
+
+-- what reads of files of lines were told that waited
+pub redacted_lines : (H K : History) → redact H ≡ redact K → lines_told (deeds H) ≡ lines_told (deeds K)
+redacted_lines H K e = (redacted_along H K e).settled
 
 -- reads after them
 pub redacted_reads : (H K : History) → redact H ≡ redact K → (call : Call) (frame : List ℕ) (m : TMsg) (fid offset count : ℕ) → request_of frame ≡ Some m → m.body ≡ t.Read fid offset count

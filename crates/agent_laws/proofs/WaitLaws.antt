@@ -24,6 +24,9 @@ use Rattle.agent_history.specs.Histories.{History, deeds, does, entered, handing
 use Rattle.agent_laws.specs.Laws.{AllTold, AreWaiting, IsBehind, as_it_came, may_wait, may_wait_on}
 use Rattle.agent_laws.proofs.SettleLaws.{tag_length, tag_same}
 use Rattle.agent_laws.proofs.KindLaws.{KeepsOf, is_done, Fits, is_met}
+use Rattle.agent_laws.proofs.FileLaws.{told_by_file}
+use Rattle.agent_laws.proofs.ConversationLaws.{OpenersSpeak, openers_more}
+use Rattle.agent_laws.proofs.ExclusiveLaws.{Opener, none_opened, opener_more}
 use Rattle.agent_laws.proofs.GrowLaws.{either_way, history_grows, last_or_not, Passed, is_pending, none_refuses, read_count, KeepsAny, carried_any}
 use Rattle.agent_laws.proofs.FitLaws.{counts_fit}
 use Rattle.agent_history.specs.SideFiles.{is_line_file, lines_in}
@@ -516,35 +519,43 @@ unfolding IsDistinct
 found_under test wait [] e h = absurd cc
 found_under test wait (v ∷ ws) e h = under_step test v wait ws (test v) e h.0 (λ f. found_under test wait ws f h.1)
 
-abbrev WellTold : List Deed → Type 0
-WellTold done = AllWell done × AllTold done
+record WellTold (done : List Deed) : Type 0 where
+  well : AllWell done
+  told : AllTold done
+  speak : OpenersSpeak done
+  opener : Opener done
 
 told_more : (c : ℕ) (done : List Deed) (deed : Deed) → is_done c deed ≡ true → Fits done deed → WellTold done → AllTold (deed ∷ done)
 told_more c done (OfReplies conn (Settled tag body)) kind fits h = (
-  (fits.wait, subst (λ (n : ℕ). find (λ w. eqb w.tag n) (waits done conn) ≡ Some fits.wait) fits.under (found_under fits.test fits.wait (waits done conn) fits.found (h.0 conn).tags), fits.waited, fits.told_so),
-  h.1,
+  (fits.wait, subst (λ (n : ℕ). find (λ w. eqb w.tag n) (waits done conn) ≡ Some fits.wait) fits.under (found_under fits.test fits.wait (waits done conn) fits.found (h.well conn).tags), fits.waited, told_by_file done conn fits.wait body h.speak h.opener fits.told_so),
+  h.told,
 )
-told_more c done (OfReplies conn (Answered tag body)) kind fits h = h.1
-told_more c done (OfReplies conn (Awaited tag fid count)) kind fits h = h.1
-told_more c done (OfReplies conn (Flushed tag)) kind fits h = h.1
-told_more c done (OfReplies conn Taken) kind fits h = h.1
-told_more c done (OfFids at deed) kind fits h = h.1
-told_more c done (OfKeys at deed) kind fits h = h.1
-told_more c done (OfConnection at deed) kind fits h = h.1
-told_more c done (OfTalk conv call) kind fits h = h.1
-told_more c done (Raised conv) kind fits h = h.1
-told_more c done HandedOut kind fits h = h.1
-told_more c done DropTaken kind fits h = h.1
-told_more c done (OfPrompts about doing) kind fits h = h.1
-told_more c done (OfLog doing) kind fits h = h.1
-told_more c done Swept kind fits h = h.1
-told_more c done Halted kind fits h = h.1
+told_more c done (OfReplies conn (Answered tag body)) kind fits h = h.told
+told_more c done (OfReplies conn (Awaited tag fid count)) kind fits h = h.told
+told_more c done (OfReplies conn (Flushed tag)) kind fits h = h.told
+told_more c done (OfReplies conn Taken) kind fits h = h.told
+told_more c done (OfFids at deed) kind fits h = h.told
+told_more c done (OfKeys at deed) kind fits h = h.told
+told_more c done (OfConnection at deed) kind fits h = h.told
+told_more c done (OfTalk conv call) kind fits h = h.told
+told_more c done (Raised conv) kind fits h = h.told
+told_more c done HandedOut kind fits h = h.told
+told_more c done DropTaken kind fits h = h.told
+told_more c done (OfPrompts about doing) kind fits h = h.told
+told_more c done (OfLog doing) kind fits h = h.told
+told_more c done Swept kind fits h = h.told
+told_more c done Halted kind fits h = h.told
 
 well_told : (c : ℕ) → KeepsOf (is_done c) WellTold
-well_told c done deed kind fits h = (well_more c done deed kind fits h.0, told_more c done deed kind fits h)
+well_told c done deed kind fits h = record {
+  well = well_more c done deed kind fits h.well;
+  told = told_more c done deed kind fits h;
+  speak = openers_more c done deed kind fits h.speak;
+  opener = opener_more c done deed kind fits h.opener;
+}
 
 pub all_told : (H : History) → AllTold (deeds H)
-all_told H = (history_grows WellTold well_told (λ conn. none_well (λ fid. false), tt) H).1
+all_told H = (history_grows WellTold well_told (record { well = λ conn. none_well (λ fid. false); told = tt; speak = λ c f. refl; opener = none_opened }) H).told
 
 -- ---- between two events none is settled
 

@@ -29,14 +29,14 @@ use Rattle.side_files.specs.declared.line.PromptKind.{PromptKind}
 use Rattle.side_files.specs.Calls as side
 use Rattle.side_files.specs.Lines.{First, TooLong, found}
 use Rattle.side_files.specs.declared.line.PromptKind.TheVariants as k
-use Rattle.talks.specs.Standings.{Phase, Standing, OnConfirm, OnNeedkey, OnServer, finds, outcome_of, template_of}
+use Rattle.talks.specs.Standings.{Phase, Standing, Kept, OnConfirm, OnNeedkey, OnServer, finds, outcome_of, template_of}
 use Rattle.talks.specs.Lines.{end_line, start_line, start_template}
 use Rattle.roles.specs.Templates.{shown_text}
 use Rattle.agent_history.specs.Deeds.{Deed, OfFids, OfKeys, OfConnection, OfTalk, OfPrompts, OfLog, Raised, HandedOut, DropTaken, Taken, Halted, Versioned, Attached, Walked, Opened, Listed, Clunked, Edited, Hung, fid_of, held_by, holder_of, is_debug, keys_of, msize_of, names, OfReplies, Awaited, Settled, Answered}
 use Rattle.key_lists.specs.CtlLines.{OnKeys, after_lines, line_over, lines_fault, read_line}
 use Rattle.agent_history.specs.Replies.{Wait, is_unsettled, too_small, untaken, waits}
 use Rattle.agent_history.specs.SideFiles.{askers, is_line_file, line_read, lines_in}
-use Rattle.agent_history.specs.Conversations.{asking, questions, standing_of, Speaker, told, stands}
+use Rattle.agent_history.specs.Conversations.{asking, conv_of, questions, standing_of, Speaker, speaker_of, then_took, told, stands}
 use Rattle.agent_history.specs.Requests.{Call, body_to, call_of, is_rpc, least_msize, most_waits, tag_of}
 use Rattle.agent_history.specs.Histories.{History, deeds, answer, is_reply}
 
@@ -323,22 +323,39 @@ abbrev pub IsBehind : List Wait → List Wait → Wait → Type 0
 IsBehind before after wait =
     (others : List Wait) × (map as_it_came others ≡ map as_it_came before) × (after ≡ others ++ wait ∷ [])
 
--- a read was told the first line of the file that its fid has open: the deed before is that this line was read
-abbrev pub IsLineTold : List Deed → ℕ → Wait → RBody → Type 0
-IsLineTold before conn wait body =
-    (node : Node) × (earlier : List Deed) × (line : List ℕ) × (before ≡ line_read node earlier)
-    × (holder_of earlier node ≡ Some (conn, wait.fid)) × (found wait.count (lines_in earlier node) ≡ First line)
-    × (body ≡ r.Read line)
+-- a read of rpc was told the answer of the conversation that its fid has open, or that it doesn't hold it: where it
+-- does, the deed before is that this answer was read
+pub record IsAnswerTold (before : List Deed) (conn : ℕ) (wait : Wait) (body : RBody) : Type 0 where
+  pub conv : ℕ
+  pub answer : RpcAnswer
+  pub earlier : List Deed
+  pub took : before ≡ then_took conv wait.count answer earlier
+  pub speaks : speaker_of earlier conv ≡ Some (record { conv = conv; conn = conn; fid = wait.fid })
+  pub kept : (standing_of earlier conv).phase ≡ Kept answer
+  pub says : body ≡ told wait.count answer
+
+-- a read of a file was told its first line: the deed before is that this line was read
+pub record IsLineTold (node : Node) (before : List Deed) (conn : ℕ) (wait : Wait) (body : RBody) : Type 0 where
+  pub line : List ℕ
+  pub earlier : List Deed
+  pub read : before ≡ line_read node earlier
+  pub holds : holder_of earlier node ≡ Some (conn, wait.fid)
+  pub first : found wait.count (lines_in earlier node) ≡ First line
+  pub says : body ≡ r.Read line
 
 -- it was told that it doesn't hold this line
-abbrev pub IsOverTold : List Deed → ℕ → Wait → RBody → Type 0
-IsOverTold before conn wait body = (node : Node) × (holder_of before node ≡ Some (conn, wait.fid))
-    × (found wait.count (lines_in before node) ≡ TooLong) × (body ≡ too_small)
+pub record IsOverTold (node : Node) (before : List Deed) (conn : ℕ) (wait : Wait) (body : RBody) : Type 0 where
+  pub holds : holder_of before node ≡ Some (conn, wait.fid)
+  pub over : found wait.count (lines_in before node) ≡ TooLong
+  pub says : body ≡ too_small
 
--- what a read is told: an answer, or that it doesn't hold it; or what it finds in a file of lines
+-- what a read is told, by the file that its fid has open
+abbrev pub IsToldBy : Node → List Deed → ℕ → Wait → RBody → Type 0
+IsToldBy Rpc before conn wait body = IsAnswerTold before conn wait body
+IsToldBy node before conn wait body = IsLineTold node before conn wait body ⊎ IsOverTold node before conn wait body
+
 abbrev pub IsToldOf : List Deed → ℕ → Wait → RBody → Type 0
-IsToldOf before conn wait body = ((answer : RpcAnswer) × (body ≡ told wait.count answer))
-    ⊎ (IsLineTold before conn wait body ⊎ IsOverTold before conn wait body)
+IsToldOf before conn wait body = IsToldBy (node_of (fid_of before conn wait.fid)) before conn wait body
 
 -- the reply is what the read under the tag is told: it waited until then, and is told no more bytes than it may hold
 abbrev pub IsTold : List Deed → ℕ → ℕ → RBody → Type 0
@@ -350,6 +367,25 @@ abbrev pub AllTold : List Deed → Type 0
 AllTold [] = Unit {0}
 AllTold (OfReplies conn (Settled tag body) ∷ before) = IsTold before conn tag body × AllTold before
 AllTold (deed ∷ before) = AllTold before
+
+-- a read waits under the tag whose fid has a conversation open, which only a fid that has rpc open has
+abbrev pub waits_on_rpc : List Deed → ℕ → ℕ → Bool
+waits_on_rpc done conn tag =
+    list_any (λ wait. wait.tag == tag && is_some (conv_of done conn wait.fid)) (waits done conn)
+
+-- a read that was told something: its connection, its tag, and what it was told
+pub record ToldRead : Type 0 where
+  pub conn : ℕ
+  pub tag : ℕ
+  pub body : RBody
+
+-- what the reads of files of lines were told that waited, the newest first
+abbrev pub lines_told : List Deed → List ToldRead
+lines_told [] = []
+lines_told (OfReplies conn (Settled tag body) ∷ before) =
+    if waits_on_rpc before conn tag then lines_told before
+    else record { conn = conn; tag = tag; body = body } ∷ lines_told before
+lines_told (deed ∷ before) = lines_told before
 
 -- whether a reply gives what was read
 abbrev pub gives_content : RBody → Bool

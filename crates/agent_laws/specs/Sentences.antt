@@ -31,7 +31,7 @@ use Rattle.agent_history.specs.Replies.{has_settled, replies, taken, untaken, wa
 use Rattle.agent_history.specs.Conversations.{given_up_by, chosen_at, conv_of, opened_talks, questions, raised, speakers, asking, standing_of, Question, Drop, NoneDue, DropDue, QuestionDue, due}
 use Rattle.agent_history.specs.Requests.{Call, after_frame, body_to, effective, granted, least_msize, lines_done, most_msize, most_talks, piece, reply_of, is_rpc}
 use Rattle.agent_history.specs.Histories.{History, answer, deeds, does, has_stopped}
-use Rattle.agent_laws.specs.Laws.{AddAlike, Adds, AllFollow, AllLogged, AllSearched, AreHeld, AreWaiting, HasFirstRefused, IsBehind, IsFirstRefused, SameButSecrets, StoodOnce, all_asked, all_open, given, gives, gives_content, has_connection, has_conversed, has_open, hidden_deed, is_of, is_of_talks, is_on, longest_reply, may_err_and_act, may_wait, none_concerns, none_sets_text, put_out, reply_to, rise_below, AllTold, is_same_place, is_edit, is_talk, last_asked, is_request, all_prompted, in_public, unsized}
+use Rattle.agent_laws.specs.Laws.{AddAlike, Adds, AllFollow, AllLogged, AllSearched, AreHeld, AreWaiting, HasFirstRefused, IsBehind, IsFirstRefused, SameButSecrets, StoodOnce, all_asked, all_open, given, gives, gives_content, has_connection, has_conversed, has_open, hidden_deed, is_of, is_of_talks, is_on, lines_told, longest_reply, may_err_and_act, may_wait, none_concerns, none_sets_text, put_out, reply_to, rise_below, AllTold, is_same_place, is_edit, is_talk, last_asked, is_request, all_prompted, in_public, unsized}
 use Rattle.agent_history.specs.SideFiles.{askers, file_of}
 use Rattle.agent_laws.specs.Redaction.{redact}
 use Rattle.nine.specs.declared.message.TMsg.{TMsg}
@@ -412,6 +412,10 @@ ReadsAreRedacted = (one other : History) → redact one ≡ redact other
 abbrev pub WaitsAreRedacted : Type 0
 WaitsAreRedacted = (one other : History) → redact one ≡ redact other → (conn : ℕ)
     → waits (unsized (deeds one)) conn ≡ waits (unsized (deeds other)) conn
+
+abbrev pub LinesAreRedacted : Type 0
+LinesAreRedacted = (one other : History) → redact one ≡ redact other
+    → lines_told (deeds one) ≡ lines_told (deeds other)
 
 -- ---- what is searched for
 

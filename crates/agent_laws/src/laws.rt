@@ -1,5 +1,5 @@
 // Laws of the definitions, each the contract of a function that does nothing.
-ghost use Rattle.agent_laws.specs.Sentences.{ActsOnItsConnection, AgreedBetween, ChangesItsOwn, ChosenStays, ChosenStaysWhileItStands, CountsHide, DeedsHide, DropsArePut, DropsComeOnce, DropsFollowChallenges, EditsOrTalks, ErrorChangesNothing, EventLeavesFid, FidStays, FidsHeldAreCounted, FidsHide, FirstIsFound, FirstIsTold, FramesFit, FramesPutOut, FrontStands, GivenAndLeft, GivenInOrder, HolderOpened, HoldersHide, IsOpenOnce, KeysAreTheLines, LeftAfterTake, ListHides, ListedStays, NextsHide, NoAnswerTells, NoneDeletesBySecret, NothingIsPut, OnlyReadsWait, OpenerHolds, OpenersSpeak, OpenersSpeakOnce, OthersChangeNone, OthersFit, OthersLeaveCounts, OthersLeaveFids, OthersLeaveNexts, OthersLeaveSizes, OthersLeaveTexts, OthersRaiseNone, QuestionsAreAsked, QuestionsArePut, QuestionsRise, ReadsArePublic, ReadsStood, ReadsWait, RefusedChangesNothing, RefusedIsTold, RepliesHide, ReplyFits, ReplyIsRead, ReplyIsValid, RequestsRaiseOne, SearchesAreOfTheMoment, SearchesArePublic, SearchesKeysBefore, SettledAreSwept, SettledAreTold, SizesHide, SpeakersAreFew, SpeakersRise, TextsHide, TextsStood, ToldIsAgreed, UsersAreAsked, WaitsArePublic, WaitsBehind, WriteMakesKeys, WritesAlike, WritesToldAlike, RedactionsArePublic, ReadsAreRedacted, WaitsAreRedacted, ClosedAsksNobody, NoneAsksConsent, NoneAsksKey, QuestionsFollowSearches, LinesTell};
+ghost use Rattle.agent_laws.specs.Sentences.{ActsOnItsConnection, AgreedBetween, ChangesItsOwn, ChosenStays, ChosenStaysWhileItStands, CountsHide, DeedsHide, DropsArePut, DropsComeOnce, DropsFollowChallenges, EditsOrTalks, ErrorChangesNothing, EventLeavesFid, FidStays, FidsHeldAreCounted, FidsHide, FirstIsFound, FirstIsTold, FramesFit, FramesPutOut, FrontStands, GivenAndLeft, GivenInOrder, HolderOpened, HoldersHide, IsOpenOnce, KeysAreTheLines, LeftAfterTake, ListHides, ListedStays, NextsHide, NoAnswerTells, NoneDeletesBySecret, NothingIsPut, OnlyReadsWait, OpenerHolds, OpenersSpeak, OpenersSpeakOnce, OthersChangeNone, OthersFit, OthersLeaveCounts, OthersLeaveFids, OthersLeaveNexts, OthersLeaveSizes, OthersLeaveTexts, OthersRaiseNone, QuestionsAreAsked, QuestionsArePut, QuestionsRise, ReadsArePublic, ReadsStood, ReadsWait, RefusedChangesNothing, RefusedIsTold, RepliesHide, ReplyFits, ReplyIsRead, ReplyIsValid, RequestsRaiseOne, SearchesAreOfTheMoment, SearchesArePublic, SearchesKeysBefore, SettledAreSwept, SettledAreTold, SizesHide, SpeakersAreFew, SpeakersRise, TextsHide, TextsStood, ToldIsAgreed, UsersAreAsked, WaitsArePublic, WaitsBehind, WriteMakesKeys, WritesAlike, WritesToldAlike, RedactionsArePublic, ReadsAreRedacted, WaitsAreRedacted, LinesAreRedacted, ClosedAsksNobody, NoneAsksConsent, NoneAsksKey, QuestionsFollowSearches, LinesTell};
 
 /// The keys are those of the accepted lines of ctl, in order: of lines that are the same in public the last one alone
 /// stands, at its own place, and none that a later line deleted.
@@ -106,8 +106,9 @@ pub fn a_reply_fits_what_was_agreed()
 
 /// The reads of a connection that wait are reads by fids that have rpc or a file of lines open, no two under one tag, of a
 /// fid that has rpc open one at most, at most as many as may wait, each for no more bytes than the message agreed holds.
-/// Between two events none of them is settled; one that is settled is told an answer, or the first line of the file that its
-/// fid has open, or that it may hold too few bytes. A frame has no reply only where it is such a read, and then it waits
+/// Between two events none of them is settled. One that is settled is told, by the file that its fid has open: on rpc the answer
+/// of the conversation that the fid has open, on a file of lines its first line, and on either that it may hold too few bytes.
+/// A frame has no reply only where it is such a read, and then it waits
 /// behind the others, under its tag.
 pub fn a_read_waits_for_an_answer_or_a_line()
     ensures waits { ReadsWait }
@@ -208,11 +209,13 @@ pub fn reads_of_other_files_are_public()
 {}
 
 /// Histories that are the same without their secrets, entry by entry, did the same in public, but for how many bytes reads of
-/// rpc may hold that wait: reads of all files but rpc are answered alike after both, and the same reads wait.
+/// rpc may hold that wait: reads of all files but rpc are answered alike after both, the same reads wait, and those of files of
+/// lines that waited were told the same bytes, tag by tag.
 pub fn reads_show_no_more_than_a_redaction()
     ensures public { RedactionsArePublic }
     ensures reads { ReadsAreRedacted }
     ensures waits { WaitsAreRedacted }
+    ensures told { LinesAreRedacted }
 {}
 
 /// Whatever a conversation was started with and met, it searches for keys and offers by templates of public attributes alone, so

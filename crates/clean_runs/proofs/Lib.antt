@@ -45,3 +45,9 @@ mod Taken
 mod Forms
 mod LoginLaw
 mod WordLaw
+mod ActLemmas
+mod WithinActs
+mod LegalLogin
+mod MailOf
+mod MailClean
+mod LegalMail

@@ -13,7 +13,7 @@ use Rattle.wire_histories.specs.Histories.{History, Deal, requested, replied, de
 use Rattle.wire_histories.specs.Legal.{IsServed, known_to}
 use Rattle.wire_histories.specs.Sessions.{IsSession, MayCome, has_ended, session_deals}
 use Rattle.clean_runs.specs.Labels.{Dealt, Labelling, dealt, requests_in}
-use Rattle.clean_runs.specs.Runs.{deed_by, deeds_by, deeds_for_deal, events_of, grant_at, grant_by, session_number}
+use Rattle.clean_runs.specs.Runs.{deed_by, deeds_by, deeds_for_deal, grant_at, grant_by, session_number}
 use Rattle.clean_runs.specs.Forms.{IsAnswered}
 use Rattle.clean_runs.specs.Clean.{EachIsAnswered, IsLabelled, ReadsWords}
 use Rattle.clean_runs.proofs.Bridge.{Case, GoesWell, SessionsGo, run, same_self, setting}

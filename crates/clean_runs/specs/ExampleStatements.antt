@@ -7,11 +7,12 @@ use Rattle.wire_histories.specs.declared.step.Role.{Role as Part}
 use Rattle.symbolic_runs.specs.Moves.{Role, client, server, mail_client, mail_server}
 use Rattle.symbolic_runs.specs.Spellings.{Atoms}
 use Rattle.wire_histories.specs.Histories.{History}
-use Rattle.wire_histories.specs.Legal.{Setting, Spoken}
+use Rattle.wire_histories.specs.Legal.{IsLegal, Setting, Spoken}
 use Rattle.clean_runs.specs.Labels.{Labelling}
 use Rattle.clean_runs.specs.Clean.{IsClean}
 use Rattle.clean_runs.specs.Runs.{role_by}
-use Rattle.clean_runs.specs.Login.{HasKey, Secrets, conv_c, conv_s, key_bytes, labelling, login, login_setting, reading, word_bytes}
+use Rattle.clean_runs.specs.MailLogin as mail
+use Rattle.clean_runs.specs.Login.{HasKey, Secrets, conv_c, conv_s, key_bytes, labelling, login, login_setting, reading, spoken, word_bytes}
 
 abbrev pub AreBytes : List ℕ → Type 0
 AreBytes text = All (λ n. n < 256) text
@@ -45,6 +46,40 @@ pub record AreFresh (k : Secrets) : Type 0 where
 abbrev pub LoginIsClean : Type 0
 LoginIsClean = (k : Secrets) (spoken : List ℕ → Option Spoken) → AreFresh k → HasKey k.ann_key (spoken conv_c)
     → HasKey k.srv_key (spoken conv_s) → IsClean (login k) (login_setting k spoken) (reading k) labelling
+
+-- a record is one that a network can have, and under this labelling and reading it is clean
+pub record IsLegalAndClean (history : History) (z : Setting) (atoms : Atoms) (l : Labelling) : Type 0 where
+  pub legal : IsLegal history z
+  pub clean : IsClean history z atoms l
+
+-- so is this one, with the starts and the keys that it came about by
+abbrev pub LoginIsLegal : Type 0
+LoginIsLegal = (k : Secrets) → AreFresh k
+    → IsLegalAndClean (login k) (login_setting k (spoken k)) (reading k) labelling
+
+-- the words, keys and passwords of a login by APOP are bytes; the keys differ, those that are made up too, and so do
+-- the passwords
+pub record AreFreshInMail (k : mail.Secrets) : Type 0 where
+  pub server : AreBytes (word_bytes k.server)
+  pub client : AreBytes (word_bytes k.client)
+  pub first : AreBytes (word_bytes k.first)
+  pub second : AreBytes (word_bytes k.second)
+  pub third : AreBytes (word_bytes k.third)
+  pub fourth : AreBytes (word_bytes k.fourth)
+  pub fifth : AreBytes (word_bytes k.fifth)
+  pub sixth : AreBytes (word_bytes k.sixth)
+  pub ann_key : AreBytes (word_bytes k.ann_key)
+  pub srv_key : AreBytes (word_bytes k.srv_key)
+  pub ann_password : AreBytes k.ann_password
+  pub srv_password : AreBytes k.srv_password
+  pub keys : AreDifferent (key_bytes k.first ∷ key_bytes k.second ∷ key_bytes k.third ∷ key_bytes k.fourth
+      ∷ key_bytes k.fifth ∷ key_bytes k.sixth ∷ key_bytes k.ann_key ∷ key_bytes k.srv_key ∷ [])
+  pub passwords : AreDifferent (k.ann_password ∷ k.srv_password ∷ [])
+
+-- so is the record of such a login
+abbrev pub MailLoginIsLegal : Type 0
+MailLoginIsLegal = (k : mail.Secrets) → AreFreshInMail k
+    → IsLegalAndClean (mail.login k) (mail.setting k) (mail.reading k) mail.labelling
 
 -- a role uses the word of its start
 abbrev pub uses_word : Role → Bool

@@ -6,4 +6,5 @@ pub mod Statements
 pub mod Agreement
 pub mod AgreementStatements
 pub mod Login
+pub mod MailLogin
 pub mod ExampleStatements

@@ -8,11 +8,14 @@ use Rattle.sealing.specs.Sealing.{sealed}
 use Rattle.wire_base.specs.Names.{name_field}
 use Rattle.auth_server.specs.Standing.{Server}
 use Rattle.auth_tables.specs.Keys.{UserKey}
-use Rattle.roles.specs.Talks.{Call, found}
+use Rattle.roles.specs.declared.key.SkKey.{SkKey}
+use Rattle.roles.specs.Starts.{Start, start_with}
+use Rattle.roles.specs.Talks.{Call, found, offered, picked}
+use Rattle.roles.specs.Templates.{given_as}
 use Rattle.symbolic_runs.specs.Trees.{Tree, plain, nonce, challenge, long_key, ticket_key, junk_key, password, seal}
 use Rattle.symbolic_runs.specs.Spellings.{Atoms}
 use Rattle.symbolic_runs.specs.Forms.{Fields, client_message, for_client, for_server, request, server_message, ticket, ticket_request, tickets}
-use Rattle.wire_histories.specs.declared.step.Step.TheVariants.{Start, Out, In, Ask, Heard, Accept, AsGot, AsGave}
+use Rattle.wire_histories.specs.declared.step.Step.TheVariants.{Start as Starts, Out, In, Ask, Heard, Accept, AsGot, AsGave}
 use Rattle.wire_histories.specs.declared.step.Protocol.TheVariants.{P9any}
 use Rattle.wire_histories.specs.declared.step.Role.TheVariants.{Client, Server as Serves}
 use Rattle.wire_histories.specs.Histories.{History}
@@ -120,8 +123,8 @@ login k =
     ∷ Out 1 conv_c choice_bytes
     ∷ In conv_c offer_bytes
     ∷ Out 0 conv_s offer_bytes
-    ∷ Start conv_s P9any Serves (word_bytes k.server)
-    ∷ Start conv_c P9any Client (word_bytes k.client)
+    ∷ Starts conv_s P9any Serves (word_bytes k.server)
+    ∷ Starts conv_c P9any Client (word_bytes k.client)
     ∷ []
 
 -- ---- its setting
@@ -135,6 +138,37 @@ tables k = record {
   keys = (ann, user_key k.ann_key k.ann_password) ∷ (srv, user_key k.srv_key k.srv_password) ∷ [];
   speaks = [];
 }
+
+-- what both start by: a protocol in a role, with a word
+abbrev pub start_as : List ℕ → List ℕ → Word → Start
+start_as protocol role word = start_with (given_as (codes "proto") protocol ∷ given_as (codes "role") role
+    ∷ []) (word_bytes word)
+
+-- the key of a user in the domain
+abbrev pub key_of : List ℕ → Word → SkKey
+key_of user key = record { des = record { 0 = key_bytes key }; user = user; dom = codes "x" }
+
+-- the client picks the first domain that is offered and finds ann's key; the server has one offer and finds srv's key
+abbrev pub spoken_c : Secrets → Spoken
+spoken_c k = record {
+  node = codes "a";
+  start = start_as (codes "p9any") (codes "client") k.client;
+  met = found (key_of ann k.ann_key) (Some k.ann_password) ∷ picked 0 ∷ [];
+}
+
+abbrev pub spoken_s : Secrets → Spoken
+spoken_s k = record {
+  node = codes "b";
+  start = start_as (codes "p9any") (codes "server") k.server;
+  met = found (key_of srv k.srv_key) (Some k.srv_password) ∷ offered (codes "p9sk1@x") ∷ [];
+}
+
+-- both by their names
+abbrev pub spoken : Secrets → List ℕ → Option Spoken
+spoken k name =
+    if bytes_eq conv_c name then Some (spoken_c k)
+    else if bytes_eq conv_s name then Some (spoken_s k)
+    else None
 
 -- the key that a conversation found last
 abbrev pub last_key : List Call → Option (List ℕ)

@@ -11,5 +11,8 @@ pub use agreement_laws::{
     acceptances_name_the_user, client_agreement, different_grants, different_tickets,
     matching_conversation, server_agreement,
 };
-pub use example_laws::{a_clean_record_uses_a_word_once, a_login_is_clean};
+pub use example_laws::{
+    a_clean_record_uses_a_word_once, a_login_is_clean, a_login_is_legal_and_clean,
+    a_mail_login_is_legal_and_clean,
+};
 pub use laws::{clean_histories_are_symbolic_runs, clean_histories_keep_their_secrets};

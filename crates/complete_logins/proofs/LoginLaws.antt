@@ -38,53 +38,53 @@ use Rattle.complete_logins.proofs.MessageLemmas.{length_request, length_sealed_a
 -- ---- what is sent
 
 -- the server's request, and the client's question
-abbrev request_in : Login → TicketReq
+abbrev pub request_in : Login → TicketReq
 request_in l = record { kind = AUTH_TREQ; authid = l.server_key.user; authdom = l.server_key.dom; chal = l.server.word; hostid = []; uid = [] }
 
-abbrev wanted : Login → List ℕ
+abbrev pub wanted : Login → List ℕ
 wanted l = wanted_user (role_of l.client.template) l.client_key
 
-abbrev question : Login → TicketReq
+abbrev pub question : Login → TicketReq
 question l = record { kind = AUTH_TREQ; authid = l.server_key.user; authdom = l.server_key.dom; chal = l.server.word; hostid = l.client_key.user; uid = wanted l }
 
 -- the two tickets, the client's and the server's
-abbrev ticket_num : ℕ → Login → Ticket
+abbrev pub ticket_num : ℕ → Login → Ticket
 ticket_num num l = record { num = num; chal = l.server.word; cuid = l.client_key.user; suid = wanted l; key = record { 0 = shared_key l.words } }
 
-abbrev clients : Login → Ticket
+abbrev pub clients : Login → Ticket
 clients l = ticket_num 65 l
 
-abbrev servers : Login → Ticket
+abbrev pub servers : Login → Ticket
 servers l = ticket_num 64 l
 
-abbrev sealed_clients : Login → List ℕ
+abbrev pub sealed_clients : Login → List ℕ
 sealed_clients l = sealed l.client_key.des.0 (ticket_text (clients l))
 
-abbrev sealed_servers : Login → List ℕ
+abbrev pub sealed_servers : Login → List ℕ
 sealed_servers l = sealed l.server_key.des.0 (ticket_text (servers l))
 
-abbrev both : Login → List ℕ
+abbrev pub both : Login → List ℕ
 both l = sealed_clients l ++ sealed_servers l
 
 -- the authenticators of the client and of the server
-abbrev proof : ℕ → List ℕ → Authenticator
+abbrev pub proof : ℕ → List ℕ → Authenticator
 proof kind challenge = record { num = kind; chal = challenge; id = 0 }
 
-abbrev sealed_proof : ℕ → List ℕ → Login → List ℕ
+abbrev pub sealed_proof : ℕ → List ℕ → Login → List ℕ
 sealed_proof kind challenge l = sealed (shared_key l.words) (authenticator_text (proof kind challenge))
 
-abbrev shown : Login → List ℕ
+abbrev pub shown : Login → List ℕ
 shown l = sealed_servers l ++ sealed_proof AUTH_AC l.server.word l
 
-abbrev proved : Login → List ℕ
+abbrev pub proved : Login → List ℕ
 proved l = sealed_proof AUTH_AS l.client.word l
 
 -- ---- that it fits
 
-fits_request : (l : Login) → MayLogIn l → FitsRequest (request_in l)
+pub fits_request : (l : Login) → MayLogIn l → FitsRequest (request_in l)
 fits_request l may = record { authid = may.server_user.fits.short; authdom = may.dom_name; chal = may.server_word.whole; hostid = nobody_is_name; uid = nobody_is_name }
 
-fits_question : (l : Login) → MayLogIn l → FitsRequest (question l)
+pub fits_question : (l : Login) → MayLogIn l → FitsRequest (question l)
 fits_question l may = record { authid = may.server_user.fits.short; authdom = may.dom_name; chal = may.server_word.whole; hostid = may.client_user.fits.short; uid = may.wanted.fits.short }
 
 fits_ticket : (num : ℕ) (l : Login) → num < 256 → MayLogIn l → FitsTicket (ticket_num num l)
@@ -95,10 +95,10 @@ fits_proof kind challenge small block = record { num = small; chal = block; id =
 
 -- ---- the first two moves
 
-abbrev Passes : Start → List Call → Call → Stage → Gave → List ℕ → Type 0
+abbrev pub Passes : Start → List Call → Call → Stage → Gave → List ℕ → Type 0
 Passes start before call next given bytes = Passed (course start (call ∷ before)) (answer_after start before call) (puts_after start before call) next given bytes
 
-passes_by : (start : Start) (before : List Call) (call : Call) (stage next : Stage) (given : Gave) (bytes : List ℕ) → course start before ≡ at stage → move start stage call ≡ goes next given bytes → Passes start before call next given bytes
+pub passes_by : (start : Start) (before : List Call) (call : Call) (stage next : Stage) (given : Gave) (bytes : List ℕ) → course start before ≡ at stage → move start stage call ≡ goes next given bytes → Passes start before call next given bytes
 passes_by start before call stage next given bytes here moves = passes (λ s. move start s call) (course start before) stage next given bytes here moves
 
 first_is : (role : Role) → (role ≡ Server → ⊥) → first_stage role ≡ ClientFirst
@@ -106,10 +106,10 @@ first_is Client other = refl
 first_is (Speakfor user) other = refl
 first_is Server other = absurd (other refl)
 
-client_0 : (l : Login) → MayLogIn l → course l.client [] ≡ at ClientFirst
+pub client_0 : (l : Login) → MayLogIn l → course l.client [] ≡ at ClientFirst
 client_0 l may = ap at (first_is (role_of l.client.template) may.client_role)
 
-server_0 : (l : Login) → MayLogIn l → course l.server [] ≡ at ServerKey
+pub server_0 : (l : Login) → MayLogIn l → course l.server [] ≡ at ServerKey
 server_0 l may = ap (λ role. at (first_stage role)) may.server_role
 
 client_1 : (l : Login) → MayLogIn l → Passes l.client [] get ClientSecond g.Ok l.client.word
@@ -118,7 +118,7 @@ client_1 l may = passes_by l.client [] get ClientFirst ClientSecond g.Ok l.clien
 server_1 : (l : Login) → MayLogIn l → Passes l.server [] (found l.server_key l.server_password) (ServerFirst l.server_key) g.Ok []
 server_1 l may = passes_by l.server [] (found l.server_key l.server_password) ServerKey (ServerFirst l.server_key) g.Ok [] (server_0 l may) refl
 
-greets : (l : Login) (b : List ℕ) → b ≡ l.client.word → length l.client.word ≡ 8 → move l.server (ServerFirst l.server_key) (give b) ≡ goes (ServerSecond l.server_key l.client.word) g.Ok []
+pub greets : (l : Login) (b : List ℕ) → b ≡ l.client.word → length l.client.word ≡ 8 → move l.server (ServerFirst l.server_key) (give b) ≡ goes (ServerSecond l.server_key l.client.word) g.Ok []
 greets l b is long = ap (λ b. move l.server (ServerFirst l.server_key) (give b)) is ∙ sized_whole 8 l.client.word (goes (ServerSecond l.server_key l.client.word) g.Ok []) long
 
 server_2 : (l : Login) → MayLogIn l → Passes l.server (found l.server_key l.server_password ∷ []) (give (puts_after l.client [] get)) (ServerSecond l.server_key l.client.word) g.Ok []
@@ -129,7 +129,7 @@ server_3 l may = passes_by l.server (server_greeted (alone l) l) get (ServerSeco
 
 -- ---- the client is given the request, and asks
 
-abbrev sent : Login → List ℕ
+abbrev pub sent : Login → List ℕ
 sent l = request_text (request_in l)
 
 not_empty : (text : List ℕ) → 0 < length text → (length text == 0) ≡ false
@@ -138,7 +138,7 @@ not_empty text some = ne_eqb (length text) 0 (λ none. omega (arith, some, none)
 request_fits : (l : Login) → MayLogIn l → NoneFails (request_tests l.client (request_in l))
 request_fits l may = (refl, (not_empty l.server_key.user may.server_user.some, (ap not may.dom_form, (may.same_dom, tt))))
 
-asks : (l : Login) → MayLogIn l → (b : List ℕ) → b ≡ sent l → move l.client ClientSecond (give b) ≡ goes (ClientKey (sent l)) g.Wait []
+pub asks : (l : Login) → MayLogIn l → (b : List ℕ) → b ≡ sent l → move l.client ClientSecond (give b) ≡ goes (ClientKey (sent l)) g.Wait []
 asks l may b is =
     ap (λ b. move l.client ClientSecond (give b)) is
     ∙ sized_whole 141 (sent l) (request_came l.client (sent l)) (length_request (request_in l) (fits_request l may))
@@ -148,7 +148,7 @@ asks l may b is =
 client_2 : (l : Login) → MayLogIn l → Passes l.client (get ∷ []) (give (puts_after l.server (server_greeted (alone l) l) get)) (ClientKey (sent l)) g.Wait []
 client_2 l may = passes_by l.client (get ∷ []) (give (puts_after l.server (server_greeted (alone l) l) get)) ClientSecond (ClientKey (sent l)) g.Wait [] (client_1 l may).course (asks l may _ (server_3 l may).puts)
 
-finds : (l : Login) → MayLogIn l → move l.client (ClientKey (sent l)) (found l.client_key l.client_password) ≡ goes (ClientAsk (sent l) l.client_key) g.Wait []
+pub finds : (l : Login) → MayLogIn l → move l.client (ClientKey (sent l)) (found l.client_key l.client_password) ≡ goes (ClientAsk (sent l) l.client_key) g.Wait []
 finds l may = ap (λ r. with_request WrongKind r (λ _. goes (ClientAsk (sent l) l.client_key) g.Wait [])) (request_read (request_in l) (fits_request l may))
 
 client_3 : (l : Login) → MayLogIn l → Passes l.client (give (puts_after l.server (server_greeted (alone l) l) get) ∷ get ∷ []) (found l.client_key l.client_password) (ClientAsk (sent l) l.client_key) g.Wait []
@@ -164,14 +164,14 @@ asked_is l may =
 granted_as : (key : Option UserKey) (line : UserKey) (may : Bool) (w des : List ℕ) → may ≡ true → key ≡ Some line → line.des ≡ des → granted_key may key w ≡ des
 granted_as key line may w des speaks knows same = ap (λ (may : Bool). granted_key may key w) speaks ∙ ap (λ key. granted_key true key w) knows ∙ same
 
-grant_is : (l : Login) → MayLogIn l → answer l.known l.before (asked_so (request_text (question l)) l.words) ≡ tickets (question l) (shared_key l.words) l.client_key.des.0 l.server_key.des.0
+pub grant_is : (l : Login) → MayLogIn l → answer l.known l.before (asked_so (request_text (question l)) l.words) ≡ tickets (question l) (shared_key l.words) l.client_key.des.0 l.server_key.des.0
 unfolding answer
 grant_is l may =
     ap (answer_to l.known (asked_so (request_text (question l)) l.words) (held l.known l.before)) (request_read (question l) (fits_question l may))
     ∙ ap (λ key. tickets (question l) (shared_key l.words) key (granted_key (l.known.speaks l.client_key.user (wanted l)) (l.known.key l.server_key.user) (word 1 l.words))) (granted_as (l.known.key l.client_key.user) may.client_known.line (l.known.speaks l.client_key.user (wanted l)) (word 2 l.words) l.client_key.des.0 may.speaks may.client_known.knows may.client_known.same)
     ∙ ap (tickets (question l) (shared_key l.words) l.client_key.des.0) (granted_as (l.known.key l.server_key.user) may.server_known.line (l.known.speaks l.client_key.user (wanted l)) (word 1 l.words) l.server_key.des.0 may.speaks may.server_known.knows may.server_known.same)
 
-tickets_are : (l : Login) → tickets (question l) (shared_key l.words) l.client_key.des.0 l.server_key.des.0 ≡ 4 ∷ both l
+pub tickets_are : (l : Login) → tickets (question l) (shared_key l.words) l.client_key.des.0 l.server_key.des.0 ≡ 4 ∷ both l
 unfolding tickets
 tickets_are l = refl
 
@@ -191,14 +191,14 @@ ticket_fits : (l : Login) → MayLogIn l → NoneFails (ticket_tests l.client (s
 ticket_fits l may =
     (refl, (ap not (same_as l.server.word (challenge_in (sent l)) (sym (challenge_is l may))), (ap (λ (cuid : Bool). not cuid || not (bytes_eq (wanted l) (wanted l))) (same l.client_key.user) ∙ ap not (same (wanted l)), tt)))
 
-opens : (l : Login) → MayLogIn l → ticket_of (opened l.client_key.des.0 (ticket_part (both l))) ≡ Ok (clients l)
+pub opens : (l : Login) → MayLogIn l → ticket_of (opened l.client_key.des.0 (ticket_part (both l))) ≡ Ok (clients l)
 opens l may = ticket_in_front l.client_key.des.0 (sealed_servers l) (clients l) (fits_ticket 65 l (omega arith) may)
 
 -- of 145 bytes the first of which grants
 answered : (long : ℕ) → long ≡ 145 → (came : Verdict Stage) → (if (long == 65) && false then breaks ServerSaidNo else if (long == 145) && true then came else breaks WrongKind) ≡ came
 answered long is came = ap (λ (long : ℕ). if (long == 65) && false then breaks ServerSaidNo else if (long == 145) && true then came else breaks WrongKind) is
 
-hears : (l : Login) → MayLogIn l → (b : List ℕ) → b ≡ 4 ∷ both l → move l.client (ClientAsk (sent l) l.client_key) (heard b) ≡ goes (ClientThird (sent l) l.client_key (both l)) g.Ok []
+pub hears : (l : Login) → MayLogIn l → (b : List ℕ) → b ≡ 4 ∷ both l → move l.client (ClientAsk (sent l) l.client_key) (heard b) ≡ goes (ClientThird (sent l) l.client_key (both l)) g.Ok []
 hears l may b is =
     ap (answer_came l.client (sent l) l.client_key) is
     ∙ answered (length (4 ∷ both l)) (length_both l may) (tickets_came l.client (sent l) l.client_key (both l))
@@ -210,7 +210,7 @@ client_4 l may = passes_by l.client (client_asked (alone l) l) (heard (grant_of 
 
 -- ---- the client hands the server's ticket on
 
-hands_on : (l : Login) → MayLogIn l → move l.client (ClientThird (sent l) l.client_key (both l)) get ≡ goes (ClientFourth (sent l) l.client_key (both l)) g.Ok (shown l)
+pub hands_on : (l : Login) → MayLogIn l → move l.client (ClientThird (sent l) l.client_key (both l)) get ≡ goes (ClientFourth (sent l) l.client_key (both l)) g.Ok (shown l)
 hands_on l may =
     ap (λ t. with_ticket BadKey t (λ ticket. goes (ClientFourth (sent l) l.client_key (both l)) g.Ok (handed_on (sent l) (both l) ticket))) (opens l may)
     ∙ ap (λ rest. goes (ClientFourth (sent l) l.client_key (both l)) g.Ok (rest ++ proof_for AUTH_AC (challenge_in (sent l)) (clients l))) (rest_behind l.client_key.des.0 (sealed_servers l) (clients l) (fits_ticket 65 l (omega arith) may))
@@ -225,7 +225,7 @@ length_shown : (l : Login) → MayLogIn l → length (shown l) ≡ 85
 length_shown l may =
     omega (arith, length-append (sealed_servers l) (sealed_proof AUTH_AC l.server.word l), length_sealed_ticket l.server_key.des.0 (servers l) (fits_ticket 64 l (omega arith) may), length_sealed_authenticator (shared_key l.words) (proof AUTH_AC l.server.word) may.server_word.whole)
 
-opens_there : (l : Login) → MayLogIn l → ticket_of (opened l.server_key.des.0 (ticket_part (shown l))) ≡ Ok (servers l)
+pub opens_there : (l : Login) → MayLogIn l → ticket_of (opened l.server_key.des.0 (ticket_part (shown l))) ≡ Ok (servers l)
 opens_there l may = ticket_in_front l.server_key.des.0 (sealed_proof AUTH_AC l.server.word l) (servers l) (fits_ticket 64 l (omega arith) may)
 
 proof_there : (l : Login) → MayLogIn l → proof_under (servers l) (rest_part (shown l)) ≡ proof AUTH_AC l.server.word
@@ -236,7 +236,7 @@ proof_there l may =
 shown_fits : (l : Login) → MayLogIn l → NoneFails (shown_tests l.server (servers l) (proof AUTH_AC l.server.word))
 shown_fits l may = (refl, (ap not (same l.server.word), (not_empty (wanted l) may.wanted.some, (refl, (ap not (same l.server.word), tt)))))
 
-accepts : (l : Login) → MayLogIn l → (b : List ℕ) → b ≡ shown l → move l.server (ServerThird l.server_key l.client.word) (give b) ≡ goes (ServerFourth l.server_key l.client.word (shown l)) g.Ok []
+pub accepts : (l : Login) → MayLogIn l → (b : List ℕ) → b ≡ shown l → move l.server (ServerThird l.server_key l.client.word) (give b) ≡ goes (ServerFourth l.server_key l.client.word (shown l)) g.Ok []
 accepts l may b is =
     ap (λ b. move l.server (ServerThird l.server_key l.client.word) (give b)) is
     ∙ sized_whole 85 (shown l) (shown_came l.server l.server_key l.client.word (shown l)) (length_shown l may)
@@ -247,7 +247,7 @@ accepts l may b is =
 server_4 : (l : Login) → MayLogIn l → Passes l.server (get ∷ server_greeted (alone l) l) (give (puts_after l.client (client_heard (alone l) l) get)) (ServerFourth l.server_key l.client.word (shown l)) g.Ok []
 server_4 l may = passes_by l.server (get ∷ server_greeted (alone l) l) (give (puts_after l.client (client_heard (alone l) l) get)) (ServerThird l.server_key l.client.word) (ServerFourth l.server_key l.client.word (shown l)) g.Ok [] (server_3 l may).course (accepts l may _ (client_5 l may).puts)
 
-proves : (l : Login) → MayLogIn l → move l.server (ServerFourth l.server_key l.client.word (shown l)) get ≡ goes (ServerDone l.server_key l.client.word (shown l)) g.Ok (proved l)
+pub proves : (l : Login) → MayLogIn l → move l.server (ServerFourth l.server_key l.client.word (shown l)) get ≡ goes (ServerDone l.server_key l.client.word (shown l)) g.Ok (proved l)
 proves l may = ap (λ t. with_ticket WrongKind t (λ ticket. goes (ServerDone l.server_key l.client.word (shown l)) g.Ok (proof_for AUTH_AS l.client.word ticket))) (opens_there l may)
 
 server_5 : (l : Login) → MayLogIn l → Passes l.server (server_shown (alone l) l) get (ServerDone l.server_key l.client.word (shown l)) g.Ok (proved l)
@@ -261,7 +261,7 @@ proof_here l may = authenticator_opened (shared_key l.words) (proof AUTH_AS l.cl
 proved_fits : (l : Login) → NoneFails (proof_tests AUTH_AS l.client.word (proof AUTH_AS l.client.word))
 proved_fits l = (refl, (ap not (same l.client.word), tt))
 
-ends : (l : Login) → MayLogIn l → (b : List ℕ) → b ≡ proved l → move l.client (ClientFourth (sent l) l.client_key (both l)) (give b) ≡ goes (ClientDone (sent l) l.client_key (both l) (proved l)) g.Ok []
+pub ends : (l : Login) → MayLogIn l → (b : List ℕ) → b ≡ proved l → move l.client (ClientFourth (sent l) l.client_key (both l)) (give b) ≡ goes (ClientDone (sent l) l.client_key (both l) (proved l)) g.Ok []
 ends l may b is =
     ap (λ b. move l.client (ClientFourth (sent l) l.client_key (both l)) (give b)) is
     ∙ sized_whole 13 (proved l) (proof_came l.client (sent l) l.client_key (both l) (proved l)) (length_sealed_authenticator (shared_key l.words) (proof AUTH_AS l.client.word) may.client_word.whole)

@@ -45,46 +45,46 @@ use Rattle.complete_logins.proofs.DigitLemmas.{counted_by, counted_is_told, leng
 
 -- ---- what is sent
 
-abbrev proto : MailLogin → Proto
+abbrev pub proto : MailLogin → Proto
 proto l = proto_of l.server.template
 
 -- both requests, about nobody and about the user
-abbrev request_about : List ℕ → MailLogin → TicketReq
+abbrev pub request_about : List ℕ → MailLogin → TicketReq
 request_about user l = record { kind = request_kind (proto l); authid = l.server_key.user; authdom = l.server_key.dom; chal = l.server.word; hostid = l.server_key.user; uid = user }
 
-abbrev first_request : MailLogin → List ℕ
+abbrev pub first_request : MailLogin → List ℕ
 first_request l = request_text (request_about [] l)
 
-abbrev challenge : MailLogin → List ℕ
+abbrev pub challenge : MailLogin → List ℕ
 challenge l = challenge_text l.known l.words
 
-abbrev digits : MailLogin → List ℕ
+abbrev pub digits : MailLogin → List ℕ
 digits l = digits_by (proto l) (challenge l) l.password
 
-abbrev then_request : MailLogin → List ℕ
+abbrev pub then_request : MailLogin → List ℕ
 then_request l = request_text (request_about l.user l) ++ digits l
 
-abbrev ticket : MailLogin → Ticket
+abbrev pub ticket : MailLogin → Ticket
 ticket l = record { num = 64; chal = l.server.word; cuid = l.user; suid = l.user; key = record { 0 = shared_key l.later_words } }
 
-abbrev proof : MailLogin → Authenticator
+abbrev pub proof : MailLogin → Authenticator
 proof l = record { num = 67; chal = l.server.word; id = 0 }
 
-abbrev sealed_ticket : MailLogin → List ℕ
+abbrev pub sealed_ticket : MailLogin → List ℕ
 sealed_ticket l = sealed l.server_key.des.0 (ticket_text (ticket l))
 
-abbrev sealed_proof : MailLogin → List ℕ
+abbrev pub sealed_proof : MailLogin → List ℕ
 sealed_proof l = sealed (shared_key l.later_words) (authenticator_text (proof l))
 
-abbrev both : MailLogin → List ℕ
+abbrev pub both : MailLogin → List ℕ
 both l = sealed_ticket l ++ sealed_proof l
 
 -- ---- that it fits
 
-fits_first : (l : MailLogin) → MayMail l → FitsRequest (request_about [] l)
+pub fits_first : (l : MailLogin) → MayMail l → FitsRequest (request_about [] l)
 fits_first l may = record { authid = may.server_user.fits.short; authdom = may.dom_name; chal = may.server_word.whole; hostid = may.server_user.fits.short; uid = nobody_is_name }
 
-fits_then : (l : MailLogin) → MayMail l → FitsRequest (request_about l.user l)
+pub fits_then : (l : MailLogin) → MayMail l → FitsRequest (request_about l.user l)
 fits_then l may = record { authid = may.server_user.fits.short; authdom = may.dom_name; chal = may.server_word.whole; hostid = may.server_user.fits.short; uid = may.user.fits.short }
 
 fits_ticket : (l : MailLogin) → MayMail l → FitsTicket (ticket l)
@@ -107,10 +107,10 @@ few_bytes l may = omega (arith, challenge_long l may, short_dom l.known.dom may.
 
 -- ---- the course of a side
 
-abbrev Passes : Start → List Call → Call → Stage → Gave → List ℕ → Type 0
+abbrev pub Passes : Start → List Call → Call → Stage → Gave → List ℕ → Type 0
 Passes start before call next given bytes = Passed (course start (call ∷ before)) (answer_after start before call) (puts_after start before call) next given bytes
 
-passes_by : (start : Start) (before : List Call) (call : Call) (stage next : Stage) (given : Gave) (bytes : List ℕ) → course start before ≡ at stage → move start stage call ≡ goes next given bytes → Passes start before call next given bytes
+pub passes_by : (start : Start) (before : List Call) (call : Call) (stage next : Stage) (given : Gave) (bytes : List ℕ) → course start before ≡ at stage → move start stage call ≡ goes next given bytes → Passes start before call next given bytes
 passes_by start before call stage next given bytes here moves = passes (λ s. move start s call) (course start before) stage next given bytes here moves
 
 -- a message of one byte to so many
@@ -121,7 +121,7 @@ bounded_whole most b whole some few =
 
 -- ---- the server asks for a challenge
 
-server_0 : (l : MailLogin) → MayMail l → course l.server [] ≡ at ServerKey
+pub server_0 : (l : MailLogin) → MayMail l → course l.server [] ≡ at ServerKey
 server_0 l may = ap (λ side. at (first_stage side)) may.server_side
 
 server_1 : (l : MailLogin) → MayMail l → Passes l.server [] (found l.server_key l.server_password) (ServerAsk l.server_key) g.Wait []
@@ -142,7 +142,7 @@ comes_first known asked r (Some c) none =
     let other : (c.kind == r.kind) ≡ false = none in
     rw other refl
 
-first_answer : (l : MailLogin) → MayMail l → answer l.known l.before (asked_so (first_request l) l.words) ≡ challenge_answer (challenge l)
+pub first_answer : (l : MailLogin) → MayMail l → answer l.known l.before (asked_so (first_request l) l.words) ≡ challenge_answer (challenge l)
 unfolding answer
 first_answer l may =
     let asked = asked_so (first_request l) l.words in
@@ -155,7 +155,7 @@ first_answer l may =
 challenge_comes : (l : MailLogin) → MayMail l → answer l.known l.before (asked_first l) ≡ challenge_answer (challenge l)
 challenge_comes l may = ap (answer l.known l.before) (first_is l may) ∙ first_answer l may
 
-spelled : (text : List ℕ) → challenge_answer text ≡ 9 ∷ (counted_by (length text) ++ text)
+pub spelled : (text : List ℕ) → challenge_answer text ≡ 9 ∷ (counted_by (length text) ++ text)
 unfolding challenge_answer
 spelled text = refl
 
@@ -174,7 +174,7 @@ granted long told size passed long_is told_is some few =
     no_refusal true = refl
     no_refusal false = refl
 
-hears_challenge : (l : MailLogin) → MayMail l → (b : List ℕ) → b ≡ 9 ∷ (counted_by (length (challenge l)) ++ challenge l) → move l.server (ServerAsk l.server_key) (heard b) ≡ goes (ServerFirst l.server_key (challenge l)) g.Ok []
+pub hears_challenge : (l : MailLogin) → MayMail l → (b : List ℕ) → b ≡ 9 ∷ (counted_by (length (challenge l)) ++ challenge l) → move l.server (ServerAsk l.server_key) (heard b) ≡ goes (ServerFirst l.server_key (challenge l)) g.Ok []
 hears_challenge l may b is =
     let front = counted_by (length (challenge l)) in
     let five = length_counted (length (challenge l)) (few_bytes l may) in
@@ -193,10 +193,10 @@ server_3 l may = passes_by l.server (server_heard l) get (ServerFirst l.server_k
 
 -- ---- the client answers it
 
-client_0 : (l : MailLogin) → MayMail l → course l.client [] ≡ at ClientFirst
+pub client_0 : (l : MailLogin) → MayMail l → course l.client [] ≡ at ClientFirst
 client_0 l may = ap (λ side. at (first_stage side)) may.client_side
 
-is_challenged : (l : MailLogin) → MayMail l → (b : List ℕ) → b ≡ challenge l → move l.client ClientFirst (give b) ≡ goes (ClientKey (challenge l)) g.Wait []
+pub is_challenged : (l : MailLogin) → MayMail l → (b : List ℕ) → b ≡ challenge l → move l.client ClientFirst (give b) ≡ goes (ClientKey (challenge l)) g.Wait []
 is_challenged l may b is = ap challenge_given is ∙ bounded_whole MOST_CHALLENGE (challenge l) (goes (ClientKey (challenge l)) g.Wait []) (omega (arith, challenge_long l may)) (omega (arith, few_bytes l may))
 
 client_1 : (l : MailLogin) → MayMail l → Passes l.client [] (give (puts_after l.server (server_heard l) get)) (ClientKey (challenge l)) g.Wait []
@@ -213,7 +213,7 @@ client_3 l may = passes_by l.client (client_challenged l) get (ClientSecond (cha
 user_fits : (l : MailLogin) → MayMail l → NoneFails (user_tests l.user)
 user_fits l may = (ap (λ (user : Bool). not user || not (is_text l.user)) may.user_form ∙ ap not may.user.fits.short.text, tt)
 
-names_user : (l : MailLogin) → MayMail l → move l.server (ServerSecond l.server_key (challenge l)) (give l.user) ≡ goes (ServerThird l.server_key (challenge l) l.user) g.Ok []
+pub names_user : (l : MailLogin) → MayMail l → move l.server (ServerSecond l.server_key (challenge l)) (give l.user) ≡ goes (ServerThird l.server_key (challenge l) l.user) g.Ok []
 names_user l may =
     bounded_whole 27 l.user (tested (user_tests l.user) (goes (ServerThird l.server_key (challenge l) l.user) g.Ok [])) may.user.some (omega (arith, may.user.fits.short.short))
     ∙ tested_well (user_tests l.user) (goes (ServerThird l.server_key (challenge l) l.user) g.Ok []) (user_fits l may)
@@ -221,7 +221,7 @@ names_user l may =
 server_4 : (l : MailLogin) → MayMail l → Passes l.server (get ∷ server_heard l) (give l.user) (ServerThird l.server_key (challenge l) l.user) g.Ok []
 server_4 l may = passes_by l.server (get ∷ server_heard l) (give l.user) (ServerSecond l.server_key (challenge l)) (ServerThird l.server_key (challenge l) l.user) g.Ok [] (server_3 l may).course (names_user l may)
 
-answers_it : (l : MailLogin) → MayMail l → (b : List ℕ) → b ≡ digits_by (proto_of l.client.template) (challenge l) l.password → move l.server (ServerThird l.server_key (challenge l) l.user) (give b) ≡ goes (ServerVouch l.server_key (challenge l) l.user (digits l)) g.Wait []
+pub answers_it : (l : MailLogin) → MayMail l → (b : List ℕ) → b ≡ digits_by (proto_of l.client.template) (challenge l) l.password → move l.server (ServerThird l.server_key (challenge l) l.user) (give b) ≡ goes (ServerVouch l.server_key (challenge l) l.user (digits l)) g.Wait []
 answers_it l may b is =
     ap (digits_came l.server_key (challenge l) l.user) (is ∙ ap (λ p. digits_by p (challenge l) l.password) may.same_proto)
     ∙ sized_whole 32 (digits l) (goes (ServerVouch l.server_key (challenge l) l.user (digits l)) g.Wait []) (length_digits (proto l) (challenge l) l.password)
@@ -240,7 +240,7 @@ in_front at size front rest within =
     ap (take size) (drop-append-le at front rest (omega (arith, within)))
     ∙ take-append-le size (drop at front) rest (omega (arith, within, length-drop at front))
 
-then_read : (l : MailLogin) → MayMail l → request_of (then_request l) ≡ Ok (request_about l.user l)
+pub then_read : (l : MailLogin) → MayMail l → request_of (then_request l) ≡ Ok (request_about l.user l)
 then_read l may =
     let front = request_text (request_about l.user l) in
     let is = request_written (request_about l.user l) (fits_then l may) in
@@ -260,10 +260,10 @@ then_read l may =
     is_first (b ∷ front) rest long = refl
 
 -- the challenge that is held behind the first request
-abbrev given_out : MailLogin → Challenge
+abbrev pub given_out : MailLogin → Challenge
 given_out l = record { kind = request_kind (proto l); text = challenge l }
 
-held_is : (l : MailLogin) → MayMail l → held l.known (asked_so (first_request l) l.words ∷ l.before) ≡ Some (given_out l)
+pub held_is : (l : MailLogin) → MayMail l → held l.known (asked_so (first_request l) l.words ∷ l.before) ≡ Some (given_out l)
 held_is l may =
     let asked = asked_so (first_request l) l.words in
     let r = request_about [] l in
@@ -276,7 +276,7 @@ same_digits : (p : Proto) (challenge password : List ℕ) → digits_for (reques
 same_digits Apop challenge password = refl
 same_digits Cram challenge password = refl
 
-right : (l : MailLogin) → MayMail l → is_right l.known (then_request l) (request_about l.user l) (challenge l) ≡ true
+pub right : (l : MailLogin) → MayMail l → is_right l.known (then_request l) (request_about l.user l) (challenge l) ≡ true
 right l may =
     ap (λ d. are_digits (request_kind (proto l)) (challenge l) d (password_of (l.known.key l.user))) (drop_at (request_text (request_about l.user l)) (digits l) 141 (length_request (request_about l.user l) (fits_then l may)))
     ∙ ap (λ key. are_digits (request_kind (proto l)) (challenge l) (digits l) (password_of key)) may.right.knows
@@ -288,7 +288,7 @@ answered_right l may =
     let kinds : (request_kind (proto l) == request_kind (proto l)) ≡ true = eq-eqb (request_kind (proto l)) (request_kind (proto l)) refl in
     rw (kinds, right l may) refl
 
-vouch_is : (l : MailLogin) → MayMail l → answer l.known (asked_so (first_request l) l.words ∷ l.before) (asked_so (then_request l) l.later_words) ≡ vouch l.known l.later_words (request_about l.user l)
+pub vouch_is : (l : MailLogin) → MayMail l → answer l.known (asked_so (first_request l) l.words ∷ l.before) (asked_so (then_request l) l.later_words) ≡ vouch l.known l.later_words (request_about l.user l)
 unfolding answer
 vouch_is l may =
     let asked = asked_so (then_request l) l.later_words in
@@ -298,7 +298,7 @@ vouch_is l may =
     ∙ ap (λ (tickets : Bool). if tickets then grant l.known l.later_words r else mail_answer l.known asked r (judged l.known asked r (Some (given_out l)))) (is_mail (proto l))
     ∙ answered_right l may
 
-vouch_spelled : (l : MailLogin) → MayMail l → vouch l.known l.later_words (request_about l.user l) ≡ 4 ∷ both l
+pub vouch_spelled : (l : MailLogin) → MayMail l → vouch l.known l.later_words (request_about l.user l) ≡ 4 ∷ both l
 unfolding vouch_text
 vouch_spelled l may =
     ap (λ key. vouch_text (request_about l.user l) (shared_key l.later_words) (key_or key (word 1 l.later_words))) may.server_known.knows
@@ -313,7 +313,7 @@ vouch_comes l may =
 length_both : (l : MailLogin) → MayMail l → length (4 ∷ both l) ≡ 86
 length_both l may = omega (arith, length-append (sealed_ticket l) (sealed_proof l), length_sealed_ticket l.server_key.des.0 (ticket l) (fits_ticket l may), length_sealed_authenticator (shared_key l.later_words) (proof l) may.server_word.whole)
 
-opens : (l : MailLogin) → MayMail l → ticket_of (opened l.server_key.des.0 (ticket_part (both l))) ≡ Ok (ticket l)
+pub opens : (l : MailLogin) → MayMail l → ticket_of (opened l.server_key.des.0 (ticket_part (both l))) ≡ Ok (ticket l)
 opens l may = ticket_in_front l.server_key.des.0 (sealed_proof l) (ticket l) (fits_ticket l may)
 
 proof_there : (l : MailLogin) → MayMail l → proof_under (ticket l) (rest_part (both l)) ≡ proof l
@@ -325,7 +325,7 @@ vouch_fits l = (refl, (ap not (same l.server.word), (ap (λ (cuid : Bool). not c
 of_86 : (long : ℕ) (passed : Verdict Stage) → long ≡ 86 → (if (long == 65) && false then breaks ServerSaidNo else if (long == 86) && true then passed else breaks WrongKind) ≡ passed
 of_86 long passed is = ap (λ (long : ℕ). if (long == 65) && false then breaks ServerSaidNo else if (long == 86) && true then passed else breaks WrongKind) is
 
-hears_vouch : (l : MailLogin) → MayMail l → (b : List ℕ) → b ≡ 4 ∷ both l → move l.server (ServerVouch l.server_key (challenge l) l.user (digits l)) (heard b) ≡ goes (ServerDone l.server_key (challenge l) l.user (digits l) (both l)) g.Ok []
+pub hears_vouch : (l : MailLogin) → MayMail l → (b : List ℕ) → b ≡ 4 ∷ both l → move l.server (ServerVouch l.server_key (challenge l) l.user (digits l)) (heard b) ≡ goes (ServerDone l.server_key (challenge l) l.user (digits l) (both l)) g.Ok []
 hears_vouch l may b is =
     let done : Verdict Stage = goes (ServerDone l.server_key (challenge l) l.user (digits l) (both l)) g.Ok [] in
     ap (vouch_came l.server l.server_key (challenge l) l.user (digits l)) is
