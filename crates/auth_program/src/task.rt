@@ -6,7 +6,7 @@ use crate::authsrv::status_of_end;
 use crate::log::{print_client_end, print_notice};
 use crate::random::{Random, RandomWords};
 use crate::status::Status;
-use auth_server::{AuthEnd, AuthJob, Log, Notice, Outcome, serve_auth_noting};
+use auth_server::{AuthEnd, AuthJob, FixedTables, Log, Notice, Outcome, serve_auth_noting};
 use client_doors::{Address, Admitted, HasAddress, Place};
 use sockets::Job;
 use std::alloc::Global;
@@ -57,7 +57,7 @@ where
         let end = match words_of(alloc, random) {
             Ok(mut words) => serve_auth_noting(
                 alloc,
-                &core,
+                &mut FixedTables::new(&core),
                 &mut source,
                 &mut sink,
                 &mut words,

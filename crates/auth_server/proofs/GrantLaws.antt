@@ -13,8 +13,7 @@ use Rattle.sealing.proofs.FieldLaws.{length-name_field}
 use Rattle.sealing.proofs.RequestLaws.{request_layout}
 use Rattle.auth_tables.specs.Keys.{UserKey}
 use Rattle.wire_base.specs.Kinds.{ticket_request}
-use Rattle.auth_server.specs.Requests.{Asked}
-use Rattle.auth_server.specs.Answers.{HasKeys, HasWords, IsGrant, Knowledge, answer, answer_to, grant, granted_key, held, judged, key_or, mail_answer, shared_key, ticket, tickets, word, word_key}
+use Rattle.auth_server.specs.Answers.{HasKeys, HasWords, IsGrant, Knowledge, Posed, answer_in, answer_to, grant, granted_key, held_in, judged, key_or, mail_answer, shared_key, ticket, tickets, word, word_key}
 
 -- ---- lengths
 
@@ -81,14 +80,14 @@ grant_form known words r request keys has is =
           (eight_bytes request r is) (short_name 85 request r.hostid is.hostid) (short_name 113 request r.uid is.uid) (seven_of_word (word 0 words) (has.eight 0 (omega arith)));
     }
 
-granted : (known : Knowledge) (before : List Asked) (asked : Asked) (r : TicketReq) → request_of asked.request ≡ Ok r → r.kind ≡ ticket_request → answer known before asked ≡ grant known asked.words r
-unfolding answer
-granted known before asked r read kind =
-    ap (answer_to known asked (held known before)) read
-    ∙ cond-true (eqb r.kind ticket_request) (grant known asked.words r) (mail_answer known asked r (judged known asked r (held known before))) (eq-eqb r.kind ticket_request kind)
+granted : (before : List Posed) (p : Posed) (r : TicketReq) → request_of p.asked.request ≡ Ok r → r.kind ≡ ticket_request → answer_in before p ≡ grant p.known p.asked.words r
+unfolding answer_in
+granted before p r read kind =
+    ap (answer_to p.known p.asked (held_in before)) read
+    ∙ cond-true (eqb r.kind ticket_request) (grant p.known p.asked.words r) (mail_answer p.known p.asked r (judged p.known p.asked r (held_in before))) (eq-eqb r.kind ticket_request kind)
 
-pub is_grant : (known : Knowledge) (before : List Asked) (asked : Asked) (r : TicketReq) → HasKeys known → HasWords asked.words → request_of asked.request ≡ Ok r → r.kind ≡ ticket_request → IsGrant r asked.words (answer known before asked)
-is_grant known before asked r keys has read kind =
-    let form = grant_form known asked.words r asked.request keys has ((request_layout asked.request r).0 read) in
-    let is = granted known before asked r read kind in
+pub is_grant : (before : List Posed) (p : Posed) (r : TicketReq) → HasKeys p.known → HasWords p.asked.words → request_of p.asked.request ≡ Ok r → r.kind ≡ ticket_request → IsGrant r p.asked.words (answer_in before p)
+is_grant before p r keys has read kind =
+    let form = grant_form p.known p.asked.words r p.asked.request keys has ((request_layout p.asked.request r).0 read) in
+    let is = granted before p r read kind in
     record { hosts = form.hosts; servers = form.servers; host_seven = form.host_seven; server_seven = form.server_seven; is = is ∙ form.is; whole = ap length is ∙ form.whole }

@@ -2,8 +2,8 @@
 use Rattle.std.proofs.Common.{◌≡◌, ℕ, ◌+◌, ◌<◌, ◌≤◌, List, [], ◌∷◌, ◌++◌, length, Option, None, refl, sym, ap, subst, ◌∙◌, append_assoc, inl, inr, arith}
 use Rattle.std.specs.Io.KnownBytes.{Consumes, IsAtEnd, Keeps}
 use Rattle.std.proofs.KnownBytes.{Consumes-kept, Consumes-trans}
-use Rattle.auth_server.specs.Requests.{Asked, Challenge, kind_of, needed}
-use Rattle.auth_server.specs.Answers.{Knowledge, held}
+use Rattle.auth_server.specs.Requests.{Challenge, kind_of, needed}
+use Rattle.auth_server.specs.Answers.{Knowledge, Posed, held_in}
 use Rattle.auth_server.specs.Standing.{Standing}
 use Rattle.auth_server.specs.Sessions.{IsPart, IsUnfinished, bytes_of}
 use Rattle.auth_server.specs.Serving.{Answers, Moment, moment, most_input}
@@ -21,9 +21,9 @@ first_byte [] some = absurd (omega (arith, some))
 first_byte (byte ∷ behind) some = (behind, refl)
 
 -- more bytes behind those of the requests
-pub read_more : (known : Knowledge) (before : Moment) (left later : Option (List ℕ)) (words : Option (List (List ℕ))) (holds : Option (List ℕ)) (requests : List Asked) (rest piece : List ℕ)
-    → Answers known before (moment left words holds) requests rest [] → Consumes left later piece → Answers known before (moment later words holds) requests (rest ++ piece) []
-read_more known before left later words holds requests rest piece a got = record {
+pub read_more : (InForce : ℕ → Knowledge → Type 0) (before : Moment) (left later : Option (List ℕ)) (words : Option (List (List ℕ))) (holds : Option (List ℕ)) (requests : List Posed) (rest piece : List ℕ)
+    → Answers InForce before (moment left words holds) requests rest [] → Consumes left later piece → Answers InForce before (moment later words holds) requests (rest ++ piece) []
+read_more InForce before left later words holds requests rest piece a got = record {
   reads = record {
     session = a.reads.session;
     read = subst (Consumes before.left later) (append_assoc (bytes_of requests) rest piece) (Consumes-trans before.left left later (bytes_of requests ++ rest) piece a.reads.read got);
@@ -32,13 +32,13 @@ read_more known before left later words holds requests rest piece a got = record
   written = a.written;
 }
 
-module _ (known : Knowledge) (before : Moment) (left later : Option (List ℕ)) (words : Option (List (List ℕ))) (holds : Option (List ℕ)) (requests : List Asked) (session : Standing) (old new : Incoming) (h : Received known before (moment left words holds) requests session old) where
+module _ (InForce : ℕ → Knowledge → Type 0) (before : Moment) (left later : Option (List ℕ)) (words : Option (List (List ℕ))) (holds : Option (List ℕ)) (requests : List Posed) (session : Standing) (old new : Incoming) (h : Received InForce before (moment left words holds) requests session old) where
   -- what was read before is unfinished to the definitions too
-  unfinished : IsUnfinished session.held old.bytes → IsUnfinished (held known requests) old.bytes
+  unfinished : IsUnfinished session.held old.bytes → IsUnfinished (held_in requests) old.bytes
   unfinished u = subst (λ (now : Option Challenge). IsUnfinished now old.bytes) h.stands.held u
 
   -- nothing more was read
-  kept : Keeps left later → Answers known before (moment later words holds) requests old.bytes []
+  kept : Keeps left later → Answers InForce before (moment later words holds) requests old.bytes []
   kept k = record {
     reads = record { session = h.answers.reads.session; read = Consumes-kept before.left left later (bytes_of requests ++ old.bytes) h.answers.reads.read k; drew = h.answers.reads.drew };
     written = h.answers.written;
@@ -52,14 +52,14 @@ module _ (known : Knowledge) (before : Moment) (left later : Option (List ℕ)) 
   ]
 
   -- the end inside the request
-  pub torn : IsUnfinished session.held old.bytes → 0 < length old.bytes → IsAtEnd later → Keeps left later → (at : ℕ) → at ≡ old.at → EndsBehind known (e.Torn at) before (moment later words holds) requests
+  pub torn : IsUnfinished session.held old.bytes → 0 < length old.bytes → IsAtEnd later → Keeps left later → (at : ℕ) → at ≡ old.at → EndsBehind InForce (e.Torn at) before (moment later words holds) requests
   torn u some at_end k at same = record {
     ends = record {
       requests = requests;
       rest = old.bytes;
       answers = kept k;
       goes_on = h.goes_on;
-      inside = part_of (held known requests) old.bytes (unfinished u) some;
+      inside = part_of (held_in requests) old.bytes (unfinished u) some;
       at_end = at_end;
       place = same ∙ h.place;
     };
@@ -67,7 +67,7 @@ module _ (known : Knowledge) (before : Moment) (left later : Option (List ℕ)) 
   }
 
   -- a read that failed
-  pub stopped : IsUnfinished session.held old.bytes → Keeps left later → EndsBehind known e.ReadFault before (moment later words holds) requests
+  pub stopped : IsUnfinished session.held old.bytes → Keeps left later → EndsBehind InForce e.ReadFault before (moment later words holds) requests
   stopped u k = record {
     ends = record { requests = requests; rest = old.bytes; answers = kept k; goes_on = h.goes_on; unfinished = unfinished u };
     judged = refl;
@@ -75,7 +75,7 @@ module _ (known : Knowledge) (before : Moment) (left later : Option (List ℕ)) 
 
   -- a byte past the limit
   pub flooded : (piece : List ℕ) → 0 < length piece → length piece ≤ 1 → Consumes left later piece → IsUnfinished session.held old.bytes → old.at + length old.bytes ≡ most_input
-      → EndsBehind known e.Flood before (moment later words holds) requests
+      → EndsBehind InForce e.Flood before (moment later words holds) requests
   flooded piece some few got u full =
       let byte = only_byte piece some few in
       record {
@@ -83,7 +83,7 @@ module _ (known : Knowledge) (before : Moment) (left later : Option (List ℕ)) 
           requests = requests;
           rest = old.bytes;
           more = byte.0;
-          answers = subst (λ (more : List ℕ). Answers known before (moment later words holds) requests (old.bytes ++ more) []) byte.1 (read_more known before left later words holds requests old.bytes piece h.answers got);
+          answers = subst (λ (more : List ℕ). Answers InForce before (moment later words holds) requests (old.bytes ++ more) []) byte.1 (read_more InForce before left later words holds requests old.bytes piece h.answers got);
           goes_on = h.goes_on;
           unfinished = unfinished u;
           full = ap (λ (n : ℕ). n + length old.bytes) (sym h.place) ∙ full;
@@ -93,14 +93,14 @@ module _ (known : Knowledge) (before : Moment) (left later : Option (List ℕ)) 
 
   -- a byte that begins no request
   pub met_unknown : (piece : List ℕ) → new.bytes ≡ old.bytes ++ piece → 0 < length new.bytes → Consumes left later piece → new.at ≡ old.at → old.at + length old.bytes < most_input → needed session.held (kind_of new.bytes) ≡ None
-      → EndsBehind known (e.UnknownType new.at (kind_of new.bytes)) before (moment later words holds) requests
+      → EndsBehind InForce (e.UnknownType new.at (kind_of new.bytes)) before (moment later words holds) requests
   met_unknown piece is some got same few unknown =
       let first = first_byte new.bytes some in
       record {
         ends = record {
           requests = requests;
           behind = first.0;
-          answers = subst (λ (rest : List ℕ). Answers known before (moment later words holds) requests rest []) (sym is ∙ first.1) (read_more known before left later words holds requests old.bytes piece h.answers got);
+          answers = subst (λ (rest : List ℕ). Answers InForce before (moment later words holds) requests rest []) (sym is ∙ first.1) (read_more InForce before left later words holds requests old.bytes piece h.answers got);
           goes_on = h.goes_on;
           unknown = ap (λ (now : Option Challenge). needed now (kind_of new.bytes)) (sym h.stands.held) ∙ unknown;
           place = same ∙ h.place;

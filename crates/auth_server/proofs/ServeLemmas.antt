@@ -3,9 +3,9 @@ use Rattle.std.proofs.Common.{◌≡◌, ℕ, ◌+◌, ◌<◌, ◌≤◌, List,
 use Rattle.std.specs.Io.KnownBytes.{Consumes, IsAtEnd}
 use Rattle.std.proofs.KnownBytes.{Consumes-nil}
 use Rattle.wire_streams.proofs.StreamLemmas.{Gains-nil}
-use Rattle.auth_server.specs.Requests.{Asked, Challenge, is_for, is_mail, is_served, needed}
-use Rattle.auth_server.specs.Answers.{Knowledge}
-use Rattle.auth_server.specs.Standing.{Standing, StandsFor}
+use Rattle.auth_server.specs.Requests.{Challenge, is_for, is_mail, is_served, needed}
+use Rattle.auth_server.specs.Answers.{Knowledge, Posed}
+use Rattle.auth_server.specs.Standing.{Standing, Stands}
 use Rattle.auth_server.specs.Sessions.{bytes_of}
 use Rattle.auth_server.specs.Serving.{Moment, most_input}
 use Rattle.auth_server.specs.Notices.{EndsNoted, notices_of}
@@ -18,9 +18,10 @@ use Rattle.auth_server.proofs.ListenLemmas.{Gains-nil as Tells-nil}
 use Rattle.auth_server.proofs.DrawLemmas.{none_drawn}
 
 -- before the first request
-pub none_answered : (known : Knowledge) (now : Moment) (log : Option (List Notice)) (session : Standing) (incoming : Incoming) → StandsFor known [] session → incoming.at ≡ 0 → HasAnswered known now now log log incoming.at session
-none_answered known now log session incoming stands first = record {
+pub none_answered : (InForce : ℕ → Knowledge → Type 0) (now : Moment) (log : Option (List Notice)) (session : Standing) (incoming : Incoming) → Stands [] session → incoming.at ≡ 0 → HasAnswered InForce InForce now now log log incoming.at session
+none_answered InForce now log session incoming stands first = record {
   requests = [];
+  since = λ number known force. subst (λ (n : ℕ). InForce n known) (omega arith) force;
   received = record {
     answers = record {
       reads = record { session = tt; read = Consumes-nil now.left; drew = none_drawn now.to_come };
@@ -34,12 +35,12 @@ none_answered known now log session incoming stands first = record {
 }
 
 -- an end behind requests that were noted
-pub noted_behind : (known : Knowledge) (end : AuthEnd) (before now : Moment) (requests : List Asked) (log later : Option (List Notice)) → EndsBehind known end before now requests → Tells log later (notices_of known requests) → EndsNoted known end before now log later
-noted_behind known end before now requests log later e t = record { ends = e.ends; noted = subst (λ (judged : List Asked). Tells log later (notices_of known judged)) (sym e.judged) t }
+pub noted_behind : (InForce : ℕ → Knowledge → Type 0) (end : AuthEnd) (before now : Moment) (requests : List Posed) (log later : Option (List Notice)) → EndsBehind InForce end before now requests → Tells log later (notices_of requests) → EndsNoted InForce end before now log later
+noted_behind InForce end before now requests log later e t = record { ends = e.ends; noted = subst (λ (judged : List Posed). Tells log later (notices_of judged)) (sym e.judged) t }
 
 -- what is known of an incoming request is known of its parts
-pub at_parts : (known : Knowledge) (before now : Moment) (requests : List Asked) (session : Standing) (incoming : Incoming) (at : ℕ) (bytes : List ℕ) → incoming.at ≡ at → incoming.bytes ≡ bytes → Received known before now requests session incoming → Received known before now requests session (record { at = at; bytes = bytes })
-at_parts known before now requests session incoming at bytes place is h = record {
+pub at_parts : (InForce : ℕ → Knowledge → Type 0) (before now : Moment) (requests : List Posed) (session : Standing) (incoming : Incoming) (at : ℕ) (bytes : List ℕ) → incoming.at ≡ at → incoming.bytes ≡ bytes → Received InForce before now requests session incoming → Received InForce before now requests session (record { at = at; bytes = bytes })
+at_parts InForce before now requests session incoming at bytes place is h = record {
   answers = record { reads = record { session = h.answers.reads.session; read = subst (λ (rest : List ℕ). Consumes before.left now.left (bytes_of requests ++ rest)) is h.answers.reads.read; drew = h.answers.reads.drew }; written = h.answers.written };
   goes_on = h.goes_on;
   stands = h.stands;
@@ -47,9 +48,9 @@ at_parts known before now requests session incoming at bytes place is h = record
 }
 
 -- the input ended before another request
-pub ends_whole : (known : Knowledge) (before now : Moment) (requests : List Asked) (session : Standing) (incoming : Incoming) → Received known before now requests session incoming → incoming.bytes ≡ [] → IsAtEnd now.left → incoming.at + length incoming.bytes ≤ most_input → EndsBehind known e.End before now requests
-ends_whole known before now requests session incoming h none at_end few =
-    let parts = at_parts known before now requests session incoming incoming.at [] refl none h in
+pub ends_whole : (InForce : ℕ → Knowledge → Type 0) (before now : Moment) (requests : List Posed) (session : Standing) (incoming : Incoming) → Received InForce before now requests session incoming → incoming.bytes ≡ [] → IsAtEnd now.left → incoming.at + length incoming.bytes ≤ most_input → EndsBehind InForce e.End before now requests
+ends_whole InForce before now requests session incoming h none at_end few =
+    let parts = at_parts InForce before now requests session incoming incoming.at [] refl none h in
     record { ends = record { requests = requests; answers = parts.answers; goes_on = parts.goes_on; at_end = at_end; few = omega (arith, few, parts.place) }; judged = refl }
 
 -- a request has some bytes

@@ -1,7 +1,8 @@
 -- What the authentication server answers, after authsrv(6) of the Plan 9 manual, APOP (RFC 1939) and CRAM (RFC 2195).
 -- The form of a challenge, what stands in for keys that aren't known, the end with the fifth wrong answer and the
--- texts of errors are this project's. An answer depends on the requests before it in the session, and on nothing else
--- that was kept: a session is the list of its requests, the newest first.
+-- texts of errors are this project's. An answer depends on what the server knows when the request comes and on the
+-- requests before it in the session, each with what was known then, and on nothing else that was kept: a session is the
+-- list of its requests, the newest first.
 use Rattle.std.specs.Prelude.{◌≡◌, ℕ, ◌+◌, ◌-◌, ◌<◌, List, [], ◌∷◌, ◌++◌, Bool, false, ◌==◌, nat_le, length, take, drop, replicate, codes, Option, Some, None, Result, Ok, Err, if◌then◌else◌}
 use Rattle.std.specs.List.{slice_index_or}
 use Rattle.std.specs.Str.{bytes_eq}
@@ -150,11 +151,6 @@ held_after known asked held (Ok r) =
     if r.kind == ticket_request then held
     else held_mail known asked r held (judged known asked r held)
 
--- the challenge that a session holds
-abbrev pub held : Knowledge → List Asked → Option Challenge
-held known [] = None
-held known (asked ∷ before) = held_after known asked (held known before) (request_of asked.request)
-
 -- how many wrong answers a mail request is, and any request
 abbrev pub wrong_mail : Verdict → ℕ
 wrong_mail First = 0
@@ -165,18 +161,9 @@ abbrev pub wrong_by : Knowledge → Asked → Option Challenge → Result Ticket
 wrong_by known asked held (Err fault) = 0
 wrong_by known asked held (Ok r) = if r.kind == ticket_request then 0 else wrong_mail (judged known asked r held)
 
--- how many wrong answers a session has
-abbrev pub wrong : Knowledge → List Asked → ℕ
-wrong known [] = 0
-wrong known (asked ∷ before) = wrong known before + wrong_by known asked (held known before) (request_of asked.request)
-
 -- how many wrong answers end a session
 abbrev pub most_wrong : ℕ
 most_wrong = 5
-
--- whether a session has come to its end by them
-abbrev pub is_over : Knowledge → List Asked → Bool
-is_over known session = nat_le most_wrong (wrong known session)
 
 -- ---- the answer
 
@@ -193,9 +180,53 @@ answer_to known asked held (Ok r) =
     if r.kind == ticket_request then grant known asked.words r
     else mail_answer known asked r (judged known asked r held)
 
--- the answer to a request, by those before it
-unfoldable pub answer : Knowledge → List Asked → Asked → List ℕ
-answer known before asked = answer_to known asked (held known before) (request_of asked.request)
+-- ---- a session
+
+-- A request that was put to the server, and what the server knew when it came: between two requests its tables may
+-- have been read again.
+pub record Posed : Type 0 where
+  pub known : Knowledge
+  pub asked : Asked
+
+abbrev pub posed : Knowledge → Asked → Posed
+posed known asked = record { known = known; asked = asked }
+
+-- the challenge that a session holds: what each request made of it by what was known then
+abbrev pub held_in : List Posed → Option Challenge
+held_in [] = None
+held_in (p ∷ before) = held_after p.known p.asked (held_in before) (request_of p.asked.request)
+
+-- how many wrong answers it has
+abbrev pub wrong_in : List Posed → ℕ
+wrong_in [] = 0
+wrong_in (p ∷ before) = wrong_in before + wrong_by p.known p.asked (held_in before) (request_of p.asked.request)
+
+-- whether it has come to its end by them
+abbrev pub is_over_in : List Posed → Bool
+is_over_in session = nat_le most_wrong (wrong_in session)
+
+-- the answer to a request, by what is known when it comes, and by the requests before it
+unfoldable pub answer_in : List Posed → Posed → List ℕ
+answer_in before p = answer_to p.known p.asked (held_in before) (request_of p.asked.request)
+
+-- ---- a session whose tables stay as they are
+
+-- the requests of a session, all of them put to a server that knows the same
+abbrev pub under : Knowledge → List Asked → List Posed
+under known [] = []
+under known (asked ∷ before) = posed known asked ∷ under known before
+
+abbrev pub held : Knowledge → List Asked → Option Challenge
+held known session = held_in (under known session)
+
+abbrev pub wrong : Knowledge → List Asked → ℕ
+wrong known session = wrong_in (under known session)
+
+abbrev pub is_over : Knowledge → List Asked → Bool
+is_over known session = is_over_in (under known session)
+
+abbrev pub answer : Knowledge → List Asked → Asked → List ℕ
+answer known before asked = answer_in (under known before) (posed known asked)
 
 -- ---- what a grant shows
 

@@ -8,8 +8,8 @@ use Rattle.wire_base.specs.Kinds.{ticket_request}
 use Rattle.wire_streams.specs.Spawning.{Gains}
 use Rattle.auth_tables.specs.Keys.{UserKey}
 use Rattle.auth_server.specs.Requests.{Asked, Challenge, kind_of}
-use Rattle.auth_server.specs.Answers.{Knowledge, grant, held, judged, shared_key, tickets}
-use Rattle.auth_server.specs.Serving.{EndsSo, Moment}
+use Rattle.auth_server.specs.Answers.{Knowledge, Posed, grant, held_in, judged, shared_key, tickets}
+use Rattle.auth_server.specs.Serving.{EndsUnder, Moment}
 use Rattle.auth_server.specs.declared.session.Verdict.{Verdict}
 use Rattle.auth_server.specs.declared.session.Verdict.TheVariants as verdicts
 use Rattle.auth_server.specs.declared.serve.AuthEnd.{AuthEnd}
@@ -44,31 +44,31 @@ notice_of known asked held (Err fault) = Bad (kind_of asked.request)
 notice_of known asked held (Ok r) = Judged r (outcome_of known asked held r)
 
 -- what is noted of a session, the first request first
-abbrev pub notices_of : Knowledge → List Asked → List Notice
-notices_of known [] = []
-notices_of known (asked ∷ before) =
-    notices_of known before ++ notice_of known asked (held known before) (request_of asked.request) ∷ []
+abbrev pub notices_of : List Posed → List Notice
+notices_of [] = []
+notices_of (p ∷ before) =
+    notices_of before ++ notice_of p.known p.asked (held_in before) (request_of p.asked.request) ∷ []
 
 -- ---- the ends
 
 -- the requests that were judged by an end: those that were answered, and the one whose answer couldn't be written whole
-abbrev pub judged_by : (known : Knowledge) (end : AuthEnd) (before now : Moment) → EndsSo known end before now
-    → List Asked
-judged_by known End before now ends = ends.requests
-judged_by known (UnknownType at kind) before now ends = ends.requests
-judged_by known (Torn at) before now ends = ends.requests
-judged_by known TooManyWrong before now ends = ends.requests
-judged_by known ReadFault before now ends = ends.requests
-judged_by known WriteFault before now ends = ends.requests
-judged_by known WordFault before now ends = ends.requests
-judged_by known Flood before now ends = ends.requests
-judged_by known NoMemory before now ends = ends.requests
+abbrev pub judged_by : (InForce : ℕ → Knowledge → Type 0) (end : AuthEnd) (before now : Moment)
+    → EndsUnder InForce end before now → List Posed
+judged_by InForce End before now ends = ends.requests
+judged_by InForce (UnknownType at kind) before now ends = ends.requests
+judged_by InForce (Torn at) before now ends = ends.requests
+judged_by InForce TooManyWrong before now ends = ends.requests
+judged_by InForce ReadFault before now ends = ends.requests
+judged_by InForce WriteFault before now ends = ends.requests
+judged_by InForce WordFault before now ends = ends.requests
+judged_by InForce Flood before now ends = ends.requests
+judged_by InForce NoMemory before now ends = ends.requests
 
 -- a server ended so, and what came of each request that it judged was noted
-pub record EndsNoted (known : Knowledge) (end : AuthEnd) (before now : Moment)
+pub record EndsNoted (InForce : ℕ → Knowledge → Type 0) (end : AuthEnd) (before now : Moment)
     (log later : Option (List Notice)) : Type 0 where
-  pub ends : EndsSo known end before now
-  pub noted : Gains log later (notices_of known (judged_by known end before now ends))
+  pub ends : EndsUnder InForce end before now
+  pub noted : Gains log later (notices_of (judged_by InForce end before now ends))
 
 -- ---- what a notice of a ticket request says of its tickets
 

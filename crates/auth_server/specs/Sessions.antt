@@ -1,33 +1,39 @@
 -- A session over a stream of bytes: its requests stand in it one behind the other, each as long as is needed of its
 -- kind by then, and three words are drawn for each. A session is the list of its requests, the newest first.
 use Rattle.std.specs.Prelude.{◌≡◌, ℕ, ◌<◌, List, [], ◌∷◌, ◌++◌, false, length, Option, Some, None, ◌⊎◌, ⊤}
-use Rattle.auth_server.specs.Requests.{Asked, Challenge, kind_of, needed}
-use Rattle.auth_server.specs.Answers.{Knowledge, answer, held, is_over}
+use Rattle.auth_server.specs.Requests.{Challenge, kind_of, needed}
+use Rattle.auth_server.specs.Answers.{Knowledge, Posed, answer_in, held_in, is_over_in}
 
--- a request may follow others: they have not come to an end by wrong answers, it is as long as is needed, and it has
--- three words
-pub record Follows (known : Knowledge) (before : List Asked) (asked : Asked) : Type 0 where
-  pub goes_on : is_over known before ≡ false
-  pub whole : needed (held known before) (kind_of asked.request) ≡ Some (length asked.request)
-  pub three : length asked.words ≡ 3
+-- What a server may know at each request of a session, by the number of the requests before it: these tables, and no
+-- others.
+abbrev pub exactly : (ℕ → Knowledge) → ℕ → Knowledge → Type 0
+exactly tables number known = known ≡ tables number
+
+-- a request may follow others: the server may know so when it comes, they have not come to an end by wrong answers, it
+-- is as long as is needed, and it has three words
+pub record Follows (InForce : ℕ → Knowledge → Type 0) (before : List Posed) (p : Posed) : Type 0 where
+  pub in_force : InForce (length before) p.known
+  pub goes_on : is_over_in before ≡ false
+  pub whole : needed (held_in before) (kind_of p.asked.request) ≡ Some (length p.asked.request)
+  pub three : length p.asked.words ≡ 3
 
 -- requests are a session where each may follow those before it
-abbrev pub IsSession : Knowledge → List Asked → Type 0
-IsSession known [] = Unit {0}
-IsSession known (asked ∷ before) = Follows known before asked × IsSession known before
+abbrev pub IsSession : (ℕ → Knowledge → Type 0) → List Posed → Type 0
+IsSession InForce [] = Unit {0}
+IsSession InForce (p ∷ before) = Follows InForce before p × IsSession InForce before
 
 -- the bytes of the requests, their words, and their answers, each in the order in which they came
-abbrev pub bytes_of : List Asked → List ℕ
+abbrev pub bytes_of : List Posed → List ℕ
 bytes_of [] = []
-bytes_of (asked ∷ before) = bytes_of before ++ asked.request
+bytes_of (p ∷ before) = bytes_of before ++ p.asked.request
 
-abbrev pub words_of : List Asked → List (List ℕ)
+abbrev pub words_of : List Posed → List (List ℕ)
 words_of [] = []
-words_of (asked ∷ before) = words_of before ++ asked.words
+words_of (p ∷ before) = words_of before ++ p.asked.words
 
-abbrev pub answers_of : Knowledge → List Asked → List ℕ
-answers_of known [] = []
-answers_of known (asked ∷ before) = answers_of known before ++ answer known before asked
+abbrev pub answers_of : List Posed → List ℕ
+answers_of [] = []
+answers_of (p ∷ before) = answers_of before ++ answer_in before p
 
 -- ---- bytes that are no whole request
 
@@ -57,5 +63,5 @@ pub record DrawsFew (words later : Option (List (List ℕ))) : Type 0 where
   pub few : length drawn < 3
 
 -- the one is the other, or goes on from it
-abbrev pub GoesOnFrom : List Asked → List Asked → Type 0
-GoesOnFrom longer shorter = (later : List Asked) × (longer ≡ later ++ shorter)
+abbrev pub GoesOnFrom : List Posed → List Posed → Type 0
+GoesOnFrom longer shorter = (later : List Posed) × (longer ≡ later ++ shorter)

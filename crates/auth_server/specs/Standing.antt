@@ -4,7 +4,7 @@ use Rattle.std.specs.Prelude.{◌≡◌, ℕ, List, Option}
 use Rattle.auth_tables.specs.Keys.{KeyLine, key_of}
 use Rattle.auth_tables.specs.Speaks.{SpeakLine, may_speak, names_of}
 use Rattle.auth_server.specs.Requests.{Asked, Challenge}
-use Rattle.auth_server.specs.Answers.{Knowledge, held, wrong}
+use Rattle.auth_server.specs.Answers.{Knowledge, Posed, held_in, under, wrong_in}
 
 -- a server's domain, the keys of its table, and the names that its other table gives to hosts
 pub record Server : Type 0 where
@@ -26,6 +26,10 @@ pub record Standing : Type 0 where
   pub wrong : ℕ
 
 -- a session stands for these requests, the newest first
-pub record StandsFor (known : Knowledge) (requests : List Asked) (session : Standing) : Type 0 where
-  pub held : session.held ≡ held known requests
-  pub wrong : session.wrong ≡ wrong known requests
+pub record Stands (requests : List Posed) (session : Standing) : Type 0 where
+  pub held : session.held ≡ held_in requests
+  pub wrong : session.wrong ≡ wrong_in requests
+
+-- the same where the tables stay as they are
+abbrev pub StandsFor : Knowledge → List Asked → Standing → Type 0
+StandsFor known requests session = Stands (under known requests) session

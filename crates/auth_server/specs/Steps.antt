@@ -10,10 +10,10 @@ use Rattle.auth_server.specs.declared.serve.AuthEnd.TheVariants as e
 use Rattle.auth_server.specs.declared.serve.Progress.{Progress}
 use Rattle.auth_server.specs.declared.serve.Progress.TheVariants.{Whole, Part, Ended}
 use Rattle.auth_server.specs.Requests.{Asked, kind_of, needed}
-use Rattle.auth_server.specs.Answers.{Knowledge, held_after, held_mail, is_over, judged, wrong_by, wrong_mail}
-use Rattle.auth_server.specs.Standing.{Standing, StandsFor}
+use Rattle.auth_server.specs.Answers.{Knowledge, Posed, held_after, held_mail, is_over_in, judged, wrong_by, wrong_mail}
+use Rattle.auth_server.specs.Standing.{Standing, Stands}
 use Rattle.auth_server.specs.Sessions.{IsUnfinished, bytes_of}
-use Rattle.auth_server.specs.Serving.{Moment, Answers, EndsSo}
+use Rattle.auth_server.specs.Serving.{Moment, Answers, EndsUnder}
 use Rattle.auth_server.specs.Notices.{judged_by, notices_of}
 use Rattle.auth_server.specs.declared.log.Notice.{Notice}
 use Rattle.wire_streams.specs.Spawning.{Gains}
@@ -44,11 +44,11 @@ Fills left later old new most End = (new ≡ old) × IsAtEnd later × Keeps left
 Fills left later old new most Failed = (new ≡ old) × Keeps left later
 
 -- between two reads: the requests before the one that is being read were answered
-pub record Received (known : Knowledge) (before now : Moment) (requests : List Asked) (session : Standing)
-    (incoming : Incoming) : Type 0 where
-  pub answers : Answers known before now requests incoming.bytes []
-  pub goes_on : is_over known requests ≡ false
-  pub stands : StandsFor known requests session
+pub record Received (InForce : ℕ → Knowledge → Type 0) (before now : Moment) (requests : List Posed)
+    (session : Standing) (incoming : Incoming) : Type 0 where
+  pub answers : Answers InForce before now requests incoming.bytes []
+  pub goes_on : is_over_in requests ≡ false
+  pub stands : Stands requests session
   pub place : incoming.at ≡ length (bytes_of requests)
 
 -- what one read came to: the request is whole, or a part of it was read, or the input ended before its first byte
@@ -66,13 +66,21 @@ abbrev pub IsAnswerEnd : AuthEnd → Type 0
 IsAnswerEnd end = (end ≡ e.ReadFault → ⊥) × (end ≡ e.End → ⊥)
 
 -- a server ended so, and these are the requests that it judged
-pub record EndsBehind (known : Knowledge) (end : AuthEnd) (before now : Moment) (requests : List Asked) : Type 0 where
-  pub ends : EndsSo known end before now
-  pub judged : judged_by known end before now ends ≡ requests
+pub record EndsBehind (InForce : ℕ → Knowledge → Type 0) (end : AuthEnd) (before now : Moment)
+    (requests : List Posed) : Type 0 where
+  pub ends : EndsUnder InForce end before now
+  pub judged : judged_by InForce end before now ends ≡ requests
 
--- some requests were answered, what came of each was noted, and the next begins at a place
-pub record HasAnswered (known : Knowledge) (before now : Moment) (log later : Option (List Notice)) (at : ℕ)
-    (session : Standing) : Type 0 where
-  pub requests : List Asked
-  pub received : Received known before now requests session (record { at = at; bytes = [] })
-  pub noted : Gains log later (notices_of known requests)
+-- what may be in force behind so many requests is what may be so from the first one on
+abbrev pub IsSince : (ℕ → Knowledge → Type 0) → (ℕ → Knowledge → Type 0) → ℕ → Type 0
+IsSince InForce Later count =
+    (number : ℕ) (known : Knowledge) → Later number known → InForce (number + count) known
+
+-- some requests were answered, what came of each was noted, the next begins at a place, and the tables were read again
+-- as often
+pub record HasAnswered (InForce Later : ℕ → Knowledge → Type 0) (before now : Moment) (log later : Option (List Notice))
+    (at : ℕ) (session : Standing) : Type 0 where
+  pub requests : List Posed
+  pub since : IsSince InForce Later (length requests)
+  pub received : Received InForce before now requests session (record { at = at; bytes = [] })
+  pub noted : Gains log later (notices_of requests)

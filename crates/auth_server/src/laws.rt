@@ -3,17 +3,16 @@ ghost use Rattle.std.specs.Prelude.{◌≡◌, ◌⊎◌, ◌++◌, ℕ, List, O
 ghost use Rattle.sealing.specs.declared.request.TicketReq.{TicketReq};
 ghost use Rattle.sealing.specs.Request.{request_of};
 ghost use Rattle.wire_base.specs.Kinds.{ticket_request};
-ghost use Rattle.auth_server.specs.Requests.{Asked};
-ghost use Rattle.auth_server.specs.Answers.{HasKeys, HasWords, IsGrant, Knowledge, answer};
+ghost use Rattle.auth_server.specs.Answers.{HasKeys, HasWords, IsGrant, Knowledge, Posed, answer_in};
 ghost use Rattle.auth_server.specs.Notices.{IsUnderKeys, LacksKeys, outcome_of_ticket};
 ghost use Rattle.auth_server.specs.declared.log.Outcome.TheVariants.{Granted, Refused};
-ghost use Rattle.auth_server.specs.Sessions.{GoesOnFrom, IsSession, bytes_of, words_of};
+ghost use Rattle.auth_server.specs.Sessions.{GoesOnFrom, IsSession, bytes_of, exactly, words_of};
 
-/// A client's bytes and the words that are drawn make one session: of two that stand at the front of the same bytes and
-/// the same words, one is the other or goes on from it.
+/// A client's bytes, the words that are drawn, and what the server knows at each request make one session: of two that
+/// stand at the front of the same bytes and the same words, one is the other or goes on from it.
 pub fn a_stream_has_one_session()
-    ensures { (known : Knowledge) (a b : List Asked) (x y : List ℕ) (u v : List (List ℕ))
-        → IsSession known a → IsSession known b
+    ensures { (tables : ℕ → Knowledge) (a b : List Posed) (x y : List ℕ) (u v : List (List ℕ))
+        → IsSession (exactly tables) a → IsSession (exactly tables) b
         → bytes_of a ++ x ≡ bytes_of b ++ y → words_of a ++ u ≡ words_of b ++ v
         → GoesOnFrom a b ⊎ GoesOnFrom b a }
 {}
@@ -22,10 +21,10 @@ pub fn a_stream_has_one_session()
 /// some key of seven bytes, whether or not the tables know its names and let the host speak for the user: which keys
 /// these are is all that the tables decide.
 pub fn every_ticket_request_gets_two_tickets()
-    ensures { (known : Knowledge) (before : List Asked) (asked : Asked) (r : TicketReq)
-        → HasKeys known → HasWords asked.words
-        → request_of asked.request ≡ Ok r → r.kind ≡ ticket_request
-        → IsGrant r asked.words (answer known before asked) }
+    ensures { (before : List Posed) (p : Posed) (r : TicketReq)
+        → HasKeys p.known → HasWords p.asked.words
+        → request_of p.asked.request ≡ Ok r → r.kind ≡ ticket_request
+        → IsGrant r p.asked.words (answer_in before p) }
 {}
 
 /// A ticket request that is noted as granted is answered by two tickets under keys of the table, for a host that may speak for

@@ -11,6 +11,7 @@ mod records;
 mod serve;
 mod server;
 mod session;
+mod tables;
 
 pub use client::AuthJob;
 pub use laws::{
@@ -22,3 +23,4 @@ pub use records::{refuse, word_key};
 pub use serve::{AuthEnd, serve_auth, serve_auth_noting};
 pub use server::AuthCore;
 pub use session::{AsStep, Session};
+pub use tables::{FixedTables, LiveTables};

@@ -3,21 +3,22 @@ ghost use Rattle.std.specs.Prelude.{◌≡◌, ◌⊎◌, ◌++◌, ◌+◌, ◌
 ghost use Rattle.std.specs.Io.KnownBytes.{IsAtEnd};
 ghost use Rattle.wire_streams.specs.Causes.{Rose};
 ghost use Rattle.wire_streams.specs.Streams.{Gains};
-ghost use Rattle.auth_server.specs.Requests.{Asked, asked_so, kind_of, needed};
-ghost use Rattle.auth_server.specs.Answers.{most_wrong};
+ghost use Rattle.auth_server.specs.Requests.{kind_of, needed};
+ghost use Rattle.auth_server.specs.Answers.{Posed, most_wrong};
 ghost use Rattle.auth_server.specs.Standing.{knowledge};
 ghost use Rattle.auth_server.specs.Sessions.{DrawsAll, DrawsFew, IsPart, IsUnfinished};
 ghost use Rattle.wire_streams.specs.Spawning.{Gains as Notes};
 ghost use Rattle.auth_server.specs.Notices.{EndsNoted, notices_of};
 ghost use Rattle.auth_server.specs.declared.log.Notice.{Notice};
 ghost use Rattle.auth_server.specs.Serving.{EndsSo, IsServable, IsSpent, Moment, moment, most_input};
-ghost use Rattle.auth_server.specs.Steps.{EndsBehind, HasAnswered, IsAnswerEnd, IsReadEnd, Progressed, Received};
+ghost use Rattle.auth_server.specs.Steps.{EndsBehind, HasAnswered, IsAnswerEnd, IsReadEnd, IsSince, Progressed, Received};
 ghost use Rattle.auth_server.specs.declared.serve.Progress.TheVariants.{Whole, Part, Ended};
 
 use crate::incoming::Incoming;
 use crate::log::{Log, NoLog};
 use crate::server::AuthCore;
 use crate::session::{AsStep, Session};
+use crate::tables::{FixedTables, LiveTables};
 use std::alloc::Global;
 use wire_base::{Bytes, NoMemory};
 use wire_streams::{Got, Sink, Source, WordFault, Words, WriteFault, write_all};
@@ -142,8 +143,8 @@ fn weigh(core: &AuthCore, session: &Session, incoming: &Incoming) -> Result<Prog
 }
 
 // Reads a piece of the request.
-fn read_piece<R: Source>(
-    core: &AuthCore,
+fn read_piece<C: LiveTables, R: Source>(
+    tables: &C,
     session: &Session,
     incoming: &mut Incoming,
     source: &mut R,
@@ -151,11 +152,11 @@ fn read_piece<R: Source>(
     requires unfinished { IsUnfinished session.now.held incoming.old.bytes }
     requires few { incoming.old.at + length incoming.old.bytes ≤ most_input }
     ensures received { IfOk result
-        (λ progress. (before : Moment) (words : Option (List (List ℕ))) (holds : Option (List ℕ))
-        (requests : List Asked)
-        → Received (knowledge core.now) before (moment (R.left source.old) words holds)
+        (λ progress. (first : C) (before : Moment) (words : Option (List (List ℕ)))
+        (holds : Option (List ℕ)) (requests : List Posed)
+        → Received (C.in_force first) before (moment (R.left source.old) words holds)
         requests session.now incoming.old
-        → Received (knowledge core.now) before (moment (R.left source.new) words holds)
+        → Received (C.in_force first) before (moment (R.left source.new) words holds)
         requests session.now incoming.new) }
     ensures progress { IfOk result
         (λ progress. Progressed progress session.now incoming.new (R.left source.new)) }
@@ -164,11 +165,11 @@ fn read_piece<R: Source>(
         → length incoming.old.bytes < length incoming.new.bytes) }
     ensures bound { length incoming.new.bytes ≤ 173 }
     ensures err { IfErr result
-        (λ end. (before : Moment) (words : Option (List (List ℕ))) (holds : Option (List ℕ))
-        (requests : List Asked)
-        → Received (knowledge core.now) before (moment (R.left source.old) words holds)
+        (λ end. (first : C) (before : Moment) (words : Option (List (List ℕ)))
+        (holds : Option (List ℕ)) (requests : List Posed)
+        → Received (C.in_force first) before (moment (R.left source.old) words holds)
         requests session.now incoming.old
-        → EndsBehind (knowledge core.now) end before (moment (R.left source.new) words holds)
+        → EndsBehind (C.in_force first) end before (moment (R.left source.new) words holds)
         requests) }
     ensures cause { result ≡ Err AuthEnd.ReadFault
         → Rose (R.faults source.old) (R.faults source.new) }
@@ -176,10 +177,12 @@ fn read_piece<R: Source>(
     ensures counted { R.faults source.old ≤ R.faults source.new }
 {
     let left = MOST_INPUT - (incoming.at() + incoming.len() as u64);
-    let most = left.max(1).min(lacking(core, session, incoming) as u64) as usize;
+    let most = left
+        .max(1)
+        .min(lacking(tables.core(), session, incoming) as u64) as usize;
     match incoming.fill(most, source) {
         Got::Bytes(_) if left == 0 => Err(AuthEnd::Flood),
-        Got::Bytes(_) => weigh(core, session, incoming),
+        Got::Bytes(_) => weigh(tables.core(), session, incoming),
         Got::End if incoming.len() == 0 => Ok(Progress::Ended),
         Got::End => Err(AuthEnd::Torn { at: incoming.at() }),
         Got::Failed => Err(AuthEnd::ReadFault),
@@ -187,8 +190,8 @@ fn read_piece<R: Source>(
 }
 
 // Reads a request to its end; whether there is one.
-fn read_request<R: Source>(
-    core: &AuthCore,
+fn read_request<C: LiveTables, R: Source>(
+    tables: &C,
     session: &Session,
     incoming: &mut Incoming,
     source: &mut R,
@@ -196,11 +199,11 @@ fn read_request<R: Source>(
     requires new { incoming.old.bytes ≡ [] }
     requires few { incoming.old.at ≤ most_input }
     ensures received { IfOk result
-        (λ found. (before : Moment) (words : Option (List (List ℕ))) (holds : Option (List ℕ))
-        (requests : List Asked)
-        → Received (knowledge core.now) before (moment (R.left source.old) words holds)
+        (λ found. (first : C) (before : Moment) (words : Option (List (List ℕ)))
+        (holds : Option (List ℕ)) (requests : List Posed)
+        → Received (C.in_force first) before (moment (R.left source.old) words holds)
         requests session.now incoming.old
-        → Received (knowledge core.now) before (moment (R.left source.new) words holds)
+        → Received (C.in_force first) before (moment (R.left source.new) words holds)
         requests session.now incoming.new) }
     ensures whole { IfOk result (λ found. found ≡ true
         → needed session.now.held (kind_of incoming.new.bytes) ≡ Some (length incoming.new.bytes)) }
@@ -208,11 +211,11 @@ fn read_request<R: Source>(
     ensures ended { IfOk result (λ found. found ≡ false
         → (incoming.new.bytes ≡ []) × IsAtEnd (R.left source.new)) }
     ensures err { IfErr result
-        (λ end. (before : Moment) (words : Option (List (List ℕ))) (holds : Option (List ℕ))
-        (requests : List Asked)
-        → Received (knowledge core.now) before (moment (R.left source.old) words holds)
+        (λ end. (first : C) (before : Moment) (words : Option (List (List ℕ)))
+        (holds : Option (List ℕ)) (requests : List Posed)
+        → Received (C.in_force first) before (moment (R.left source.old) words holds)
         requests session.now incoming.old
-        → EndsBehind (knowledge core.now) end before (moment (R.left source.new) words holds)
+        → EndsBehind (C.in_force first) end before (moment (R.left source.new) words holds)
         requests) }
     ensures cause { result ≡ Err AuthEnd.ReadFault
         → Rose (R.faults source.old) (R.faults source.new) }
@@ -220,7 +223,7 @@ fn read_request<R: Source>(
     ensures counted { R.faults source.old ≤ R.faults source.new }
 {
     loop {
-        match read_piece(core, session, incoming, source)? {
+        match read_piece(tables, session, incoming, source)? {
             Progress::Whole => return Ok(true),
             Progress::Part => {}
             Progress::Ended => return Ok(false),
@@ -245,8 +248,8 @@ fn draw_words<G: Words>(words: &mut G) -> Result<[[u8; 8]; 3], AuthEnd>
 }
 
 // Answers a request that is whole, and notes what came of it.
-fn answer_request<W: Sink, G: Words, L: Log>(
-    core: &AuthCore,
+fn answer_request<C: LiveTables, W: Sink, G: Words, L: Log>(
+    tables: &mut C,
     session: &mut Session,
     request: &[u8],
     words: &mut G,
@@ -257,23 +260,25 @@ fn answer_request<W: Sink, G: Words, L: Log>(
     requires whole { needed session.old.held (kind_of request.now) ≡ Some (length request.now) }
     requires goes_on { session.old.wrong < most_wrong }
     ensures answered { OnOk result
-        ((before : Moment) (left : Option (List ℕ)) (at : ℕ) (requests : List Asked)
+        ((first : C) (before : Moment) (left : Option (List ℕ)) (at : ℕ) (requests : List Posed)
         (noted : Option (List Notice))
-        → Received (knowledge core.now) before
+        → IsSince (C.in_force first) (C.in_force tables.old) (length requests)
+        → Received (C.in_force first) before
         (moment left (G.to_come words.old) (W.holds sink.old)) requests session.old
         (record { at = at; bytes = request.now })
-        → Notes noted (L.noted log.old) (notices_of (knowledge core.now) requests)
-        → HasAnswered (knowledge core.now) before
+        → Notes noted (L.noted log.old) (notices_of requests)
+        → HasAnswered (C.in_force first) (C.in_force tables.new) before
         (moment left (G.to_come words.new) (W.holds sink.new)) noted (L.noted log.new) (at
         + length request.now) session.new) }
     ensures err { IfErr result
-        (λ end. (before : Moment) (left : Option (List ℕ)) (at : ℕ) (requests : List Asked)
-        (noted : Option (List Notice))
-        → Received (knowledge core.now) before
+        (λ end. (first : C) (before : Moment) (left : Option (List ℕ)) (at : ℕ)
+        (requests : List Posed) (noted : Option (List Notice))
+        → IsSince (C.in_force first) (C.in_force tables.old) (length requests)
+        → Received (C.in_force first) before
         (moment left (G.to_come words.old) (W.holds sink.old)) requests session.old
         (record { at = at; bytes = request.now })
-        → Notes noted (L.noted log.old) (notices_of (knowledge core.now) requests)
-        → EndsNoted (knowledge core.now) end before
+        → Notes noted (L.noted log.old) (notices_of requests)
+        → EndsNoted (C.in_force first) end before
         (moment left (G.to_come words.new) (W.holds sink.new)) noted (L.noted log.new)) }
     ensures others { IfErr result IsAnswerEnd }
     ensures write_fault { result ≡ Err AuthEnd.WriteFault
@@ -284,6 +289,8 @@ fn answer_request<W: Sink, G: Words, L: Log>(
     ensures counted_words { G.faults words.old ≤ G.faults words.new }
 {
     let drawn = draw_words(words)?;
+    tables.renew()?;
+    let core = tables.core();
     let notice = core.notice(session, request);
     out.clear();
     let step = core.step(session, request, &drawn, out)?;
@@ -296,20 +303,20 @@ fn answer_request<W: Sink, G: Words, L: Log>(
 }
 
 // Answers requests until the input ends.
-fn serve_requests<R: Source, W: Sink, G: Words, L: Log>(
+fn serve_requests<C: LiveTables, R: Source, W: Sink, G: Words, L: Log>(
     alloc: Global,
-    core: &AuthCore,
+    tables: &mut C,
     source: &mut R,
     sink: &mut W,
     words: &mut G,
     log: &mut L,
 ) -> Result<(), AuthEnd>
-    ensures end { OnOk result (EndsNoted (knowledge core.now) AuthEnd.End
+    ensures end { OnOk result (EndsNoted (C.in_force tables.old) AuthEnd.End
         (moment (R.left source.old) (G.to_come words.old) (W.holds sink.old))
         (moment (R.left source.new) (G.to_come words.new) (W.holds sink.new))
         (L.noted log.old) (L.noted log.new)) }
     ensures err { IfErr result
-        (λ end. EndsNoted (knowledge core.now) end
+        (λ end. EndsNoted (C.in_force tables.old) end
         (moment (R.left source.old) (G.to_come words.old) (W.holds sink.old))
         (moment (R.left source.new) (G.to_come words.new) (W.holds sink.new))
         (L.noted log.old) (L.noted log.new)) }
@@ -327,9 +334,9 @@ fn serve_requests<R: Source, W: Sink, G: Words, L: Log>(
     let mut session = Session::new();
     let mut incoming = Incoming::new();
     let mut out = Bytes::new(alloc);
-    'requests: while read_request(core, &session, &mut incoming, source)? {
+    'requests: while read_request(tables, &session, &mut incoming, source)? {
         answer_request(
-            core,
+            tables,
             &mut session,
             incoming.as_slice(),
             words,
@@ -342,17 +349,17 @@ fn serve_requests<R: Source, W: Sink, G: Words, L: Log>(
     Ok(())
 }
 
-/// The same as `serve_auth`, and what came of each request is noted. That what is servable is served to its end follows from
-/// these clauses.
-pub fn serve_auth_noting<R: Source, W: Sink, G: Words, L: Log>(
+/// The same as `serve_auth`, by the tables in force at each request, and what came of each is noted. That what is servable is
+/// served to its end follows from these clauses.
+pub fn serve_auth_noting<C: LiveTables, R: Source, W: Sink, G: Words, L: Log>(
     alloc: Global,
-    core: &AuthCore,
+    tables: &mut C,
     source: &mut R,
     sink: &mut W,
     words: &mut G,
     log: &mut L,
 ) -> AuthEnd
-    ensures ends { EndsNoted (knowledge core.now) result
+    ensures ends { EndsNoted (C.in_force tables.old) result
         (moment (R.left source.old) (G.to_come words.old) (W.holds sink.old))
         (moment (R.left source.new) (G.to_come words.new) (W.holds sink.new))
         (L.noted log.old) (L.noted log.new) }
@@ -368,7 +375,7 @@ pub fn serve_auth_noting<R: Source, W: Sink, G: Words, L: Log>(
     ensures counted_writes { W.faults sink.old ≤ W.faults sink.new }
     ensures counted_words { G.faults words.old ≤ G.faults words.new }
 {
-    match serve_requests(alloc, core, source, sink, words, log) {
+    match serve_requests(alloc, tables, source, sink, words, log) {
         Ok(()) => AuthEnd::End,
         Err(end) => end,
     }
@@ -414,5 +421,6 @@ pub fn serve_auth<R: Source, W: Sink, G: Words>(
         → (Rose (G.faults words.old) (G.faults words.new) → ⊥)
         → (result ≡ AuthEnd.TooManyWrong) ⊎ (result ≡ AuthEnd.NoMemory) }
 {
-    serve_auth_noting(alloc, core, source, sink, words, &mut NoLog)
+    let mut tables = FixedTables { core };
+    serve_auth_noting(alloc, &mut tables, source, sink, words, &mut NoLog)
 }

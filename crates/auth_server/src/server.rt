@@ -39,11 +39,11 @@ impl AuthCore {
     ghost use Rattle.std.specs.Prelude.{◌≡◌, ◌<◌, ◌≤◌, ◌↔◌, ◌∷◌, ◌++◌, ℕ, List, Some, true, length, IfOk, OnErr, OnOk};
     ghost use Rattle.attr_tuples.specs.Forms.{is_dom};
     ghost use Rattle.auth_tables.specs.Keys.{key_of};
-    ghost use Rattle.auth_server.specs.Requests.{Asked, asked_so, kind_of, needed};
-    ghost use Rattle.auth_server.specs.Answers.{answer, answer_to, are_digits, grant, granted_key, is_over, judged, mail_answer, most_wrong, password_of, vouch};
+    ghost use Rattle.auth_server.specs.Requests.{asked_so, kind_of, needed};
+    ghost use Rattle.auth_server.specs.Answers.{Posed, answer_in, answer_to, are_digits, grant, granted_key, is_over_in, judged, mail_answer, most_wrong, password_of, posed, vouch};
     ghost use Rattle.sealing.specs.Request.{request_of};
     ghost use Rattle.auth_server.specs.Notices.{is_granted, notice_of, outcome_of};
-    ghost use Rattle.auth_server.specs.Standing.{StandsFor, knowledge};
+    ghost use Rattle.auth_server.specs.Standing.{Stands, knowledge};
     ghost use Rattle.auth_server.specs.Steps.{MailMoves, Moves};
 
     /// The server of a domain, with what it knows of users and hosts. It takes no memory.
@@ -52,6 +52,15 @@ impl AuthCore {
         ensures { result ≡ record { dom = dom; keys = keys; speaks = speaks } }
     {
         AuthCore { dom, keys, speaks }
+    }
+
+    /// Puts other tables in force, for all requests that follow: sessions and their challenges stay, and each is answered
+    /// by these from now on. It takes no memory.
+    pub fn reload(&mut self, keys: KeyTable, speaks: SpeaksTable)
+        ensures { self.new ≡ record { dom = self.old.dom; keys = keys; speaks = speaks } }
+    {
+        self.keys = keys;
+        self.speaks = speaks;
     }
 
     /// How many bytes a request of a session has that begins with this byte; None exactly where no request of that kind
@@ -124,19 +133,18 @@ impl AuthCore {
         requires whole { needed session.old.held (kind_of request.now) ≡ Some (length request.now) }
         requires goes_on { session.old.wrong < most_wrong }
 
-        // Whatever requests the session stands for: the answer is that to the next one, and it stands for it too.
-        ensures answer { OnOk result ((before : List Asked)
-            → StandsFor (knowledge self.now) before session.old
-            → out.new ≡ out.old ++ answer (knowledge self.now) before
-            (asked_so request.now words.now)) }
-        ensures stands { OnOk result ((before : List Asked)
-            → StandsFor (knowledge self.now) before session.old
-            → StandsFor (knowledge self.now) (asked_so request.now words.now
+        // Whatever requests the session stands for, each with what was known when it came: the answer is that to the next
+        // one, by what is known now, and it stands for it too.
+        ensures answer { OnOk result ((before : List Posed) → Stands before session.old
+            → out.new ≡ out.old ++ answer_in before
+            (posed (knowledge self.now) (asked_so request.now words.now))) }
+        ensures stands { OnOk result ((before : List Posed) → Stands before session.old
+            → Stands (posed (knowledge self.now) (asked_so request.now words.now)
             ∷ before) session.new) }
-        ensures over { IfOk result (λ step. (before : List Asked)
-            → StandsFor (knowledge self.now) before session.old
+        ensures over { IfOk result (λ step. (before : List Posed) → Stands before session.old
             → step ≡ AsStep.TooManyWrong
-            ↔ is_over (knowledge self.now) (asked_so request.now words.now ∷ before) ≡ true) }
+            ↔ is_over_in (posed (knowledge self.now) (asked_so request.now words.now)
+            ∷ before) ≡ true) }
         ensures replied { IfOk result (λ step. step ≡ AsStep.Replied
             → session.new.wrong < most_wrong) }
 

@@ -63,14 +63,14 @@ impl Model for Session {
 
 impl Session {
     ghost use Rattle.std.specs.Prelude.{◌≡◌, ◌<◌, ◌+◌, ◌↔◌, [], None, Some, true, nat_le};
-    ghost use Rattle.auth_server.specs.Answers.{Knowledge, most_wrong};
+    ghost use Rattle.auth_server.specs.Answers.{most_wrong};
     ghost use Rattle.auth_server.specs.Requests.{is_for};
-    ghost use Rattle.auth_server.specs.Standing.{StandsFor};
+    ghost use Rattle.auth_server.specs.Standing.{Stands};
 
     /// A session without requests.
     pub fn new() -> Session
         ensures value { result ≡ record { held = None; wrong = 0 } }
-        ensures stands { (known : Knowledge) → StandsFor known [] result }
+        ensures stands { Stands [] result }
     {
         Session {
             held: None,

@@ -7,7 +7,7 @@ use Rattle.sealing.specs.declared.fault.FieldFault.{FieldFault}
 use Rattle.sealing.specs.declared.request.TicketReq.{TicketReq}
 use Rattle.sealing.proofs.RequestLaws.{request_taken}
 use Rattle.auth_server.specs.Requests.{Asked, Challenge, is_for, is_served, kind_of}
-use Rattle.auth_server.specs.Answers.{Knowledge, answer, answer_to, challenge_answer, challenge_text, grant, held, held_after, held_mail, is_over, is_right, judged, mail_answer, refusal, tickets, vouch, vouch_text}
+use Rattle.auth_server.specs.Answers.{Knowledge, answer, answer_in, answer_to, challenge_answer, challenge_text, grant, held, held_after, held_mail, is_over, is_right, judged, mail_answer, refusal, tickets, vouch, vouch_text}
 use Rattle.symbolic_runs.specs.declared.kind.MacKind.{MacKind}
 use Rattle.symbolic_runs.specs.declared.kind.MacKind.TheVariants.{Apop, Cram}
 use Rattle.symbolic_runs.specs.Trees.{Tree, same_kind}
@@ -101,7 +101,7 @@ unfolding vouch_text
 right_deed before number request known words r = refl
 
 answer_by : (known : Knowledge) (before : List Asked) (asked : Asked) (o : Result TicketReq FieldFault) → request_of asked.request ≡ o → answer known before asked ≡ answer_to known asked (held known before) o
-unfolding answer
+unfolding answer_in
 answer_by known before asked o is = ap (answer_to known asked (held known before)) is
 
 -- what a mail request is to the challenge that is held: its answer, and what is held behind it

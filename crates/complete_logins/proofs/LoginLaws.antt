@@ -16,7 +16,7 @@ use Rattle.sealing.proofs.RequestLaws.{request_written}
 use Rattle.sealing.proofs.SealedLaws.{authenticator_opened}
 use Rattle.auth_tables.specs.Keys.{UserKey}
 use Rattle.auth_server.specs.Requests.{asked_so}
-use Rattle.auth_server.specs.Answers.{answer, answer_to, granted_key, held, shared_key, tickets, word}
+use Rattle.auth_server.specs.Answers.{answer, answer_in, answer_to, granted_key, held, shared_key, tickets, word}
 use Rattle.roles.specs.declared.answer.Cause.TheVariants.{WrongKind, ServerSaidNo, BadKey}
 use Rattle.roles.specs.declared.answer.Gave.{Gave}
 use Rattle.roles.specs.declared.answer.Gave.TheVariants as g
@@ -165,7 +165,7 @@ granted_as : (key : Option UserKey) (line : UserKey) (may : Bool) (w des : List 
 granted_as key line may w des speaks knows same = ap (λ (may : Bool). granted_key may key w) speaks ∙ ap (λ key. granted_key true key w) knows ∙ same
 
 pub grant_is : (l : Login) → MayLogIn l → answer l.known l.before (asked_so (request_text (question l)) l.words) ≡ tickets (question l) (shared_key l.words) l.client_key.des.0 l.server_key.des.0
-unfolding answer
+unfolding answer_in
 grant_is l may =
     ap (answer_to l.known (asked_so (request_text (question l)) l.words) (held l.known l.before)) (request_read (question l) (fits_question l may))
     ∙ ap (λ key. tickets (question l) (shared_key l.words) key (granted_key (l.known.speaks l.client_key.user (wanted l)) (l.known.key l.server_key.user) (word 1 l.words))) (granted_as (l.known.key l.client_key.user) may.client_known.line (l.known.speaks l.client_key.user (wanted l)) (word 2 l.words) l.client_key.des.0 may.speaks may.client_known.knows may.client_known.same)

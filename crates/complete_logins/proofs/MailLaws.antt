@@ -18,7 +18,7 @@ use Rattle.sealing.specs.declared.ticket.Ticket.{Ticket}
 use Rattle.sealing.proofs.RequestLaws.{request_again, request_written}
 use Rattle.sealing.proofs.SealedLaws.{authenticator_opened}
 use Rattle.auth_server.specs.Requests.{Asked, Challenge, asked_so, is_for}
-use Rattle.auth_server.specs.Answers.{Knowledge, answer, answer_to, are_digits, challenge_answer, challenge_text, digits_for, grant, held, held_after, held_mail, is_right, judged, key_or, mail_answer, password_of, shared_key, vouch, vouch_text, word}
+use Rattle.auth_server.specs.Answers.{Knowledge, answer, answer_in, answer_to, are_digits, challenge_answer, challenge_text, digits_for, grant, held, held_after, held_mail, is_right, judged, key_or, mail_answer, password_of, shared_key, vouch, vouch_text, word}
 use Rattle.roles.specs.declared.answer.Cause.TheVariants.{WrongKind, ServerSaidNo, BadKey}
 use Rattle.roles.specs.declared.answer.Gave.{Gave}
 use Rattle.roles.specs.declared.answer.Gave.TheVariants as g
@@ -143,7 +143,7 @@ comes_first known asked r (Some c) none =
     rw other refl
 
 pub first_answer : (l : MailLogin) → MayMail l → answer l.known l.before (asked_so (first_request l) l.words) ≡ challenge_answer (challenge l)
-unfolding answer
+unfolding answer_in
 first_answer l may =
     let asked = asked_so (first_request l) l.words in
     let r = request_about [] l in
@@ -289,7 +289,7 @@ answered_right l may =
     rw (kinds, right l may) refl
 
 pub vouch_is : (l : MailLogin) → MayMail l → answer l.known (asked_so (first_request l) l.words ∷ l.before) (asked_so (then_request l) l.later_words) ≡ vouch l.known l.later_words (request_about l.user l)
-unfolding answer
+unfolding answer_in
 vouch_is l may =
     let asked = asked_so (then_request l) l.later_words in
     let r = request_about l.user l in

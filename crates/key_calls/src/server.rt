@@ -1,14 +1,15 @@
 // The public calls of `auth_server`.
 ghost use Rattle.std.specs.Arc.{arc_value};
 ghost use Rattle.std.specs.Prelude.{◌≡◌, ◌≤◌, ◌⊎◌, ◌<◌, ◌↔◌, ◌∷◌, ◌++◌, List, Some, true, length, IfOk, OnErr, OnOk};
-ghost use Rattle.auth_server.specs.Answers.{answer, is_over, most_wrong};
+ghost use Rattle.auth_server.specs.Answers.{Posed, answer_in, is_over_in, most_wrong, posed};
 ghost use Rattle.auth_server.specs.Clients.{Client, Listens};
-ghost use Rattle.auth_server.specs.Requests.{needed, Asked, asked_so, kind_of};
+ghost use Rattle.auth_server.specs.Requests.{needed, asked_so, kind_of};
 ghost use Rattle.auth_server.specs.Serving.{EndsSo, moment, IsServable, IsSpent};
-ghost use Rattle.auth_server.specs.Standing.{knowledge, StandsFor};
+ghost use Rattle.auth_server.specs.Standing.{knowledge, Stands};
 ghost use Rattle.wire_streams.specs.Causes.{Rose};
 
 use auth_server::{AsStep, AuthCore, AuthEnd, AuthJob, ListenEnd, Session};
+use auth_tables::{KeyTable, SpeaksTable};
 use std::alloc::Global;
 use std::sync::{Arc, Wait};
 use wire_base::{Bytes, NoMemory};
@@ -114,18 +115,16 @@ pub fn core_step(
     requires whole { needed session.old.held (kind_of request.now) ≡ Some (length request.now) }
     requires goes_on { session.old.wrong < most_wrong }
 
-    ensures answer { OnOk result ((before : List Asked)
-        → StandsFor (knowledge core.now) before session.old
-        → out.new ≡ out.old ++ answer (knowledge core.now) before
-        (asked_so request.now words.now)) }
-    ensures stands { OnOk result ((before : List Asked)
-        → StandsFor (knowledge core.now) before session.old
-        → StandsFor (knowledge core.now) (asked_so request.now words.now
+    ensures answer { OnOk result ((before : List Posed) → Stands before session.old
+        → out.new ≡ out.old ++ answer_in before
+        (posed (knowledge core.now) (asked_so request.now words.now))) }
+    ensures stands { OnOk result ((before : List Posed) → Stands before session.old
+        → Stands (posed (knowledge core.now) (asked_so request.now words.now)
         ∷ before) session.new) }
-    ensures over { IfOk result (λ step. (before : List Asked)
-        → StandsFor (knowledge core.now) before session.old
+    ensures over { IfOk result (λ step. (before : List Posed) → Stands before session.old
         → step ≡ AsStep.TooManyWrong
-        ↔ is_over (knowledge core.now) (asked_so request.now words.now ∷ before) ≡ true) }
+        ↔ is_over_in (posed (knowledge core.now) (asked_so request.now words.now)
+        ∷ before) ≡ true) }
     ensures replied { IfOk result (λ step. step ≡ AsStep.Replied
         → session.new.wrong < most_wrong) }
 
@@ -133,4 +132,11 @@ pub fn core_step(
     ensures unchanged { OnErr result (session.new ≡ session.old) }
 {
     core.step(session, request, words, out)
+}
+
+/// As `AuthCore::reload`.
+pub fn core_reload(core: &mut AuthCore, keys: KeyTable, speaks: SpeaksTable)
+    ensures { core.new ≡ record { dom = core.old.dom; keys = keys; speaks = speaks } }
+{
+    core.reload(keys, speaks)
 }

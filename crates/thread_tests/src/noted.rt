@@ -1,7 +1,7 @@
 // What is noted of a client as it is served, in lines.
 use crate::expect::expect;
 use auth_program::print_notice;
-use auth_server::{AuthCore, AuthEnd, Log, Notice, Outcome, serve_auth_noting};
+use auth_server::{AuthCore, AuthEnd, FixedTables, Log, Notice, Outcome, serve_auth_noting};
 use auth_tables::{parse_keys, parse_speaks};
 use sealing::{AUTH_APOP, AUTH_TREQ, TicketReq, apop_answer, write_req};
 use std::alloc::Global;
@@ -79,7 +79,7 @@ fn each_request_is_a_line(rt: HostRuntime) -> Result<(), Fail> {
     };
     let end = serve_auth_noting(
         alloc,
-        &core(alloc)?,
+        &mut FixedTables::new(&core(alloc)?),
         &mut session(alloc)?,
         &mut sink,
         &mut words,

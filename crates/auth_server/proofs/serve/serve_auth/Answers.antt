@@ -10,5 +10,5 @@ returns-clause-complete g c = λ servable reads writes draws.
 
 pub returns-clause-spent : goal.returns-clause-spent
 returns-clause-spent g c = λ spent reads writes draws.
-    served_spent (knowledge c.args.core.now) _ _ spent c.serve_auth_noting.result c.serve_auth_noting.ensures.ends.ends
+    served_spent (λ number. knowledge c.args.core.now) _ _ spent c.serve_auth_noting.result c.serve_auth_noting.ensures.ends.ends
     (λ e. reads (c.serve_auth_noting.ensures.read_fault e)) (λ e. writes (c.serve_auth_noting.ensures.write_fault e)) (λ e. draws (c.serve_auth_noting.ensures.word_fault e))
