@@ -3,10 +3,11 @@ use agent_core::Agent;
 use agent_history::Event;
 use turn_lock::Logged;
 
-/// The agent, which stands for the events of all callers.
+/// The agent, which stands for the events of all callers. It is moved out of the lock's slot and back in each turn, and so
+/// it stands in a box.
 #[derive(Drop)]
 pub struct Held {
-    pub(crate) agent: Agent,
+    pub(crate) agent: Box<Agent>,
 }
 
 impl Logged for Held {
@@ -14,5 +15,5 @@ impl Logged for Held {
 
     ghost use Rattle.agent_core.specs.Agents.{StandsFor};
 
-    ghost stands = { λ history held. StandsFor history held.agent };
+    ghost stands = { λ history held. StandsFor history held.agent.value };
 }

@@ -70,6 +70,9 @@ impl Hub {
         ensures number { IfOk result (λ made. numbers made.1 ≡ 0 ∷ []) }
     {
         let bells = HubBells::new(alloc)?;
+        let Ok(agent) = Box::new(alloc, agent) else {
+            return Err(NoMemory);
+        };
         match TurnLock::new(alloc, Held { agent }) {
             Ok((lock, seat)) => {
                 let hub = Hub { lock, bells };

@@ -244,7 +244,7 @@ module _ (conn : ℕ) (first : Moment) (seat after : HubSeat) (words later : Opt
       }
 
   pub batch_ends : (result drew : Result (Unit {0}) LineEnd) (n : ℕ) (new : Framing) → Going conn first (moment seat words input output) old kept → AreFrames old.limit old.held count size → count ≤ most_batch
-      → DrawsAll words later ws → OnOk drew (length ws ≡ count) → OnErr drew (length ws < count) → IfErr drew (λ end. (end ≡ WordFault) ⊎ (end ≡ NoMemory))
+      → DrawsAll words later ws → OnOk drew (length ws ≡ count) → OnErr drew (length ws < count) → IfErr drew (λ end. end ≡ WordFault)
       → IsExchanged conn of_batch ws came kept put seat after → n ≡ length ws → BatchEndsSo result drew came n size old new → TurnSo result conn first (moment after later input output) new put
   batch_ends (Ok r) drew n new g a few draws all short which x is (went, used, passes) =
       let drawn : length ws ≡ count = subst (λ (d : Result (Unit {0}) LineEnd). OnOk d (length ws ≡ count)) went all in
@@ -265,17 +265,12 @@ module _ (conn : ℕ) (first : Moment) (seat after : HubSeat) (words later : Opt
       drawn_few (Err u) all short = omega (arith, short)
   batch_ends (Err end) drew n new g a few draws all short which x is (inr (inr failed)) =
       let less : length ws < count = subst (λ (d : Result (Unit {0}) LineEnd). OnErr d (length ws < count)) failed.0 short in
-      by_cause end less (subst (λ (d : Result (Unit {0}) LineEnd). IfErr d (λ end. (end ≡ WordFault) ⊎ (end ≡ NoMemory))) failed.0 which)
-    where
-      by_cause : (end : LineEnd) → length ws < count → (end ≡ WordFault) ⊎ (end ≡ NoMemory) → Halts conn end first (moment after later input output) put
-      by_cause end less (inl word) = subst (λ (e : LineEnd). Halts conn e first (moment after later input output) put) (sym word)
-          (record { ends = wordless g a less draws (omega (arith, failed.1, is)) x; fails = tt })
-      by_cause end less (inr memory) = subst (λ (e : LineEnd). Halts conn e first (moment after later input output) put) (sym memory)
-          (record { ends = some_handed g a few (omega (arith, less)) draws x NoMemory (λ spare wanted h. h); fails = tt })
+      subst (λ (e : LineEnd). Halts conn e first (moment after later input output) put) (sym (subst (λ (d : Result (Unit {0}) LineEnd). IfErr d (λ end. end ≡ WordFault)) failed.0 which))
+      (record { ends = wordless g a less draws (omega (arith, failed.1, is)) x; fails = tt })
 
   -- by what was handed to the hub
   pub batch_done : (result drew : Result (Unit {0}) LineEnd) (n : ℕ) (new : Framing) (front : List ℕ) (given : List (List ℕ)) → front ≡ take size old.held → given ≡ ws → Going conn first (moment seat words input output) old kept → AreFrames old.limit old.held count size → count ≤ most_batch
-      → DrawsAll words later ws → OnOk drew (length ws ≡ count) → OnErr drew (length ws < count) → IfErr drew (λ end. (end ≡ WordFault) ⊎ (end ≡ NoMemory))
+      → DrawsAll words later ws → OnOk drew (length ws ≡ count) → OnErr drew (length ws < count) → IfErr drew (λ end. end ≡ WordFault)
       → IsExchanged conn (frames_in front) given came kept put seat after → n ≡ length ws → BatchEndsSo result drew came n size old new → TurnSo result conn first (moment after later input output) new put
   batch_done result drew n new front given cut are g a few draws all short which x is =
       batch_ends result drew n new g a few draws all short which (subst (λ (l : List (List ℕ)). IsExchanged conn of_batch l came kept put seat after) are (subst (λ (l : List ℕ). IsExchanged conn (frames_in l) given came kept put seat after) cut x)) is

@@ -6,12 +6,11 @@ ghost use Rattle.nine.specs.Batches.{AreFrames};
 ghost use Rattle.agent_lines.specs.Lining.{CausedBy, Moment, moment, most_batch};
 ghost use Rattle.agent_lines.specs.Turns.{BatchEndsSo, Going, TurnSo};
 
-use crate::drawing::draw_words;
+use crate::drawing::{Drawn, draw_words};
 use crate::ends::LineEnd;
 use crate::kept::Kept;
 use agent_hub::{Exchanged, Hub, HubSeat, TakesEnd};
 use nine::{Batch, BlockFramer};
-use std::alloc::Global;
 use std::sync::Wait;
 use wire_streams::Words;
 
@@ -44,7 +43,6 @@ fn end_batch(
 /// Hands a batch on, each frame with a word of its own, and keeps the replies that needn't wait.
 pub(crate) fn serve_batch<R: Wait, G: Words>(
     rt: &R,
-    alloc: Global,
     hub: &Hub,
     seat: HubSeat,
     conn: u64,
@@ -65,7 +63,7 @@ pub(crate) fn serve_batch<R: Wait, G: Words>(
         (Rose (G.faults words.old) (G.faults words.new)) ⊥) }
     ensures counted { G.faults words.old ≤ G.faults words.new }
 {
-    let mut drawn = Vec::new(alloc);
+    let mut drawn = Drawn::new();
     let drew = draw_words(words, batch.count, &mut drawn);
     let frames = framer.rest().split_at(batch.size).0;
     let (seat, came) = kept.exchange(rt, hub, seat, conn, frames, drawn.as_slice());

@@ -26,6 +26,9 @@ const MOST_LEFT: usize = MOST_KEPT - MOST_GIVEN;
 /// From how many bytes on that were written, what stands behind them is moved to the front.
 const LONG_GAP: usize = 65536;
 
+/// From how many bytes on that were written, the block is let go where nothing is kept. A shorter one takes the next replies.
+const SHORT_GAP: usize = 4096;
+
 /// Bytes to be written, and how many requests have no reply yet, which carries no claim.
 #[derive(Drop)]
 pub(crate) struct Kept {
@@ -153,9 +156,9 @@ impl Kept {
         requires { count ≤ length self.old }
         ensures { self.new ≡ drop count self.old }
     {
-        let whole = self.bytes.len();
         self.from += count;
-        if self.from == whole || self.from >= LONG_GAP {
+        let most = if self.len() == 0 { SHORT_GAP } else { LONG_GAP };
+        if self.from >= most {
             self.close_gap();
         }
     }

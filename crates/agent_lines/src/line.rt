@@ -10,6 +10,7 @@ ghost use Rattle.agent_lines.specs.Lining.{CausedBy, Ends, LineEndsSo, Moment, m
 ghost use Rattle.agent_lines.specs.Turns.{Going, Halts, Sends, SettledBy, Settles, SettlesSo, TurnSo};
 
 use crate::batch::serve_batch;
+use crate::drawing::MOST_BATCH;
 use crate::ends::LineEnd;
 use crate::input::read_more;
 use crate::kept::Kept;
@@ -26,9 +27,6 @@ const MOST_FRAME: u32 = 8216;
 
 /// How many bytes the block has that a connection is read into.
 const ROOM: u32 = 16384;
-
-/// How many frames are handed on in one turn, at most.
-const MOST_BATCH: usize = 32;
 
 /// Where so many bytes of replies are kept, they are written before more frames are handed on.
 const PIECE: usize = 65536;
@@ -89,7 +87,6 @@ fn collect<R: Wait, W: Offers>(
 // Hands a batch on, and offers what is kept, unless there is little of it and perhaps a frame more.
 fn serve_frames<R: Wait, W: Offers, G: Words>(
     rt: &R,
-    alloc: Global,
     hub: &Hub,
     seat: HubSeat,
     conn: u64,
@@ -114,7 +111,7 @@ fn serve_frames<R: Wait, W: Offers, G: Words>(
     ensures counted_words { G.faults words.old ≤ G.faults words.new }
     ensures counted_writes { W.faults sink.old ≤ W.faults sink.new }
 {
-    let (seat, served) = serve_batch(rt, alloc, hub, seat, conn, batch, framer, kept, words);
+    let (seat, served) = serve_batch(rt, hub, seat, conn, batch, framer, kept, words);
     if let Err(end) = served {
         return (seat, Err(end));
     }
@@ -166,7 +163,6 @@ fn wait_or_read<R: Wait, S: Source, W: Offers, A: Awaits>(
 // Does what there is to do next.
 fn go_on<R: Wait, S: Source, W: Offers, G: Words, A: Awaits>(
     rt: &R,
-    alloc: Global,
     hub: &Hub,
     seat: HubSeat,
     conn: u64,
@@ -203,7 +199,7 @@ fn go_on<R: Wait, S: Source, W: Offers, G: Words, A: Awaits>(
     }
     let batch = framer.batch(MOST_BATCH);
     if batch.count > 0 {
-        return serve_frames(rt, alloc, hub, seat, conn, batch, framer, kept, sink, words);
+        return serve_frames(rt, hub, seat, conn, batch, framer, kept, sink, words);
     }
     match batch.behind {
         Behind::Bad(size) => {
@@ -249,7 +245,6 @@ fn converse<R: Wait, S: Source, W: Offers, G: Words, A: Awaits>(
     for _ in rt.forever() {
         let (next, went) = go_on(
             rt,
-            alloc,
             hub,
             seat,
             conn,
