@@ -566,7 +566,7 @@ along_give conv who one other (Some v) (Some w) a b s e found here =
     let it : plain v ≡ plain w = cc in
     let tag : v.tag ≡ w.tag = ap (λ (x : Wait). x.tag) it in
     let on_rpc : waits_on_rpc (then_took conv w.count other b) who.conn v.tag ≡ true =
-        took_rpc conv who.conn v.tag (fits w.count other) b ∙ ap (waits_on_rpc b who.conn) tag ∙ on_rpc_there conv who w b found here in
+    took_rpc conv who.conn v.tag (fits w.count other) b ∙ ap (waits_on_rpc b who.conn) tag ∙ on_rpc_there conv who w b found here in
     subst (λ (n : ℕ). Along (give_to conv who.conn one (Some v) a) (OfReplies who.conn (Settled n (told w.count other)) ∷ then_took conv w.count other b)) tag
     (along_settled who.conn v.tag (told v.count one) (told w.count other) (then_took conv v.count one a) (then_took conv w.count other b) (along_took conv v.count w.count one other a b s)
     (λ no. absurd (let no_way : true ≡ false = sym on_rpc ∙ no in cc)))

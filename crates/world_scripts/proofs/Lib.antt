@@ -8,3 +8,4 @@ pub mod PieceLemmas
 pub mod LineLemmas
 pub mod ScriptLemmas
 pub mod LengthLemmas
+mod MadeLemmas

@@ -115,15 +115,15 @@ plus_apart = record { digit = refl; decimal = refl; spelled = refl; message = re
 blank_apart : IsApart 32
 blank_apart = record { digit = refl; decimal = refl; spelled = refl; message = refl; field = refl }
 
-number_lacks : (c n : ℕ) → is_decimal_digit c ≡ false → is_number n ≡ true → lacks c (decimal n) ≡ true
+pub number_lacks : (c n : ℕ) → is_decimal_digit c ≡ false → is_number n ≡ true → lacks c (decimal n) ≡ true
 number_lacks c n no_c h =
     let small = small_again n h in
     lacks_by is_decimal_digit c no_c (decimal n) (decimal_digits n (omega (arith, small)))
 
-lacks_both : (c : ℕ) (xs ys : List ℕ) → lacks c xs ≡ true → lacks c ys ≡ true → lacks c (xs ++ ys) ≡ true
+pub lacks_both : (c : ℕ) (xs ys : List ℕ) → lacks c xs ≡ true → lacks c ys ≡ true → lacks c (xs ++ ys) ≡ true
 lacks_both c xs ys one other = list_all-append (λ b. not (eqb b c)) xs ys ∙ and_from (lacks c xs) (lacks c ys) one other
 
-lacks_more : (c b : ℕ) (text : List ℕ) → eqb b c ≡ false → lacks c text ≡ true → lacks c (b ∷ text) ≡ true
+pub lacks_more : (c b : ℕ) (text : List ℕ) → eqb b c ≡ false → lacks c text ≡ true → lacks c (b ∷ text) ≡ true
 lacks_more c b text other rest = rw other rest
 
 piece_lacks : (c : ℕ) → IsApart c → (piece : Piece) → is_piece piece ≡ true → lacks c (piece_text piece) ≡ true
@@ -171,7 +171,7 @@ split_plain c (b ∷ text) h =
     let both = and_parts (not (eqb b c)) (lacks c text) h in
     slice_split-cons_no (λ x. eqb x c) b text (not-true (eqb b c) both.0) ∙ ap (onto_first b) (split_plain c text both.1)
 
-split_front : (c : ℕ) (text rest : List ℕ) → lacks c text ≡ true → slice_split (λ b. eqb b c) (text ++ c ∷ rest) ≡ text ∷ slice_split (λ b. eqb b c) rest
+pub split_front : (c : ℕ) (text rest : List ℕ) → lacks c text ≡ true → slice_split (λ b. eqb b c) (text ++ c ∷ rest) ≡ text ∷ slice_split (λ b. eqb b c) rest
 split_front c [] rest h = slice_split-cons_yes (λ x. eqb x c) c rest (eq-eqb c c refl)
 split_front c (b ∷ text) rest h =
     let both = and_parts (not (eqb b c)) (lacks c text) h in

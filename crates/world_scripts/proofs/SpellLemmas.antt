@@ -13,7 +13,7 @@ use Rattle.world_scripts.proofs.CutLemmas.{lacks, lacks_by}
 use Rattle.world_scripts.proofs.DigitLemmas.{value, has_value, digit_is_lower}
 use Rattle.world_scripts.proofs.ReadLemmas.{if_parts}
 
-abbrev are_bytes : List ℕ → Bool
+abbrev pub are_bytes : List ℕ → Bool
 are_bytes bytes = list_all (λ b. ltb b 256) bytes
 
 bytes_at : (bytes : List ℕ) → are_bytes bytes ≡ true → IsBytes bytes
@@ -21,7 +21,7 @@ bytes_at [] h i = omega arith
 bytes_at (b ∷ bytes) h zero = ltb-true b 256 (and_parts (ltb b 256) (are_bytes bytes) h).0
 bytes_at (b ∷ bytes) h (suc i) = bytes_at bytes (and_parts (ltb b 256) (are_bytes bytes) h).1 i
 
-encoded_lower : (bytes : List ℕ) → are_bytes bytes ≡ true → list_all is_lower_digit (encode_lower bytes) ≡ true
+pub encoded_lower : (bytes : List ℕ) → are_bytes bytes ≡ true → list_all is_lower_digit (encode_lower bytes) ≡ true
 unfolding encode_with
 encoded_lower [] h = refl
 encoded_lower (b ∷ bytes) h =

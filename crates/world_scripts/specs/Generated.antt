@@ -54,7 +54,10 @@ rounds_from (suc n) round before first words =
     round_lines round before first (drawn words)
     ++ rounds_from n (round + 1) first (first + recorded (kind_of round)) (drop 5 words)
 
--- the script of a number
+-- the lines of the script of a number, and the script
+abbrev pub gen_lines : ℕ → ℕ → List ScriptLine
+gen_lines number rounds =
+    opening ++ rounds_from rounds 0 0 0 (draws (words_of_round * rounds) (generator_of number))
+
 unfoldable pub gen_text : ℕ → ℕ → List ℕ
-gen_text number rounds =
-    lines_text (opening ++ rounds_from rounds 0 0 0 (draws (words_of_round * rounds) (generator_of number)))
+gen_text number rounds = lines_text (gen_lines number rounds)

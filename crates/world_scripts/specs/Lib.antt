@@ -8,3 +8,4 @@ pub mod Said
 pub mod Draws
 pub mod Rounds
 pub mod Generated
+pub mod MadeScripts

@@ -15,7 +15,7 @@ mod script;
 mod words;
 
 pub use chacha::ChaChaWords;
-pub use laws::lines_are_what_is_written;
+pub use laws::{lines_are_what_is_written, made_scripts_are_read};
 pub use line::{BadForm, Line, parse_line};
 pub use made_script::gen_script;
 pub use pieces::{Piece, Pieces};
