@@ -83,15 +83,16 @@ impl<'a> TurnCall<Held> for Exchange<'a> {
         reply.taken.items reply.end call.out.now after.out.now };
 
     fn run(&mut self, state: &mut Held) -> Batch {
+        let agent = &mut *state.agent;
         let batch = serve_frames(
-            &mut state.agent,
+            agent,
             self.alloc,
             self.conn,
             self.frames,
             self.words,
             self.out,
         );
-        self.news = state.agent.take_news();
+        self.news = agent.take_news();
         batch
     }
 }
@@ -127,8 +128,9 @@ impl<'a> TurnCall<Held> for Collect<'a> {
         × Collects history call.conn reply.taken reply.end call.out.now after.out.now };
 
     fn run(&mut self, state: &mut Held) -> Collected {
-        let collected = take_until(&mut state.agent, self.conn, self.most, self.out);
-        self.news = state.agent.take_news();
+        let agent = &mut *state.agent;
+        let collected = take_until(agent, self.conn, self.most, self.out);
+        self.news = agent.take_news();
         collected
     }
 }

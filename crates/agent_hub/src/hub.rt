@@ -42,8 +42,9 @@ impl<'a> TurnCall<Held> for Submit<'a> {
         × IsAnswered history call.event.now reply call.out.now after.out.now };
 
     fn run(&mut self, state: &mut Held) -> Submitted {
-        let answer = state.agent.step(self.event, self.out);
-        self.news = state.agent.take_news();
+        let agent = &mut *state.agent;
+        let answer = agent.step(self.event, self.out);
+        self.news = agent.take_news();
         answer
     }
 }
