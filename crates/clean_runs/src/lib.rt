@@ -1,6 +1,6 @@
 //! Clean histories: labelled histories of real bytes, the symbolic runs that they are, and agreement in them: whom
-//! a server accepts was there, and who answered a client was a server. A login whose record is clean, and one that
-//! uses a word twice and isn't, show that the premise is neither empty nor free.
+//! a server accepts was there, and who answered a client was a server. Logins by p9any and by APOP whose records are
+//! legal and clean, and a record that uses a word twice and isn't, show that the premise is neither empty nor free.
 #![tactic(auto)]
 
 mod agreement_laws;

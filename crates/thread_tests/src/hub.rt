@@ -10,7 +10,9 @@ mod sessions;
 use agent_core::Agent;
 use agent_history::{Event, StepAnswer};
 use agent_hub::{AsksEnd, Exchanged, Hub, HubSeat, TakesEnd, serve_asks};
-use sessions::{ADD_KEY, AGREED, BAD_SIZE, KEY_ADDED, KEYS_READ, LOG_IN, READ_KEYS, VERSION};
+use sessions::{
+    ADD_KEY, AGREED, BAD_SIZE, KEY_ADDED, KEYS_READ, LOG_IN, LOGGED_IN, READ_KEYS, VERSION,
+};
 use std::alloc::Global;
 use std::process::Abort;
 use std::sync::Wait;
@@ -327,7 +329,7 @@ fn expect_answer(
     let made = dialer.made().ok_or("untold")?;
     assert_eq!(rt; made.len(), 1);
     assert!(rt; matches!(made[0], Made::Exchange { conv: 0, .. }));
-    assert!(rt; replies.as_slice().starts_with(AGREED));
+    expect(rt, &replies, LOGGED_IN);
     Ok(())
 }
 

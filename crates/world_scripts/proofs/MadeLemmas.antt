@@ -1,16 +1,16 @@
 -- The lines of a script that is made of a number are read as they were written: each has the form of a line, no newline and
 -- no `#` in front.
-use Rattle.std.proofs.Common.{◌≡◌, ◌≤◌, ◌<◌, ◌+◌, ◌*◌, ◌/◌, ◌%◌, ◌^◌, ℕ, zero, suc, List, [], ◌∷◌, ◌++◌, append_assoc, codes, drop, length, map, Bool, true, false, eqb, ltb, nat_le, ◌==◌, ◌&&◌, ◌||◌, Option, Some, cond, refl, sym, ap, subst, ◌∙◌, arith}
+use Rattle.std.proofs.Common.{◌≡◌, ◌≤◌, ◌<◌, ◌+◌, ◌*◌, ◌/◌, ◌%◌, ◌^◌, ℕ, zero, suc, List, [], ◌∷◌, ◌++◌, append_assoc, codes, drop, length, map, Bool, true, false, eqb, ltb, nat_le, ◌==◌, ◌&&◌, ◌||◌, Option, Some, cond, refl, ap, ◌∙◌, arith}
 use Rattle.std.specs.Int.{byte_at, bytes_low_first, to_le_bytes, w32}
 use Rattle.std.specs.Fmt.{decimal}
 use Rattle.std.specs.List.{list_all, slice_split}
-use Rattle.std.proofs.lemmas.Bool.{and_from, and_parts, eq-eqb, le-leb, lt-ltb}
+use Rattle.std.proofs.lemmas.Bool.{and_from, and_parts, le-leb, lt-ltb}
 use Rattle.std.proofs.lemmas.Fmt.{length-decimal-le}
 use Rattle.std.proofs.lemmas.List.Folds.{list_all-append}
 use Rattle.hex.specs.Hex.{encode_lower}
 use Rattle.rand_chacha.specs.ChaCha.{ChaCha, next_word}
 use Rattle.world_scripts.specs.Draws.{draw, draws, generator_of}
-use Rattle.world_scripts.specs.Pieces.{Piece, Spelled, Whole, are_pieces, pieces_text}
+use Rattle.world_scripts.specs.Pieces.{Spelled, Whole, are_pieces}
 use Rattle.world_scripts.specs.Lines.{ScriptLine, Open, Start, Read, Write, Answer, NoAnswer, AsGive, Close, is_formed, is_name, is_name_byte, is_random, line_text}
 use Rattle.world_scripts.specs.Reading.{is_decimal_digit, is_lower_digit, line_of}
 use Rattle.world_scripts.specs.Scripts.{Numbered, is_skipped, numbered}
@@ -18,12 +18,12 @@ use Rattle.world_scripts.specs.declared.round.Drawn.{Drawn}
 use Rattle.world_scripts.specs.declared.round.Kind.{Kind}
 use Rattle.world_scripts.specs.declared.round.Kind.TheVariants.{Honest, Replayed, Unanswered, Blank}
 use Rattle.world_scripts.specs.Rounds.{answering, challenging, client_of, client_tuple, ending, gives, kind_of, middle, name, recorded, round_lines, server_of, server_tuple, session_of, starting, zeros}
-use Rattle.world_scripts.specs.Generated.{drawn, gen_lines, gen_text, line, lines_text, opening, rounds_from, word}
+use Rattle.world_scripts.specs.Generated.{drawn, gen_text, line, lines_text, opening, rounds_from, word}
 use Rattle.world_scripts.specs.MadeScripts.{MadeIsRead}
 use Rattle.world_scripts.proofs.CutLemmas.{lacks, lacks_by}
 use Rattle.world_scripts.proofs.LineLemmas.{line_again}
 use Rattle.world_scripts.proofs.NumberLemmas.{decimal_digits}
-use Rattle.world_scripts.proofs.PieceLemmas.{lacks_both, lacks_more, number_lacks, split_front}
+use Rattle.world_scripts.proofs.PieceLemmas.{lacks_both, number_lacks, split_front}
 use Rattle.world_scripts.proofs.SpellLemmas.{are_bytes, encoded_lower}
 
 -- ---- words of eight bytes

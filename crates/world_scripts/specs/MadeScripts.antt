@@ -1,5 +1,5 @@
 -- What holds of every script that is made of a number, of as many rounds as one may have.
-use Rattle.std.specs.Prelude.{◌≡◌, ◌≤◌, ℕ, ◌^◌, List, length, map, Some}
+use Rattle.std.specs.Prelude.{◌≡◌, ◌≤◌, ℕ, ◌^◌, length, map, Some}
 use Rattle.world_scripts.specs.Reading.{line_of}
 use Rattle.world_scripts.specs.Scripts.{script_lines}
 use Rattle.world_scripts.specs.Generated.{gen_lines, gen_text}
