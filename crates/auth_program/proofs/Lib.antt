@@ -4,3 +4,4 @@ pub mod FileLemmas
 pub mod ServeLemmas
 pub mod TextLemmas
 pub mod LogLaws
+mod RenewalLemmas

@@ -8,3 +8,6 @@ pub mod Reading
 pub mod Log
 pub mod Endings
 pub mod AuthdWords
+pub mod Renewals
+pub mod RenewalLines
+pub mod MemoryTables

@@ -1,8 +1,10 @@
 //! The lines of the log of an authentication server.
 ghost use Rattle.std.specs.Prelude.{◌≡◌, ◌++◌, ◌∷◌, ◌<◌, [], OnErr, OnOk, length, map, take, true};
 ghost use Rattle.auth_program.specs.Log.{IsLine, asked_word, bad_line, end_line, fault_line, head_text, judged_line, line_under, names_text, notice_line, outcome_word, shown_byte, word_text};
+ghost use Rattle.auth_program.specs.RenewalLines.{is_told, renewal_text};
 ghost use Rattle.auth_program.specs.Statuses.{is_printable, status_text};
 
+use crate::renewal::Renewal;
 use crate::status::{Status, print_status};
 use auth_server::{Notice, Outcome};
 use sealing::{AUTH_APOP, AUTH_CRAM, AUTH_TREQ, TicketReq};
@@ -197,4 +199,21 @@ pub fn print_client_end(
     let before = out.len();
     let done = append_under(alloc, head.as_slice(), status, out);
     out.undo_on_err(before, done)
+}
+
+/// Appends the line of a look at the files of the tables for standard error: nothing where they haven't changed.
+pub fn print_renewal(alloc: Global, renewal: &Renewal, out: &mut Bytes) -> Result<(), NoMemory>
+    requires { is_told renewal.now ≡ true }
+    ensures ok { OnOk result (out.new ≡ out.old ++ renewal_text renewal.now) }
+    ensures err { OnErr result (out.new ≡ out.old) }
+{
+    match renewal {
+        Renewal::Same => Ok(()),
+        Renewal::Read => out.append(b"authd: the tables were read again\n"),
+        Renewal::Refused(status) => {
+            let before = out.len();
+            let done = append_under(alloc, b"authd: the tables stay as they were: ", status, out);
+            out.undo_on_err(before, done)
+        }
+    }
 }

@@ -5,8 +5,10 @@ ghost use Rattle.auth_program.specs.Statuses.{is_printable};
 use crate::authsrv::status_of_end;
 use crate::log::{print_client_end, print_notice};
 use crate::random::{Random, RandomWords};
+use crate::shared_tables::{ClientTables, SharedTables};
 use crate::status::Status;
-use auth_server::{AuthEnd, AuthJob, FixedTables, Log, Notice, Outcome, serve_auth_noting};
+use crate::table_files::TableFiles;
+use auth_server::{AuthEnd, AuthJob, Log, Notice, Outcome, serve_auth_noting};
 use client_doors::{Address, Admitted, HasAddress, Place};
 use sockets::Job;
 use std::alloc::Global;
@@ -21,14 +23,16 @@ use wire_streams::{NoStart, Sink, Source, Spawner};
 /// How many seconds the answer to a client waits behind a wrong one.
 const PAUSE: u64 = 1;
 
-/// A client of whose requests, and of whose end, unless that is fine, standard error is told.
+/// A client of whose requests, and of whose end, unless that is fine, standard error is told. Each request is answered by the
+/// tables that are in force when it has come.
 #[derive(Drop)]
-pub struct ClientTask<I, O> {
+pub struct ClientTask<I, O, F> {
     job: AuthJob<I, O>,
     random: Option<Random>,
+    tables: Option<SharedTables<F>>,
 }
 
-impl<I, O> Model for ClientTask<I, O> {
+impl<I, O, F> Model for ClientTask<I, O, F> {
     ghost use Rattle.auth_server.specs.Clients.{Client};
 
     ghost Value = { Client I O };
@@ -36,14 +40,19 @@ impl<I, O> Model for ClientTask<I, O> {
     ghost view = { λ task. task.job };
 }
 
-impl<R, I, O> Job<R> for ClientTask<Admitted<I, Place<R>>, O>
+impl<R, I, O, F> Job<R> for ClientTask<Admitted<I, Place<R>>, O, F>
 where
     R: Wait + Clock + Eprint + AllocGlobal + Drop,
     I: Source + HasAddress + Drop,
     O: Sink + Drop,
+    F: TableFiles + Drop,
 {
     fn run(self, rt: &R) {
-        let ClientTask { job, random } = self;
+        let ClientTask {
+            job,
+            random,
+            tables,
+        } = self;
         let (core, source, mut sink) = job.into_parts();
         let (mut source, place) = source.into_parts();
         let alloc = rt.alloc();
@@ -54,16 +63,16 @@ where
             address: &address,
             was_wrong: false,
         };
-        let end = match words_of(alloc, random) {
-            Ok(mut words) => serve_auth_noting(
+        let end = match (words_of(alloc, random), tables) {
+            (Ok(mut words), Some(shared)) => serve_auth_noting(
                 alloc,
-                &mut FixedTables::new(&core),
+                &mut ClientTables { rt, shared, core },
                 &mut source,
                 &mut sink,
                 &mut words,
                 &mut log,
             ),
-            Err(NoMemory) => AuthEnd::NoMemory,
+            (Err(NoMemory), _) | (_, None) => AuthEnd::NoMemory,
         };
         tell_end(rt, alloc, &address, &status_of_end(end));
     }
@@ -163,21 +172,27 @@ fn tell<R: Eprint>(rt: &R, line: &Bytes) {
 
 /// A spawner of clients over one of their tasks: it takes, tells and counts what that one does.
 #[derive(Drop)]
-pub struct ClientSpawner<P> {
+pub struct ClientSpawner<P, F> {
     inner: P,
     random: Random,
+    tables: SharedTables<F>,
 }
 
-impl<P> ClientSpawner<P> {
-    /// A spawner that hands each client on as its task. The words of all are drawn from one file.
-    pub fn new(inner: P, random: Random) -> ClientSpawner<P>
+impl<P, F> ClientSpawner<P, F> {
+    /// A spawner that hands each client on as its task. The words of all are drawn from one file, and their requests are
+    /// answered by the same tables.
+    pub fn new(inner: P, random: Random, tables: SharedTables<F>) -> ClientSpawner<P, F>
         ensures { result.inner ≡ inner }
     {
-        ClientSpawner { inner, random }
+        ClientSpawner {
+            inner,
+            random,
+            tables,
+        }
     }
 }
 
-impl<I, O, P: Spawner<ClientTask<I, O>>> Spawner<AuthJob<I, O>> for ClientSpawner<P> {
+impl<I, O, F, P: Spawner<ClientTask<I, O, F>>> Spawner<AuthJob<I, O>> for ClientSpawner<P, F> {
     ghost takes = { λ spawner job. P.takes spawner.inner job };
 
     ghost taken = { λ spawner. P.taken spawner.inner };
@@ -186,6 +201,11 @@ impl<I, O, P: Spawner<ClientTask<I, O>>> Spawner<AuthJob<I, O>> for ClientSpawne
 
     fn spawn(&mut self, job: AuthJob<I, O>) -> Result<(), NoStart> {
         let random = self.random.share();
-        self.inner.spawn(ClientTask { job, random })
+        let tables = self.tables.share();
+        self.inner.spawn(ClientTask {
+            job,
+            random,
+            tables,
+        })
     }
 }

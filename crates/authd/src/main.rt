@@ -7,15 +7,18 @@ ghost use Rattle.attr_tuples.specs.Forms.{is_dom};
 ghost use Rattle.auth_program.specs.Statuses.{is_printable};
 ghost use Rattle.auth_program.specs.Endings.{is_told};
 
+mod path_tables;
+
+use crate::path_tables::PathTables;
 use auth_program::{
-    AuthdNumbers, AuthdWords, AuthsrvWords, ClientSpawner, Ending, Random, Status, as_str,
-    read_authd_words, read_core,
+    AuthdNumbers, AuthdWords, AuthsrvWords, ClientSpawner, Ending, FileTables, Random,
+    SharedTables, Status, as_str, read_authd_words, read_core,
 };
 use auth_server::{AuthCore, accept_clients};
 use client_doors::{LimitedListener, SharedLimits};
 use host_edge::{
-    Form, Guard, Opened, Opt, Program, Value, WordsFault, command_words, find_asked, hold_standard,
-    open, open_table, tell as tell_line, tell_asked, tell_usage, tell_why,
+    Form, Opened, Opt, Program, Value, WordsFault, command_words, find_asked, hold_standard, open,
+    tell as tell_line, tell_asked, tell_usage, tell_why,
 };
 use sockets::{SocketListener, ThreadSpawner, Unstarted};
 use std::alloc::Global;
@@ -23,7 +26,7 @@ use std::process::ExitCode;
 use std::sync::Arc;
 use std::time::Duration;
 use wire_base::{Bytes, NoMemory, Text};
-use wire_streams::{ReadSource, WriteSink, write_all};
+use wire_streams::{WriteSink, write_all};
 
 /// The program's name.
 const NAME: &str = "authd";
@@ -44,26 +47,39 @@ fn open_random(rt: &HostRuntime) -> Result<Random, NoMemory> {
     }
 }
 
+/// What the server knows when it begins, and its tables, which are read again where they change.
+type Known = (Arc<AuthCore, Global>, SharedTables<PathTables>);
+
 // What the server knows, by the files that its words name.
-fn open_core(rt: &HostRuntime, given: AuthsrvWords) -> Result<Arc<AuthCore, Global>, Status>
+fn open_core(rt: &HostRuntime, given: AuthsrvWords) -> Result<Known, Status>
     requires { is_dom given.dom ≡ true }
     ensures { IfErr result (λ status. is_printable status ≡ true) }
 {
+    let alloc = rt.alloc();
     let AuthsrvWords { dom, keys, speaks } = given;
-    let mut keys = ReadSource::new(open_table(rt, NAME, as_str(&keys), Guard::Secret));
-    let mut speaks = ReadSource::new(open_table(rt, NAME, as_str(&speaks), Guard::Unchanged));
-    let core = match read_core(rt.alloc(), dom, &mut keys, &mut speaks) {
+    let Ok(own) = dom.copy() else {
+        return Err(Status::NoMemory);
+    };
+    let mut files = PathTables::new(*rt, keys, speaks);
+    let (mut keys, mut speaks) = files.open();
+    let core = match read_core(alloc, own, &mut keys, &mut speaks) {
         Ok(core) => core,
         Err(status) => return Err(status),
     };
-    match Arc::new(rt.alloc(), core) {
-        Ok(core) => Ok(core),
-        Err(_) => Err(Status::NoMemory),
+    let Ok(core) = Arc::new(alloc, core) else {
+        return Err(Status::NoMemory);
+    };
+    let Ok(shared) = Arc::try_clone(&core) else {
+        return Err(Status::NoMemory);
+    };
+    match SharedTables::new(alloc, FileTables::new(alloc, dom, shared, files)) {
+        Ok(tables) => Ok((core, tables)),
+        Err(NoMemory) => Err(Status::NoMemory),
     }
 }
 
 /// The address at which it listens, how many it serves, and what it knows.
-type Begun = (Text, AuthdNumbers, Arc<AuthCore, Global>);
+type Begun = (Text, AuthdNumbers, Known);
 
 // What the words have it begin with.
 fn begin(rt: &HostRuntime, words: &[Text]) -> Result<Begun, Status>
@@ -78,7 +94,7 @@ fn begin(rt: &HostRuntime, words: &[Text]) -> Result<Begun, Status>
         Err(status) => return Err(status),
     };
     match open_core(rt, given) {
-        Ok(core) => Ok((listen, numbers, core)),
+        Ok(known) => Ok((listen, numbers, known)),
         Err(status) => Err(status),
     }
 }
@@ -233,13 +249,13 @@ fn main(rt: HostRuntime) -> ExitCode {
     };
     let words = words.as_slice();
     let ending = match prepare(&rt, words) {
-        Ok((address, numbers, core)) => match (
+        Ok((address, numbers, (core, tables))) => match (
             open_random(&rt),
             ThreadSpawner::new(rt, rt.alloc(), NAME, Unstarted::Dropped),
         ) {
             (Ok(random), Ok(threads)) => match listen_within(&rt, &address, numbers) {
                 Ok(mut listener) => {
-                    let mut spawner = ClientSpawner::new(threads, random);
+                    let mut spawner = ClientSpawner::new(threads, random, tables);
                     Ending::from(accept_clients(&rt, &core, &mut listener, &mut spawner))
                 }
                 Err(ending) => ending,

@@ -5,6 +5,8 @@ ghost use Rattle.auth_program.specs.AuthdWords.{IsAuthd, IsUnreadAuthd};
 ghost use Rattle.auth_program.specs.Cores.{HasCore, StopsEarly};
 ghost use Rattle.auth_program.specs.Files.{ReadsFile, StopsSo};
 ghost use Rattle.auth_program.specs.Log.{IsLine, end_line, fault_line, notice_line};
+ghost use Rattle.auth_program.specs.RenewalLines.{is_told, renewal_text};
+ghost use Rattle.auth_program.specs.Renewals.{Renewed};
 ghost use Rattle.auth_program.specs.Serving.{ServesSo, outside};
 ghost use Rattle.auth_program.specs.Statuses.{is_printable, status_number, status_text};
 ghost use Rattle.auth_program.specs.Words.{is_value, IsAuthsrv, IsUnreadAuthsrv};
@@ -13,7 +15,7 @@ ghost use Rattle.auth_server.specs.Serving.{Moment};
 ghost use Rattle.wire_streams.specs.Causes.{Rose};
 
 use attr_tuples::is_dom;
-use auth_program::{AuthdWords, AuthsrvWords, Status};
+use auth_program::{AuthdWords, AuthsrvWords, FileTables, Renewal, Status, TableFiles};
 use auth_server::{AuthCore, Notice};
 use std::alloc::Global;
 use wire_base::{Bytes, Name, NoMemory, Text};
@@ -157,4 +159,23 @@ pub fn print_client_end(
     ensures err { OnErr result (out.new ≡ out.old) }
 {
     auth_program::print_client_end(alloc, address, status, out)
+}
+
+/// As `FileTables::look`.
+pub fn look_at_tables<F: TableFiles>(tables: &mut FileTables<F>) -> Renewal
+    ensures dom { tables.new.dom ≡ tables.old.dom }
+    ensures renewed { Renewed tables.old.dom result (F.finds tables.old.files)
+        (F.finds tables.new.files) tables.old.core tables.new.core }
+    ensures printable { is_told result ≡ true }
+{
+    tables.look()
+}
+
+/// As `print_renewal`.
+pub fn print_renewal(alloc: Global, renewal: &Renewal, out: &mut Bytes) -> Result<(), NoMemory>
+    requires { is_told renewal.now ≡ true }
+    ensures ok { OnOk result (out.new ≡ out.old ++ renewal_text renewal.now) }
+    ensures err { OnErr result (out.new ≡ out.old) }
+{
+    auth_program::print_renewal(alloc, renewal, out)
 }

@@ -29,6 +29,40 @@ pub enum Guard {
     Unchanged,
 }
 
+/// What tells a file and its content from another: where it is written, is guarded otherwise, or another stands under its name,
+/// one of these changes.
+#[derive(Clone, Copy, Debug, PartialEq, Eq)]
+pub struct Stamp {
+    device: u64,
+    inode: u64,
+    size: u64,
+    written: (i64, i64),
+    changed: (i64, i64),
+}
+
+/// What tells the file under a name from another; None where it can't be opened. Of one that is no regular file, as the null
+/// device, nothing counts but which it is.
+pub fn look_at<R: Files<File = File>>(rt: &R, path: &str) -> Option<Stamp> {
+    let file = File::open(rt, path).ok()?;
+    let found = file.metadata().ok()?;
+    let is_regular = found.is_file();
+    Some(Stamp {
+        device: found.dev(),
+        inode: found.ino(),
+        size: if is_regular { found.size() } else { 0 },
+        written: if is_regular {
+            (found.mtime(), found.mtime_nsec())
+        } else {
+            (0, 0)
+        },
+        changed: if is_regular {
+            (found.ctime(), found.ctime_nsec())
+        } else {
+            (0, 0)
+        },
+    })
+}
+
 /// Opens a file; one that can't be opened is named on standard error.
 pub fn open<R: Files<File = File> + Eprint>(rt: &R, program: &str, path: &str) -> Opened {
     match File::open(rt, path) {

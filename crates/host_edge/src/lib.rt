@@ -12,7 +12,7 @@ mod untaken;
 mod version;
 mod words;
 
-pub use files::{Guard, Opened, open, open_table};
+pub use files::{Guard, Opened, Stamp, look_at, open, open_table};
 pub use forms::{Form, Opt, Value};
 pub use line::{tell, tell_why};
 pub use standard::{Standard, hold_standard};

@@ -1,0 +1,69 @@
+// One session, request by request, whose server is given other tables behind the first one.
+ghost use Rattle.std.specs.Prelude.{◌<◌, OnOk};
+ghost use Rattle.auth_server.specs.Answers.{most_wrong};
+
+use crate::client::{Lines, digits_for, request};
+use auth_server::{AsStep, AuthCore, Log, Session};
+use auth_tables::{KeyTable, SpeaksTable, parse_keys, parse_speaks};
+use std::alloc::Global;
+use wire_base::Bytes;
+
+/// How many bytes a table has at most.
+const MOST_BYTES: usize = 1 << 20;
+
+// Answers a request, and notes what came of it.
+fn ask(
+    alloc: Global,
+    core: &AuthCore,
+    session: &mut Session,
+    request: &[u8],
+    lines: &mut Lines,
+) -> anyhow::Result<()>
+    requires { session.old.wrong < most_wrong }
+    ensures { OnOk result (session.new.wrong < most_wrong) }
+{
+    let Some(kind) = request.first() else {
+        anyhow::bail!("no request");
+    };
+    if core.need(session, *kind) != Some(request.len()) {
+        anyhow::bail!("no request of this session");
+    }
+    let mut out = Bytes::new(alloc);
+    lines.note(&core.notice(session, request));
+    match core.step(session, request, &[[7; 8]; 3], &mut out)? {
+        AsStep::Replied => Ok(()),
+        AsStep::TooManyWrong => anyhow::bail!("the session is over"),
+    }
+}
+
+/// The tables of a text of keys, and of nobody who speaks for another.
+pub(crate) fn tables(alloc: Global, keys: &[u8]) -> anyhow::Result<(KeyTable, SpeaksTable)> {
+    if keys.len() > MOST_BYTES {
+        anyhow::bail!("a long table");
+    }
+    match (parse_keys(alloc, keys), parse_speaks(alloc, b"")) {
+        (Ok(keys), Ok(speaks)) => Ok((keys, speaks)),
+        _ => anyhow::bail!("bad tables"),
+    }
+}
+
+/// ann is given a challenge, her password becomes another, and she answers by the old one and by the new one.
+pub(crate) fn play(
+    alloc: Global,
+    core: &mut AuthCore,
+    later: &[u8],
+    lines: &mut Lines,
+) -> anyhow::Result<()> {
+    let mut session = Session::new();
+    let first = request(b"ann")?;
+    ask(alloc, core, &mut session, &first, lines)?;
+    let (keys, speaks) = tables(alloc, later)?;
+    core.reload(keys, speaks);
+    for password in [b"annpass1", b"another2"] {
+        let mut answer = Bytes::new(alloc);
+        answer.append(&first)?;
+        answer.append(&digits_for(password))?;
+        ask(alloc, core, &mut session, answer.as_slice(), lines)?;
+    }
+    Ok(())
+}
