@@ -3,7 +3,6 @@ use Rattle.std.proofs.Common.{◌≡◌, ℕ, List, [], ◌∷◌, ◌++◌, len
 use Rattle.std.specs.Prelude.{Result, Ok, Err, codes, not, ◌&&◌, ◌||◌, nat_le, if◌then◌else◌}
 use Rattle.std.specs.Str.{bytes_eq}
 use Rattle.door_history.specs.Tree.{auth_qid, lead_to, qid_of, visited}
-use Rattle.nine.specs.declared.message.RBody.{RBody}
 use Rattle.nine.specs.declared.message.TBody.{TBody}
 use Rattle.nine.specs.declared.message.TBody.TheVariants as t
 use Rattle.nine.specs.declared.message.RBody.TheVariants as r
@@ -20,7 +19,7 @@ use Rattle.door_history.specs.Requests.{AsksFor, AsksSo, OfNames, after, after_g
 use Rattle.door_history.specs.Histories.{History, deeds}
 use Rattle.doors.specs.declared.connection.Connection.{Connection}
 use Rattle.doors.specs.declared.door.Door.{Door}
-use Rattle.doors.specs.Doors.{Answered, Carried, GivesUp, Keeps, Served, StandsFor, Stepped, has_failed, reply_under}
+use Rattle.doors.specs.Doors.{Answered, Carried, GivesUp, Keeps, Served, Stepped, has_failed, reply_under}
 
 -- ---- of the fid that is asked
 

@@ -1,4 +1,4 @@
-use Rattle.std.proofs.Common.{[], ◌∷◌, ◌++◌, refl, sym, subst}
+use Rattle.std.proofs.Common.{[], ◌∷◌, refl, subst}
 use Rattle.door_history.specs.Calls.{Opened}
 use Rattle.door_history.specs.declared.port.PortOpen.TheVariants.{Refused}
 use Rattle.doors.proofs.asking.begin.Goals as goal

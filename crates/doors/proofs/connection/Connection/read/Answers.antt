@@ -1,6 +1,5 @@
-use Rattle.std.proofs.Common.{◌≡◌, List, [], Option, Some, None, refl, sym, ap, subst, ◌∙◌}
+use Rattle.std.proofs.Common.{Some, sym, ap, ◌∙◌}
 use Rattle.std.proofs.lemmas.Result.{on_ok_weaker}
-use Rattle.nine.specs.declared.message.TBody.TheVariants as t
 use Rattle.door_history.specs.declared.fid.Names.{Names}
 use Rattle.doors.proofs.ReadLemmas.{carried_file, carried_none, carried_read}
 use Rattle.doors.proofs.connection.Connection.read.Goals as goal

@@ -1,4 +1,3 @@
-use Rattle.std.proofs.Common.{sym, ap, ◌∙◌}
 use Rattle.std.proofs.lemmas.Result.{on_ok_weaker}
 use Rattle.doors.proofs.ServeLemmas.{removed}
 use Rattle.doors.proofs.connection.Connection.remove.Goals as goal

@@ -1,4 +1,4 @@
-use Rattle.std.proofs.Common.{List, sym, ap, ◌∙◌, [], ◌∷◌}
+use Rattle.std.proofs.Common.{List, sym, ap, ◌∙◌}
 use Rattle.std.specs.Prelude.{position}
 use Rattle.door_history.specs.declared.fid.Held.{Held}
 use Rattle.doors.proofs.FidLemmas.{is_fid, renamed_at, renamed_none}
