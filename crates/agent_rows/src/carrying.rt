@@ -78,8 +78,8 @@ pub(crate) fn expect(
     Ok(())
 }
 
-// These bytes, which are a whole frame.
-fn whole(alloc: Global, bytes: &[u8]) -> Result<Bytes, Unlike>
+/// These bytes, which are a whole frame.
+pub(crate) fn whole(alloc: Global, bytes: &[u8]) -> Result<Bytes, Unlike>
     ensures { IfOk result (λ frame. IsFrame frame) }
 {
     let frame = Bytes::from_slice(alloc, bytes)?;

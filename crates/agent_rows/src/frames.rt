@@ -36,7 +36,7 @@ struct Layout {
     parts: &'static [Part],
 }
 
-static LAYOUTS: [Layout; 23] = [
+static LAYOUTS: [Layout; 24] = [
     Layout {
         name: "Tversion",
         kind: 100,
@@ -51,6 +51,11 @@ static LAYOUTS: [Layout; 23] = [
         name: "Tauth",
         kind: 102,
         parts: &[Part::Number, Part::Text, Part::Text],
+    },
+    Layout {
+        name: "Rauth",
+        kind: 103,
+        parts: &[Part::Qid],
     },
     Layout {
         name: "Tattach",

@@ -1,11 +1,13 @@
-//! agent_rows: sessions with two agents, played from files of rows, which say what has to come of each. It writes the rows
+//! agent_rows: sessions with two agents, and with a file server that asks one, played from files of rows, which say what has to come of each. It writes the rows
 //! that weren't as wanted, how many cases each file has, and how many there are in all; it ends with 1 where a row wasn't.
 //! Its words name files that it plays in place of these. An event for which memory ran out is entered once more.
 #![tactic(auto)]
 
 mod asks;
 mod carrying;
+mod door_plays;
 mod frames;
+mod list_port;
 mod looks;
 mod moves;
 mod named;
@@ -17,6 +19,7 @@ mod tree_files;
 mod unlike;
 mod verbs;
 
+use door_plays::play_doors;
 use plays::play;
 use row_files::{Report, read_rows};
 use std::env::{self, Args};
@@ -25,7 +28,7 @@ use std::process::ExitCode;
 use std::str::from_utf8;
 
 /// The files, each of which is played by itself.
-static FILES: [&str; 19] = [
+static FILES: [&str; 20] = [
     "events.rows",
     "fids.rows",
     "files.rows",
@@ -45,7 +48,11 @@ static FILES: [&str; 19] = [
     "p9any_servers.rows",
     "apop.rows",
     "cram.rows",
+    DOORS,
 ];
+
+/// The file of rows about a file server that asks an agent.
+const DOORS: &str = "doors.rows";
 
 // Plays a file.
 fn play_file(rt: &HostRuntime, file: &str) -> anyhow::Result<Report> {
@@ -53,7 +60,11 @@ fn play_file(rt: &HostRuntime, file: &str) -> anyhow::Result<Report> {
     let text = fs::read(rt, file)?;
     let rows = read_rows(alloc, text.as_slice())?;
     let mut report = Report::new(alloc);
-    play(alloc, file, rows.as_slice(), &mut report)?;
+    if file == DOORS {
+        play_doors(alloc, file, rows.as_slice(), &mut report)?;
+    } else {
+        play(alloc, file, rows.as_slice(), &mut report)?;
+    }
     Ok(report)
 }
 

@@ -13,10 +13,10 @@ use row_files::{Report, Row};
 use std::alloc::Global;
 use wire_base::{Bytes, get_u64};
 
-// What came of a row.
+/// What came of a row.
 #[derive(Drop)]
-enum Played {
-    // It leads to the rows behind it, and is no case.
+pub(crate) enum Played {
+    /// It leads to the rows behind it, and is no case.
     Prepared,
     AsWanted,
     Otherwise(Bytes),
@@ -127,15 +127,15 @@ impl Stage {
     }
 }
 
-// Plays a row, and reports what came of it.
-fn play_row(
+/// Reports what came of a row.
+pub(crate) fn report_played(
     alloc: Global,
-    stage: &mut Stage,
     file: &str,
     row: &Row,
+    played: Result<Played, Unlike>,
     report: &mut Report,
 ) -> anyhow::Result<()> {
-    match stage.play(alloc, row) {
+    match played {
         Ok(Played::Prepared) => {}
         Ok(Played::AsWanted) => report.compare(alloc, file, row, row.wanted.as_slice())?,
         Ok(Played::Otherwise(came)) => report.compare(alloc, file, row, &[came])?,
@@ -154,7 +154,8 @@ fn play_rows(
     report: &mut Report,
 ) -> anyhow::Result<()> {
     for row in rows {
-        play_row(alloc, stage, file, row, report)?;
+        let played = stage.play(alloc, row);
+        report_played(alloc, file, row, played, report)?;
     }
     Ok(())
 }

@@ -1,4 +1,4 @@
-// The files of the tree, as replies name them: their qids and their records.
+// The files of the trees, as replies name them: their qids and their records.
 use crate::unlike::Unlike;
 use wire_base::{Bytes, NoMemory, put_str, put_u16, put_u32, put_u64};
 
@@ -16,7 +16,7 @@ const OWNER: &[u8] = b"factotum";
 /// How many bytes a record has behind its size, without its file's name.
 const RECORD_BYTES: u16 = 71;
 
-static TREE_FILES: [TreeFile; 8] = [
+static TREE_FILES: [TreeFile; 10] = [
     TreeFile {
         name: "/",
         kind: 0x80,
@@ -64,6 +64,18 @@ static TREE_FILES: [TreeFile; 8] = [
         kind: 0x20,
         path: 7,
         mode: 0x2000_0180,
+    },
+    TreeFile {
+        name: "who",
+        kind: 0,
+        path: 1,
+        mode: 0x124,
+    },
+    TreeFile {
+        name: "afid",
+        kind: 0x08,
+        path: 2,
+        mode: 0,
     },
 ];
 

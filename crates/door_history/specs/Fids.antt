@@ -1,5 +1,5 @@
 -- What the fids of a connection name: files of the tree, or conversations by which users are authenticated (attach(5)).
-use Rattle.std.specs.Prelude.{ℕ, List, [], ◌∷◌, length, filter, nat_le, Bool, true, false, not, ◌==◌, Option, Some, None, option_map, is_some, if◌then◌else◌}
+use Rattle.std.specs.Prelude.{ℕ, List, [], ◌∷◌, length, filter, find, nat_le, Bool, true, false, not, ◌==◌, Option, Some, None, option_map, is_some, if◌then◌else◌}
 use Rattle.std.specs.List.{filter_map}
 use Rattle.door_history.specs.declared.file.DoorFile.{DoorFile}
 use Rattle.door_history.specs.declared.fid.FileFid.{FileFid}
@@ -17,8 +17,7 @@ is_full all = nat_le most_fids (length all)
 
 -- what a fid names, if it is held
 abbrev pub named : ℕ → List Held → Option Names
-named fid [] = None
-named fid (h ∷ more) = if h.fid == fid then Some h.names else named fid more
+named fid all = option_map (λ h. h.names) (find (λ h. h.fid == fid) all)
 
 abbrev pub is_held : ℕ → List Held → Bool
 is_held fid all = is_some (named fid all)

@@ -1,0 +1,6 @@
+pub mod AskLemmas
+pub mod FidLemmas
+pub mod PortLemmas
+pub mod ReadLemmas
+pub mod ServeLemmas
+pub mod VouchLemmas
