@@ -1,5 +1,5 @@
--- Tables that are read again while a server runs: what looks at their files find, and what is in force behind them. What
--- the files tell is optional. The definitions are the project's own.
+-- Tables that are read again while a server runs: what looks at their files find, and what is in force behind them.
+-- What the files tell is optional. The definitions are the project's own.
 use Rattle.std.specs.Prelude.{◌≡◌, ℕ, zero, suc, List, [], ◌∷◌, Option, None, Some, ◌⊎◌, ⊤}
 use Rattle.auth_tables.specs.Keys.{bad_key_line}
 use Rattle.auth_tables.specs.Speaks.{bad_speak_line}
