@@ -1,3 +1,4 @@
 mod ServingLemmas
 mod PromptLemmas
+mod KeepLemmas
 mod WordLemmas

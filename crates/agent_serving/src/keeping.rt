@@ -1,5 +1,7 @@
 // The jobs that go on for as long as the agent does: what ends for want of memory is begun again.
+ghost use Rattle.std.specs.Prelude.{◌≡◌, map};
 ghost use Rattle.agent_hub.specs.Submits.{IsSeatOf};
+ghost use Rattle.agent_serving.specs.Keeping.{KeepsSo, conn_behind, is_last};
 
 use crate::prompts::{PromptsEnd, serve_prompts};
 use agent_hub::{AsksEnd, Hub, HubSeat, serve_asks};
@@ -64,7 +66,8 @@ pub(crate) fn answer_for_user<R: Wait + Clock + Eprint>(
         }
         let mut chain = Chain::new(list);
         if chain.len() == 2 {
-            keep_prompting(rt, alloc, hub, seat, conn, &mut chain);
+            let mut ends = EndLog { rt, last: None };
+            keep_prompting(rt, alloc, hub, seat, conn, &mut chain, &mut ends);
             return;
         }
         tell_end(rt, PromptsEnd::NoMemory);
@@ -72,35 +75,100 @@ pub(crate) fn answer_for_user<R: Wait + Clock + Eprint>(
     }
 }
 
-// Has a chain answer, and begins again on another connection where that ends before the agent stops. A question whose line is
-// too long is denied by the hang of its connection, behind which both files are opened again at once.
-fn keep_prompting<R: Wait + Clock + Eprint>(
+/// Where it is told how the answers of prompters ended.
+pub trait Tells {
+    ghost use Rattle.std.specs.Prelude.{[], ◌∷◌, List, Option};
+    ghost use Rattle.wire_streams.specs.Spawning.{Gains};
+    ghost use Rattle.agent_serving.specs.declared.prompts.PromptsEnd.{PromptsEnd as End};
+
+    /// The ends that it was told, the first one first, where the object tells that.
+    ghost told: { Self → Option (List End) };
+
+    /// Tells an end.
+    fn tell(&mut self, end: PromptsEnd)
+        ensures { Gains (told self.old) (told self.new) (end ∷ []) };
+}
+
+// Tells each end on standard error, and one that comes again and again once, but for a question that is too long.
+#[derive(Drop)]
+struct EndLog<'a, R> {
+    rt: &'a R,
+    last: Option<PromptsEnd>,
+}
+
+impl<R: Eprint> Tells for EndLog<'_, R> {
+    ghost use Rattle.std.specs.Prelude.{None};
+
+    ghost told = { λ _. None };
+
+    fn tell(&mut self, end: PromptsEnd) {
+        if self.last != Some(end) || end == PromptsEnd::TooLong {
+            tell_end(self.rt, end);
+        }
+        self.last = Some(end);
+    }
+}
+
+// Whether nobody answers any more behind this end.
+fn is_last(end: PromptsEnd) -> bool
+    ensures { result ≡ is_last end }
+{
+    match end {
+        PromptsEnd::Idle | PromptsEnd::Gone => true,
+        PromptsEnd::InUse | PromptsEnd::TooLong | PromptsEnd::NoMemory => false,
+    }
+}
+
+// Sleeps for a second, but behind a question that is too long.
+fn rest_behind<R: Wait + Clock>(rt: &R, end: PromptsEnd) {
+    if end != PromptsEnd::TooLong {
+        thread::sleep(rt, Duration::from_secs(REST));
+    }
+}
+
+// The connection on which it goes on behind an end of this one.
+fn conn_behind(end: PromptsEnd, conn: u64) -> u64
+    ensures { result ≡ conn_behind end conn }
+{
+    match end {
+        PromptsEnd::InUse => conn.saturating_sub(1),
+        PromptsEnd::Idle | PromptsEnd::Gone | PromptsEnd::TooLong | PromptsEnd::NoMemory => conn,
+    }
+}
+
+/// Has a chain answer an agent's questions until the agent stops, by `serve_prompts` again and again, each of whose ends is
+/// told. It may wait.
+///
+/// It goes on at once behind a question that is too long, and on the same connection, so that the opening by which the
+/// question is refused has the files open again in one turn. Where memory ran out it goes on so after a second. Where another
+/// client has a file open it goes on after a second on the connection of the number before, since one that was hung up stays
+/// so.
+pub fn keep_prompting<R: Wait + Clock, T: Tells>(
     rt: &R,
     alloc: Global,
     hub: &Hub,
     mut seat: HubSeat,
     mut conn: u64,
     chain: &mut Chain,
-) -> HubSeat
+    ends: &mut T,
+) -> (HubSeat, PromptsEnd)
     requires { IsSeatOf hub.now seat }
-    ensures { IsSeatOf hub.now result }
+    ensures seat { IsSeatOf hub.now result.0 }
+    ensures kept { KeepsSo conn
+        (map (λ b. (⟦<(dyn Prompter + Send) as Prompter>⟧ b.vtable).manner b.value)
+        chain.old.list.items)
+        (map (λ b. (⟦<(dyn Prompter + Send) as Prompter>⟧ b.vtable).manner b.value)
+        chain.new.list.items) seat result.0 (T.told ends.old) (T.told ends.new) result.1 }
 {
-    let mut last = PromptsEnd::Idle;
     for _ in rt.forever() {
         let (next, end) = serve_prompts(rt, alloc, hub, seat, conn, chain);
         seat = next;
-        if end != last || end == PromptsEnd::TooLong {
-            tell_end(rt, end);
+        ends.tell(end);
+        if is_last(end) {
+            return (seat, end);
         }
-        last = end;
-        match end {
-            PromptsEnd::Idle | PromptsEnd::Gone => return seat,
-            PromptsEnd::TooLong => {}
-            PromptsEnd::InUse | PromptsEnd::NoMemory => {
-                thread::sleep(rt, Duration::from_secs(REST));
-            }
-        }
-        conn = conn.saturating_sub(1);
+        rest_behind(rt, end);
+        conn = conn_behind(end, conn);
     }
     unreachable!()
 }

@@ -18,6 +18,7 @@ pub use accept::{ServeEnd, serve};
 pub use agent_hub::{Agent, Hub, HubSeat};
 pub use ending::{end_number, print_end};
 pub use job::{Job, JobEnd, run_job};
+pub use keeping::{Tells, keep_prompting};
 pub use prompts::{PromptsEnd, serve_prompts};
 pub use spawner::HubSpawner;
 pub use task::{Again, Task, Tools};

@@ -3,23 +3,25 @@ ghost use Rattle.std.specs.Prelude.{◌≡◌, ◌<◌, ◌∷◌, ◌++◌, [],
 ghost use Rattle.nine.specs.declared.message.TMsg.{TMsg};
 ghost use Rattle.nine.specs.Messages.{t_frame};
 ghost use Rattle.nine.specs.Decoding.{IsFrame};
+ghost use Rattle.side_files.specs.declared.line.PromptKind.TheVariants.{Confirm, Needkey};
 ghost use Rattle.prompters.specs.Manners.{Manner};
-ghost use Rattle.prompters.specs.declared.first.First.{First};
-ghost use Rattle.prompters.specs.Requests.{read_of, request_of};
-ghost use Rattle.prompters.specs.Wanted.{begun_by};
+ghost use Rattle.prompters.specs.Requests.{read_of};
 ghost use Rattle.agent_hub.specs.Submits.{HubSeat, IsSeatOf};
-ghost use Rattle.agent_serving.specs.Prompting.{Asked, Hears, HearsOne, Judges, PromptsSo, Speaks, SpeaksOn, Stops, TakesOne, judged, taken_of};
+ghost use Rattle.agent_serving.specs.Prompting.{Asked, Hears, HearsOne, PromptsSo, Speaks, SpeaksOn, Stops, TakesOne, opened_by, taken_of};
 
 use agent_history::{Event, StepAnswer};
-use agent_hub::{Hub, HubSeat, Submitted};
+use agent_hub::{Exchanged, Hub, HubSeat, Submitted, TakesEnd};
 use prompters::{
-    Chain, First, IN_USE, Prompter, TOO_SMALL, file_read, has_tag, is_refusal, is_refused_by,
+    Chain, Prompter, TOO_SMALL, are_open, file_read, is_refused_by, meets_use, opening_requests,
     question_read, read_request, write_request,
 };
 use side_files::{PromptKind, Question};
 use std::alloc::Global;
 use std::sync::Wait;
 use wire_base::{Bytes, NoMemory};
+
+/// The words of the requests by which both files are opened.
+const WORDS: [[u8; 8]; 6] = [[0; 8]; 6];
 
 /// Why nobody answers for a user any more.
 #[derive(Clone, Copy, Debug, PartialEq, Eq)]
@@ -36,6 +38,41 @@ pub enum PromptsEnd {
     NoMemory,
 }
 
+// What an opening comes to, by the replies that were taken in its turn.
+fn opened_by(came: Exchanged, heard: &[u8]) -> Result<(), PromptsEnd>
+    ensures { result ≡ opened_by came heard.now }
+{
+    if meets_use(heard) {
+        return Err(PromptsEnd::InUse);
+    }
+    if came.end == TakesEnd::Stopped {
+        return Err(PromptsEnd::Gone);
+    }
+    if came.entered < 6 || !are_open(heard) {
+        return Err(PromptsEnd::NoMemory);
+    }
+    Ok(())
+}
+
+// Opens both files in one turn, in which all that the connection had open is given up first.
+fn open_files<R: Wait>(
+    rt: &R,
+    alloc: Global,
+    hub: &Hub,
+    seat: HubSeat,
+    conn: u64,
+) -> (HubSeat, Result<(), PromptsEnd>)
+    requires { IsSeatOf hub.now seat }
+    ensures seat { IsSeatOf hub.now result.0 }
+    ensures told { (chain : List Manner)
+        → SpeaksOn conn chain chain seat result.0 result.1 (read_of Needkey ∷ (read_of Confirm ∷ [])) }
+{
+    let mut heard = Bytes::new(alloc);
+    let requests = opening_requests();
+    let (seat, came) = hub.exchange(rt, alloc, seat, conn, requests, &WORDS, &mut heard);
+    (seat, opened_by(came, heard.as_slice()))
+}
+
 // Makes a request, for whose frame there may be no memory.
 fn make<R: Wait>(
     rt: &R,
@@ -49,9 +86,9 @@ fn make<R: Wait>(
     requires whole { IfOk frame (λ frame. IsFrame frame) }
     ensures seat { IsSeatOf hub.now result.0 }
     ensures told { (chain now : List Manner) (first : HubSeat) (still : List TMsg) (m : TMsg)
-        (out : List First) → IfOk frame (λ frame. frame ≡ t_frame m)
-        → Speaks conn chain now first seat (still ++ m ∷ []) out
-        → SpeaksOn conn chain now first result.0 result.1 still out }
+        → IfOk frame (λ frame. frame ≡ t_frame m)
+        → Speaks conn chain now first seat (still ++ m ∷ [])
+        → SpeaksOn conn chain now first result.0 result.1 still }
 {
     let Ok(frame) = frame else {
         return (seat, Err(PromptsEnd::NoMemory));
@@ -97,9 +134,9 @@ fn take_one<R: Wait>(
 ) -> (HubSeat, Result<bool, PromptsEnd>)
     requires { IsSeatOf hub.now seat }
     ensures seat { IsSeatOf hub.now result.0 }
-    ensures told { (chain now : List Manner) (first : HubSeat) (out : List First)
-        → Speaks conn chain now first seat [] out
-        → TakesOne conn chain now first result.0 result.1 out reply.new }
+    ensures told { (chain now : List Manner) (first : HubSeat)
+        → Speaks conn chain now first seat []
+        → TakesOne conn chain now first result.0 result.1 reply.new }
 {
     reply.clear();
     let (seat, answer) = hub.submit(rt, seat, &Event::Take { conn }, reply);
@@ -116,9 +153,9 @@ fn hear<R: Wait>(
 ) -> (HubSeat, Result<(), PromptsEnd>)
     requires { IsSeatOf hub.now seat }
     ensures seat { IsSeatOf hub.now result.0 }
-    ensures told { (chain now : List Manner) (first : HubSeat) (out : List First)
-        → Speaks conn chain now first seat [] out
-        → HearsOne conn chain now first result.0 result.1 out reply.new }
+    ensures told { (chain now : List Manner) (first : HubSeat)
+        → Speaks conn chain now first seat []
+        → HearsOne conn chain now first result.0 result.1 reply.new }
 {
     for _ in rt.forever() {
         let rung = hub.count_replies(conn);
@@ -128,105 +165,6 @@ fn hear<R: Wait>(
             Ok(true) => return (seat, Ok(())),
             Ok(false) => hub.sleep_for_replies(rt, conn, rung),
             Err(end) => return (seat, Err(end)),
-        }
-    }
-    unreachable!()
-}
-
-// Whether a reply is that to a request; one that refuses it is an end.
-fn judge(first: First, reply: &[u8]) -> Result<bool, PromptsEnd>
-    ensures { result ≡ judged first reply.now }
-{
-    if !has_tag(first.tag(), reply) {
-        return Ok(false);
-    }
-    if !is_refusal(reply) {
-        return Ok(true);
-    }
-    if first.is_open() && is_refused_by(IN_USE, reply) {
-        return Err(PromptsEnd::InUse);
-    }
-    Err(PromptsEnd::NoMemory)
-}
-
-// Waits for a reply, and tells whether it is that to a request.
-fn hear_of<R: Wait>(
-    rt: &R,
-    alloc: Global,
-    hub: &Hub,
-    seat: HubSeat,
-    conn: u64,
-    request: First,
-) -> (HubSeat, Result<bool, PromptsEnd>)
-    requires { IsSeatOf hub.now seat }
-    ensures seat { IsSeatOf hub.now result.0 }
-    ensures told { (chain now : List Manner) (first : HubSeat) (others : List First)
-        → Speaks conn chain now first seat [] (request ∷ others)
-        → Judges conn chain now first result.0 result.1 request others }
-{
-    let mut reply = Bytes::new(alloc);
-    let (seat, heard) = hear(rt, hub, seat, conn, &mut reply);
-    match heard {
-        Ok(()) => (seat, judge(request, reply.as_slice())),
-        Err(end) => (seat, Err(end)),
-    }
-}
-
-// Makes one of the first requests, and waits for its reply.
-fn ask<R: Wait>(
-    rt: &R,
-    alloc: Global,
-    hub: &Hub,
-    seat: HubSeat,
-    conn: u64,
-    request: First,
-) -> (HubSeat, Result<(), PromptsEnd>)
-    requires { IsSeatOf hub.now seat }
-    ensures seat { IsSeatOf hub.now result.0 }
-    ensures told { (chain now : List Manner) (first : HubSeat) (others : List First)
-        → Speaks conn chain now first seat (request_of request ∷ []) (request ∷ others)
-        → SpeaksOn conn chain now first result.0 result.1 (begun_by others) others }
-{
-    let frame = Bytes::from_slice(alloc, request.frame());
-    let (mut seat, made) = make(rt, alloc, hub, seat, conn, frame);
-    if let Err(end) = made {
-        return (seat, Err(end));
-    }
-    for _ in rt.forever() {
-        let (next, heard) = hear_of(rt, alloc, hub, seat, conn, request);
-        seat = next;
-        match heard {
-            Ok(true) => return (seat, Ok(())),
-            Ok(false) => {}
-            Err(end) => return (seat, Err(end)),
-        }
-    }
-    unreachable!()
-}
-
-// Opens both files.
-fn open_files<R: Wait>(
-    rt: &R,
-    alloc: Global,
-    hub: &Hub,
-    mut seat: HubSeat,
-    conn: u64,
-) -> (HubSeat, Result<(), PromptsEnd>)
-    requires { IsSeatOf hub.now seat }
-    ensures seat { IsSeatOf hub.now result.0 }
-    ensures told { (chain : List Manner)
-        → SpeaksOn conn chain chain seat result.0 result.1 (begun_by []) [] }
-{
-    let mut request = First::Version;
-    for _ in rt.forever() {
-        let (next, asked) = ask(rt, alloc, hub, seat, conn, request);
-        seat = next;
-        if let Err(end) = asked {
-            return (seat, Err(end));
-        }
-        match request.next() {
-            Some(behind) => request = behind,
-            None => return (seat, Ok(())),
         }
     }
     unreachable!()
@@ -244,8 +182,8 @@ fn read<R: Wait>(
     requires { IsSeatOf hub.now seat }
     ensures seat { IsSeatOf hub.now result.0 }
     ensures told { (chain now : List Manner) (first : HubSeat) (still : List TMsg)
-        (out : List First) → Speaks conn chain now first seat (still ++ read_of file ∷ []) out
-        → SpeaksOn conn chain now first result.0 result.1 still out }
+        → Speaks conn chain now first seat (still ++ read_of file ∷ [])
+        → SpeaksOn conn chain now first result.0 result.1 still }
 {
     let frame = Bytes::from_slice(alloc, read_request(file));
     make(rt, alloc, hub, seat, conn, frame)
@@ -280,10 +218,10 @@ fn answer_line<R: Wait>(
     ensures told { (whole : List Manner) (first : HubSeat)
         → Hears conn whole
         (map (λ b. (⟦<(dyn Prompter + Send) as Prompter>⟧ b.vtable).manner b.value)
-        chain.old.list.items) first seat [] reply.now
+        chain.old.list.items) first seat reply.now
         → SpeaksOn conn whole
         (map (λ b. (⟦<(dyn Prompter + Send) as Prompter>⟧ b.vtable).manner b.value)
-        chain.new.list.items) first result.0 result.1 [] [] }
+        chain.new.list.items) first result.0 result.1 [] }
 {
     let Some(file) = file_read(reply) else {
         return (seat, Ok(()));
@@ -315,7 +253,7 @@ fn answer_all<R: Wait>(
     ensures told { (whole : List Manner) (first : HubSeat)
         → Speaks conn whole
         (map (λ b. (⟦<(dyn Prompter + Send) as Prompter>⟧ b.vtable).manner b.value)
-        chain.old.list.items) first seat [] []
+        chain.old.list.items) first seat []
         → Stops conn whole
         (map (λ b. (⟦<(dyn Prompter + Send) as Prompter>⟧ b.vtable).manner b.value)
         chain.new.list.items) first result.0 result.1 }
@@ -371,11 +309,15 @@ fn converse<R: Wait>(
 
 /// Answers an agent's questions for a user, by a chain of prompters, through requests of a connection of its own: it opens
 /// confirm and needkey, reads both, and writes the chain's word to each line, until that ends. Where the chain has fewer than
-/// two prompters it does nothing. At each end but that, and but where the connection is gone, it hangs the connection up. It
-/// may wait.
+/// two prompters it does nothing. It may wait.
 ///
-/// A reply is taken to belong to the request of its tag that was made last. That the agent's own replies are so paired
-/// wherever nobody else speaks on the connection isn't proved.
+/// Both files are opened in one turn, in which all that the connection had open is given up first, and no request behind that
+/// gives them up. It hangs the connection up where another client has a file open, and at no other end. So it may be called
+/// again with the same connection: what was asked meanwhile is refused, a question that is too long to be read among it, and
+/// in the turn in which that happens the files are open again, so that no other client comes between.
+///
+/// A reply is taken to belong to the request of its tag that was made last, and the last two of an opening to its opens. That
+/// the agent's own replies are so paired wherever nobody else speaks on the connection isn't proved.
 pub fn serve_prompts<R: Wait>(
     rt: &R,
     alloc: Global,
@@ -396,7 +338,7 @@ pub fn serve_prompts<R: Wait>(
         return (seat, PromptsEnd::Idle);
     }
     let (seat, end) = converse(rt, alloc, hub, seat, conn, chain);
-    if end == PromptsEnd::Gone {
+    if end != PromptsEnd::InUse {
         return (seat, end);
     }
     let mut nothing = Bytes::new(alloc);

@@ -3,16 +3,18 @@ ghost use Rattle.std.specs.Prelude.{◌≡◌, ◌≤◌, ◌++◌, OnErr, OnOk,
 ghost use Rattle.agent_hub.specs.Submits.{HubSeat, IsSeatOf};
 ghost use Rattle.agent_serving.specs.Endings.{end_number, end_text};
 ghost use Rattle.agent_serving.specs.Jobs.{seat_of};
+ghost use Rattle.agent_serving.specs.Keeping.{KeepsSo};
 ghost use Rattle.agent_serving.specs.Prompting.{PromptsSo};
 ghost use Rattle.agent_serving.specs.Serving.{ServesSo};
 ghost use Rattle.agent_serving.specs.Words.{AreWithin, serve_words};
 ghost use Rattle.wire_streams.specs.Causes.{Rose};
 
 use agent_hub::{Hub, HubSeat};
-use agent_serving::{Job, PromptsEnd, ServeEnd, ServeWords};
+use agent_serving::{Job, PromptsEnd, ServeEnd, ServeWords, Tells};
 use prompters::{Chain, Prompter};
 use std::alloc::Global;
 use std::sync::Wait;
+use std::time::Clock;
 use wire_base::{Bytes, NoMemory, Text};
 use wire_streams::{Listener, Spawner};
 
@@ -81,6 +83,27 @@ pub fn serve_prompts<R: Wait>(
         chain.new.list.items) seat result.0 result.1 }
 {
     agent_serving::serve_prompts(rt, alloc, hub, seat, conn, chain)
+}
+
+/// As `keep_prompting`.
+pub fn keep_prompting<R: Wait + Clock, T: Tells>(
+    rt: &R,
+    alloc: Global,
+    hub: &Hub,
+    seat: HubSeat,
+    conn: u64,
+    chain: &mut Chain,
+    ends: &mut T,
+) -> (HubSeat, PromptsEnd)
+    requires { IsSeatOf hub.now seat }
+    ensures seat { IsSeatOf hub.now result.0 }
+    ensures kept { KeepsSo conn
+        (map (λ b. (⟦<(dyn Prompter + Send) as Prompter>⟧ b.vtable).manner b.value)
+        chain.old.list.items)
+        (map (λ b. (⟦<(dyn Prompter + Send) as Prompter>⟧ b.vtable).manner b.value)
+        chain.new.list.items) seat result.0 (T.told ends.old) (T.told ends.new) result.1 }
+{
+    agent_serving::keep_prompting(rt, alloc, hub, seat, conn, chain, ends)
 }
 
 /// As `read_serve_words`.

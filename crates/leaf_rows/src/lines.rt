@@ -5,8 +5,8 @@ use anyhow::bail;
 use attr_tuples::parse_tuple;
 use nine_print::{ShowEnd, put_line, show};
 use prompters::{
-    First, IN_USE, Say, TOO_SMALL, file_read, has_tag, is_refusal, is_refused_by, question_read,
-    read_request, write_request,
+    Say, TOO_SMALL, are_open, file_read, has_tag, is_refusal, is_refused_by, meets_use,
+    opening_requests, question_read, read_request, write_request,
 };
 use row_files::{Report, Row};
 use side_files::Question;
@@ -159,9 +159,8 @@ fn prompt(alloc: Global, row: &Row, came: &mut Came) -> anyhow::Result<()> {
         "say" => say(alloc, row, came),
         "refusal" => {
             let reply = bytes_at(row, 1);
-            came.flag(has_tag(First::OpenConfirm.tag(), reply))?;
+            came.flag(has_tag(3, reply))?;
             came.flag(is_refusal(reply))?;
-            came.flag(is_refused_by(IN_USE, reply))?;
             came.flag(is_refused_by(TOO_SMALL, reply))?;
             came.shown(&file_read(reply))
         }
@@ -172,7 +171,12 @@ fn prompt(alloc: Global, row: &Row, came: &mut Came) -> anyhow::Result<()> {
             came.shown(&question.map(|question| question.tag))
         }
         "read-size" => came.count(read_request(kind_at(row, 1)?).len()),
-        "first-requests" => first_requests(came),
+        "opening-requests" => Ok(came.bytes(opening_requests())?),
+        "opening" => {
+            let heard = bytes_at(row, 1);
+            came.flag(are_open(heard))?;
+            Ok(came.flag(meets_use(heard))?)
+        }
         _ => Ok(came.word("no such verb")?),
     }
 }
@@ -195,20 +199,4 @@ fn say(alloc: Global, row: &Row, came: &mut Came) -> anyhow::Result<()> {
     };
     let request = write_request(alloc, file, &question, word)?;
     Ok(came.bytes(request.as_slice())?)
-}
-
-// How long the first five requests are together, and which one comes then.
-fn first_requests(came: &mut Came) -> anyhow::Result<()> {
-    let mut first = First::Version;
-    let mut bytes: usize = 0;
-    for _ in 0..5 {
-        bytes = bytes.saturating_add(first.frame().len());
-        let Some(next) = first.next() else {
-            bail!("too few");
-        };
-        first = next;
-    }
-    came.count(bytes)?;
-    came.shown(&first)?;
-    Ok(came.flag(first.is_open())?)
 }

@@ -1,8 +1,12 @@
 -- What the replies say that a client takes which answers questions for a user (section 5 of the Plan 9 manual): to
--- which request each belongs, by its tag, what refuses a request, and the question that is read.
-use Rattle.std.specs.Prelude.{ℕ, ◌==◌, ◌&&◌, List, drop, Bool, true, false, codes, Option, Some, None, if◌then◌else◌}
+-- which request each belongs, by its tag, what refuses a request, and the question that is read; and what came of an
+-- opening of both files. Their qids are those of the tree.
+use Rattle.std.specs.Prelude.{ℕ, ◌-◌, ◌==◌, ◌&&◌, ◌||◌, List, ◌++◌, length, drop, Bool, true, false, codes, Option, Some, None, if◌then◌else◌}
 use Rattle.std.specs.Int.{w8, w16}
 use Rattle.std.specs.Str.{bytes_eq}
+use Rattle.nine.specs.declared.qid.Qid.{Qid}
+use Rattle.nine.specs.declared.message.RBody.TheVariants as r
+use Rattle.nine.specs.Messages.{r_frame}
 use Rattle.wire_base.specs.Readers.{number, string, value_of}
 use Rattle.side_files.specs.declared.line.PromptKind.{PromptKind}
 use Rattle.side_files.specs.declared.line.PromptKind.TheVariants.{Confirm, Needkey}
@@ -32,9 +36,6 @@ is_refusal reply = is_kind 107 reply
 abbrev pub refuses_by : List ℕ → List ℕ → Bool
 refuses_by text reply = is_refusal reply && is_this text (value_of (string reply 7))
 
-abbrev pub in_use_text : List ℕ
-in_use_text = codes "exclusive use file already open"
-
 abbrev pub too_small_text : List ℕ
 too_small_text = codes "read too small"
 
@@ -45,3 +46,29 @@ file_read reply = if has_tag 1 reply then Some Confirm else if has_tag 2 reply t
 -- the question that was read, if the reply holds one
 abbrev pub question_read : List ℕ → Option Question
 question_read reply = if is_kind 117 reply then question_of (drop 11 reply) else None
+
+-- ---- what an opening is answered
+
+-- how the open of a file is granted, and how one is refused because another has the file open
+abbrev pub qid_of : PromptKind → Qid
+qid_of Confirm = record { kind = 0x20; vers = 0; path = 4 }
+qid_of Needkey = record { kind = 0x20; vers = 0; path = 5 }
+
+abbrev pub granted : PromptKind → List ℕ
+granted file = r_frame (record { tag = 3; body = r.Open (qid_of file) 0 })
+
+abbrev pub used : List ℕ
+used = r_frame (record { tag = 3; body = r.Error (codes "exclusive use file already open") })
+
+-- a text ends by this one
+abbrev pub ends_by : List ℕ → List ℕ → Bool
+ends_by last text = bytes_eq (drop (length text - length last) text) last
+
+-- Of the replies that were taken in the turn of an opening, one behind the other, the last two are those to its opens.
+-- Both opens were granted
+unfoldable pub are_open : List ℕ → Bool
+are_open heard = ends_by (granted Confirm ++ granted Needkey) heard
+
+-- one of them was refused because another has the file open
+unfoldable pub meets_use : List ℕ → Bool
+meets_use heard = ends_by used heard || ends_by (used ++ granted Needkey) heard

@@ -5,16 +5,14 @@
 
 mod answers;
 mod chain;
-mod first;
+mod opening;
 mod prompter;
 mod replies;
 mod simple;
 
 pub use answers::{read_request, write_request};
 pub use chain::Chain;
-pub use first::First;
+pub use opening::{are_open, meets_use, opening_requests};
 pub use prompter::{Prompter, Say};
-pub use replies::{
-    IN_USE, TOO_SMALL, file_read, has_tag, is_refusal, is_refused_by, question_read,
-};
+pub use replies::{TOO_SMALL, file_read, has_tag, is_refusal, is_refused_by, question_read};
 pub use simple::{Deny, Limited};

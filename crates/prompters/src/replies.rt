@@ -6,9 +6,6 @@ use side_files::{PromptKind, Question, parse_question};
 use std::alloc::Global;
 use wire_base::{NoMemory, get_str, get_u16, u8_at};
 
-/// What an open is refused by, where another has the file open.
-pub const IN_USE: &[u8; 31] = b"exclusive use file already open";
-
 /// What a read is refused by, where the line is longer than what it asks for.
 pub const TOO_SMALL: &[u8; 14] = b"read too small";
 

@@ -8,15 +8,15 @@ use agent_core::Agent;
 use agent_history::{Event, StepAnswer};
 use agent_hub::{AsksEnd, Hub, HubSeat};
 use agent_lines::LineEnd;
-use agent_serving::{Job, JobEnd, PromptsEnd, ServeEnd, run_job, serve};
+use agent_serving::{Job, JobEnd, PromptsEnd, ServeEnd, Tells, keep_prompting, run_job, serve};
 use attr_tuples::Tuple;
 use prompters::{Chain, Deny, Limited, Prompter};
 use std::alloc::Global;
 use std::process::Abort;
 use std::sync::Wait;
-use std::sync::atomic::{AtomicU64, Ordering};
 use std::test::Fail;
 use std::thread::join;
+use std::time::Clock;
 use wire_base::{Bytes, get_u32};
 use wire_streams::{AtOnce, MemDialer, MemListener, MemSink, MemSource, MemSpawner, MemWords};
 
@@ -27,8 +27,15 @@ static VERSION: &[u8] = b"\x13\x00\x00\x00d\xff\xff\x18\x20\x00\x00\x06\x009P200
 // A challenge of RFC 1939, section 7, which a client of APOP answers by a key.
 static CHALLENGE: &[u8] = b"write <1896.697170952@dbc.mtview.ca.us>";
 
-// A line of ctl that adds a key which is used by consent alone.
+// A line of ctl that adds a key which is used by consent alone, and the start of a client that uses it.
 static KEY: &[u8] = b"key proto=apop user=ann !password=b confirm";
+
+static START: &[u8] = b"start proto=apop role=client user=ann";
+
+// The beginning of another such line, and the start of a client that uses its key.
+static LONG_KEY: &[u8] = b"key proto=apop user=bob !password=b confirm x=";
+
+static LONG_START: &[u8] = b"start proto=apop role=client user=bob";
 
 // As many bytes as a write of ctl may have.
 const MOST_WRITTEN: usize = 8192;
@@ -160,14 +167,41 @@ fn start<R: Wait + Abort>(
     hub: &Hub,
     seat: HubSeat,
     fid: u8,
+    line: &[u8],
 ) -> Result<HubSeat, Fail>
     requires { IsSeatOf hub.now seat }
     ensures { IfOk result (λ seat. IsSeatOf hub.now seat) }
 {
     let seat = open(rt, alloc, hub, seat, fid, b"rpc")?;
-    let (seat, reply) = ask(rt, alloc, hub, seat, fid, b"start proto=apop role=client")?;
+    let (seat, reply) = ask(rt, alloc, hub, seat, fid, line)?;
     assert!(rt; reply.as_slice().ends_with(b"ok"));
     Ok(seat)
+}
+
+// The reply to an open of a file by connection 0.
+fn try_open<R: Wait + Abort>(
+    rt: &R,
+    alloc: Global,
+    hub: &Hub,
+    seat: HubSeat,
+    fid: u8,
+    name: &[u8],
+) -> Result<(HubSeat, Bytes), Fail>
+    requires { IsSeatOf hub.now seat }
+    ensures { IfOk result (λ r. IsSeatOf hub.now r.0) }
+{
+    let mut fields = Bytes::from_slice(alloc, &[0, 0, 0, 0, fid, 0, 0, 0, 2, 0, 8, 0])?;
+    if name.len() > 28 {
+        return Err("too long".into());
+    }
+    fields.append(b"factotum")?;
+    fields.append(&[name.len() as u8, 0])?;
+    fields.append(name)?;
+    let walk = frame_of(rt, alloc, 110, 1, fields.as_slice())?;
+    let (seat, reply) = exchange(rt, alloc, hub, seat, walk)?;
+    assert_eq!(rt; kind_of(reply.as_slice()), 111);
+    let frame = frame_of(rt, alloc, 112, 1, &[fid, 0, 0, 0, 2])?;
+    exchange(rt, alloc, hub, seat, frame)
 }
 
 // Opens a file of connection 0.
@@ -182,18 +216,7 @@ fn open<R: Wait + Abort>(
     requires { IsSeatOf hub.now seat }
     ensures { IfOk result (λ seat. IsSeatOf hub.now seat) }
 {
-    let mut fields = Bytes::from_slice(alloc, &[0, 0, 0, 0, fid, 0, 0, 0, 2, 0, 8, 0])?;
-    if name.len() > 28 {
-        return Err("too long".into());
-    }
-    fields.append(b"factotum")?;
-    fields.append(&[name.len() as u8, 0])?;
-    fields.append(name)?;
-    let walk = frame_of(rt, alloc, 110, 1, fields.as_slice())?;
-    let (seat, reply) = exchange(rt, alloc, hub, seat, walk)?;
-    assert_eq!(rt; kind_of(reply.as_slice()), 111);
-    let frame = frame_of(rt, alloc, 112, 1, &[fid, 0, 0, 0, 2])?;
-    let (seat, reply) = exchange(rt, alloc, hub, seat, frame)?;
+    let (seat, reply) = try_open(rt, alloc, hub, seat, fid, name)?;
     assert_eq!(rt; kind_of(reply.as_slice()), 113);
     Ok(seat)
 }
@@ -226,13 +249,16 @@ fn add_key<R: Wait + Abort>(
     write(rt, alloc, hub, seat, 1, line)
 }
 
-// Uses the key twice; then the agent stops. Until confirm is open no use is consented to, so the first is tried again.
-fn use_key<R: Wait + Abort>(rt: &R, alloc: Global, hub: &Hub, seat: HubSeat) -> Result<Bytes, Fail>
+// Has a client use the key until that is consented to: it is refused for as long as nobody has confirm open.
+fn use_until_ok<R: Wait + Abort>(
+    rt: &R,
+    alloc: Global,
+    hub: &Hub,
+    mut seat: HubSeat,
+) -> Result<HubSeat, Fail>
     requires { IsSeatOf hub.now seat }
+    ensures { IfOk result (λ seat. IsSeatOf hub.now seat) }
 {
-    let seat = add_key(rt, alloc, hub, seat, KEY)?;
-    let seat = start(rt, alloc, hub, seat, 2)?;
-    let mut seat = start(rt, alloc, hub, seat, 3)?;
     for _ in rt.forever() {
         let (next, reply) = ask(rt, alloc, hub, seat, 2, CHALLENGE)?;
         seat = next;
@@ -241,10 +267,29 @@ fn use_key<R: Wait + Abort>(rt: &R, alloc: Global, hub: &Hub, seat: HubSeat) -> 
         }
         assert!(rt; reply.as_slice().ends_with(b"error confirmation denied"));
     }
-    let (seat, reply) = ask(rt, alloc, hub, seat, 3, CHALLENGE)?;
+    Ok(seat)
+}
+
+// Stops the agent.
+fn stop<R: Wait + Abort>(rt: &R, alloc: Global, hub: &Hub, seat: HubSeat) -> Result<(), Fail>
+    requires { IsSeatOf hub.now seat }
+{
     let mut nothing = Bytes::new(alloc);
     let (_, stopped) = hub.submit(rt, seat, &Event::Stop, &mut nothing);
     assert_eq!(rt; stopped?, StepAnswer::Done);
+    Ok(())
+}
+
+// Uses the key twice; then the agent stops.
+fn use_key<R: Wait + Abort>(rt: &R, alloc: Global, hub: &Hub, seat: HubSeat) -> Result<Bytes, Fail>
+    requires { IsSeatOf hub.now seat }
+{
+    let seat = add_key(rt, alloc, hub, seat, KEY)?;
+    let seat = start(rt, alloc, hub, seat, 2, START)?;
+    let seat = start(rt, alloc, hub, seat, 3, START)?;
+    let seat = use_until_ok(rt, alloc, hub, seat)?;
+    let (seat, reply) = ask(rt, alloc, hub, seat, 3, CHALLENGE)?;
+    stop(rt, alloc, hub, seat)?;
     Ok(reply)
 }
 
@@ -300,62 +345,87 @@ fn a_file_that_another_client_has_open_is_in_use(rt: HostRuntime) -> Result<(), 
     Ok(())
 }
 
-// Answers a user's questions, and shows when that ended.
-fn answer_to_the_end<R: Wait>(
+// What prompters ended with.
+#[derive(Drop)]
+struct MemEnds {
+    told: Vec<PromptsEnd>,
+}
+
+impl Tells for MemEnds {
+    ghost use Rattle.std.specs.Prelude.{None};
+
+    ghost told = { λ _. None };
+
+    fn tell(&mut self, end: PromptsEnd) {
+        let _ = self.told.push(end);
+    }
+}
+
+// Answers a user's questions, of which two are consented to, until the agent stops.
+fn keep_answering<R: Wait + Clock>(
     rt: &R,
     alloc: Global,
     hub: &Hub,
     seat: HubSeat,
-    ended: &AtomicU64,
-) -> Result<(JobEnd, usize), Fail>
+) -> Result<MemEnds, Fail>
     requires { IsSeatOf hub.now seat }
 {
-    let answered = answer(rt, alloc, hub, seat);
-    ended.store(1, Ordering::SeqCst);
-    answered
+    let mut chain = consenting(alloc, 2)?;
+    let mut ends = MemEnds {
+        told: Vec::new(alloc),
+    };
+    keep_prompting(rt, alloc, hub, seat, 9, &mut chain, &mut ends);
+    Ok(ends)
 }
 
-// Uses a key whose question is longer than a read may be, until nobody answers questions any more.
+// Uses a key whose question is longer than a read may be, between two uses of one whose question isn't; then the agent stops.
+// What the first use and an open of confirm are told behind it, and what the last use is.
 fn use_long_key<R: Wait + Abort>(
     rt: &R,
     alloc: Global,
     hub: &Hub,
     seat: HubSeat,
-    ended: &AtomicU64,
-) -> Result<(), Fail>
+) -> Result<[Bytes; 3], Fail>
     requires { IsSeatOf hub.now seat }
 {
-    let mut line = KEY.to_vec(alloc)?;
-    line.extend_from_slice(b" x=")?;
+    let mut line = LONG_KEY.to_vec(alloc)?;
     line.resize(MOST_WRITTEN, b'x')?;
-    let seat = add_key(rt, alloc, hub, seat, line.as_slice())?;
-    let mut seat = start(rt, alloc, hub, seat, 2)?;
-    for _ in rt.forever() {
-        if ended.load(Ordering::SeqCst) == 1 {
-            break;
-        }
-        let (next, _) = ask(rt, alloc, hub, seat, 2, CHALLENGE)?;
-        seat = next;
-    }
-    Ok(())
+    let seat = add_key(rt, alloc, hub, seat, KEY)?;
+    let seat = write(rt, alloc, hub, seat, 1, line.as_slice())?;
+    let seat = start(rt, alloc, hub, seat, 2, START)?;
+    let seat = start(rt, alloc, hub, seat, 3, LONG_START)?;
+    let seat = start(rt, alloc, hub, seat, 4, START)?;
+    let seat = use_until_ok(rt, alloc, hub, seat)?;
+    let (seat, denied) = ask(rt, alloc, hub, seat, 3, CHALLENGE)?;
+    let (seat, held) = try_open(rt, alloc, hub, seat, 5, b"confirm")?;
+    let (seat, used) = ask(rt, alloc, hub, seat, 4, CHALLENGE)?;
+    stop(rt, alloc, hub, seat)?;
+    Ok([denied, held, used])
 }
 
 #[test]
-fn a_question_longer_than_a_read_ends_the_answers(rt: HostRuntime) -> Result<(), Fail> {
+fn a_question_longer_than_a_read_is_denied_and_the_files_stay_held(
+    rt: HostRuntime,
+) -> Result<(), Fail> {
     let alloc = rt.alloc();
     let (hub, seat) = new_hub(alloc)?;
     let (one, other) = hub.split(seat);
-    let ended = AtomicU64::new(0);
     let (answered, used) = join(
         &rt,
-        || answer_to_the_end(&rt, alloc, &hub, one, &ended),
-        || use_long_key(&rt, alloc, &hub, other, &ended),
+        || keep_answering(&rt, alloc, &hub, one),
+        || use_long_key(&rt, alloc, &hub, other),
     );
-    let Ok((end, _)) = answered else {
+    let Ok(ends) = answered else {
         panic!(rt; "memory is short")
     };
-    used?;
-    assert_eq!(rt; end, JobEnd::Prompts(PromptsEnd::TooLong));
+    let [denied, held, used] = used?;
+    assert!(rt; ends.told.as_slice() == [PromptsEnd::TooLong, PromptsEnd::Gone].as_slice());
+    assert!(rt; denied.as_slice().ends_with(b"error confirmation denied"));
+    assert!(rt;
+        held.as_slice()
+            .ends_with(b"exclusive use file already open")
+    );
+    assert!(rt; used.as_slice().ends_with(b"ok"));
     Ok(())
 }
 

@@ -1,6 +1,6 @@
 use Rattle.std.proofs.Common.{arith, rules}
 use Rattle.std.proofs.lemmas.List.{length-map}
-use Rattle.agent_serving.proofs.PromptLemmas.{hung}
+use Rattle.agent_serving.proofs.PromptLemmas.{hung, still_open}
 use Rattle.agent_serving.proofs.prompts.serve_prompts.Goals as goal
 
 pub returns-clause-prompts : goal.returns-clause-prompts

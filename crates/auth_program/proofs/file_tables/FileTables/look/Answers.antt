@@ -10,7 +10,7 @@ returns-in-Ok-clause-renewed g c =
 
 pub returns-clause-renewed : goal.returns-clause-renewed
 returns-clause-renewed g c = (
-    subst (λ (t : Tabled g.row.F.Denot). HasRefused c.in-Err.status (g.F.TableFiles.finds t.files) (g.F.TableFiles.finds c.look.new.self)) c.self.view_is
-    (refused c.in-Err.status _ _ (g.F.File.Source.left c.in-Some.keys) (g.F.File.Source.left c.read_shared.new.keys) (g.F.File.Source.left c.in-Some.speaks) (g.F.File.Source.left c.read_shared.new.speaks) c.in-Some.ensures.changed c.in-Err.ensures.err),
-    ap (λ (t : Tabled g.row.F.Denot). t.core) c.self.view_is,
-  )
+  subst (λ (t : Tabled g.row.F.Denot). HasRefused c.in-Err.status (g.F.TableFiles.finds t.files) (g.F.TableFiles.finds c.look.new.self)) c.self.view_is
+      (refused c.in-Err.status _ _ (g.F.File.Source.left c.in-Some.keys) (g.F.File.Source.left c.read_shared.new.keys) (g.F.File.Source.left c.in-Some.speaks) (g.F.File.Source.left c.read_shared.new.speaks) c.in-Some.ensures.changed c.in-Err.ensures.err),
+  ap (λ (t : Tabled g.row.F.Denot). t.core) c.self.view_is,
+)

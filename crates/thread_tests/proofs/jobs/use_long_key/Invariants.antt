@@ -1,5 +1,0 @@
-use Rattle.agent_hub.specs.Submits.{IsSeatOf}
-use Rattle.thread_tests.proofs.jobs.use_long_key.Given as goal
-
-abbrev pub invariant-loop : goal.invariant-loop
-invariant-loop g l = IsSeatOf l.hub l.seat
