@@ -156,8 +156,13 @@ impl Kept {
         requires { count ≤ length self.old }
         ensures { self.new ≡ drop count self.old }
     {
+        let whole = self.bytes.len();
         self.from += count;
-        let most = if self.len() == 0 { SHORT_GAP } else { LONG_GAP };
+        let most = if self.from == whole {
+            SHORT_GAP
+        } else {
+            LONG_GAP
+        };
         if self.from >= most {
             self.close_gap();
         }
