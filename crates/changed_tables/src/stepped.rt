@@ -47,6 +47,24 @@ pub(crate) fn tables(alloc: Global, keys: &[u8]) -> anyhow::Result<(KeyTable, Sp
     }
 }
 
+// Answers the challenge by the digits of a password.
+fn try_password(
+    alloc: Global,
+    core: &AuthCore,
+    session: &mut Session,
+    first: &[u8],
+    password: &[u8; 8],
+    lines: &mut Lines,
+) -> anyhow::Result<()>
+    requires { session.old.wrong < most_wrong }
+    ensures { OnOk result (session.new.wrong < most_wrong) }
+{
+    let mut answer = Bytes::new(alloc);
+    answer.append(first)?;
+    answer.append(&digits_for(password))?;
+    ask(alloc, core, session, answer.as_slice(), lines)
+}
+
 /// ann is given a challenge, her password becomes another, and she answers by the old one and by the new one.
 pub(crate) fn play(
     alloc: Global,
@@ -59,11 +77,6 @@ pub(crate) fn play(
     ask(alloc, core, &mut session, &first, lines)?;
     let (keys, speaks) = tables(alloc, later)?;
     core.reload(keys, speaks);
-    for password in [b"annpass1", b"another2"] {
-        let mut answer = Bytes::new(alloc);
-        answer.append(&first)?;
-        answer.append(&digits_for(password))?;
-        ask(alloc, core, &mut session, answer.as_slice(), lines)?;
-    }
-    Ok(())
+    try_password(alloc, core, &mut session, &first, b"annpass1", lines)?;
+    try_password(alloc, core, &mut session, &first, b"another2", lines)
 }
