@@ -336,10 +336,15 @@ def long_session(rows):
     places = [0]
     for it, _ in pairs:
         places.append(places[-1] + len(it))
-    # How many frames are whole behind no read, the first one, and so on.
-    whole_frames = [sum(place <= CHUNK * taken for place in places[1:]) for taken in range(-(-len(whole) // CHUNK) + 1)]
+    # How many bytes are taken behind no read, the first one, and so on: each fills the block behind the part of a frame in it.
+    taken = [0]
+    while taken[-1] < len(whole):
+        held = taken[-1] - max(place for place in places if place <= taken[-1])
+        taken.append(min(len(whole), taken[-1] + CHUNK - held))
+    # How many frames are whole by then.
+    whole_frames = [sum(place <= count for place in places[1:]) for count in taken]
     for fault, frames in enumerate(whole_frames, 1):
-        left = whole[CHUNK * (fault - 1):][:64] or b"end"
+        left = whole[taken[fault - 1]:][:64] or b"end"
         rows.left("pipe", "$long", [("read", fault)], READ_FAULT, written(frames), left)
         rows.case("pipe", "$long", [("read", fault)], READ_FAULT, written(frames), frames_word(frames + 1))
     rows.left("pipe", "$long", [("read", len(whole_frames) + 1)], FINE, wrote[-1], b"failed")
