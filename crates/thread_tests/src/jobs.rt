@@ -385,7 +385,7 @@ fn use_long_key<R: Wait + Abort>(
     alloc: Global,
     hub: &Hub,
     seat: HubSeat,
-) -> Result<[Bytes; 3], Fail>
+) -> Result<(Bytes, Bytes, Bytes), Fail>
     requires { IsSeatOf hub.now seat }
 {
     let mut line = LONG_KEY.to_vec(alloc)?;
@@ -400,7 +400,7 @@ fn use_long_key<R: Wait + Abort>(
     let (seat, held) = try_open(rt, alloc, hub, seat, 5, b"confirm")?;
     let (seat, used) = ask(rt, alloc, hub, seat, 4, CHALLENGE)?;
     stop(rt, alloc, hub, seat)?;
-    Ok([denied, held, used])
+    Ok((denied, held, used))
 }
 
 #[test]
@@ -418,7 +418,8 @@ fn a_question_longer_than_a_read_is_denied_and_the_files_stay_held(
     let Ok(ends) = answered else {
         panic!(rt; "memory is short")
     };
-    let [denied, held, used] = used?;
+    let (denied, held, used) = used?;
+    let ends = &ends;
     assert!(rt; ends.told.as_slice() == [PromptsEnd::TooLong, PromptsEnd::Gone].as_slice());
     assert!(rt; denied.as_slice().ends_with(b"error confirmation denied"));
     assert!(rt;
