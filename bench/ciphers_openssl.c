@@ -1,6 +1,6 @@
 /*
- * The peer of the program cipher_bench: the same rounds over the same inputs, by OpenSSL's DES and
- * HMAC. It prints the final bytes as cipher_bench does, so that the two can be compared.
+ * The peer of the program bench_work: the same rounds over the same inputs, by OpenSSL's DES and
+ * HMAC. It prints the final bytes as bench_work does, so that the two can be compared.
  */
 #include "seal_openssl.h"
 #include <errno.h>
@@ -20,7 +20,7 @@ enum {
 	TICKET_LEN = 72,
 };
 
-/* The inputs of cipher_bench. */
+/* The inputs of bench_work. */
 static const DES_cblock des_key = {0x13, 0x34, 0x57, 0x79, 0x9b, 0xbc, 0xdf, 0xf1};
 static const DES_cblock first_block = {0x01, 0x23, 0x45, 0x67, 0x89, 0xab, 0xcd, 0xef};
 static const unsigned char seal_key[KEY_LEN] = {0x12, 0x69, 0x5b, 0xc9, 0xb7, 0xb7, 0xf8};

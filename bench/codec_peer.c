@@ -1,5 +1,5 @@
 /*
- * The peer of the program codec_bench: the same rounds over the same frames, by a plain C reader and writer of 9P. A
+ * The peer of the program bench_work: the same rounds over the same frames, by a plain C reader and writer of 9P. A
  * message owns copies of its strings and its content, as ours does, and every field is checked: the type, the sizes, the
  * strings for UTF-8 without NUL, and that nothing is left over. It prints the same sums, so that the two can be compared.
  */

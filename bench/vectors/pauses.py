@@ -351,18 +351,19 @@ def pauses():
 # ---- as many as there may be
 def houses():
     s = Session("as many conversations as there may be")
-    s.begin()
-    s.begin(1)
-    for fid in range(1, 256, 15):
-        s.open(*range(fid, fid + 15))
-    s.open(1, conn=1)
-    s.say(*at(2, *RPC), 1)
-    s.refuses(open_(2, 2), "too many conversations", 1)
-    s.refuses(open_(2, 0x42), "permission denied", 1)
+    for conn in range(5):
+        s.begin(conn)
+    for conn in [0, 2, 3, 4]:
+        for fid in range(1, 256, 15):
+            s.open(*range(fid, fid + 15), conn=conn)
+    s.open(1, 2, 3, 4, conn=1)
+    s.say(*at(5, *RPC), 1)
+    s.refuses(open_(5, 2), "too many conversations", 1)
+    s.refuses(open_(5, 0x42), "permission denied", 1)
     s.refuses(open_(1, 2), "already open", 1)
     s.refuses(walk(0, 256, "factotum"), "too many fids")
     s.say(clunk(255), rclunk())
-    s.say(open_(2, 2), ropen("rpc"), 1)
+    s.say(open_(5, 2), ropen("rpc"), 1)
     s.say(*at(255, *RPC))
     s.refuses(open_(255, 2), "too many conversations")
     s.say(version(), rversion(), 1)
@@ -412,40 +413,46 @@ def houses():
     full_house()
 
 
+# The sixteen connections of a full house; keys are written by connection 9. Who is asked has the one behind them.
+HOUSE = [*range(9), *range(10, 17)]
+ASKED_AT = 17
+
+
 def in_what_order():
-    """The reads of 64 conversations of each of four connections: one of each in turn, and of each in an order of its own."""
-    return [(conn, (place * step + conn) % 64 + 1) for place in range(64) for conn, step in [(2, 37), (0, 11), (3, 63), (1, 23)]]
+    """The reads of 64 conversations of each connection: one of each in turn, and of each in an order of its own."""
+    steps = [(conn, (14 * place + 37) % 64) for place, conn in enumerate(HOUSE)]
+    return [(conn, (place * step + conn) % 64 + 1) for place in range(64) for conn, step in steps]
 
 
 def full_house():
     s = Session("as many conversations as there may be, each of which waits for consent to one key")
     s.key(CONFIRM_SRV_KEY)
-    files(s, "confirm", conn=4)
-    for conn in range(4):
+    files(s, "confirm", conn=ASKED_AT)
+    for conn in HOUSE:
         s.begin(conn)
         s.open(*range(1, 65), conn=conn)
-    for conn in [4, 0]:
+    for conn in [ASKED_AT, 0]:
         s.say(*at(65, *RPC), conn)
         s.refuses(open_(65, 2), "too many conversations", conn)
     reads = in_what_order()
     for tag, (conn, fid) in enumerate(reads, 1):
         s.wait(fid, SERVER, conn, word=CHS)
-        line(s, "confirm", "confirm tag=%d %s" % (tag, SERVERS_PUBLIC), 4)
-    awaits(s, "confirm", 7, 4)
-    s.refuses(open_(65, 2), "too many conversations", 4)
-    for conn in range(4):
+        line(s, "confirm", "confirm tag=%d %s" % (tag, SERVERS_PUBLIC), ASKED_AT)
+    awaits(s, "confirm", 7, ASKED_AT)
+    s.refuses(open_(65, 2), "too many conversations", ASKED_AT)
+    for conn in HOUSE:
         s.nothing(conn)
-    s.step("h", 0, 4)
-    s.step("g", 0, 4)
+    s.step("h", 0, ASKED_AT)
+    s.step("g", 0, ASKED_AT)
     s.unasked()
-    for conn in range(4):
+    for conn in HOUSE:
         for fid in [read_fid for of, read_fid in reads if of == conn]:
             s.take(rread(DENIED, 100 + fid), conn)
         s.nothing(conn)
-    files(s, "confirm", conn=5)
+    files(s, "confirm", conn=ASKED_AT + 1)
     s.wait(1, SERVER, word=CHS)
-    line(s, "confirm", "confirm tag=257 " + SERVERS_PUBLIC, 5)
-    reply(s, "confirm", "tag=257 answer=yes", 5)
+    line(s, "confirm", "confirm tag=1025 " + SERVERS_PUBLIC, ASKED_AT + 1)
+    reply(s, "confirm", "tag=1025 answer=yes", ASKED_AT + 1)
     s.told(1, "ok")
     started(s)
 

@@ -83,7 +83,7 @@ is_rpc node = false
 
 -- how many conversations may stand, and how many reads of a connection may wait
 abbrev pub most_talks : ℕ
-most_talks = 256
+most_talks = 1024
 
 abbrev pub most_waits : ℕ
 most_waits = 64

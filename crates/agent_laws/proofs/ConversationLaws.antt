@@ -269,7 +269,7 @@ one_longer [] x = refl
 one_longer (y ∷ xs) x = omega (arith, one_longer xs x)
 
 abbrev FewSpeak : List Deed → Type 0
-FewSpeak done = length (speakers done) ≤ 256
+FewSpeak done = length (speakers done) ≤ 1024
 
 rpc_named : (node : Node) → eqb (file node).path (file Rpc).path ≡ true → is_rpc node ≡ true
 rpc_named Rpc e = refl
@@ -290,8 +290,8 @@ has_room true true e f = refl
 has_room true false e f = absurd cc
 has_room false less e f = absurd cc
 
-one_more_speaks : (r : Bool) (o : Option FidState) (xs : List Speaker) (s : Speaker) → names Rpc o ≡ r → (is_rpc (node_of o) && not (ltb (length xs) most_talks)) ≡ false → length xs ≤ 256 → length (cond r (xs ++ s ∷ []) xs) ≤ 256
-one_more_speaks true o xs s e room h = omega (arith, one_longer xs s, ltb-true (length xs) 256 (has_room (is_rpc (node_of o)) (ltb (length xs) most_talks) (rpc_there o e) room))
+one_more_speaks : (r : Bool) (o : Option FidState) (xs : List Speaker) (s : Speaker) → names Rpc o ≡ r → (is_rpc (node_of o) && not (ltb (length xs) most_talks)) ≡ false → length xs ≤ 1024 → length (cond r (xs ++ s ∷ []) xs) ≤ 1024
+one_more_speaks true o xs s e room h = omega (arith, one_longer xs s, ltb-true (length xs) 1024 (has_room (is_rpc (node_of o)) (ltb (length xs) most_talks) (rpc_there o e) room))
 one_more_speaks false o xs s e room h = h
 
 few_more : (conn : ℕ) → KeepsOf (is_done conn) FewSpeak

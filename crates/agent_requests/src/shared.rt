@@ -24,7 +24,7 @@ use talks::Request;
 use wire_base::{Bytes, NoMemory};
 
 /// How many conversations may stand.
-const MOST_TALKS: usize = 256;
+const MOST_TALKS: usize = 1024;
 
 /// Whether the file is that of conversations.
 pub fn is_rpc(node: Node) -> bool

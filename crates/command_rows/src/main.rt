@@ -1,5 +1,6 @@
 //! command_rows: cases of the commands, of their words and of the statuses that they end with, and of changes of passwords, which
 //! stand in files of rows. It tells how many cases each file has, and each that isn't as wanted, and ends with status 1 where there is one.
+//! Before them it writes the log of a server whose tables change.
 #![tactic(auto)]
 
 use anyhow::{Context, bail};
@@ -15,6 +16,7 @@ mod hearing;
 mod memory;
 mod pieces;
 mod real_files;
+mod reloads;
 mod rooms;
 mod stage;
 mod statuses;
@@ -119,6 +121,7 @@ fn tell(rt: &HostRuntime, report: &Report) -> anyhow::Result<()> {
 
 fn main(rt: HostRuntime) -> anyhow::Result<ExitCode> {
     let mut report = Report::new(rt.alloc());
+    put(&rt, reloads::lines(rt.alloc())?.as_slice())?;
     for listed in &FILES {
         play_file(&rt, listed, &mut report)?;
     }

@@ -34,7 +34,7 @@ no_keys = record { keys = []; ever_added = 0 }
 
 -- how many keys a list holds at most
 abbrev pub most_keys : ℕ
-most_keys = 1024
+most_keys = 4096
 
 -- the list is full, and the key replaces none of it
 abbrev pub is_full : List Attr → List KeyEntry → Bool

@@ -71,14 +71,14 @@ none_dropped key keys e = kept_whole (λ old. not (is_same key old)) keys (λ k 
 
 -- ---- a full list
 
-pub full_with_none : (key : List Attr) (keys : List KeyEntry) → position (is_same key) keys ≡ None → 1024 ≤ length keys → is_full key keys ≡ true
-full_with_none key keys e le = and_from _ _ (le-leb 1024 (length keys) le) (not_from_false _ (none_at (is_same key) keys e))
+pub full_with_none : (key : List Attr) (keys : List KeyEntry) → position (is_same key) keys ≡ None → 4096 ≤ length keys → is_full key keys ≡ true
+full_with_none key keys e le = and_from _ _ (le-leb 4096 (length keys) le) (not_from_false _ (none_at (is_same key) keys e))
 
 pub room_of_same : (key : List Attr) (keys : List KeyEntry) (at : ℕ) → position (is_same key) keys ≡ Some at → is_full key keys ≡ false
 room_of_same key keys at e =
     let d : KeyEntry = record { tuple = []; serial = 0 } in
     let found = position-Some (is_same key) keys at d e in
-    ap (λ (b : Bool). leb 1024 (length keys) && not b) (list_any_at (is_same key) keys at d found.0 found.1) ∙ and_no (leb 1024 (length keys))
+    ap (λ (b : Bool). leb 4096 (length keys) && not b) (list_any_at (is_same key) keys at d found.0 found.1) ∙ and_no (leb 4096 (length keys))
   where
     and_no : (b : Bool) → (b && false) ≡ false
     and_no true = refl

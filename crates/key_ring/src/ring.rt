@@ -19,7 +19,7 @@ use std::alloc::Global;
 use std::marker::Model;
 use wire_base::{Bytes, NoMemory};
 
-const MOST_KEYS: usize = 1024;
+const MOST_KEYS: usize = 4096;
 
 /// Keys in order, and how many were ever added. The numbers of the keys rise in their order, and no two keys are the
 /// same in public.

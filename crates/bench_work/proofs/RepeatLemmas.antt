@@ -1,6 +1,6 @@
 -- A loop that repeats a step: what it has made before the first round, and after one more.
 use Rattle.std.proofs.Common.{◌≡◌, ℕ, ◌+◌, List, refl, add-one, ap, ◌∙◌}
-use Rattle.cipher_bench.specs.Work.{repeated}
+use Rattle.bench_work.specs.Work.{repeated}
 
 pub repeated_none : (step : List ℕ → List ℕ) (first : List ℕ) → first ≡ repeated step 0 first
 unfolding repeated

@@ -1,5 +1,5 @@
 // Clients, one after the other, and the lines of what they ask.
-use crate::files::Tables;
+use super::files::Tables;
 use auth_program::print_notice;
 use auth_server::{AuthEnd, Log, Notice, serve_auth_noting};
 use sealing::{AUTH_CRAM, TicketReq, cram_answer, write_req};
@@ -59,12 +59,9 @@ impl Lines {
         })
     }
 
-    /// All lines so far.
-    pub(crate) fn text(&self) -> anyhow::Result<&str> {
-        match std::str::from_utf8(self.text.as_slice()) {
-            Ok(text) => Ok(text),
-            Err(_) => anyhow::bail!("no text"),
-        }
+    /// All lines.
+    pub(crate) fn into_text(self) -> Bytes {
+        self.text
     }
 
     /// A client that asks for a challenge for a user, and answers it under these passwords, one after the other.

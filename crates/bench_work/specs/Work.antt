@@ -5,8 +5,8 @@ use Rattle.des_block.specs.Schedule.{enciphered}
 use Rattle.sealing.specs.Passwords.{password_key}
 use Rattle.sealing.specs.Sealing.{sealed}
 use Rattle.sealing.specs.Answer.{cram_digits}
-use Rattle.cipher_bench.specs.declared.work.Work.{Work}
-use Rattle.cipher_bench.specs.declared.work.Work.TheVariants.{Encrypt, Seal, Cram, Keyed, Password, Tickets}
+use Rattle.bench_work.specs.declared.work.Work.{Work}
+use Rattle.bench_work.specs.declared.work.Work.TheVariants.{Encrypt, Seal, Cram, Keyed, Password, Tickets}
 
 -- the step applied n times, each time to its own last result
 unfoldable pub repeated : (List ℕ → List ℕ) → ℕ → List ℕ → List ℕ

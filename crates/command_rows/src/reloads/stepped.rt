@@ -2,7 +2,7 @@
 ghost use Rattle.std.specs.Prelude.{◌<◌, OnOk};
 ghost use Rattle.auth_server.specs.Answers.{most_wrong};
 
-use crate::client::{Lines, digits_for, request};
+use super::client::{Lines, digits_for, request};
 use auth_server::{AsStep, AuthCore, Log, Session};
 use auth_tables::{KeyTable, SpeaksTable, parse_keys, parse_speaks};
 use std::alloc::Global;

@@ -1,7 +1,7 @@
 -- In each case the digits are those of the bytes that the rounds made.
 use Rattle.std.proofs.Common.{◌≡◌}
-use Rattle.cipher_bench.specs.Work.{final_bytes}
-use Rattle.cipher_bench.proofs.work.final_digits.Goals as goal
+use Rattle.bench_work.specs.Work.{final_bytes}
+use Rattle.bench_work.proofs.work.final_digits.Goals as goal
 
 pub returns-in-Encrypt : goal.returns-in-Encrypt
 unfolding final_bytes

@@ -6,7 +6,7 @@ ghost use Rattle.hex.specs.Hex.{encode_lower};
 ghost use Rattle.des_block.specs.Schedule.{enciphered};
 ghost use Rattle.sealing.specs.Answer.{cram_digits};
 ghost use Rattle.sealing.specs.Sealing.{sealed};
-ghost use Rattle.cipher_bench.specs.Work.{final_bytes, next_password, repeated, sealed_by_both};
+ghost use Rattle.bench_work.specs.Work.{final_bytes, next_password, repeated, sealed_by_both};
 
 use des_block::Schedule;
 use sealing::{Key7, cram_answer, pass_to_key, seal};
