@@ -353,7 +353,7 @@ session("refused: too many fids", V, A, at(1, *CTL), *[(attach(fid), rattach()) 
         (walk(1, 256, ".."), error("too many fids")), (walk(0, 1), error("fid in use")), (open_(2, 0), ropen("/")),
         (walk(2, 256), error("already open")), (clunk(255), rclunk()), (attach(256), rattach()))
 FULL = "key proto=apop user=one !password=x"
-MANY = [key_lines(range(i, min(i + 205, 4096))) for i in range(0, 4096, 205)]
+MANY = [key_lines(range(i, min(i + 160, 4096))) for i in range(0, 4096, 160)]
 session("refused: a full ring", V, A, *opened(1, 2, *CTL), *[(write(1, lines), rwrite(len(lines))) for lines in MANY],
         (write(1, FULL), error("ring full")), (write(1, "key proto=p9sk1 dom=x user=one !hex=12"), error("bad hex")),
         (write(1, key_lines([5])), rwrite(len(key_lines([5])))),

@@ -26,7 +26,7 @@ HEAD = """\
 #   begin A CONN           ask Tversion and Tattach: each is answered as it is asked
 #   open A CONN FID FILE MODE    ask Twalk from fid 0 to /factotum/FILE, and Topen: both go well
 #   write A CONN FID TEXT  ask Twrite: all is written
-#   keys A CONN FID N M    the same with a line `key proto=apop user=uI !password=x` for each I from N to below M
+#   keys A CONN FID N M    the same with a line `key proto=apop user=uI dom=dI !password=x` for each I from N to below M
 #   read A CONN FID        ask Tread for 8192 bytes, with the tag 1: they are these
 #   rpc A CONN FID TEXT    write, and then read
 #   wait A CONN FID TEXT   write, and then Tread with the tag 100 and the fid, to which nothing is replied
@@ -399,7 +399,7 @@ class Writer:
 
 
 def key_lines(numbers):
-    return "".join("key proto=apop user=u%d !password=x\n" % i for i in numbers)
+    return "".join("key proto=apop user=u%d dom=d%d !password=x\n" % (i, i) for i in numbers)
 
 
 def key_range(text):
@@ -407,7 +407,7 @@ def key_range(text):
     lines = text.decode("latin-1").split("\n")
     if len(lines) < 2 or not lines[0].startswith("key proto=apop user=u"):
         return None
-    first = lines[0].removeprefix("key proto=apop user=u").removesuffix(" !password=x")
+    first = lines[0].removeprefix("key proto=apop user=u").partition(" ")[0]
     if not first.isdigit():
         return None
     behind = int(first) + len(lines) - 1

@@ -56,9 +56,11 @@ fn write_text(
     goes_well(alloc, agent, conn, &exchange)
 }
 
-// Appends the line that adds the key of a numbered user.
+// Appends the line that adds the key of a numbered user, in a domain of his own.
 fn put_key_line(alloc: Global, number: u64, lines: &mut Bytes) -> Result<(), NoMemory> {
     lines.append(b"key proto=apop user=u")?;
+    put_decimal(alloc, number, lines)?;
+    lines.append(b" dom=d")?;
     put_decimal(alloc, number, lines)?;
     lines.append(b" !password=x\n")
 }
