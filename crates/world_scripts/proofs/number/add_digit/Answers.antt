@@ -1,4 +1,4 @@
-use Rattle.std.proofs.Common.{sym, ◌∙◌}
+use Rattle.std.proofs.Common.{◌∙◌}
 use Rattle.world_scripts.proofs.NumberLemmas.{none_by_digit, none_by_ten}
 use Rattle.world_scripts.proofs.number.add_digit.Goals as goal
 
