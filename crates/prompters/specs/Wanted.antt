@@ -66,8 +66,8 @@ wanted chain [] = read_of Needkey ∷ read_of Confirm ∷ []
 wanted chain (reply ∷ older) = (if is_over (reply ∷ older) then []
     else answers_to (file_read reply) (question_read reply) (chain_behind chain older)) ++ wanted chain older
 
--- as long as each read brought a question, one read of each file is asked for that has no reply yet, and no other request
--- has its tag
+-- as long as each read brought a question, one read of each file is asked for that has no reply yet, and no other
+-- request has its tag
 abbrev pub OneReadUnderWay : Type 0
 OneReadUnderWay = (chain : List Manner) (replies : List (List ℕ)) (file : PromptKind) → is_over replies ≡ false
     → reads_of file (wanted chain replies) ≡ replies_to file replies + 1
