@@ -1,10 +1,10 @@
 -- What an `authsrv` came to, and what is left where nothing stands in its way.
-use Rattle.std.proofs.Common.{◌≡◌, ◌⊎◌, ◌∙◌, ℕ, List, true, false, Option, Some, None, refl, ap, sym, subst, inl, inr, arith}
+use Rattle.std.proofs.Common.{◌≡◌, ◌≤◌, ◌⊎◌, ◌∙◌, ℕ, List, length, true, false, Option, Some, None, refl, ap, sym, subst, inl, inr, arith}
 use Rattle.auth_tables.specs.Keys.{bad_key_line}
 use Rattle.auth_tables.specs.Speaks.{bad_speak_line, may_speak}
 use Rattle.auth_server.specs.Answers.{Knowledge}
 use Rattle.auth_server.specs.Standing.{Server, knowledge}
-use Rattle.auth_server.specs.Serving.{EndsSo, IsServable}
+use Rattle.auth_server.specs.Serving.{EndsSo}
 use Rattle.auth_server.proofs.CompleteLaws.{served_whole}
 use Rattle.auth_program.specs.Statuses.{is_printable}
 use Rattle.auth_server.specs.declared.serve.AuthEnd.{AuthEnd}
@@ -12,7 +12,7 @@ use Rattle.auth_server.specs.declared.serve.AuthEnd.TheVariants as ends
 use Rattle.auth_program.specs.declared.status.Status.{Status}
 use Rattle.auth_program.specs.declared.status.Status.TheVariants.{Fine, Usage, ReadFault, WriteFault, WordFault, BadFrame, Torn, BadScript, BadTables, AsEnded, NoMemory, Flood}
 use Rattle.auth_program.specs.declared.tables.Tables.{Tables}
-use Rattle.auth_program.specs.Files.{FloodsFile, ReadsFile}
+use Rattle.auth_program.specs.Files.{FloodsFile, ReadsFile, most_file}
 use Rattle.auth_program.specs.Serving.{IsServableAll, MeetsBadKeys, MeetsBadSpeaks, Outside, ReadsBoth, Serves, ServesSo, StopsAtTables, known_by}
 use Rattle.auth_program.specs.Cores.{HasCore, StopsEarly}
 use Rattle.auth_program.specs.Tabling.{HasParsed, HasRead, status_of_end}
@@ -110,19 +110,31 @@ some_line : (line : ℕ) (o : Option ℕ) → o ≡ None → o ≡ Some line →
 some_line line None e f = let g : None ≡ Some line = f in cc
 some_line line (Some n) e f = let g : Some n ≡ None = e in cc
 
--- what was served was served by the tables that are told
-module _ (dom : List ℕ) (before now : Outside) (s : IsServableAll dom before) where
+-- both tables are told, not too long and without a bad line
+pub record TellsTables (before : Outside) : Type 0 where
+  pub keys : List ℕ
+  pub speaks : List ℕ
+  pub keys_told : before.keys ≡ Some keys
+  pub speaks_told : before.speaks ≡ Some speaks
+  pub few_keys : length keys ≤ most_file
+  pub few_speaks : length speaks ≤ most_file
+  pub good_keys : bad_key_line keys ≡ None
+  pub good_speaks : bad_speak_line speaks ≡ None
+
+abbrev pub NoFault : AuthEnd → Type 0
+NoFault end = (end ≡ ends.ReadFault → ⊥) × (end ≡ ends.WriteFault → ⊥) × (end ≡ ends.WordFault → ⊥)
+
+-- what was served was served by the tables that are told, whose client comes to one of two ends
+module _ (dom : List ℕ) (before now : Outside) (s : TellsTables before)
+    (whole : (end : AuthEnd) → EndsSo (known_by dom s.keys s.speaks) end before.client now.client → NoFault end → (end ≡ ends.End) ⊎ (end ≡ ends.NoMemory)) where
   same_keys : (file : List ℕ) → ReadsFile before.keys now.keys file → s.keys ≡ file
   same_keys file r = told_file s.keys file before.keys now.keys s.keys_told r
 
   same_speaks : (file : List ℕ) → ReadsFile before.speaks now.speaks file → s.speaks ≡ file
   same_speaks file r = told_file s.speaks file before.speaks now.speaks s.speaks_told r
 
-  client_of : (keys speaks : List ℕ) → ReadsBoth before now keys speaks → IsServable (known_by dom keys speaks) before.client
-  client_of keys speaks t = rw (← same_keys keys t.0, ← same_speaks speaks t.1) s.client
-
-  whole_end : (end : AuthEnd) → Serves dom end before now → (end ≡ ends.ReadFault → ⊥) → (end ≡ ends.WriteFault → ⊥) → (end ≡ ends.WordFault → ⊥) → (end ≡ ends.End) ⊎ (end ≡ ends.NoMemory)
-  whole_end end v read write word = served_whole (known_by dom v.keys v.speaks) before.client now.client (client_of v.keys v.speaks v.tables) end v.ends read write word
+  whole_end : (end : AuthEnd) → Serves dom end before now → NoFault end → (end ≡ ends.End) ⊎ (end ≡ ends.NoMemory)
+  whole_end end v none = whole end (rw (same_keys v.keys v.tables.0, same_speaks v.speaks v.tables.1) v.ends) none
 
   no_bad_keys : (line : ℕ) → MeetsBadKeys line before now → ⊥
   no_bad_keys line b = some_line line (bad_key_line b.keys) (subst (λ (k : List ℕ). bad_key_line k ≡ None) (same_keys b.keys b.tables.0) s.good_keys) b.bad
@@ -138,29 +150,44 @@ module _ (dom : List ℕ) (before now : Outside) (s : IsServableAll dom before) 
   no_other end (inl e) n = absurd (let f : 1 ≡ 0 = sym (ap end_number e) ∙ n in omega (arith, f))
   no_other end (inr e) n = absurd (let f : 1 ≡ 0 = sym (ap end_number e) ∙ n in omega (arith, f))
 
-  pub served_to_end : (status : Status) → ServesSo dom status before now → (status ≡ ReadFault → ⊥) → (status ≡ WriteFault → ⊥) → (status ≡ WordFault → ⊥) → (status ≡ Fine) ⊎ (status ≡ NoMemory)
-  served_to_end Fine v read write word = inl refl
-  served_to_end Usage v read write word = absurd v
-  served_to_end ReadFault v read write word = absurd (read refl)
-  served_to_end WriteFault v read write word = absurd (write refl)
-  served_to_end WordFault v read write word = absurd (word refl)
-  served_to_end (BadFrame at size) v read write word = absurd v
-  served_to_end (Torn at) v read write word = absurd (no_other (ends.Torn at) (whole_end (ends.Torn at) v (λ e. cc) (λ e. cc) (λ e. cc)) refl)
-  served_to_end (BadScript line cause) v read write word = absurd v
-  served_to_end (BadTables false line) v read write word = absurd (no_bad_keys line v)
-  served_to_end (BadTables true line) v read write word = absurd (no_bad_speaks line v)
-  served_to_end (AsEnded ends.End) v read write word = absurd v
-  served_to_end (AsEnded (ends.UnknownType at kind)) v read write word = absurd (no_other (ends.UnknownType at kind) (whole_end (ends.UnknownType at kind) v (λ e. cc) (λ e. cc) (λ e. cc)) refl)
-  served_to_end (AsEnded (ends.Torn at)) v read write word = absurd v
-  served_to_end (AsEnded ends.TooManyWrong) v read write word = absurd (no_other ends.TooManyWrong (whole_end ends.TooManyWrong v (λ e. cc) (λ e. cc) (λ e. cc)) refl)
-  served_to_end (AsEnded ends.ReadFault) v read write word = absurd v
-  served_to_end (AsEnded ends.WriteFault) v read write word = absurd v
-  served_to_end (AsEnded ends.WordFault) v read write word = absurd v
-  served_to_end (AsEnded ends.Flood) v read write word = absurd v
-  served_to_end (AsEnded ends.NoMemory) v read write word = absurd v
-  served_to_end NoMemory v read write word = inr refl
-  served_to_end (Flood limit) (inl f) read write word = absurd (no_table_flood f.1)
-  served_to_end (Flood limit) (inr f) read write word = absurd (no_other ends.Flood (whole_end ends.Flood f.1 (λ e. cc) (λ e. cc) (λ e. cc)) refl)
+  pub served_by_tables : (status : Status) → ServesSo dom status before now → (status ≡ ReadFault → ⊥) → (status ≡ WriteFault → ⊥) → (status ≡ WordFault → ⊥) → (status ≡ Fine) ⊎ (status ≡ NoMemory)
+  served_by_tables Fine v read write word = inl refl
+  served_by_tables Usage v read write word = absurd v
+  served_by_tables ReadFault v read write word = absurd (read refl)
+  served_by_tables WriteFault v read write word = absurd (write refl)
+  served_by_tables WordFault v read write word = absurd (word refl)
+  served_by_tables (BadFrame at size) v read write word = absurd v
+  served_by_tables (Torn at) v read write word = absurd (no_other (ends.Torn at) (whole_end (ends.Torn at) v (λ e. cc, λ e. cc, λ e. cc)) refl)
+  served_by_tables (BadScript line cause) v read write word = absurd v
+  served_by_tables (BadTables false line) v read write word = absurd (no_bad_keys line v)
+  served_by_tables (BadTables true line) v read write word = absurd (no_bad_speaks line v)
+  served_by_tables (AsEnded ends.End) v read write word = absurd v
+  served_by_tables (AsEnded (ends.UnknownType at kind)) v read write word = absurd (no_other (ends.UnknownType at kind) (whole_end (ends.UnknownType at kind) v (λ e. cc, λ e. cc, λ e. cc)) refl)
+  served_by_tables (AsEnded (ends.Torn at)) v read write word = absurd v
+  served_by_tables (AsEnded ends.TooManyWrong) v read write word = absurd (no_other ends.TooManyWrong (whole_end ends.TooManyWrong v (λ e. cc, λ e. cc, λ e. cc)) refl)
+  served_by_tables (AsEnded ends.ReadFault) v read write word = absurd v
+  served_by_tables (AsEnded ends.WriteFault) v read write word = absurd v
+  served_by_tables (AsEnded ends.WordFault) v read write word = absurd v
+  served_by_tables (AsEnded ends.Flood) v read write word = absurd v
+  served_by_tables (AsEnded ends.NoMemory) v read write word = absurd v
+  served_by_tables NoMemory v read write word = inr refl
+  served_by_tables (Flood limit) (inl f) read write word = absurd (no_table_flood f.1)
+  served_by_tables (Flood limit) (inr f) read write word = absurd (no_other ends.Flood (whole_end ends.Flood f.1 (λ e. cc, λ e. cc, λ e. cc)) refl)
+
+abbrev pub tables_of : (dom : List ℕ) (before : Outside) → IsServableAll dom before → TellsTables before
+tables_of dom before s = record {
+  keys = s.keys;
+  speaks = s.speaks;
+  keys_told = s.keys_told;
+  speaks_told = s.speaks_told;
+  few_keys = s.few_keys;
+  few_speaks = s.few_speaks;
+  good_keys = s.good_keys;
+  good_speaks = s.good_speaks;
+}
+
+pub served_to_end : (dom : List ℕ) (before now : Outside) → IsServableAll dom before → (status : Status) → ServesSo dom status before now → (status ≡ ReadFault → ⊥) → (status ≡ WriteFault → ⊥) → (status ≡ WordFault → ⊥) → (status ≡ Fine) ⊎ (status ≡ NoMemory)
+served_to_end dom before now s = served_by_tables dom before now (tables_of dom before s) (λ end e none. served_whole (known_by dom s.keys s.speaks) before.client now.client s.client end e none.0 none.1 none.2)
 
 -- ---- each status has a line
 

@@ -2,6 +2,7 @@ pub mod Statuses
 pub mod Words
 pub mod Files
 pub mod Serving
+pub mod AnyWords
 pub mod Cores
 pub mod Tabling
 pub mod Reading

@@ -1,2 +1,4 @@
 pub mod ChainLemmas
 mod WriteLemmas
+mod ConsentLemmas
+mod UnderWayLemmas

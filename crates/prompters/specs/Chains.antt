@@ -34,6 +34,11 @@ after_answer q [] = []
 after_answer q (m ∷ later) =
     unless_spent (considered q m) (later_after (said m q) later (after_answer q later))
 
+-- the prompters after several questions, the first one first
+abbrev pub after_answers : List Question → List Manner → List Manner
+after_answers [] chain = chain
+after_answers (q ∷ later) chain = after_answers later (after_answer q chain)
+
 -- Of the code alone: one prompter of a chain was asked, its word is this, and the next one stands at this place.
 pub record Asked (q : Question) (at : ℕ) (say : Say) (next : ℕ) (old new : List Manner) : Type 0 where
   pub front : List Manner

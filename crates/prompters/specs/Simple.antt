@@ -29,3 +29,7 @@ limited template left = record {
 -- It says no to every question, and is never spent.
 abbrev pub denying : Manner
 denying = record { says = λ since q. No; spent = λ since. false }
+
+-- those of a program that says yes to so many questions, whatever they are about, and no to all later ones
+abbrev pub consenting : ℕ → List Manner
+consenting consents = limited [] consents ∷ denying ∷ []

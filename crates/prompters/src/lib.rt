@@ -5,6 +5,7 @@
 
 mod answers;
 mod chain;
+mod laws;
 mod opening;
 mod prompter;
 mod replies;
@@ -12,6 +13,7 @@ mod simple;
 
 pub use answers::{read_request, write_request};
 pub use chain::Chain;
+pub use laws::{consent_is_given_so_often, one_read_of_a_file_is_under_way};
 pub use opening::{are_open, meets_use, opening_requests};
 pub use prompter::{Prompter, Say};
 pub use replies::{TOO_SMALL, file_read, has_tag, is_refusal, is_refused_by, question_read};

@@ -74,7 +74,7 @@ impl Recorder {
             b"put" => self.play_put(alloc, row, came),
             b"next" => came.put_number(u64::from(self.record.next_message()?)),
             b"message" => {
-                let number = u32::try_from(number_at(row, 1)?)?;
+                let number = number_at(row, 1)?;
                 came.put_yes(self.record.message(number).is_some())
             }
             b"line" => {

@@ -6,7 +6,9 @@ use row_files::{Report, Row};
 use std::alloc::Global;
 use wire_base::Bytes;
 use wire_streams::{WordFault, Words};
-use world_scripts::{ChaChaWords, Line, Piece, Pieces, ScriptLines, gen_script, parse_line};
+use world_scripts::{
+    ChaChaWords, Line, Piece, Pieces, ScriptLines, gen_script, number_in, parse_line,
+};
 
 // A line's verb, its first part and its second.
 fn shown<'a>(line: &Line<'a>) -> (&'static str, &'a [u8], &'a [u8]) {
@@ -48,6 +50,21 @@ fn put_fronts(text: &[u8], came: &mut Came) -> anyhow::Result<()> {
     Ok(())
 }
 
+// Puts the numbers of a piece, each below 2^64 in decimal and any other as `over`.
+fn put_numbers(alloc: Global, numbers: &[&[u8]], came: &mut Came) -> anyhow::Result<()> {
+    let mut field = Bytes::from_slice(alloc, b"m")?;
+    for digits in numbers {
+        if field.len() > 1 {
+            field.append(b":")?;
+        }
+        match number_in(digits) {
+            Some(number) => field.append(format!(in alloc; "{number}")?.as_bytes())?,
+            None => field.append(b"over")?,
+        }
+    }
+    Ok(came.put(field.as_slice())?)
+}
+
 // Puts the next piece; whether there was one.
 fn put_piece(alloc: Global, pieces: &mut Pieces<'_>, came: &mut Came) -> anyhow::Result<bool> {
     match pieces.next() {
@@ -56,20 +73,14 @@ fn put_piece(alloc: Global, pieces: &mut Pieces<'_>, came: &mut Came) -> anyhow:
             field.append(digits)?;
             came.put(field.as_slice())?;
         }
-        Some(Piece::Whole { message }) => {
-            let field = format!(in alloc; "m{message}")?;
-            came.put(field.as_bytes())?;
-        }
+        Some(Piece::Whole { message }) => put_numbers(alloc, &[message], came)?,
         Some(
             Piece::Part {
                 message,
                 start,
                 len,
             },
-        ) => {
-            let field = format!(in alloc; "m{message}:{start}:{len}")?;
-            came.put(field.as_bytes())?;
-        }
+        ) => put_numbers(alloc, &[message, start, len], came)?,
         None => {
             came.put(b"end")?;
             return Ok(false);

@@ -9,7 +9,7 @@ use wire_base::NoMemory;
 use world_history::{Record, Tables};
 
 /// As `Record::message`.
-pub fn record_message<'x>(record: &'x Record, number: u32) -> Option<&'x [u8]>
+pub fn record_message<'x>(record: &'x Record, number: u64) -> Option<&'x [u8]>
     ensures { option_map (λ bytes. bytes.now) result
         ≡ slice_get (messages_in record.now) number }
 {

@@ -1,8 +1,9 @@
 // The public calls of `world_scripts`.
-ghost use Rattle.std.specs.Prelude.{◌≡◌, IfOk};
+ghost use Rattle.std.specs.Prelude.{◌≡◌, ◌≤◌, ◌^◌, IfNone, IfOk, IfSome};
 ghost use Rattle.world_scripts.specs.Draws.{draws, generator_of, word_faults, words_left};
 ghost use Rattle.world_scripts.specs.Generated.{gen_text};
 ghost use Rattle.world_scripts.specs.Lines.{IsWritten};
+ghost use Rattle.world_scripts.specs.Pieces as p;
 ghost use Rattle.world_scripts.specs.Reading.{line_of};
 ghost use Rattle.world_scripts.specs.Said.{read_as, said_line};
 
@@ -24,6 +25,14 @@ pub fn parse_line(text: &[u8]) -> Result<Line<'_>, BadForm>
     ensures written { IfOk result (λ line. IsWritten text.now (said_line line)) }
 {
     world_scripts::parse_line(text)
+}
+
+/// As `number_in`.
+pub fn number_in(digits: &[u8]) -> Option<u64>
+    ensures number { IfSome result (λ number. number ≡ p.number_in digits.now) }
+    ensures over { IfNone result (2 ^ 64 ≤ p.number_in digits.now) }
+{
+    world_scripts::number_in(digits)
 }
 
 /// As `gen_script`.

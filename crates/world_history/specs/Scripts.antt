@@ -13,7 +13,7 @@ use Rattle.auth_server.specs.Answers.{held}
 use Rattle.wire_histories.specs.declared.step.Step.{Step}
 use Rattle.auth_program.specs.declared.cause.ScriptCause.{ScriptCause}
 use Rattle.auth_program.specs.declared.cause.ScriptCause.TheVariants.{BadLine, UnknownNode, UnknownConv, NoSuchMessage}
-use Rattle.world_scripts.specs.Pieces.{Piece}
+use Rattle.world_scripts.specs.Pieces.{Piece, number_in}
 use Rattle.world_scripts.specs.Pieces as p
 use Rattle.world_scripts.specs.Lines.{ScriptLine}
 use Rattle.world_scripts.specs.Lines as l
@@ -35,8 +35,9 @@ part_in at size (Some message) =
 
 abbrev pub piece_in : List (List ℕ) → Piece → Option (List ℕ)
 piece_in recorded (p.Spelled digits) = Some (result_unwrap_or (decode_of digits) [])
-piece_in recorded (p.Whole message) = slice_get recorded message
-piece_in recorded (p.Part message start len) = part_in start len (slice_get recorded message)
+piece_in recorded (p.Whole message) = slice_get recorded (number_in message)
+piece_in recorded (p.Part message start len) =
+    part_in (number_in start) (number_in len) (slice_get recorded (number_in message))
 
 abbrev pub joined : Option (List ℕ) → Option (List ℕ) → Option (List ℕ)
 joined (Some front) (Some rest) = Some (front ++ rest)

@@ -15,7 +15,7 @@ use Rattle.agent_history.specs.Histories.{History}
 use Rattle.wire_histories.specs.declared.step.Step.{Step}
 use Rattle.wire_histories.specs.declared.step.Step.TheVariants as s
 use Rattle.world_history.specs.declared.question.Question.{Question}
-use Rattle.world_history.specs.Acts.{Act, Talk, Domain, KeyLine, SpeakLine, Made, Told, Opened, Started, Got, Given, Answered, Unanswered, Asked, Closed, domain, key_lines, least_fid, fids_on, speak_lines, talk_of, talks}
+use Rattle.world_history.specs.Acts.{Act, Talk, Made, Told, Opened, Started, Got, Given, Answered, Unanswered, Asked, Closed, domain, key_lines, least_fid, fids_on, speak_lines, talk_of, talks}
 use Rattle.world_history.specs.Driving.{new_node}
 use Rattle.world_history.specs.Talking.{starts, gets, gives}
 use Rattle.world_history.specs.Turns.{Turn, tells, lets_open, asks, hears, misses, closes, after, turn_questions, turn_steps}

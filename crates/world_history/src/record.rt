@@ -22,7 +22,7 @@ pub struct Record {
     pub(crate) alloc: Global,
     steps: Wire,
     // A copy of each message.
-    messages: Vec<Bytes>,
+    pub(crate) messages: Vec<Bytes>,
 }
 
 impl Model for Record {
@@ -78,7 +78,7 @@ impl Record {
     }
 
     /// The message of a number.
-    pub fn message(&self, number: u32) -> Option<&[u8]>
+    pub fn message(&self, number: u64) -> Option<&[u8]>
         ensures { option_map (λ bytes. bytes.now) result
             ≡ slice_get (messages_in self.now) number }
     {

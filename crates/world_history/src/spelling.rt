@@ -3,6 +3,7 @@ ghost use Rattle.std.specs.Prelude.{◌≡◌, [], option_map, IfOk};
 ghost use Rattle.std.specs.Result.{result_unwrap_or};
 ghost use Rattle.hex.specs.Hex.{decode_of};
 ghost use Rattle.world_scripts.specs.Given.{said_piece};
+ghost use Rattle.world_scripts.specs.Pieces as p;
 ghost use Rattle.world_history.specs.Scripts.{part_in, piece_in};
 ghost use Rattle.world_history.specs.Worlds.{messages_in};
 
@@ -10,7 +11,7 @@ use crate::record::Record;
 use hex::FromHexError;
 use std::alloc::Global;
 use wire_base::{Bytes, NoMemory};
-use world_scripts::{Piece, Pieces};
+use world_scripts::{Piece, Pieces, number_in};
 
 // The bytes of digits; none where they spell none.
 fn read_digits(alloc: Global, digits: &[u8]) -> Result<Bytes, NoMemory>
@@ -26,16 +27,18 @@ fn read_digits(alloc: Global, digits: &[u8]) -> Result<Bytes, NoMemory>
 }
 
 // So many bytes of a message from a place on, if it is that long.
-fn part_of(message: Option<&[u8]>, start: u32, len: u32) -> Option<&[u8]>
+fn part_of<'a>(message: Option<&'a [u8]>, start: &[u8], len: &[u8]) -> Option<&'a [u8]>
     ensures { option_map (λ bytes. bytes.now) result
-        ≡ part_in start len (option_map (λ bytes. bytes.now) message.entry) }
+        ≡ part_in (p.number_in start.now) (p.number_in len.now) (option_map (λ bytes. bytes.now) message.entry) }
 {
     let whole = message?;
-    let (start, len) = (start as usize, len as usize);
-    if start + len > whole.len() {
+    let held = whole.len() as u64;
+    let start = number_in(start)?;
+    let len = number_in(len)?;
+    if start > held || len > held - start {
         return None;
     }
-    Some(&whole[start..start + len])
+    Some(&whole[start as usize..start as usize + len as usize])
 }
 
 fn copy(alloc: Global, bytes: Option<&[u8]>) -> Result<Option<Bytes>, NoMemory>
@@ -49,10 +52,22 @@ fn copy(alloc: Global, bytes: Option<&[u8]>) -> Result<Option<Bytes>, NoMemory>
 }
 
 impl Record {
-    ghost use Rattle.std.specs.Prelude.{◌≡◌, IfOk};
+    ghost use Rattle.std.specs.Prelude.{◌≡◌, slice_get, option_map, IfOk};
+    ghost use Rattle.world_scripts.specs.Pieces as p;
     ghost use Rattle.world_scripts.specs.Given.{said_piece};
     ghost use Rattle.world_history.specs.Scripts.{piece_in, spelled};
     ghost use Rattle.world_history.specs.Worlds.{messages_in};
+
+    // The message of the number that digits are.
+    fn message_of(&self, digits: &[u8]) -> Option<&[u8]>
+        ensures { option_map (λ bytes. bytes.now) result
+            ≡ slice_get (messages_in self.now) (p.number_in digits.now) }
+    {
+        // There are fewer messages than 2^64.
+        let _held = self.messages.len();
+        let number = number_in(digits)?;
+        self.message(number)
+    }
 
     // The bytes of a piece, if its message is recorded and is long enough.
     fn spell_piece(&self, piece: Piece<'_>) -> Result<Option<Bytes>, NoMemory>
@@ -61,12 +76,12 @@ impl Record {
     {
         match piece {
             Piece::Spelled { digits } => Ok(Some(read_digits(self.alloc, digits)?)),
-            Piece::Whole { message } => copy(self.alloc, self.message(message)),
+            Piece::Whole { message } => copy(self.alloc, self.message_of(message)),
             Piece::Part {
                 message,
                 start,
                 len,
-            } => copy(self.alloc, part_of(self.message(message), start, len)),
+            } => copy(self.alloc, part_of(self.message_of(message), start, len)),
         }
     }
 

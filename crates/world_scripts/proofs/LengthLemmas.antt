@@ -78,7 +78,7 @@ gives_short : (conv : List ℕ) (message : ℕ) → length conv ≤ 6 → messag
 unfolding line
 gives_short conv message c m = omega (arith, c, number_short message m, length-append (conv ++ 32 ∷ 109 ∷ decimal message) (10 ∷ []), length-append conv (32 ∷ 109 ∷ decimal message))
 
-answer_short : (conv : List ℕ) (message : ℕ) → length conv ≤ 6 → message < 100000 → length (line (Answer conv (Whole message ∷ []))) ≤ 200
+answer_short : (conv : List ℕ) (message : ℕ) → length conv ≤ 6 → message < 100000 → length (line (Answer conv (Whole (decimal message) ∷ []))) ≤ 200
 unfolding line
 answer_short conv message c m = omega (arith, c, number_short message m, length-append (conv ++ 32 ∷ 109 ∷ decimal message) (10 ∷ []), length-append conv (32 ∷ 109 ∷ decimal message))
 
@@ -87,7 +87,7 @@ unfolding line
 blank_short conv c = omega (arith, c, length-append (conv ++ 32 ∷ 120 ∷ zeros) (10 ∷ []), length-append conv (32 ∷ 120 ∷ zeros))
 
 asked_short : (session : List ℕ) (message : ℕ) (first second third : List ℕ) → length session ≤ 6 → message < 100000 → length first ≤ 8 → length second ≤ 8 → length third ≤ 8
-    → length (line (AsGive session (Whole message ∷ []) first second third)) ≤ 200
+    → length (line (AsGive session (Whole (decimal message) ∷ []) first second third)) ≤ 200
 unfolding line
 asked_short session message first second third s m a b c =
     let three : List ℕ = encode_lower third in

@@ -10,9 +10,9 @@ use Rattle.std.proofs.lemmas.List.Folds.{list_all-append}
 use Rattle.hex.specs.Hex.{encode_lower}
 use Rattle.rand_chacha.specs.ChaCha.{ChaCha, next_word}
 use Rattle.world_scripts.specs.Draws.{draw, draws, generator_of}
-use Rattle.world_scripts.specs.Pieces.{Spelled, Whole, are_pieces}
+use Rattle.world_scripts.specs.Pieces.{Spelled, Whole, are_pieces, is_decimal_digit, is_number}
 use Rattle.world_scripts.specs.Lines.{ScriptLine, Open, Start, Read, Write, Answer, NoAnswer, AsGive, Close, is_formed, is_name, is_name_byte, is_random, line_text}
-use Rattle.world_scripts.specs.Reading.{is_decimal_digit, is_lower_digit, line_of}
+use Rattle.world_scripts.specs.Reading.{is_lower_digit, line_of}
 use Rattle.world_scripts.specs.Scripts.{Numbered, is_skipped, numbered}
 use Rattle.world_scripts.specs.declared.round.Drawn.{Drawn}
 use Rattle.world_scripts.specs.declared.round.Kind.{Kind}
@@ -22,7 +22,7 @@ use Rattle.world_scripts.specs.Generated.{drawn, gen_text, line, lines_text, ope
 use Rattle.world_scripts.specs.MadeScripts.{MadeIsRead}
 use Rattle.world_scripts.proofs.CutLemmas.{lacks, lacks_by}
 use Rattle.world_scripts.proofs.LineLemmas.{line_again}
-use Rattle.world_scripts.proofs.NumberLemmas.{decimal_digits}
+use Rattle.world_scripts.proofs.NumberLemmas.{decimal_digits, decimal_number}
 use Rattle.world_scripts.proofs.PieceLemmas.{lacks_both, number_lacks, split_front}
 use Rattle.world_scripts.proofs.SpellLemmas.{are_bytes, encoded_lower}
 
@@ -147,23 +147,23 @@ no_answer_good conv c = record { formed = c; whole = name_lacks conv c; said = r
 close_good : (conv : List ℕ) → is_name conv ≡ true → IsGood (Close conv)
 close_good conv c = record { formed = c; whole = name_lacks conv c; said = refl }
 
-small : (message : ℕ) → message < 100000 → ltb message (2 ^ 32) ≡ true
-small message few = lt-ltb message (2 ^ 32) (omega (arith, few))
+small : (message : ℕ) → message < 100000 → is_number (decimal message) ≡ true
+small message few = decimal_number message (omega (arith, few))
 
-one_message : (message : ℕ) → message < 100000 → are_pieces (Whole message ∷ []) ≡ true
+one_message : (message : ℕ) → message < 100000 → are_pieces (Whole (decimal message) ∷ []) ≡ true
 one_message message few = rw (small message few) refl
 
 gives_good : (conv : List ℕ) (message : ℕ) → is_name conv ≡ true → message < 100000 → IsGood (gives conv message)
 gives_good conv message c m = record {
-  formed = and_from (is_name conv) (are_pieces (Whole message ∷ [])) c (one_message message m);
-  whole = lacks_both 10 conv (32 ∷ 109 ∷ decimal message) (name_lacks conv c) (number_lacks 10 message refl (small message m));
+  formed = and_from (is_name conv) (are_pieces (Whole (decimal message) ∷ [])) c (one_message message m);
+  whole = lacks_both 10 conv (32 ∷ 109 ∷ decimal message) (name_lacks conv c) (number_lacks 10 (decimal message) refl (small message m));
   said = refl;
 }
 
-answer_good : (conv : List ℕ) (message : ℕ) → is_name conv ≡ true → message < 100000 → IsGood (Answer conv (Whole message ∷ []))
+answer_good : (conv : List ℕ) (message : ℕ) → is_name conv ≡ true → message < 100000 → IsGood (Answer conv (Whole (decimal message) ∷ []))
 answer_good conv message c m = record {
-  formed = and_from (is_name conv) (are_pieces (Whole message ∷ [])) c (one_message message m);
-  whole = lacks_both 10 conv (32 ∷ 109 ∷ decimal message) (name_lacks conv c) (number_lacks 10 message refl (small message m));
+  formed = and_from (is_name conv) (are_pieces (Whole (decimal message) ∷ [])) c (one_message message m);
+  whole = lacks_both 10 conv (32 ∷ 109 ∷ decimal message) (name_lacks conv c) (number_lacks 10 (decimal message) refl (small message m));
   said = refl;
 }
 
@@ -174,15 +174,15 @@ blank_good conv c = record {
   said = refl;
 }
 
-asked_good : (session : List ℕ) (message : ℕ) (a b c : List ℕ) → is_name session ≡ true → message < 100000 → is_random a ≡ true → is_random b ≡ true → is_random c ≡ true → IsGood (AsGive session (Whole message ∷ []) a b c)
+asked_good : (session : List ℕ) (message : ℕ) (a b c : List ℕ) → is_name session ≡ true → message < 100000 → is_random a ≡ true → is_random b ≡ true → is_random c ≡ true → IsGood (AsGive session (Whole (decimal message) ∷ []) a b c)
 asked_good session message a b c s m ra rb rc =
     let three : List ℕ = encode_lower c in
     let two : List ℕ = encode_lower b ++ 32 ∷ three in
     let one : List ℕ = encode_lower a ++ 32 ∷ two in
     record {
-      formed = and_from (is_name session) _ s (and_from (are_pieces (Whole message ∷ [])) _ (one_message message m) (and_from (is_random a) _ ra (and_from (is_random b) (is_random c) rb rc)));
+      formed = and_from (is_name session) _ s (and_from (are_pieces (Whole (decimal message) ∷ [])) _ (one_message message m) (and_from (is_random a) _ ra (and_from (is_random b) (is_random c) rb rc)));
       whole = lacks_both 10 session (32 ∷ 109 ∷ (decimal message ++ 32 ∷ one)) (name_lacks session s)
-          (lacks_both 10 (decimal message) (32 ∷ one) (number_lacks 10 message refl (small message m))
+          (lacks_both 10 (decimal message) (32 ∷ one) (number_lacks 10 (decimal message) refl (small message m))
           (lacks_both 10 (encode_lower a) (32 ∷ two) (random_lacks_line a ra) (lacks_both 10 (encode_lower b) (32 ∷ three) (random_lacks_line b rb) (random_lacks_line c rc))));
       said = refl;
     }

@@ -1,14 +1,12 @@
 -- Pieces are read back as they are written, and nothing else is read as them.
-use Rattle.std.proofs.Common.{◌≡◌, ℕ, suc, ◌%◌, ◌^◌, ◌<◌, List, [], ◌∷◌, ◌++◌, true, false, not, ◌&&◌, eqb, ltb, length, map, Option, Some, None, refl, sym, ap, subst, ◌∙◌, arith, inl, inr}
+use Rattle.std.proofs.Common.{◌≡◌, ℕ, suc, ◌%◌, ◌<◌, List, [], ◌∷◌, ◌++◌, true, false, not, ◌&&◌, eqb, ltb, length, map, Option, Some, None, refl, sym, ap, subst, ◌∙◌, arith, inl, inr}
 use Rattle.std.specs.List.{list_all, slice_split, join_with_byte, onto_first}
-use Rattle.std.specs.Fmt.{decimal}
 use Rattle.std.proofs.lemmas.Bool.{cases_Bool, and_parts, and_from, eqb-true, eq-eqb, ltb-true, lt-ltb, not-true}
 use Rattle.std.proofs.lemmas.List.Splits.{slice_split-cons_yes, slice_split-cons_no, length-slice_split, join_with_byte-slice_split}
 use Rattle.std.proofs.lemmas.List.Folds.{list_all-append}
-use Rattle.world_scripts.specs.Pieces.{Piece, Spelled, Whole, Part, are_pairs, are_pieces, field, is_digit, is_number, is_piece, piece_text, pieces_text}
-use Rattle.world_scripts.specs.Reading.{cut_at, each_piece, is_decimal_digit, message_in, message_of, number_of, pairs_of, part_of, piece_of, pieces_of}
+use Rattle.world_scripts.specs.Pieces.{Piece, Spelled, Whole, Part, are_pairs, are_pieces, field, is_decimal_digit, is_digit, is_number, is_piece, piece_text, pieces_text}
+use Rattle.world_scripts.specs.Reading.{cut_at, each_piece, message_in, message_of, number_of, pairs_of, part_of, piece_of, pieces_of}
 use Rattle.world_scripts.proofs.CutLemmas.{lacks, lacks_by, cut_again, cut_none, cut_parts}
-use Rattle.world_scripts.proofs.NumberLemmas.{decimal_digits, number_again, number_parts}
 use Rattle.world_scripts.proofs.ReadLemmas.{bind_parts, if_parts, map_parts, some_parts}
 
 -- ---- a piece that was read
@@ -17,13 +15,12 @@ use Rattle.world_scripts.proofs.ReadLemmas.{bind_parts, if_parts, map_parts, som
 abbrev Reads : List ℕ → Piece → Type 0
 Reads text piece = (text ≡ piece_text piece) × (is_piece piece ≡ true)
 
-small_test : (n : ℕ) → n < 2 ^ 32 → is_number n ≡ true
-small_test n h = lt-ltb n (2 ^ 32) h
+number_parts : (text digits : List ℕ) → number_of text ≡ Some digits → (text ≡ digits) × (is_number digits ≡ true)
+number_parts text digits h =
+    let found = if_parts (is_number text) text digits h in
+    (found.1, ap is_number (sym found.1) ∙ found.0)
 
-small_again : (n : ℕ) → is_number n ≡ true → n < 2 ^ 32
-small_again n h = ltb-true n (2 ^ 32) h
-
-part_written : (front rest a b : List ℕ) (message start len : ℕ) → front ≡ decimal message → rest ≡ a ++ 58 ∷ b → a ≡ decimal start → b ≡ decimal len → 109 ∷ (front ++ 58 ∷ rest) ≡ piece_text (Part message start len)
+part_written : (front rest a b message start len : List ℕ) → front ≡ message → rest ≡ a ++ 58 ∷ b → a ≡ start → b ≡ len → 109 ∷ (front ++ 58 ∷ rest) ≡ piece_text (Part message start len)
 part_written front rest a b message start len one whole two three = rw (one, whole, two, three) refl
 
 part_parts : (front rest : List ℕ) (piece : Piece) → part_of front rest ≡ Some piece → Reads (109 ∷ (front ++ 58 ∷ rest)) piece
@@ -40,14 +37,14 @@ part_parts front rest piece h =
     let text : 109 ∷ (front ++ 58 ∷ rest) ≡ piece_text (Part first.0 second.0 third.0) =
     part_written front rest behind.0.0 behind.0.1 first.0 second.0 third.0 message.0 whole start.0 len.0 in
     let formed : is_piece (Part first.0 second.0 third.0) ≡ true =
-    and_from (is_number first.0) _ (small_test first.0 message.1) (and_from (is_number second.0) (is_number third.0) (small_test second.0 start.1) (small_test third.0 len.1)) in
+    and_from (is_number first.0) _ message.1 (and_from (is_number second.0) (is_number third.0) start.1 len.1) in
     subst (Reads (109 ∷ (front ++ 58 ∷ rest))) same (text, formed)
 
 message_in_parts : (text : List ℕ) (cut : Option (List ℕ × List ℕ)) (piece : Piece) → cut_at 58 text ≡ cut → message_in text cut ≡ Some piece → Reads (109 ∷ text) piece
 message_in_parts text None piece e h =
     let found = map_parts Whole (number_of text) piece h in
     let message = number_parts text found.0 found.1 in
-    subst (Reads (109 ∷ text)) found.2 (ap (λ (t : List ℕ). 109 ∷ t) message.0, small_test found.0 message.1)
+    subst (Reads (109 ∷ text)) found.2 (ap (λ (t : List ℕ). 109 ∷ t) message.0, message.1)
 message_in_parts text (Some cut) piece e h =
     let whole = cut_parts 58 text cut e in
     rw whole (part_parts cut.0 cut.1 piece h)
@@ -115,10 +112,8 @@ plus_apart = record { digit = refl; decimal = refl; spelled = refl; message = re
 blank_apart : IsApart 32
 blank_apart = record { digit = refl; decimal = refl; spelled = refl; message = refl; field = refl }
 
-pub number_lacks : (c n : ℕ) → is_decimal_digit c ≡ false → is_number n ≡ true → lacks c (decimal n) ≡ true
-number_lacks c n no_c h =
-    let small = small_again n h in
-    lacks_by is_decimal_digit c no_c (decimal n) (decimal_digits n (omega (arith, small)))
+pub number_lacks : (c : ℕ) (digits : List ℕ) → is_decimal_digit c ≡ false → is_number digits ≡ true → lacks c digits ≡ true
+number_lacks c digits no_c h = lacks_by is_decimal_digit c no_c digits (and_parts (ltb 0 (length digits)) (list_all is_decimal_digit digits) h).1
 
 pub lacks_both : (c : ℕ) (xs ys : List ℕ) → lacks c xs ≡ true → lacks c ys ≡ true → lacks c (xs ++ ys) ≡ true
 lacks_both c xs ys one other = list_all-append (λ b. not (eqb b c)) xs ys ∙ and_from (lacks c xs) (lacks c ys) one other
@@ -130,28 +125,24 @@ piece_lacks : (c : ℕ) → IsApart c → (piece : Piece) → is_piece piece ≡
 piece_lacks c apart (Spelled digits) h =
     let both = and_parts (eqb (length digits % 2) 0) (list_all is_digit digits) h in
     lacks_more c 120 digits apart.spelled (lacks_by is_digit c apart.digit digits both.1)
-piece_lacks c apart (Whole message) h = lacks_more c 109 (decimal message) apart.message (number_lacks c message apart.decimal h)
+piece_lacks c apart (Whole message) h = lacks_more c 109 message apart.message (number_lacks c message apart.decimal h)
 piece_lacks c apart (Part message start len) h =
     let first = and_parts (is_number message) (is_number start && is_number len) h in
     let second = and_parts (is_number start) (is_number len) first.1 in
-    let part = λ (n : ℕ) (s : is_number n ≡ true). lacks_more c 58 (decimal n) apart.field (number_lacks c n apart.decimal s) in
-    lacks_more c 109 _ apart.message (lacks_both c (decimal message) (field start ++ field len) (number_lacks c message apart.decimal first.0) (lacks_both c (field start) (field len) (part start second.0) (part len second.1)))
+    let part = λ (n : List ℕ) (s : is_number n ≡ true). lacks_more c 58 n apart.field (number_lacks c n apart.decimal s) in
+    lacks_more c 109 _ apart.message (lacks_both c message (field start ++ field len) (number_lacks c message apart.decimal first.0) (lacks_both c (field start) (field len) (part start second.0) (part len second.1)))
 
 piece_again : (piece : Piece) → is_piece piece ≡ true → piece_of (piece_text piece) ≡ Some piece
 piece_again (Spelled digits) h = rw h refl
 piece_again (Whole message) h =
-    let none : cut_at 58 (decimal message) ≡ None = cut_none 58 (decimal message) (number_lacks 58 message refl h) in
-    let number = number_again message (small_again message h) in
-    rw (none, number) refl
+    let none : cut_at 58 message ≡ None = cut_none 58 message (number_lacks 58 message refl h) in
+    rw (none, h) refl
 piece_again (Part message start len) h =
     let first = and_parts (is_number message) (is_number start && is_number len) h in
     let second = and_parts (is_number start) (is_number len) first.1 in
-    let cut = cut_again 58 (decimal message) (decimal start ++ 58 ∷ decimal len) (number_lacks 58 message refl first.0) in
-    let behind = cut_again 58 (decimal start) (decimal len) (number_lacks 58 start refl second.0) in
-    let one = number_again message (small_again message first.0) in
-    let two = number_again start (small_again start second.0) in
-    let three = number_again len (small_again len second.1) in
-    rw (cut, one, behind, two, three) refl
+    let cut = cut_again 58 message (start ++ 58 ∷ len) (number_lacks 58 message refl first.0) in
+    let behind = cut_again 58 start len (number_lacks 58 start refl second.0) in
+    rw (cut, first.0, behind, second.0, second.1) refl
 
 each_again : (pieces : List Piece) → list_all is_piece pieces ≡ true → each_piece (map piece_text pieces) ≡ Some pieces
 each_again [] h = refl

@@ -18,8 +18,8 @@ random_now parts = (parts.0, parts.1.now)
 
 abbrev pub said_piece : LentPiece → Piece
 said_piece (Spelled digits) = p.Spelled digits.now
-said_piece (Whole message) = p.Whole message
-said_piece (Part message start len) = p.Part message start len
+said_piece (Whole message) = p.Whole message.now
+said_piece (Part message start len) = p.Part message.now start.now len.now
 
 abbrev pub said_number : NumberedLine → Numbered
 said_number line = record { number = line.number; text = line.text.now }

@@ -1,11 +1,11 @@
 -- How a line is read, from the left. What a text is read as and how a line is written are given apart; that they
 -- agree is a law.
-use Rattle.std.specs.Prelude.{ℕ, ◌+◌, ◌-◌, ◌*◌, ◌^◌, List, [], ◌∷◌, Bool, true, ◌&&◌, ◌||◌, ◌==◌, nat_le, nat_lt, length, Option, Some, None, option_map, codes, if◌then◌else◌}
+use Rattle.std.specs.Prelude.{ℕ, List, [], ◌∷◌, Bool, ◌&&◌, ◌||◌, ◌==◌, nat_le, length, Option, Some, None, option_map, codes, if◌then◌else◌}
 use Rattle.std.specs.List.{find, list_all, slice_split}
 use Rattle.std.specs.Result.{result_unwrap_or}
 use Rattle.std.specs.Str.{bytes_eq}
 use Rattle.hex.specs.Hex.{decode_of}
-use Rattle.world_scripts.specs.Pieces.{Piece, Spelled, Whole, Part, are_pairs}
+use Rattle.world_scripts.specs.Pieces.{Piece, Spelled, Whole, Part, are_pairs, is_number}
 use Rattle.world_scripts.specs.Lines.{ScriptLine, Dom, AsKey, AsSpeak, Node, Ctl, Open, Start, Read, Write, Answer, NoAnswer, AsGive, Close, is_name, is_domain}
 use Rattle.world_scripts.specs.declared.line.Verb.{Verb}
 use Rattle.world_scripts.specs.declared.line.Verb.TheVariants as v
@@ -53,28 +53,9 @@ random_before text = do
 
 -- ---- pieces
 
-abbrev pub is_decimal_digit : ℕ → Bool
-is_decimal_digit b = nat_le 48 b && nat_le b 57
-
--- the number that digits behind a number make
-abbrev pub behind : ℕ → List ℕ → ℕ
-behind n [] = n
-behind n (b ∷ digits) = behind (10 * n + (b - 48)) digits
-
--- the number behind a number, where a text is digits and the number is below 2^32
-abbrev pub number_behind : ℕ → List ℕ → Option ℕ
-number_behind n text =
-    if list_all is_decimal_digit text && nat_lt (behind n text) (2 ^ 32) then Some (behind n text)
-    else None
-
--- a text is empty, or begins with a zero that isn't all of it
-abbrev pub is_padded : List ℕ → Bool
-is_padded [] = true
-is_padded (b ∷ text) = (b == 48) && nat_lt 0 (length text)
-
--- the number that a text is
-abbrev pub number_of : List ℕ → Option ℕ
-number_of text = if is_padded text then None else number_behind 0 text
+-- the digits of the number that a text is
+abbrev pub number_of : List ℕ → Option (List ℕ)
+number_of text = if is_number text then Some text else None
 
 -- bytes of a message, by what stands before the first `:` and behind it
 abbrev pub part_of : List ℕ → List ℕ → Option Piece

@@ -61,7 +61,7 @@ last_of first = first + 5
 
 -- what a conversation is given: a message whole
 abbrev pub gives : List ℕ → ℕ → ScriptLine
-gives conv message = Write conv (Whole message ∷ [])
+gives conv message = Write conv (Whole (decimal message) ∷ [])
 
 -- how each starts
 unfoldable pub client_tuple : List ℕ
@@ -91,8 +91,8 @@ challenging round first =
 -- the question is answered
 abbrev pub answering : ℕ → ℕ → Drawn → List ScriptLine
 answering round first drawn =
-    AsGive (session_of round) (Whole (question_of first) ∷ []) drawn.first drawn.second drawn.third
-    ∷ Answer (client_of round) (Whole (answer_of first) ∷ [])
+    AsGive (session_of round) (Whole (decimal (question_of first)) ∷ []) drawn.first drawn.second drawn.third
+    ∷ Answer (client_of round) (Whole (decimal (answer_of first)) ∷ [])
     ∷ Read (client_of round)
     ∷ []
 

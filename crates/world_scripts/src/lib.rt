@@ -15,9 +15,10 @@ mod script;
 mod words;
 
 pub use chacha::ChaChaWords;
-pub use laws::{lines_are_what_is_written, made_scripts_are_read};
+pub use laws::{lines_are_what_is_written, made_scripts_are_read, numbers_have_zeros_in_front};
 pub use line::{BadForm, Line, parse_line};
 pub use made_script::gen_script;
+pub use number::number_in;
 pub use pieces::{Piece, Pieces};
 pub use round::{Drawn, Kind};
 pub use script::{NumberedLine, ScriptLines};

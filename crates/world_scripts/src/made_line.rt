@@ -124,7 +124,7 @@ pub(crate) fn put_zeros(out: &mut Bytes, conv: &[u8]) -> Result<(), NoMemory>
 #[tactic(auto, unfolding(crate::specs::Generated::line))]
 pub(crate) fn put_answer(out: &mut Bytes, conv: &[u8], message: u64) -> Result<(), NoMemory>
     ensures { OnOk result (out.new
-        ≡ out.old ++ line (Answer conv.now (Whole message ∷ []))) }
+        ≡ out.old ++ line (Answer conv.now (Whole (decimal message) ∷ []))) }
 {
     put_named(out, b"answer".as_slice(), conv)?;
     put_message(out, message)?;
@@ -151,7 +151,7 @@ pub(crate) fn put_asked(
     third: &[u8; 8],
 ) -> Result<(), NoMemory>
     ensures { OnOk result (out.new ≡ out.old
-        ++ line (AsGive session.now (Whole message ∷ []) first.now second.now third.now)) }
+        ++ line (AsGive session.now (Whole (decimal message) ∷ []) first.now second.now third.now)) }
 {
     put_named(out, b"asgive".as_slice(), session)?;
     put_message(out, message)?;

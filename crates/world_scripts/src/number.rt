@@ -1,38 +1,37 @@
-// Numbers in decimal.
-ghost use Rattle.std.specs.Prelude.{◌≡◌, ◌∷◌, ℕ, List, None, IfNone, IfSome};
-ghost use Rattle.world_scripts.specs.Reading.{is_decimal_digit, is_padded, number_behind, number_of};
+// Numbers in decimal, of any size.
+ghost use Rattle.std.specs.Prelude.{◌≡◌, ◌≤◌, ◌+◌, ◌*◌, ◌^◌, ℕ, List, ◌∷◌, option_map, IfNone, IfSome};
+ghost use Rattle.std.specs.List.{list_all};
+ghost use Rattle.world_scripts.specs.Pieces.{behind, is_decimal_digit, is_number};
+ghost use Rattle.world_scripts.specs.Pieces as p;
+ghost use Rattle.world_scripts.specs.Reading.{number_of};
 
-fn check_digit(byte: u8) -> bool
-    ensures { result ≡ is_decimal_digit byte }
+/// The digits of the number that a text is: decimal ones, at least one.
+pub(crate) fn read_number(text: &[u8]) -> Option<&[u8]>
+    ensures { option_map (λ digits. digits.now) result ≡ number_of text.now }
 {
-    byte >= b'0' && byte <= b'9'
+    if check_number(text) { Some(text) } else { None }
 }
 
-fn check_padded(text: &[u8]) -> bool
-    ensures { result ≡ is_padded text.now }
+fn check_number(text: &[u8]) -> bool
+    ensures { result ≡ is_number text.now }
 {
-    match text {
-        [] => true,
-        [first, rest @ ..] => *first == b'0' && !rest.is_empty(),
-    }
+    !text.is_empty() && all_decimal(text)
 }
 
-/// The number that a text is: decimal digits without zeros in front, whose number is below 2^32.
-pub(crate) fn read_number(text: &[u8]) -> Option<u32>
-    ensures { result ≡ number_of text.now }
+fn all_decimal(text: &[u8]) -> bool
+    ensures { result ≡ list_all is_decimal_digit text.now }
 {
-    if check_padded(text) {
-        return None;
-    }
-    read_digits(text)
+    text.iter().all(|b| *b >= b'0' && *b <= b'9')
 }
 
-fn read_digits(text: &[u8]) -> Option<u32>
-    ensures { result ≡ number_behind 0 text.now }
+/// The number that decimal digits are, if it is below 2^64.
+pub fn number_in(digits: &[u8]) -> Option<u64>
+    ensures number { IfSome result (λ number. number ≡ p.number_in digits.now) }
+    ensures over { IfNone result (2 ^ 64 ≤ p.number_in digits.now) }
 {
-    let mut number: u32 = 0;
-    for byte in text {
-        match add_digit(number, *byte) {
+    let mut number: u64 = 0;
+    for digit in digits {
+        match add_digit(number, *digit) {
             Some(longer) => number = longer,
             None => return None,
         }
@@ -41,14 +40,11 @@ fn read_digits(text: &[u8]) -> Option<u32>
 }
 
 // The number with one more digit behind it.
-fn add_digit(number: u32, byte: u8) -> Option<u32>
-    ensures some { IfSome result (λ longer. (digits : List ℕ) → number_behind longer digits
-        ≡ number_behind number (byte ∷ digits)) }
-    ensures none { IfNone result ((digits : List ℕ)
-        → number_behind number (byte ∷ digits) ≡ None) }
+fn add_digit(number: u64, digit: u8) -> Option<u64>
+    ensures some { IfSome result (λ longer. (digits : List ℕ)
+        → behind longer digits ≡ behind number (digit ∷ digits)) }
+    ensures none { IfNone result ((digits : List ℕ) → 2 ^ 64 ≤ behind number (digit ∷ digits)) }
 {
-    if !check_digit(byte) {
-        return None;
-    }
-    number.checked_mul(10)?.checked_add(u32::from(byte - b'0'))
+    let digit = u64::from(digit.saturating_sub(b'0'));
+    number.checked_mul(10)?.checked_add(digit)
 }

@@ -15,11 +15,19 @@ use std::marker::Model;
 #[derive(Clone, Copy, Debug, PartialEq, Eq)]
 pub enum Piece<'a> {
     /// The bytes that hexadecimal digits spell, which are in pairs and of either case.
-    Spelled { digits: &'a [u8] },
-    /// A message whole.
-    Whole { message: u32 },
-    /// So many bytes of a message from a place on.
-    Part { message: u32, start: u32, len: u32 },
+    Spelled {
+        digits: &'a [u8],
+    },
+    /// The message of a number, whole. Numbers are decimal digits, which `number_in` reads.
+    Whole {
+        message: &'a [u8],
+    },
+    /// So many bytes of the message of a number, from a place on.
+    Part {
+        message: &'a [u8],
+        start: &'a [u8],
+        len: &'a [u8],
+    },
 }
 
 /// Goes over the pieces of a text that is known to be some.
@@ -148,7 +156,7 @@ fn all_digits(text: &[u8]) -> bool
     })
 }
 
-fn read_message<'a>(text: &[u8]) -> Option<Piece<'a>>
+fn read_message(text: &[u8]) -> Option<Piece<'_>>
     ensures { option_map said_piece result ≡ message_of text.now }
 {
     match cut_at(b':', text) {
@@ -159,7 +167,7 @@ fn read_message<'a>(text: &[u8]) -> Option<Piece<'a>>
     }
 }
 
-fn read_part<'a>(front: &[u8], rest: &[u8]) -> Option<Piece<'a>>
+fn read_part<'a>(front: &'a [u8], rest: &'a [u8]) -> Option<Piece<'a>>
     ensures { option_map said_piece result ≡ part_of front.now rest.now }
 {
     let message = read_number(front)?;
