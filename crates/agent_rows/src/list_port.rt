@@ -1,5 +1,5 @@
 // A port that answers what rows say, in their order, and notes what it is asked.
-use door_history::{Port, PortOpen, PortSaid};
+use doors::{Port, PortOpen, PortSaid};
 use std::alloc::Global;
 use std::collections::VecDeque;
 use wire_base::{Bytes, NoMemory};
@@ -74,7 +74,9 @@ impl ListPort {
 
 impl Port for ListPort {
     // It isn't a port of an agent, so that no calls are told of it.
-    ghost stands = { λ _ _. ⊥ };
+    ghost Setting = { Unit {0} };
+
+    ghost stands = { λ _ _ _. ⊥ };
 
     fn open(&mut self) -> PortOpen {
         self.note("open", b"");

@@ -1,8 +1,8 @@
 -- What is asked at a port to begin a conversation, and to read one.
 use Rattle.std.proofs.Common.{◌≡◌, ℕ, List, [], ◌∷◌, ◌++◌, Bool, true, false, Option, refl, ap, subst, ◌∙◌}
-use Rattle.door_history.specs.declared.port.PortOpen.TheVariants.{Open}
-use Rattle.door_history.specs.Calls.{PortCall, Asked, Closed, Opened, heard, is_well, start_text}
-use Rattle.door_history.specs.Requests.{begun_by}
+use Rattle.doors.specs.declared.port.PortOpen.TheVariants.{Open}
+use Rattle.doors.specs.Calls.{PortCall, Asked, Closed, Opened, heard, is_well, start_text}
+use Rattle.doors.specs.Requests.{begun_by}
 use Rattle.doors.specs.declared.asking.Answer.{Answer}
 use Rattle.doors.specs.Answers.{Begins, Starts, heard_of, said_of}
 use Rattle.doors.proofs.PortLemmas.{called_first}

@@ -3,9 +3,9 @@ use Rattle.std.proofs.Common.{◌≡◌, ℕ, suc, ◌+◌, ◌<◌, ◌≤◌, 
 use Rattle.std.specs.Prelude.{position, slice_set}
 use Rattle.std.specs.List.{position_or_len}
 use Rattle.std.proofs.lemmas.Bool.{cases_Bool, cases_lt, eqb-true, le-ltb, lt-ltb}
-use Rattle.door_history.specs.declared.fid.Names.{Names}
-use Rattle.door_history.specs.declared.fid.Held.{Held}
-use Rattle.door_history.specs.Fids.{holds, renamed}
+use Rattle.doors.specs.declared.fid.Names.{Names}
+use Rattle.doors.specs.declared.fid.Held.{Held}
+use Rattle.doors.specs.Fids.{holds, renamed}
 
 abbrev pub is_fid : ℕ → Held → Bool
 is_fid fid h = h.fid == fid

@@ -1,4 +1,5 @@
 pub mod AskLemmas
+pub mod AttachLaws
 pub mod FidLemmas
 pub mod PortLemmas
 pub mod ReadLemmas

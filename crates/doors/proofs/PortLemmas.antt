@@ -1,8 +1,8 @@
 -- What is asked at a port, one call behind the other.
 use Rattle.std.proofs.Common.{◌≡◌, ℕ, List, [], ◌∷◌, ◌++◌, map, reverse, sym, ap, ◌∙◌, append_assoc}
 use Rattle.std.proofs.lemmas.List.{map-append, reverse-append}
-use Rattle.door_history.specs.Calls.{PortCall, Closed}
-use Rattle.door_history.specs.Requests.{closings}
+use Rattle.doors.specs.Calls.{PortCall, Closed}
+use Rattle.doors.specs.Requests.{closings}
 
 -- a conversation is closed before the others
 pub closed_first : (conv : ℕ) (convs : List ℕ) (past : List PortCall) → closings convs ++ Closed conv ∷ past ≡ closings (conv ∷ convs) ++ past

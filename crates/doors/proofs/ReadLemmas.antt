@@ -5,17 +5,17 @@ use Rattle.nine.specs.declared.message.RBody.{RBody}
 use Rattle.nine.specs.declared.message.TBody.TheVariants as t
 use Rattle.nine.specs.declared.message.RBody.TheVariants as r
 use Rattle.agent_history.specs.Requests.{effective, piece}
-use Rattle.door_history.specs.declared.fid.AuthFid.{AuthFid}
-use Rattle.door_history.specs.declared.fid.FileFid.{FileFid}
-use Rattle.door_history.specs.declared.file.DoorFile.{DoorFile}
-use Rattle.door_history.specs.declared.file.DoorFile.TheVariants.{Root, Who}
-use Rattle.door_history.specs.declared.fid.Names.{Names}
-use Rattle.door_history.specs.declared.fid.Names.TheVariants.{Conversation, File}
-use Rattle.door_history.specs.Calls.{PortCall, Asked, read_text}
-use Rattle.door_history.specs.Tree.{content_of, is_directory, listed, who_text}
-use Rattle.door_history.specs.Deeds.{Deed, Became, held_in}
-use Rattle.door_history.specs.Fids.{keeping, named, read_to, renamed}
-use Rattle.door_history.specs.Requests.{OfNames, ReadAsks, after, bytes_reply, heard_in, kept_of, not_read, read_reply, reading, reply_of, room, to_read, unavailable}
+use Rattle.doors.specs.declared.fid.AuthFid.{AuthFid}
+use Rattle.doors.specs.declared.fid.FileFid.{FileFid}
+use Rattle.doors.specs.declared.file.DoorFile.{DoorFile}
+use Rattle.doors.specs.declared.file.DoorFile.TheVariants.{Root, Who}
+use Rattle.doors.specs.declared.fid.Names.{Names}
+use Rattle.doors.specs.declared.fid.Names.TheVariants.{Conversation, File}
+use Rattle.doors.specs.Calls.{PortCall, Asked, read_text}
+use Rattle.doors.specs.Tree.{content_of, is_directory, listed, who_text}
+use Rattle.doors.specs.Deeds.{Deed, Became, held_in}
+use Rattle.doors.specs.Fids.{keeping, named, read_to, renamed}
+use Rattle.doors.specs.Requests.{OfNames, ReadAsks, after, bytes_reply, heard_in, kept_of, not_read, read_reply, reading, reply_of, room, to_read, unavailable}
 use Rattle.doors.specs.declared.connection.Connection.{Connection}
 use Rattle.doors.specs.declared.asking.Answer.{Answer}
 use Rattle.doors.specs.declared.reading.Found.{Found}

@@ -2,21 +2,21 @@
 use Rattle.std.proofs.Common.{◌≡◌, ℕ, List, [], ◌∷◌, ◌++◌, length, map, Bool, true, false, Option, Some, None, refl, sym, ap, subst, ◌∙◌}
 use Rattle.std.specs.Prelude.{Result, Ok, Err, codes, not, ◌&&◌, ◌||◌, nat_le, if◌then◌else◌}
 use Rattle.std.specs.Str.{bytes_eq}
-use Rattle.door_history.specs.Tree.{auth_qid, lead_to, qid_of, visited}
+use Rattle.doors.specs.Tree.{auth_qid, lead_to, qid_of, visited}
 use Rattle.nine.specs.declared.message.TBody.{TBody}
 use Rattle.nine.specs.declared.message.TBody.TheVariants as t
 use Rattle.nine.specs.declared.message.RBody.TheVariants as r
 use Rattle.agent_history.specs.Requests.{tag_of}
-use Rattle.door_history.specs.declared.fid.AuthFid.{AuthFid}
-use Rattle.door_history.specs.declared.fid.FileFid.{FileFid}
-use Rattle.door_history.specs.declared.fid.Held.{Held}
-use Rattle.door_history.specs.declared.fid.Names.{Names}
-use Rattle.door_history.specs.declared.fid.Names.TheVariants.{Conversation, File}
-use Rattle.door_history.specs.Calls.{PortCall, is_fit, is_start, most_request, start_text, write_text}
-use Rattle.door_history.specs.Deeds.{Deed, Became, held_in}
-use Rattle.door_history.specs.Fids.{begun, holds, named, opened}
-use Rattle.door_history.specs.Requests.{AsksFor, AsksSo, OfNames, after, after_granted, authenticates, begun_in, fid_first, file_of, granted, logging_in, login_reply, opening, refusal, reply_for, reply_of, unavailable, walk_reply, walked, walking, write_tests}
-use Rattle.door_history.specs.Histories.{History, deeds}
+use Rattle.doors.specs.declared.fid.AuthFid.{AuthFid}
+use Rattle.doors.specs.declared.fid.FileFid.{FileFid}
+use Rattle.doors.specs.declared.fid.Held.{Held}
+use Rattle.doors.specs.declared.fid.Names.{Names}
+use Rattle.doors.specs.declared.fid.Names.TheVariants.{Conversation, File}
+use Rattle.doors.specs.Calls.{PortCall, is_fit, is_start, most_request, start_text, write_text}
+use Rattle.doors.specs.Deeds.{Deed, Became, held_in}
+use Rattle.doors.specs.Fids.{begun, holds, named, opened}
+use Rattle.doors.specs.Requests.{AsksFor, AsksSo, OfNames, after, after_granted, authenticates, begun_in, fid_first, file_of, granted, logging_in, login_reply, opening, refusal, reply_for, reply_of, unavailable, walk_reply, walked, walking, write_tests}
+use Rattle.doors.specs.Histories.{History, deeds}
 use Rattle.doors.specs.declared.connection.Connection.{Connection}
 use Rattle.doors.specs.declared.door.Door.{Door}
 use Rattle.doors.specs.Doors.{Answered, Carried, GivesUp, Keeps, Served, Stepped, has_failed, reply_under}

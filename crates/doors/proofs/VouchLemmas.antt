@@ -7,7 +7,7 @@ use Rattle.wire_base.proofs.ReaderLaws.{AreBytes}
 use Rattle.sealing.specs.Info.{IsInfo}
 use Rattle.sealing.specs.InfoReading.{info_reading}
 use Rattle.sealing.proofs.InfoLaws.{info_again, info_taken}
-use Rattle.door_history.specs.Requests.{accepts}
+use Rattle.doors.specs.Requests.{accepts}
 
 -- it is read
 pub vouched_by : (uname bytes : List ℕ) (found : Option AuthInfo) (info : AuthInfo) → ((i : AuthInfo) → (found ≡ Some i) ↔ IsInfo bytes i) → found ≡ Some info → bytes_eq info.suid uname ≡ accepts uname (info_reading bytes)

@@ -1,10 +1,10 @@
 -- What a request to a conversation came to, as it is kept, against what the definitions hear in it.
 use Rattle.std.specs.Prelude.{◌≡◌, ℕ, List, [], ◌∷◌, ◌++◌, Bool, Option, Some, None}
-use Rattle.door_history.specs.declared.port.PortSaid.{PortSaid}
-use Rattle.door_history.specs.declared.port.PortOpen.TheVariants.{Open}
-use Rattle.door_history.specs.declared.port.PortSaid.TheVariants.{Said, Gone}
-use Rattle.door_history.specs.Calls.{PortCall, Asked, Opened, Heard, Well, Ended, Else, Lost, given}
-use Rattle.door_history.specs.Requests.{FirstAsks, IsLogin, begun_by, begun_in, heard_in, to_read}
+use Rattle.doors.specs.declared.port.PortSaid.{PortSaid}
+use Rattle.doors.specs.declared.port.PortOpen.TheVariants.{Open}
+use Rattle.doors.specs.declared.port.PortSaid.TheVariants.{Said, Gone}
+use Rattle.doors.specs.Calls.{PortCall, Asked, Opened, Heard, Well, Ended, Else, Lost, given}
+use Rattle.doors.specs.Requests.{FirstAsks, IsLogin, begun_by, begun_in, heard_in, to_read}
 use Rattle.doors.specs.declared.asking.Answer.{Answer}
 use Rattle.doors.specs.declared.asking.Answer.TheVariants as a
 use Rattle.doors.specs.declared.reading.Found.{Found}

@@ -4,12 +4,12 @@ use Rattle.nine.specs.declared.message.TBody.{TBody}
 use Rattle.nine.specs.declared.message.RBody.{RBody}
 use Rattle.nine.specs.Messages.{r_frame}
 use Rattle.agent_history.specs.Requests.{tag_of}
-use Rattle.door_history.specs.Calls.{PortCall}
-use Rattle.door_history.specs.declared.fid.Names.{Names}
-use Rattle.door_history.specs.Fids.{named}
-use Rattle.door_history.specs.Deeds.{Deed, Clunked, held_in, msize_of}
-use Rattle.door_history.specs.Requests.{AsksFor, AsksSo, OfNames, closings, after, after_granted, granted, reply_for, reply_of}
-use Rattle.door_history.specs.Histories.{History, IsTurn, Turn, deeds, reply_to}
+use Rattle.doors.specs.Calls.{PortCall}
+use Rattle.doors.specs.declared.fid.Names.{Names}
+use Rattle.doors.specs.Fids.{named}
+use Rattle.doors.specs.Deeds.{Deed, Clunked, held_in, msize_of}
+use Rattle.doors.specs.Requests.{AsksFor, AsksSo, OfNames, closings, after, after_granted, granted, reply_for, reply_of}
+use Rattle.doors.specs.Histories.{History, IsTurn, Turn, deeds, reply_to}
 use Rattle.doors.specs.declared.connection.Connection.{Connection}
 use Rattle.doors.specs.declared.door.Door.{Door}
 use Rattle.doors.specs.declared.refusal.Refusal.{Refusal}

@@ -1,3 +1,10 @@
+pub mod Calls
+pub mod Tree
+pub mod Fids
+pub mod Deeds
+pub mod Requests
+pub mod Histories
+pub mod Attaching
 pub mod Refusals
 pub mod Answers
 pub mod Doors

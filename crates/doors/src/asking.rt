@@ -1,9 +1,9 @@
 // How a conversation of the port is begun and asked.
 ghost use Rattle.std.specs.Prelude.{◌≡◌, ◌∷◌, ℕ, List, Some, true, IfOk};
-ghost use Rattle.door_history.specs.Calls.{PortCall, Asked, given, heard, heard_in, is_done, is_fit, is_ok, is_well};
+ghost use Rattle.doors.specs.Calls.{PortCall, Asked, given, heard, heard_in, is_done, is_fit, is_ok, is_well};
 ghost use Rattle.doors.specs.Answers.{Begins, Starts, heard_of, said_of};
 
-use door_history::{Port, PortOpen, PortSaid};
+use crate::port::{Port, PortOpen, PortSaid};
 use std::alloc::Global;
 use wire_base::{Bytes, NoMemory};
 
@@ -54,7 +54,7 @@ pub(crate) fn given(answer: &[u8]) -> &[u8]
 }
 
 /// Asks a conversation. None where the agent is gone.
-#[tactic(auto, unfolding(door_history::specs::Calls::heard))]
+#[tactic(auto, unfolding(crate::specs::Calls::heard))]
 pub(crate) fn ask<P: Port>(
     port: &mut P,
     conv: u64,
@@ -62,8 +62,9 @@ pub(crate) fn ask<P: Port>(
     answer: &mut Bytes,
 ) -> Result<Option<Answer>, NoMemory>
     requires { is_fit request.now ≡ true }
-    ensures port { IfOk result (λ came. (past : List PortCall) → P.stands past port.old
-        → P.stands (Asked conv request.now (said_of came) answer.new ∷ past) port.new) }
+    ensures port { IfOk result (λ came. (setting : P.Setting) (past : List PortCall)
+        → P.stands setting past port.old
+        → P.stands setting (Asked conv request.now (said_of came) answer.new ∷ past) port.new) }
     ensures heard { IfOk result (λ came. heard (said_of came) answer.new
         ≡ heard_of came answer.new) }
 {
@@ -88,8 +89,9 @@ fn is_well(came: Option<Answer>) -> bool
 
 // Starts a conversation that was opened. Where that isn't answered well, it is closed.
 fn start<P: Port>(alloc: Global, port: &mut P, conv: u64) -> Result<bool, NoMemory>
-    ensures { IfOk result (λ well. (past : List PortCall) → P.stands past port.old
-        → Starts P.stands past port.new conv well) }
+    ensures { IfOk result (λ well. (setting : P.Setting) (past : List PortCall)
+        → P.stands setting past port.old
+        → Starts (P.stands setting) past port.new conv well) }
 {
     let mut answer = Bytes::new(alloc);
     let came = ask(port, conv, START, &mut answer)?;
@@ -102,8 +104,9 @@ fn start<P: Port>(alloc: Global, port: &mut P, conv: u64) -> Result<bool, NoMemo
 
 /// Begins a conversation by which a user is to be authenticated. None where the agent refuses it or is gone.
 pub(crate) fn begin<P: Port>(alloc: Global, port: &mut P) -> Result<Option<u64>, NoMemory>
-    ensures { IfOk result (λ begun. (past : List PortCall) → P.stands past port.old
-        → Begins P.stands past port.new begun) }
+    ensures { IfOk result (λ begun. (setting : P.Setting) (past : List PortCall)
+        → P.stands setting past port.old
+        → Begins (P.stands setting) past port.new begun) }
 {
     match port.open() {
         PortOpen::Open(conv) => {

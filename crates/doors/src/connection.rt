@@ -3,8 +3,8 @@ ghost use Rattle.std.specs.Prelude.{◌≡◌, ◌<◌, ◌-◌, ◌^◌, ◌⊎
 ghost use Rattle.nine.specs.Messages.{t_given};
 ghost use Rattle.nine.specs.Decoding.{IsFrame, request_of};
 ghost use Rattle.agent_history.specs.Requests.{effective, is_over, tag_of};
-ghost use Rattle.door_history.specs.Deeds.{Deed};
-ghost use Rattle.door_history.specs.Requests.{granted, granted_body, refusal};
+ghost use Rattle.doors.specs.Deeds.{Deed};
+ghost use Rattle.doors.specs.Requests.{granted, granted_body, refusal};
 ghost use Rattle.doors.specs.Doors.{IsRefusedSo, Keeps, by_refusal};
 
 use crate::fids::Fids;
@@ -93,7 +93,7 @@ impl Connection {
     }
 
     /// The request that a frame is, where no test refuses it before the port is asked.
-    #[tactic(auto, unfolding(door_history::specs::Requests::granted))]
+    #[tactic(auto, unfolding(crate::specs::Requests::granted))]
     pub fn granted(&self, frame: &[u8]) -> Result<TBody, Refused>
         requires { IsFrame frame.now }
         ensures ok { IfOk result (λ body. (done : List Deed) → Keeps done self.now

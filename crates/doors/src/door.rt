@@ -1,12 +1,12 @@
 // The door: one connection that is served.
 ghost use Rattle.std.specs.Prelude.{◌≡◌, [], List, IsErr, true, OnOk, OnErr};
 ghost use Rattle.nine.specs.Decoding.{IsFrame};
-ghost use Rattle.door_history.specs.Calls.{PortCall};
-ghost use Rattle.door_history.specs.Histories.{History};
+ghost use Rattle.doors.specs.Calls.{PortCall};
+ghost use Rattle.doors.specs.Histories.{History};
 ghost use Rattle.doors.specs.Doors.{StandsFor, Stepped, has_failed};
 
 use crate::connection::Connection;
-use door_history::Port;
+use crate::port::Port;
 use std::alloc::Global;
 use wire_base::{Bytes, NoMemory};
 
@@ -38,9 +38,9 @@ impl Door {
         out: &mut Bytes,
     ) -> Result<(), NoMemory>
         requires { IsFrame frame.now }
-        ensures stepped { OnOk result ((before : History) (past : List PortCall)
-            → StandsFor before self.old → P.stands past port.old
-            → Stepped P.stands before past frame.now self.new port.new out.old out.new) }
+        ensures stepped { OnOk result ((before : History) (setting : P.Setting) (past : List PortCall)
+            → StandsFor before self.old → P.stands setting past port.old
+            → Stepped (P.stands setting) before past frame.now self.new port.new out.old out.new) }
         ensures fails { OnErr result (has_failed self.new ≡ true) }
         ensures failed { has_failed self.old ≡ true → IsErr result }
         ensures same { OnErr result (out.new ≡ out.old) }

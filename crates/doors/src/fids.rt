@@ -1,9 +1,9 @@
 // The fids of one connection.
 ghost use Rattle.std.specs.Prelude.{◌≡◌, [], ◌++◌, ◌∷◌, ◌==◌, OnOk, OnErr, option_copied, option_map, position, find};
-ghost use Rattle.door_history.specs.Fids.{holds, is_full, is_held, named, renamed, without};
-ghost use Rattle.door_history.specs.Requests.{authenticates};
+ghost use Rattle.doors.specs.Fids.{holds, is_full, is_held, named, renamed, without};
+ghost use Rattle.doors.specs.Requests.{authenticates};
 
-use door_history::{AuthFid, Held, Names};
+use crate::fid::{AuthFid, Held, Names};
 use std::alloc::Global;
 use std::marker::Model;
 use wire_base::NoMemory;
@@ -19,7 +19,7 @@ pub struct Fids {
 
 impl Model for Fids {
     ghost use Rattle.std.specs.Prelude.{List};
-    ghost use Rattle.door_history.specs.declared.fid.Held.{Held};
+    ghost use Rattle.doors.specs.declared.fid.Held.{Held};
 
     ghost Value = { List Held };
 

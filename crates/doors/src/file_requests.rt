@@ -2,17 +2,18 @@
 ghost use Rattle.std.specs.Prelude.{◌≡◌, ◌≤◌, ◌<◌, ◌^◌, ◌+◌, ◌++◌, ◌∷◌, [], ℕ, List, Some, length, map, OnOk, OnErr, IfOk};
 ghost use Rattle.nine.specs.declared.message.TBody.TheVariants as t;
 ghost use Rattle.agent_history.specs.Requests.{piece};
-ghost use Rattle.door_history.specs.declared.fid.FileFid.{FileFid};
-ghost use Rattle.door_history.specs.declared.fid.Names.TheVariants.{File};
-ghost use Rattle.door_history.specs.declared.file.DoorFile.TheVariants.{Root, Who};
-ghost use Rattle.door_history.specs.Deeds.{Deed, Became};
-ghost use Rattle.door_history.specs.Fids.{named, opened, read_to};
-ghost use Rattle.door_history.specs.Requests.{walking};
-ghost use Rattle.door_history.specs.Tree.{content_of, lead_to, listed, qid_of, visited, who_text};
+ghost use Rattle.doors.specs.declared.fid.FileFid.{FileFid};
+ghost use Rattle.doors.specs.declared.fid.Names.TheVariants.{File};
+ghost use Rattle.doors.specs.declared.file.DoorFile.TheVariants.{Root, Who};
+ghost use Rattle.doors.specs.Deeds.{Deed, Became};
+ghost use Rattle.doors.specs.Fids.{named, opened, read_to};
+ghost use Rattle.doors.specs.Requests.{walking};
+ghost use Rattle.doors.specs.Tree.{content_of, lead_to, listed, qid_of, visited, who_text};
 ghost use Rattle.doors.specs.Doors.{Keeps, Served, reply_under};
 
 use crate::connection::Connection;
-use door_history::{DoorFile, FileFid, Names};
+use crate::fid::{FileFid, Names};
+use crate::file::DoorFile;
 use nine::{QidList, put_open, put_read, put_stat, put_walk};
 use std::alloc::Global;
 use wire_base::{Bytes, NoMemory, Text};
@@ -101,7 +102,7 @@ impl Connection {
 
     /// Walk: the new fid names the file to which the names lead, where all of them lead to one. A fid that names no file
     /// leads nowhere.
-    #[tactic(auto, unfolding(door_history::specs::Requests::after, door_history::specs::Requests::reply_of))]
+    #[tactic(auto, unfolding(crate::specs::Requests::after, crate::specs::Requests::reply_of))]
     pub fn walk(
         &mut self,
         tag: u16,
@@ -139,7 +140,7 @@ impl Connection {
     }
 
     /// Open: the file is open. A fid that names no file is as before.
-    #[tactic(auto, unfolding(door_history::specs::Requests::after, door_history::specs::Requests::reply_of))]
+    #[tactic(auto, unfolding(crate::specs::Requests::after, crate::specs::Requests::reply_of))]
     pub fn open(&mut self, tag: u16, fid: u32, out: &mut Bytes) -> Result<(), NoMemory>
         ensures ok { (mode : ℕ) → OnOk result ((done : List Deed) → Keeps done self.old
             → Served done tag (t.Open fid mode) [] self.new out.old out.new) }
@@ -155,7 +156,7 @@ impl Connection {
     }
 
     /// Stat: the record of what the fid names.
-    #[tactic(auto, unfolding(door_history::specs::Requests::after, door_history::specs::Requests::reply_of))]
+    #[tactic(auto, unfolding(crate::specs::Requests::after, crate::specs::Requests::reply_of))]
     pub fn stat(&self, tag: u16, fid: u32, out: &mut Bytes) -> Result<(), NoMemory>
         ensures ok { OnOk result ((done : List Deed) → Keeps done self.now
             → Served done tag (t.Stat fid) [] self.now out.old out.new) }

@@ -3,21 +3,23 @@ ghost use Rattle.std.specs.Prelude.{◌≡◌, ◌<◌, ◌^◌, ◌++◌, ◌�
 ghost use Rattle.nine.specs.declared.message.TBody.TheVariants as t;
 ghost use Rattle.sealing.specs.InfoReading.{info_reading};
 ghost use Rattle.agent_history.specs.Requests.{agreed, is_known};
-ghost use Rattle.door_history.specs.declared.fid.AuthFid.{AuthFid};
-ghost use Rattle.door_history.specs.declared.fid.Held.{Held};
-ghost use Rattle.door_history.specs.declared.fid.Names.TheVariants.{Conversation};
-ghost use Rattle.door_history.specs.Calls.{PortCall, heard, info_request, is_fit, write_text};
-ghost use Rattle.door_history.specs.Deeds.{Deed, Became, Came, Versioned};
-ghost use Rattle.door_history.specs.Fids.{begun, conversations, keeping, named};
-ghost use Rattle.door_history.specs.Requests.{accepts, closings, heard_in, refusal, to_read, told, vouches};
+ghost use Rattle.doors.specs.declared.fid.AuthFid.{AuthFid};
+ghost use Rattle.doors.specs.declared.fid.Held.{Held};
+ghost use Rattle.doors.specs.declared.fid.Names.TheVariants.{Conversation};
+ghost use Rattle.doors.specs.Calls.{PortCall, heard, info_request, is_fit, write_text};
+ghost use Rattle.doors.specs.Deeds.{Deed, Became, Came, Versioned};
+ghost use Rattle.doors.specs.Fids.{begun, conversations, keeping, named};
+ghost use Rattle.doors.specs.Requests.{accepts, closings, heard_in, refusal, to_read, told, vouches};
 ghost use Rattle.doors.specs.Answers.{IsFound, asked, heard_of, said_of};
 ghost use Rattle.doors.specs.Doors.{Carried, Closes, GivesUp, Keeps, Served, reply_under};
 
 use crate::asking::{Answer, ask, begin, given};
 use crate::connection::Connection;
+use crate::fid::{AuthFid, FileFid, Held, Names};
+use crate::file::DoorFile;
+use crate::port::Port;
 use crate::reading::{Found, find};
 use crate::refusal::Refusal;
-use door_history::{AuthFid, DoorFile, FileFid, Held, Names, Port};
 use nine::{Qid, put_attach, put_auth, put_clunk, put_error, put_read, put_version, put_write};
 use sealing::read_info;
 use std::alloc::Global;
@@ -70,8 +72,8 @@ fn answered(version: &[u8]) -> &'static [u8]
 
 // Closes all conversations that fids name.
 fn close_all<P: Port>(held: &[Held], port: &mut P)
-    ensures { (past : List PortCall) → P.stands past port.old
-        → P.stands (closings (conversations held.now) ++ past) port.new }
+    ensures { (setting : P.Setting) (past : List PortCall) → P.stands setting past port.old
+        → P.stands setting (closings (conversations held.now) ++ past) port.new }
 {
     let [first, rest @ ..] = held else {
         return;
@@ -129,7 +131,7 @@ fn write_request(alloc: Global, content: &[u8]) -> Result<Bytes, NoMemory>
 impl Connection {
     /// Version: all fids are given up and their conversations closed, and a largest message is agreed where the version is
     /// known.
-    #[tactic(auto, unfolding(door_history::specs::Requests::after, door_history::specs::Requests::reply_of))]
+    #[tactic(auto, unfolding(crate::specs::Requests::after, crate::specs::Requests::reply_of))]
     pub fn version<P: Port>(
         &mut self,
         tag: u16,
@@ -138,8 +140,9 @@ impl Connection {
         port: &mut P,
         out: &mut Bytes,
     ) -> Result<(), NoMemory>
-        ensures ok { OnOk result ((done : List Deed) (past : List PortCall) → Keeps done self.old
-            → P.stands past port.old → Carried P.stands done past tag
+        ensures ok { OnOk result ((done : List Deed) (setting : P.Setting) (past : List PortCall)
+            → Keeps done self.old
+            → P.stands setting past port.old → Carried (P.stands setting) done past tag
             (t.Version msize version.now) self.new port.new out.old out.new) }
         ensures err { OnErr result (out.new ≡ out.old) }
     {
@@ -151,7 +154,7 @@ impl Connection {
     }
 
     /// Auth: the fid names a conversation for this user and this tree.
-    #[tactic(auto, unfolding(door_history::specs::Requests::after, door_history::specs::Requests::reply_of))]
+    #[tactic(auto, unfolding(crate::specs::Requests::after, crate::specs::Requests::reply_of))]
     pub fn auth<P: Port>(
         &mut self,
         tag: u16,
@@ -161,8 +164,9 @@ impl Connection {
         port: &mut P,
         out: &mut Bytes,
     ) -> Result<(), NoMemory>
-        ensures ok { OnOk result ((done : List Deed) (past : List PortCall) → Keeps done self.old
-            → P.stands past port.old → Carried P.stands done past tag
+        ensures ok { OnOk result ((done : List Deed) (setting : P.Setting) (past : List PortCall)
+            → Keeps done self.old
+            → P.stands setting past port.old → Carried (P.stands setting) done past tag
             (t.Auth afid uname aname) self.new port.new out.old out.new) }
         ensures err { OnErr result (out.new ≡ out.old) }
     {
@@ -180,7 +184,7 @@ impl Connection {
     }
 
     // The fid names the root for the user for whom the answer vouches.
-    #[tactic(auto, unfolding(door_history::specs::Requests::after, door_history::specs::Requests::reply_of))]
+    #[tactic(auto, unfolding(crate::specs::Requests::after, crate::specs::Requests::reply_of))]
     fn admit(
         &mut self,
         tag: u16,
@@ -219,8 +223,8 @@ impl Connection {
         port: &mut P,
         out: &mut Bytes,
     ) -> Result<(), NoMemory>
-        ensures ok { OnOk result ((done : List Deed) (past : List PortCall) (aname : List ℕ)
-            → Keeps done self.old → P.stands past port.old → Carried P.stands done past tag
+        ensures ok { OnOk result ((done : List Deed) (setting : P.Setting) (past : List PortCall) (aname : List ℕ)
+            → Keeps done self.old → P.stands setting past port.old → Carried (P.stands setting) done past tag
             (t.Attach fid afid uname aname) self.new port.new out.old out.new) }
         ensures err { OnErr result (out.new ≡ out.old) }
     {
@@ -234,7 +238,7 @@ impl Connection {
     }
 
     // Hands over as many of the bytes as there is room for, and keeps the others.
-    #[tactic(auto, unfolding(door_history::specs::Requests::after, door_history::specs::Requests::reply_of))]
+    #[tactic(auto, unfolding(crate::specs::Requests::after, crate::specs::Requests::reply_of))]
     fn hand_over(
         &mut self,
         tag: u16,
@@ -266,7 +270,7 @@ impl Connection {
     }
 
     // Answers a read of a conversation by what was found.
-    #[tactic(auto, unfolding(door_history::specs::Requests::after, door_history::specs::Requests::reply_of))]
+    #[tactic(auto, unfolding(crate::specs::Requests::after, crate::specs::Requests::reply_of))]
     fn answer_read(
         &mut self,
         tag: u16,
@@ -300,8 +304,9 @@ impl Connection {
         port: &mut P,
         out: &mut Bytes,
     ) -> Result<(), NoMemory>
-        ensures ok { OnOk result ((done : List Deed) (past : List PortCall) → Keeps done self.old
-            → P.stands past port.old → Carried P.stands done past tag
+        ensures ok { OnOk result ((done : List Deed) (setting : P.Setting) (past : List PortCall)
+            → Keeps done self.old
+            → P.stands setting past port.old → Carried (P.stands setting) done past tag
             (t.Read fid offset count) self.new port.new out.old out.new) }
         ensures err { OnErr result (out.new ≡ out.old) }
     {
@@ -316,7 +321,7 @@ impl Connection {
     }
 
     // Answers a write to a conversation by what it answered.
-    #[tactic(auto, unfolding(door_history::specs::Requests::after, door_history::specs::Requests::reply_of))]
+    #[tactic(auto, unfolding(crate::specs::Requests::after, crate::specs::Requests::reply_of))]
     fn answer_write(
         &self,
         tag: u16,
@@ -341,7 +346,7 @@ impl Connection {
     }
 
     /// Write to a conversation. What isn't one can't be written.
-    #[tactic(auto, unfolding(door_history::specs::Requests::after, door_history::specs::Requests::reply_of))]
+    #[tactic(auto, unfolding(crate::specs::Requests::after, crate::specs::Requests::reply_of))]
     pub fn write<P: Port>(
         &mut self,
         tag: u16,
@@ -352,8 +357,8 @@ impl Connection {
     ) -> Result<(), NoMemory>
         requires short { length content.now < 2 ^ 32 }
         requires tested { refusal self.old.fids (t.Write fid 0 content.now) ≡ None }
-        ensures ok { OnOk result ((done : List Deed) (past : List PortCall) (offset : ℕ)
-            → Keeps done self.old → P.stands past port.old → Carried P.stands done past tag
+        ensures ok { OnOk result ((done : List Deed) (setting : P.Setting) (past : List PortCall) (offset : ℕ)
+            → Keeps done self.old → P.stands setting past port.old → Carried (P.stands setting) done past tag
             (t.Write fid offset content.now) self.new port.new out.old out.new) }
         ensures err { OnErr result (out.new ≡ out.old) }
     {
@@ -368,8 +373,8 @@ impl Connection {
 
     // The conversation that a fid names is closed, if it names one.
     fn close<P: Port>(&self, fid: u32, port: &mut P)
-        ensures { (past : List PortCall) → P.stands past port.old
-            → Closes P.stands past (named fid self.now.fids) port.new }
+        ensures { (setting : P.Setting) (past : List PortCall) → P.stands setting past port.old
+            → Closes (P.stands setting) past (named fid self.now.fids) port.new }
     {
         let Some(conversation) = self.fids.conversation(fid) else {
             return;
@@ -379,15 +384,16 @@ impl Connection {
 
     // The fid is given up, and its conversation closed, if it names one.
     fn give_up<P: Port>(&mut self, fid: u32, port: &mut P)
-        ensures { (done : List Deed) (past : List PortCall) → Keeps done self.old
-            → P.stands past port.old → GivesUp P.stands done past fid self.new port.new }
+        ensures { (done : List Deed) (setting : P.Setting) (past : List PortCall)
+            → Keeps done self.old
+            → P.stands setting past port.old → GivesUp (P.stands setting) done past fid self.new port.new }
     {
         self.close(fid, port);
         self.fids.remove(fid);
     }
 
     /// Clunk: the fid is given up, and its conversation closed, if it names one.
-    #[tactic(auto, unfolding(door_history::specs::Requests::after, door_history::specs::Requests::reply_of))]
+    #[tactic(auto, unfolding(crate::specs::Requests::after, crate::specs::Requests::reply_of))]
     pub fn clunk<P: Port>(
         &mut self,
         tag: u16,
@@ -395,8 +401,9 @@ impl Connection {
         port: &mut P,
         out: &mut Bytes,
     ) -> Result<(), NoMemory>
-        ensures ok { OnOk result ((done : List Deed) (past : List PortCall) → Keeps done self.old
-            → P.stands past port.old → Carried P.stands done past tag
+        ensures ok { OnOk result ((done : List Deed) (setting : P.Setting) (past : List PortCall)
+            → Keeps done self.old
+            → P.stands setting past port.old → Carried (P.stands setting) done past tag
             (t.Clunk fid) self.new port.new out.old out.new) }
         ensures err { OnErr result (out.new ≡ out.old) }
     {
@@ -405,7 +412,7 @@ impl Connection {
     }
 
     /// Remove: a clunk that is answered by a refusal.
-    #[tactic(auto, unfolding(door_history::specs::Requests::after, door_history::specs::Requests::reply_of))]
+    #[tactic(auto, unfolding(crate::specs::Requests::after, crate::specs::Requests::reply_of))]
     pub fn remove<P: Port>(
         &mut self,
         tag: u16,
@@ -413,8 +420,9 @@ impl Connection {
         port: &mut P,
         out: &mut Bytes,
     ) -> Result<(), NoMemory>
-        ensures ok { OnOk result ((done : List Deed) (past : List PortCall) → Keeps done self.old
-            → P.stands past port.old → Carried P.stands done past tag
+        ensures ok { OnOk result ((done : List Deed) (setting : P.Setting) (past : List PortCall)
+            → Keeps done self.old
+            → P.stands setting past port.old → Carried (P.stands setting) done past tag
             (t.Remove fid) self.new port.new out.old out.new) }
         ensures err { OnErr result (out.new ≡ out.old) }
     {

@@ -1,10 +1,11 @@
 // What a read of a conversation finds.
 ghost use Rattle.std.specs.Prelude.{◌≡◌, ℕ, [], List, IfOk};
-ghost use Rattle.door_history.specs.Calls.{PortCall, heard};
+ghost use Rattle.doors.specs.Calls.{PortCall, heard};
 ghost use Rattle.doors.specs.Answers.{Finds, IsFound, asked, heard_of, said_of};
 
 use crate::asking::{Answer, ask, given};
-use door_history::{AuthFid, Port};
+use crate::fid::AuthFid;
+use crate::port::Port;
 use std::alloc::Global;
 use wire_base::{Bytes, NoMemory};
 
@@ -43,8 +44,9 @@ pub(crate) fn find<P: Port>(
     conversation: &AuthFid,
     port: &mut P,
 ) -> Result<Found, NoMemory>
-    ensures { IfOk result (λ found. (past : List PortCall) → P.stands past port.old
-        → Finds P.stands past port.new conversation.now.conv conversation.now.kept found) }
+    ensures { IfOk result (λ found. (setting : P.Setting) (past : List PortCall)
+        → P.stands setting past port.old
+        → Finds (P.stands setting) past port.new conversation.now.conv conversation.now.kept found) }
 {
     if conversation.kept.len() > 0 {
         let kept = conversation.kept.copy()?;

@@ -2,14 +2,14 @@
 ghost use Rattle.std.specs.Prelude.{◌≡◌, List, None, OnOk, OnErr};
 ghost use Rattle.nine.specs.Messages.{t_given};
 ghost use Rattle.nine.specs.Decoding.{IsFrame};
-ghost use Rattle.door_history.specs.Calls.{PortCall};
-ghost use Rattle.door_history.specs.Deeds.{Deed};
-ghost use Rattle.door_history.specs.Requests.{refusal};
+ghost use Rattle.doors.specs.Calls.{PortCall};
+ghost use Rattle.doors.specs.Deeds.{Deed};
+ghost use Rattle.doors.specs.Requests.{refusal};
 ghost use Rattle.doors.specs.Doors.{Answered, Carried, Keeps};
 
 use crate::connection::{Connection, tag_of};
+use crate::port::Port;
 use crate::refusal::{Refusal, Refused};
-use door_history::Port;
 use nine::{TBody, put_error, put_flush};
 use wire_base::{Bytes, NoMemory};
 
@@ -24,9 +24,10 @@ impl Connection {
     ) -> Result<(), NoMemory>
         requires given { t_given body }
         requires tested { refusal self.old.fids body ≡ None }
-        ensures ok { OnOk result ((done : List Deed) (past : List PortCall) → Keeps done self.old
-            → P.stands past port.old
-            → Carried P.stands done past tag body self.new port.new out.old out.new) }
+        ensures ok { OnOk result ((done : List Deed) (setting : P.Setting) (past : List PortCall)
+            → Keeps done self.old
+            → P.stands setting past port.old
+            → Carried (P.stands setting) done past tag body self.new port.new out.old out.new) }
         ensures err { OnErr result (out.new ≡ out.old) }
     {
         match body {
@@ -65,9 +66,10 @@ impl Connection {
         out: &mut Bytes,
     ) -> Result<(), NoMemory>
         requires { IsFrame frame.now }
-        ensures ok { OnOk result ((done : List Deed) (past : List PortCall) → Keeps done self.old
-            → P.stands past port.old
-            → Answered P.stands done past frame.now self.new port.new out.old out.new) }
+        ensures ok { OnOk result ((done : List Deed) (setting : P.Setting) (past : List PortCall)
+            → Keeps done self.old
+            → P.stands setting past port.old
+            → Answered (P.stands setting) done past frame.now self.new port.new out.old out.new) }
         ensures err { OnErr result (out.new ≡ out.old) }
     {
         match self.granted(frame) {

@@ -3,13 +3,14 @@ ghost use Rattle.std.specs.Prelude.{◌≡◌, ℕ, List, Some};
 ghost use Rattle.nine.specs.declared.message.TBody.TheVariants as t;
 ghost use Rattle.wire_base.specs.Rules.{first_told};
 ghost use Rattle.agent_history.specs.Requests.{comes_first};
-ghost use Rattle.door_history.specs.declared.fid.Held.{Held};
-ghost use Rattle.door_history.specs.Requests.{is_for, lacks_first, open_tests, read_tests, refusal, walk_tests, write_tests};
+ghost use Rattle.doors.specs.declared.fid.Held.{Held};
+ghost use Rattle.doors.specs.Requests.{is_for, lacks_first, open_tests, read_tests, refusal, walk_tests, write_tests};
 ghost use Rattle.doors.specs.Refusals.{told};
 
+use crate::fid::{AuthFid, Names};
 use crate::fids::Fids;
+use crate::file::DoorFile;
 use crate::refusal::Refusal;
-use door_history::{AuthFid, DoorFile, Names};
 use nine::TBody;
 use wire_base::Text;
 
@@ -131,7 +132,7 @@ fn write_refusal(names: &Names, content: &[u8]) -> Option<Refusal>
     }
 }
 
-#[tactic(auto, unfolding(door_history::specs::Requests::refusal))]
+#[tactic(auto, unfolding(crate::specs::Requests::refusal))]
 fn version_refusal(msize: u32) -> Option<Refusal>
     ensures { (all : List Held) (version : List ℕ) → told result
         ≡ refusal all (t.Version msize version) }
@@ -143,7 +144,7 @@ fn version_refusal(msize: u32) -> Option<Refusal>
 }
 
 impl Fids {
-    #[tactic(auto, unfolding(door_history::specs::Requests::refusal))]
+    #[tactic(auto, unfolding(crate::specs::Requests::refusal))]
     fn auth_refusal(&self, afid: u32) -> Option<Refusal>
         ensures { (uname aname : List ℕ) → told result
             ≡ refusal self.now (t.Auth afid uname aname) }
@@ -160,7 +161,7 @@ impl Fids {
         None
     }
 
-    #[tactic(auto, unfolding(door_history::specs::Requests::refusal))]
+    #[tactic(auto, unfolding(crate::specs::Requests::refusal))]
     fn attach_refusal(&self, fid: u32, afid: u32, uname: &[u8], aname: &[u8]) -> Option<Refusal>
         ensures { told result ≡ refusal self.now (t.Attach fid afid uname.now aname.now) }
     {
@@ -180,7 +181,7 @@ impl Fids {
     }
 
     // Of what no file and no conversation allows.
-    #[tactic(auto, unfolding(door_history::specs::Requests::refusal))]
+    #[tactic(auto, unfolding(crate::specs::Requests::refusal))]
     fn denial(&self, fid: u32) -> Option<Refusal>
         ensures create { (name : List ℕ) (perm mode : ℕ) → told result
             ≡ refusal self.now (t.Create fid name perm mode) }
@@ -193,7 +194,7 @@ impl Fids {
     }
 
     // Of a request that a fid which is held allows.
-    #[tactic(auto, unfolding(door_history::specs::Requests::refusal))]
+    #[tactic(auto, unfolding(crate::specs::Requests::refusal))]
     fn held_refusal(&self, fid: u32) -> Option<Refusal>
         ensures clunk { told result ≡ refusal self.now (t.Clunk fid) }
         ensures remove { told result ≡ refusal self.now (t.Remove fid) }
@@ -204,7 +205,7 @@ impl Fids {
         }
     }
 
-    #[tactic(auto, unfolding(door_history::specs::Requests::refusal))]
+    #[tactic(auto, unfolding(crate::specs::Requests::refusal))]
     fn stat_refusal(&self, fid: u32) -> Option<Refusal>
         ensures { told result ≡ refusal self.now (t.Stat fid) }
     {
@@ -216,7 +217,7 @@ impl Fids {
     }
 
     /// Why a request is refused before the port is asked, if it is.
-    #[tactic(auto, unfolding(door_history::specs::Requests::refusal))]
+    #[tactic(auto, unfolding(crate::specs::Requests::refusal))]
     pub fn refusal(&self, body: &TBody) -> Option<Refusal>
         ensures { told result ≡ refusal self.now body.now }
     {
@@ -244,7 +245,7 @@ impl Fids {
         }
     }
 
-    #[tactic(auto, unfolding(door_history::specs::Requests::refusal))]
+    #[tactic(auto, unfolding(crate::specs::Requests::refusal))]
     fn walk_refusal(&self, fid: u32, newfid: u32, wname: &[Text]) -> Option<Refusal>
         ensures { told result ≡ refusal self.now (t.Walk fid newfid wname.now) }
     {
@@ -260,7 +261,7 @@ impl Fids {
         )
     }
 
-    #[tactic(auto, unfolding(door_history::specs::Requests::refusal))]
+    #[tactic(auto, unfolding(crate::specs::Requests::refusal))]
     fn open_refusal(&self, fid: u32, mode: u8) -> Option<Refusal>
         ensures { told result ≡ refusal self.now (t.Open fid mode) }
     {
@@ -270,7 +271,7 @@ impl Fids {
         open_refusal(names, mode)
     }
 
-    #[tactic(auto, unfolding(door_history::specs::Requests::refusal))]
+    #[tactic(auto, unfolding(crate::specs::Requests::refusal))]
     fn read_refusal(&self, fid: u32, offset: u64) -> Option<Refusal>
         ensures { (count : ℕ) → told result ≡ refusal self.now (t.Read fid offset count) }
     {
@@ -280,7 +281,7 @@ impl Fids {
         read_refusal(names, offset)
     }
 
-    #[tactic(auto, unfolding(door_history::specs::Requests::refusal))]
+    #[tactic(auto, unfolding(crate::specs::Requests::refusal))]
     fn write_refusal(&self, fid: u32, content: &[u8]) -> Option<Refusal>
         ensures { (offset : ℕ) → told result
             ≡ refusal self.now (t.Write fid offset content.now) }

@@ -1,5 +1,5 @@
 use Rattle.std.proofs.Common.{◌≡◌, ◌≤◌, ◌++◌, drop, length, map}
-use Rattle.door_history.specs.Tree.{lead_to, qid_of, visited}
+use Rattle.doors.specs.Tree.{lead_to, qid_of, visited}
 use Rattle.doors.proofs.file_requests.walk_from.Given as goal
 
 abbrev pub invariant-loop-name : goal.invariant-loop-name

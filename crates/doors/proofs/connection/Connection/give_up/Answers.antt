@@ -1,12 +1,12 @@
 use Rattle.std.proofs.Common.{◌≡◌, List, [], ◌∷◌, ap, subst, ◌∙◌}
-use Rattle.door_history.specs.declared.fid.Held.{Held}
-use Rattle.door_history.specs.Fids.{named, without}
-use Rattle.door_history.specs.Requests.{OfNames, closings}
+use Rattle.doors.specs.declared.fid.Held.{Held}
+use Rattle.doors.specs.Fids.{named, without}
+use Rattle.doors.specs.Requests.{OfNames, closings}
 use Rattle.doors.proofs.connection.Connection.give_up.Goals as goal
 
 pub returns : goal.returns
-returns g c = λ done past keeps told.
-    let closed = c.close.ensures past told in
+returns g c = λ done setting past keeps told.
+    let closed = c.close.ensures setting past told in
     record {
       calls = closed.calls;
       asks = subst (λ (all : List Held). OfNames (λ a calls. calls ≡ closings (a.conv ∷ [])) (named c.args.fid all) closed.calls) keeps.held closed.asks;

@@ -1,7 +1,7 @@
 use Rattle.std.proofs.Common.{Some, sym, ap, ◌∙◌}
 use Rattle.std.proofs.lemmas.Result.{on_ok_weaker}
-use Rattle.door_history.specs.declared.fid.FileFid.{FileFid}
-use Rattle.door_history.specs.declared.fid.Names.{Names}
+use Rattle.doors.specs.declared.fid.FileFid.{FileFid}
+use Rattle.doors.specs.declared.fid.Names.{Names}
 use Rattle.doors.proofs.ReadLemmas.{read_root}
 use Rattle.doors.proofs.ServeLemmas.{same_file}
 use Rattle.doors.proofs.connection.Connection.read_root.Goals as goal

@@ -1,6 +1,6 @@
 use Rattle.std.proofs.Common.{Some, sym, ap, ◌∙◌}
 use Rattle.std.proofs.lemmas.Result.{on_ok_weaker}
-use Rattle.door_history.specs.declared.fid.Names.{Names}
+use Rattle.doors.specs.declared.fid.Names.{Names}
 use Rattle.doors.proofs.ServeLemmas.{walked_so}
 use Rattle.doors.proofs.connection.Connection.walk.Goals as goal
 

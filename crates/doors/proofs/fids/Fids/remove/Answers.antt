@@ -1,6 +1,6 @@
 use Rattle.std.proofs.Common.{not, ◌==◌, rules}
 use Rattle.std.proofs.lemmas.Fn.{filter_same}
-use Rattle.door_history.specs.declared.fid.Held.{Held}
+use Rattle.doors.specs.declared.fid.Held.{Held}
 use Rattle.doors.proofs.fids.Fids.remove.Goals as goal
 
 pub returns : goal.returns

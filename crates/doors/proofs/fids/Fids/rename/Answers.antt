@@ -1,6 +1,6 @@
 use Rattle.std.proofs.Common.{List, sym, ap, ◌∙◌}
 use Rattle.std.specs.Prelude.{position}
-use Rattle.door_history.specs.declared.fid.Held.{Held}
+use Rattle.doors.specs.declared.fid.Held.{Held}
 use Rattle.doors.proofs.FidLemmas.{is_fid, renamed_at, renamed_none}
 use Rattle.doors.proofs.fids.Fids.rename.Goals as goal
 

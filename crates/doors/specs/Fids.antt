@@ -1,12 +1,12 @@
 -- What the fids of a connection name: files of the tree, or conversations by which users are authenticated (attach(5)).
 use Rattle.std.specs.Prelude.{ℕ, List, [], ◌∷◌, length, filter, find, nat_le, Bool, true, false, not, ◌==◌, Option, Some, None, option_map, is_some, if◌then◌else◌}
 use Rattle.std.specs.List.{filter_map}
-use Rattle.door_history.specs.declared.file.DoorFile.{DoorFile}
-use Rattle.door_history.specs.declared.fid.FileFid.{FileFid}
-use Rattle.door_history.specs.declared.fid.AuthFid.{AuthFid}
-use Rattle.door_history.specs.declared.fid.Names.{Names}
-use Rattle.door_history.specs.declared.fid.Names.TheVariants.{File, Conversation}
-use Rattle.door_history.specs.declared.fid.Held.{Held}
+use Rattle.doors.specs.declared.file.DoorFile.{DoorFile}
+use Rattle.doors.specs.declared.fid.FileFid.{FileFid}
+use Rattle.doors.specs.declared.fid.AuthFid.{AuthFid}
+use Rattle.doors.specs.declared.fid.Names.{Names}
+use Rattle.doors.specs.declared.fid.Names.TheVariants.{File, Conversation}
+use Rattle.doors.specs.declared.fid.Held.{Held}
 
 -- how many fids may be held
 abbrev pub most_fids : ℕ

@@ -2,9 +2,9 @@
 -- and the words with which their answers begin. That a server of p9any is asked alone is this project's.
 use Rattle.std.specs.Prelude.{◌≡◌, ℕ, List, [], ◌∷◌, ◌++◌, length, take, drop, nat_le, Bool, true, false, not, ◌&&◌, ◌||◌, ◌==◌, Option, Some, None, codes, if◌then◌else◌}
 use Rattle.std.specs.Str.{bytes_eq}
-use Rattle.door_history.specs.declared.port.PortOpen.{PortOpen}
-use Rattle.door_history.specs.declared.port.PortSaid.{PortSaid}
-use Rattle.door_history.specs.declared.port.PortSaid.TheVariants.{Said, Gone}
+use Rattle.doors.specs.declared.port.PortOpen.{PortOpen}
+use Rattle.doors.specs.declared.port.PortSaid.{PortSaid}
+use Rattle.doors.specs.declared.port.PortSaid.TheVariants.{Said, Gone}
 
 -- a call of a port, and what came of it
 pub data PortCall : Type 0 where

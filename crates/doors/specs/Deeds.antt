@@ -1,9 +1,9 @@
 -- What was done with the fids of a connection, as a list of deeds, the newest first; what stands is read off it.
 -- After section 5 of the Plan 9 manual (version, attach, walk, open, read, clunk).
 use Rattle.std.specs.Prelude.{ℕ, List, [], ◌∷◌, ◌++◌, Option, None}
-use Rattle.door_history.specs.declared.fid.Names.{Names}
-use Rattle.door_history.specs.declared.fid.Held.{Held}
-use Rattle.door_history.specs.Fids.{holds, renamed, without}
+use Rattle.doors.specs.declared.fid.Names.{Names}
+use Rattle.doors.specs.declared.fid.Held.{Held}
+use Rattle.doors.specs.Fids.{holds, renamed, without}
 
 pub data Deed : Type 0 where
   -- a version was answered, and all fids were given up: this largest message was agreed, or none

@@ -13,19 +13,19 @@ use Rattle.nine.specs.declared.message.RBody.TheVariants as r
 use Rattle.nine.specs.Decoding.{request_of}
 use Rattle.sealing.specs.InfoReading.{info_reading}
 use Rattle.agent_history.specs.Requests.{Test, agreed, comes_first, effective, is_known, is_over, least_msize, most_msize, nofid}
-use Rattle.door_history.specs.declared.port.PortOpen.{PortOpen}
-use Rattle.door_history.specs.declared.port.PortOpen.TheVariants.{Open, Refused}
-use Rattle.door_history.specs.declared.fid.FileFid.{FileFid}
-use Rattle.door_history.specs.declared.fid.AuthFid.{AuthFid}
-use Rattle.door_history.specs.declared.fid.Names.{Names}
-use Rattle.door_history.specs.declared.fid.Names.TheVariants.{File, Conversation}
-use Rattle.door_history.specs.declared.fid.Held.{Held}
-use Rattle.door_history.specs.declared.file.DoorFile.{DoorFile}
-use Rattle.door_history.specs.declared.file.DoorFile.TheVariants.{Root, Who}
-use Rattle.door_history.specs.Calls.{PortCall, Opened, Asked, Closed, Heard, Well, Ended, Else, Lost, heard, info_request, is_well, most_request, read_text, start_text, write_text}
-use Rattle.door_history.specs.Tree.{auth_qid, content_of, is_directory, lead_to, qid_of, record_of, step, visited}
-use Rattle.door_history.specs.Fids.{at_rest, begun, conversation_in, conversations, is_full, is_held, keeping, named, opened, read_to}
-use Rattle.door_history.specs.Deeds.{Deed, Versioned, Came, Became, Clunked, held_in, msize_of}
+use Rattle.doors.specs.declared.port.PortOpen.{PortOpen}
+use Rattle.doors.specs.declared.port.PortOpen.TheVariants.{Open, Refused}
+use Rattle.doors.specs.declared.fid.FileFid.{FileFid}
+use Rattle.doors.specs.declared.fid.AuthFid.{AuthFid}
+use Rattle.doors.specs.declared.fid.Names.{Names}
+use Rattle.doors.specs.declared.fid.Names.TheVariants.{File, Conversation}
+use Rattle.doors.specs.declared.fid.Held.{Held}
+use Rattle.doors.specs.declared.file.DoorFile.{DoorFile}
+use Rattle.doors.specs.declared.file.DoorFile.TheVariants.{Root, Who}
+use Rattle.doors.specs.Calls.{PortCall, Opened, Asked, Closed, Heard, Well, Ended, Else, Lost, heard, info_request, is_well, most_request, read_text, start_text, write_text}
+use Rattle.doors.specs.Tree.{auth_qid, content_of, is_directory, lead_to, qid_of, record_of, step, visited}
+use Rattle.doors.specs.Fids.{at_rest, begun, conversation_in, conversations, is_full, is_held, keeping, named, opened, read_to}
+use Rattle.doors.specs.Deeds.{Deed, Versioned, Came, Became, Clunked, held_in, msize_of}
 
 -- ---- the tests, by type
 

@@ -12,17 +12,17 @@ use Rattle.wire_base.specs.Rules.{first_told}
 use Rattle.wire_base.specs.declared.name.AuthInfo.{AuthInfo}
 use Rattle.sealing.specs.InfoReading.{info_reading}
 use Rattle.agent_history.specs.Requests.{comes_first}
-use Rattle.door_history.specs.declared.fid.AuthFid.{AuthFid}
-use Rattle.door_history.specs.declared.fid.Names.{Names}
-use Rattle.door_history.specs.declared.fid.Names.TheVariants.{File, Conversation}
-use Rattle.door_history.specs.declared.fid.Held.{Held}
-use Rattle.door_history.specs.Calls.{PortCall, Heard, Well, Ended, Else, Lost, info_request}
-use Rattle.door_history.specs.Fids.{is_full, is_held, named}
-use Rattle.door_history.specs.Deeds.{Deed, held_in, msize_of}
-use Rattle.door_history.specs.Requests.{AsksFor, IsAsked, OfNames, accepts, authenticates, granted_body, heard_in, is_for, refusal, reply_for, reply_of, vouches}
-use Rattle.door_history.specs.declared.file.DoorFile.TheVariants.{Root}
-use Rattle.door_history.specs.Tree.{qid_of}
-use Rattle.door_history.specs.Attaching.{Accepted, AttachesAreVouchedFor, Vouched}
+use Rattle.doors.specs.declared.fid.AuthFid.{AuthFid}
+use Rattle.doors.specs.declared.fid.Names.{Names}
+use Rattle.doors.specs.declared.fid.Names.TheVariants.{File, Conversation}
+use Rattle.doors.specs.declared.fid.Held.{Held}
+use Rattle.doors.specs.Calls.{PortCall, Heard, Well, Ended, Else, Lost, info_request}
+use Rattle.doors.specs.Fids.{is_full, is_held, named}
+use Rattle.doors.specs.Deeds.{Deed, held_in, msize_of}
+use Rattle.doors.specs.Requests.{AsksFor, IsAsked, OfNames, accepts, authenticates, granted_body, heard_in, is_for, refusal, reply_for, reply_of, vouches}
+use Rattle.doors.specs.declared.file.DoorFile.TheVariants.{Root}
+use Rattle.doors.specs.Tree.{qid_of}
+use Rattle.doors.specs.Attaching.{Accepted, AttachesAreVouchedFor, Vouched}
 
 -- of four tests none holds
 last_two : (a b c d : Bool) (s t u v : List ℕ) → first_told ((a, s) ∷ (b, t) ∷ (c, u) ∷ (d, v) ∷ []) ≡ None → (c ≡ false) × (d ≡ false)

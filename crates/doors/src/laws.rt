@@ -1,5 +1,5 @@
 // Laws of the requests of a connection, each the contract of a function that does nothing.
-ghost use Rattle.door_history.specs.Attaching.{AttachesAreVouchedFor};
+ghost use Rattle.doors.specs.Attaching.{AttachesAreVouchedFor};
 
 /// An attach is granted only where its afid names a conversation that was begun for its user and its tree, and that answers
 /// that this user was accepted.

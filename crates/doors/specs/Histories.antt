@@ -4,9 +4,9 @@ use Rattle.std.specs.Prelude.{◌≡◌, ℕ, List, [], ◌∷◌, ◌++◌}
 use Rattle.nine.specs.declared.message.RBody.{RBody}
 use Rattle.nine.specs.Messages.{r_frame}
 use Rattle.agent_history.specs.Requests.{tag_of}
-use Rattle.door_history.specs.Calls.{PortCall}
-use Rattle.door_history.specs.Deeds.{Deed}
-use Rattle.door_history.specs.Requests.{AsksFor, after_granted, granted, reply_for}
+use Rattle.doors.specs.Calls.{PortCall}
+use Rattle.doors.specs.Deeds.{Deed}
+use Rattle.doors.specs.Requests.{AsksFor, after_granted, granted, reply_for}
 
 -- a frame, and the calls of the port that were made for it, the newest first
 pub record Turn : Type 0 where

@@ -4,8 +4,8 @@ use Rattle.std.specs.Prelude.{ℕ, List, [], ◌∷◌, ◌++◌, length, take, 
 use Rattle.std.specs.Str.{bytes_eq}
 use Rattle.nine.specs.declared.qid.Qid.{Qid}
 use Rattle.file_tree.specs.Stats.{stat_text}
-use Rattle.door_history.specs.declared.file.DoorFile.{DoorFile}
-use Rattle.door_history.specs.declared.file.DoorFile.TheVariants.{Root, Who}
+use Rattle.doors.specs.declared.file.DoorFile.{DoorFile}
+use Rattle.doors.specs.declared.file.DoorFile.TheVariants.{Root, Who}
 
 abbrev pub is_directory : DoorFile → Bool
 is_directory Root = true

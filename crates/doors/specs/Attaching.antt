@@ -6,13 +6,13 @@ use Rattle.nine.specs.declared.message.TBody.TheVariants as t
 use Rattle.nine.specs.declared.message.RBody.TheVariants as r
 use Rattle.wire_base.specs.declared.name.AuthInfo.{AuthInfo}
 use Rattle.sealing.specs.InfoReading.{info_reading}
-use Rattle.door_history.specs.declared.fid.AuthFid.{AuthFid}
-use Rattle.door_history.specs.declared.fid.Names.TheVariants.{Conversation}
-use Rattle.door_history.specs.declared.fid.Held.{Held}
-use Rattle.door_history.specs.Calls.{PortCall, Heard, Well, info_request}
-use Rattle.door_history.specs.Fids.{named}
-use Rattle.door_history.specs.Deeds.{Deed, held_in}
-use Rattle.door_history.specs.Requests.{AsksFor, IsAsked, granted_body, heard_in, reply_for}
+use Rattle.doors.specs.declared.fid.AuthFid.{AuthFid}
+use Rattle.doors.specs.declared.fid.Names.TheVariants.{Conversation}
+use Rattle.doors.specs.declared.fid.Held.{Held}
+use Rattle.doors.specs.Calls.{PortCall, Heard, Well, info_request}
+use Rattle.doors.specs.Fids.{named}
+use Rattle.doors.specs.Deeds.{Deed, held_in}
+use Rattle.doors.specs.Requests.{AsksFor, IsAsked, granted_body, heard_in, reply_for}
 
 -- an answer tells that this user was accepted: it is `ok` with an authinfo whose user he is
 pub record Accepted (uname : List ℕ) (heard : Heard) : Type 0 where

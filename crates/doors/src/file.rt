@@ -1,6 +1,6 @@
 // The files that are served.
 ghost use Rattle.std.specs.Prelude.{◌≡◌, ◌≤◌, length};
-ghost use Rattle.door_history.specs.Tree.{is_directory, qid_of, record_of, step};
+ghost use Rattle.doors.specs.Tree.{is_directory, qid_of, record_of, step};
 
 use nine::Qid;
 

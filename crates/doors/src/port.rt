@@ -1,6 +1,6 @@
 //! A port, through which an agent is asked: conversations of it are opened, asked and closed.
 ghost use Rattle.std.specs.Prelude.{◌≡◌, ◌∷◌, true, List};
-ghost use Rattle.door_history.specs.Calls.{Asked, Closed, Opened, PortCall, is_fit};
+ghost use Rattle.doors.specs.Calls.{Asked, Closed, Opened, PortCall, is_fit};
 
 use wire_base::Bytes;
 
@@ -27,25 +27,29 @@ pub enum PortSaid {
 /// What an agent is asked through. A request is one of factotum(4)'s rpc.
 pub trait Port {
     ghost use Rattle.std.specs.Prelude.{List};
-    ghost use Rattle.door_history.specs.Calls.{PortCall};
+    ghost use Rattle.doors.specs.Calls.{PortCall};
 
-    /// The calls that were made of it, the newest first, are these. A port that doesn't tell them stands for none.
-    ghost stands: { List PortCall → Self → Type 0 };
+    // What stood before the calls: of an agent, say, its history so far and the word that it was told.
+    ghost Setting: { Type 0 };
+
+    /// The calls that were made of it in a setting, the newest first, are these. A port that doesn't tell them stands for none.
+    ghost stands: { Self.Setting → List PortCall → Self → Type 0 };
 
     /// Opens a conversation.
     fn open(&mut self) -> PortOpen
-        ensures { (calls : List PortCall) → stands calls self.old
-            → stands (Opened result ∷ calls) self.new };
+        ensures { (setting : Setting) (calls : List PortCall)
+            → stands setting calls self.old → stands setting (Opened result ∷ calls) self.new };
 
     /// Closes a conversation. Where memory is short it stays open, and each later open and request is answered so.
     fn close(&mut self, conv: u64)
-        ensures { (calls : List PortCall) → stands calls self.old
-            → stands (Closed conv ∷ calls) self.new };
+        ensures { (setting : Setting) (calls : List PortCall)
+            → stands setting calls self.old → stands setting (Closed conv ∷ calls) self.new };
 
     /// Asks a conversation; its answer is put in the place of what `out` holds. A start is one of p9any as its server, so that
     /// no answer waits for the authentication server.
     fn rpc(&mut self, conv: u64, request: &[u8], out: &mut Bytes) -> PortSaid
         requires { is_fit request.now ≡ true }
-        ensures { (calls : List PortCall) → stands calls self.old
-            → stands (Asked conv request.now result out.new ∷ calls) self.new };
+        ensures { (setting : Setting) (calls : List PortCall)
+            → stands setting calls self.old
+            → stands setting (Asked conv request.now result out.new ∷ calls) self.new };
 }
