@@ -1,5 +1,5 @@
 -- Of the code alone: where a connection stands between two turns, and what its parts tell each other.
-use Rattle.std.specs.Prelude.{◌≡◌, ◌<◌, ◌≤◌, ℕ, ◌+◌, List, [], ◌∷◌, ◌++◌, length, take, drop, Bool, true, false, Option, ◌⊎◌, Result, Ok, Err}
+use Rattle.std.specs.Prelude.{◌≡◌, ◌<◌, ◌≤◌, ℕ, ◌+◌, List, [], ◌∷◌, ◌++◌, length, take, drop, Bool, true, false, nat_le, Option, ◌⊎◌, Result, Ok, Err}
 use Rattle.std.specs.Io.KnownBytes.{Consumes}
 use Rattle.wire_streams.specs.Streams.{Gains}
 use Rattle.nine.specs.Streams.{front as at_front, IsBad, IsShort}
@@ -90,3 +90,18 @@ BatchEndsSo (Err end) drew came words size old new =
 -- where an input that isn't too long ends
 abbrev pub InputEndsBy : Framing → LineEnd → Type 0
 InputEndsBy f end = ((0 < length f.held) × (end ≡ Torn f.before)) ⊎ ((0 < length f.held → ⊥) × (end ≡ End))
+
+-- With how many bytes of replies kept more frames are handed on, at most: 1 MiB, less what a batch of 32 frames and 64
+-- reads that wait may give in replies of 8216 bytes
+abbrev pub most_left : ℕ
+most_left = 259840
+
+abbrev pub has_room : List ℕ → Bool
+has_room kept = nat_le (length kept) most_left
+
+-- no byte was read and no frame handed on, and no word was drawn; nothing was entered
+pub record HoldsBack (old new : Framing) (before after : Moment) : Type 0 where
+  pub framer : new ≡ old
+  pub seat : after.seat ≡ before.seat
+  pub words : after.words ≡ before.words
+  pub input : after.input ≡ before.input

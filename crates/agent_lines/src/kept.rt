@@ -4,7 +4,7 @@ ghost use Rattle.wire_streams.specs.Causes.{Rose};
 ghost use Rattle.agent_hub.specs.Submits.{IsSeatOf};
 ghost use Rattle.agent_hub.specs.Requesting.{frames_in};
 ghost use Rattle.agent_hub.specs.Exchanging.{IsCollected, IsExchanged};
-ghost use Rattle.agent_lines.specs.Turns.{Sends};
+ghost use Rattle.agent_lines.specs.Turns.{Sends, has_room};
 
 use agent_hub::{Exchanged, Hub, HubSeat, TakesEnd};
 use std::alloc::Global;
@@ -70,7 +70,9 @@ impl Kept {
     }
 
     /// Whether one batch more and all that waits would still fit.
-    pub(crate) fn has_room(&self) -> bool {
+    pub(crate) fn has_room(&self) -> bool
+        ensures { result ≡ has_room self.now }
+    {
         self.len() <= MOST_LEFT
     }
 

@@ -1,5 +1,5 @@
 // The job of one connection.
-ghost use Rattle.std.specs.Prelude.{◌≡◌, ◌≤◌, ◌<◌, ◌⊎◌, [], ℕ, List, Option, IfErr, OnErr, length};
+ghost use Rattle.std.specs.Prelude.{◌≡◌, ◌≤◌, ◌<◌, ◌⊎◌, [], ℕ, List, Option, IfErr, OnErr, false, length};
 ghost use Rattle.wire_streams.specs.Causes.{Rose};
 ghost use Rattle.nine.specs.Framed.{Framing};
 ghost use Rattle.nine.specs.Streams.{front, IsShort};
@@ -7,7 +7,7 @@ ghost use Rattle.agent_hub.specs.Submits.{HubSeat, IsSeatOf};
 ghost use Rattle.agent_hub.specs.Requesting.{most_frame};
 ghost use Rattle.nine.specs.Batches.{AreFrames};
 ghost use Rattle.agent_lines.specs.Lining.{CausedBy, Ends, LineEndsSo, Moment, moment, most_batch};
-ghost use Rattle.agent_lines.specs.Turns.{Going, Halts, Sends, SettledBy, Settles, SettlesSo, TurnSo};
+ghost use Rattle.agent_lines.specs.Turns.{Going, Halts, HoldsBack, Sends, SettledBy, Settles, SettlesSo, TurnSo, has_room};
 
 use crate::batch::serve_batch;
 use crate::drawing::MOST_BATCH;
@@ -182,6 +182,9 @@ fn go_on<R: Wait, S: Source, W: Offers, G: Words, A: Awaits>(
         → TurnSo result.1 conn first
         (moment result.0 (G.to_come words.new) (S.left source.new) (W.holds sink.new))
         framer.new kept.new }
+    ensures held_back { has_room kept.old ≡ false → HoldsBack framer.old framer.new
+        (moment seat (G.to_come words.old) (S.left source.old) (W.holds sink.old))
+        (moment result.0 (G.to_come words.new) (S.left source.new) (W.holds sink.new)) }
     ensures caused { IfErr result.1 (λ end. CausedBy end
         (Rose (S.faults source.old) (S.faults source.new))
         (Rose (G.faults words.old) (G.faults words.new))

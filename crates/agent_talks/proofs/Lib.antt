@@ -1,3 +1,6 @@
+pub mod NumberedLemmas
+pub mod RemovedLemmas
+pub mod BackLemmas
 pub mod PlaceLemmas
 pub mod LeaveLemmas
 pub mod StandLemmas

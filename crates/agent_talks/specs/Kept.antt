@@ -1,8 +1,6 @@
 -- What is kept of conversations and of their questions, in the words of the definitions.
 use Rattle.std.specs.Prelude.{ℕ, List, ◌==◌, ◌&&◌, filter, find, length, map, not, option_map, Bool, Option}
 use Rattle.std.specs.List.{list_any}
-use Rattle.std.specs.Ordering.{nat_cmp}
-use Rattle.std.specs.BTreeMap.{get}
 use Rattle.agent_history.specs.Conversations.{Question, Speaker}
 use Rattle.conversations.specs.declared.conversation.Conversation.{Conversation}
 use Rattle.agent_talks.specs.declared.question.Question.{Question as HeldQuestion}
@@ -10,6 +8,7 @@ use Rattle.agent_talks.specs.declared.speaker.Speaker.{Speaker as HeldSpeaker}
 use Rattle.agent_talks.specs.declared.speaker.Leaving.{Leaving}
 use Rattle.agent_talks.specs.declared.speaker.Leaving.TheVariants as l
 use Rattle.agent_talks.specs.declared.held.Talks.{Talks}
+use Rattle.agent_talks.specs.Numbered.{kept_in}
 
 abbrev pub speaker_of : HeldSpeaker → Speaker
 speaker_of s = record { conv = s.conv; conn = s.conn; fid = s.fid }
@@ -30,7 +29,7 @@ questions_in t = map question_of t.questions.items
 
 -- the conversation of a number, if it is kept
 abbrev pub kept_at : Talks → ℕ → Option Conversation
-kept_at t conv = get nat_cmp t.table conv
+kept_at t conv = kept_in t.table conv
 
 -- how many questions weren't handed out yet
 abbrev pub unasked : Talks → ℕ

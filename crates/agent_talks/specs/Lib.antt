@@ -1,4 +1,6 @@
 pub mod Listed
+pub mod Keyed
+pub mod Numbered
 pub mod Kept
 pub mod Speaks
 pub mod Changes

@@ -115,7 +115,7 @@ impl Talks {
         ensures questions { self.new.questions ≡ self.old.questions }
         ensures same { OnErr result (SameTalks self.old self.new) }
     {
-        match self.table.get_mut(&conv) {
+        match self.table.get_mut(conv) {
             Some(conversation) => conversation.heard(alloc, bytes),
             None => Ok(()),
         }
@@ -125,7 +125,7 @@ impl Talks {
         ensures meets { Meets self.old self.new conv c.Unheard }
         ensures questions { self.new.questions ≡ self.old.questions }
     {
-        if let Some(conversation) = self.table.get_mut(&conv) {
+        if let Some(conversation) = self.table.get_mut(conv) {
             conversation.unheard();
         }
     }
@@ -134,7 +134,7 @@ impl Talks {
         ensures meets { Meets self.old self.new conv c.Roomless }
         ensures questions { self.new.questions ≡ self.old.questions }
     {
-        if let Some(conversation) = self.table.get_mut(&conv) {
+        if let Some(conversation) = self.table.get_mut(conv) {
             conversation.roomless();
         }
     }

@@ -1,7 +1,5 @@
 // A conversation goes on: its request is carried out, or its user answered.
 ghost use Rattle.std.specs.Prelude.{◌≡◌, List, ℕ, true, IfOk, OnOk, OnErr};
-ghost use Rattle.std.specs.BTreeMap.{get};
-ghost use Rattle.std.specs.Ordering.{nat_cmp};
 ghost use Rattle.talks.specs.Calls as c;
 ghost use Rattle.talks.specs.Calls.{Call};
 ghost use Rattle.agent_history.specs.Deeds.{Deed};
@@ -10,14 +8,15 @@ ghost use Rattle.conversations.specs.Shown.{asks_user, has_request};
 ghost use Rattle.conversations.specs.Asking.{SameAsks, asks_that};
 ghost use Rattle.conversations.specs.Fits.{Holds, Stays};
 ghost use Rattle.agent_talks.specs.Changes.{Back, BothGo, BothReady, BothStay, Goes, IsAsking, StepReady, next_by};
+ghost use Rattle.agent_talks.specs.Numbered.{kept_in};
 ghost use Rattle.agent_talks.specs.Speaks.{IsReady, Readied, ShowsRequest, Speak, carried_talk, talked};
 
 use crate::held::Talks;
+use crate::numbered::NumberedTalks;
 use crate::question::Question;
 use conversations::{Asks, Conversation};
 use key_ring::KeyRing;
 use std::alloc::Global;
-use std::collections::BTreeMap;
 use talks::Asking;
 use wire_base::NoMemory;
 
@@ -68,7 +67,7 @@ impl Talks {
     pub fn has_request(&self, conv: u64) -> bool
         ensures { ShowsRequest self.now conv result }
     {
-        match self.table.get(&conv) {
+        match self.table.get(conv) {
             Some(conversation) => conversation.has_request(),
             None => false,
         }
@@ -139,9 +138,9 @@ impl Talks {
         asks: &mut Asks,
     ) -> Result<bool, NoMemory>
         ensures goes { IfOk result (λ on_server. Goes self.old self.new conv on_server) }
-        ensures kept { OnOk result (BothGo (get nat_cmp self.old.table conv)
-            (get nat_cmp self.new.table conv) (next_by step asking ring.now)) }
-        ensures ready { OnOk result (BothReady (get nat_cmp self.old.table conv) step
+        ensures kept { OnOk result (BothGo (kept_in self.old.table conv)
+            (kept_in self.new.table conv) (next_by step asking ring.now)) }
+        ensures ready { OnOk result (BothReady (kept_in self.old.table conv) step
             asking ring.now asks.new) }
         ensures asks { SameAsks asks.old asks.new }
         ensures back { OnErr result (Back self.old self.new conv) }
@@ -167,7 +166,7 @@ impl Talks {
 
 // The conversation of a number takes a step, where there is one; whether the authentication server is asked then.
 fn step_at(
-    table: &mut BTreeMap<u64, Conversation>,
+    table: &mut NumberedTalks,
     alloc: Global,
     conv: u64,
     step: Step,
@@ -175,19 +174,19 @@ fn step_at(
     asking: Asking,
     asks: &mut Asks,
 ) -> Result<bool, NoMemory>
-    ensures kept { OnOk result (BothGo (get nat_cmp table.old conv) (get nat_cmp table.new conv)
+    ensures kept { OnOk result (BothGo (kept_in table.old conv) (kept_in table.new conv)
         (next_by step asking ring.now)) }
-    ensures ready { OnOk result (BothReady (get nat_cmp table.old conv) step
+    ensures ready { OnOk result (BothReady (kept_in table.old conv) step
         asking ring.now asks.new) }
     ensures on_server { IfOk result (λ on_server.
-        IsAsking (get nat_cmp table.new conv) on_server) }
+        IsAsking (kept_in table.new conv) on_server) }
     ensures asks { SameAsks asks.old asks.new }
-    ensures back { OnErr result (BothStay (get nat_cmp table.old conv)
-        (get nat_cmp table.new conv)) }
+    ensures back { OnErr result (BothStay (kept_in table.old conv)
+        (kept_in table.new conv)) }
     ensures others { (other : ℕ) → (conv ≡ other → ⊥)
-        → get nat_cmp table.new other ≡ get nat_cmp table.old other }
+        → kept_in table.new other ≡ kept_in table.old other }
 {
-    match table.get_mut(&conv) {
+    match table.get_mut(conv) {
         Some(conversation) => {
             take_step(conversation, alloc, step, ring, asking, asks)?;
             Ok(conversation.waits_for_server())

@@ -1,22 +1,21 @@
 // The conversations of an agent.
 ghost use Rattle.std.specs.Prelude.{◌≡◌, [], ◌∷◌, List, ℕ, Option, OnOk, OnErr, filter, is_some, length, map, option_copied, option_map, true};
-ghost use Rattle.std.specs.BTreeMap.{get};
-ghost use Rattle.std.specs.Ordering.{nat_cmp};
 ghost use Rattle.file_tree.specs.declared.tree.Node.TheVariants.{Rpc};
 ghost use Rattle.talks.specs.Requests.{meant};
 ghost use Rattle.talks.specs.Calls as c;
 ghost use Rattle.agent_history.specs.Deeds.{Deed, OfConnection, OfFids, OfTalk, Clunked, Hung, Opened, Versioned, fid_of, names};
 ghost use Rattle.agent_history.specs.Conversations.{conv_of, raised, speaker_of, speakers, talk};
 ghost use Rattle.agent_talks.specs.Kept as kept;
+ghost use Rattle.agent_talks.specs.Numbered.{kept_in};
 ghost use Rattle.agent_talks.specs.Changes.{Leaves, Meets, Opens, left_at, left_one};
 ghost use Rattle.agent_talks.specs.Speaks.{IsKept, SameTalks, Speak, stands};
 
+use crate::numbered::NumberedTalks;
 use crate::question::Question;
 use crate::speaker::{Leaving, Speaker, leaves};
 use crate::speakers::Speakers;
 use conversations::Conversation;
 use std::alloc::Global;
-use std::collections::BTreeMap;
 use talks::Request;
 use wire_base::NoMemory;
 
@@ -25,7 +24,7 @@ use wire_base::NoMemory;
 #[derive(Drop)]
 pub struct Talks {
     pub(crate) speakers: Speakers,
-    pub(crate) table: BTreeMap<u64, Conversation>,
+    pub(crate) table: NumberedTalks,
     pub(crate) opened: u64,
     pub(crate) questions: Vec<Question>,
     pub(crate) raised: u64,
@@ -40,7 +39,7 @@ impl Talks {
     {
         Talks {
             speakers: Speakers::new(alloc),
-            table: BTreeMap::new(alloc),
+            table: NumberedTalks::new(alloc),
             opened: 0,
             questions: Vec::new(alloc),
             raised: 0,
@@ -89,7 +88,7 @@ impl Talks {
         ensures { (done : List Deed) → Speak done self.now
             → IsKept (stands done conv) (talk done conv) (option_copied result) }
     {
-        self.table.get(&conv)
+        self.table.get(conv)
     }
 }
 
@@ -106,7 +105,7 @@ impl Talks {
         };
         self.speakers.push(Speaker { conv, conn, fid })?;
         match self.table.insert(conv, Conversation::new(alloc)) {
-            Ok(_) => {
+            Ok(()) => {
                 self.opened = opened;
                 Ok(())
             }
@@ -167,9 +166,9 @@ impl Talks {
 }
 
 // The conversations of those who leave are kept no more.
-fn drop_left(table: &mut BTreeMap<u64, Conversation>, speakers: &[Speaker], leaving: Leaving)
-    ensures { (conv : ℕ) → get nat_cmp table.new conv
-        ≡ left_at leaving speakers.now conv (get nat_cmp table.old conv) }
+fn drop_left(table: &mut NumberedTalks, speakers: &[Speaker], leaving: Leaving)
+    ensures { (conv : ℕ) → kept_in table.new conv
+        ≡ left_at leaving speakers.now conv (kept_in table.old conv) }
 {
     for speaker in speakers {
         drop_one(table, leaving, speaker);
@@ -177,21 +176,21 @@ fn drop_left(table: &mut BTreeMap<u64, Conversation>, speakers: &[Speaker], leav
 }
 
 // The conversation of one who leaves is kept no more.
-fn drop_one(table: &mut BTreeMap<u64, Conversation>, leaving: Leaving, speaker: &Speaker)
-    ensures { (conv : ℕ) → get nat_cmp table.new conv
-        ≡ left_one leaving speaker.now conv (get nat_cmp table.old conv) }
+fn drop_one(table: &mut NumberedTalks, leaving: Leaving, speaker: &Speaker)
+    ensures { (conv : ℕ) → kept_in table.new conv
+        ≡ left_one leaving speaker.now conv (kept_in table.old conv) }
 {
     if leaves(leaving, speaker) {
-        table.remove(&speaker.conv);
+        table.remove(speaker.conv);
     }
 }
 
 // The questions of conversations that are kept.
-fn keep_questions(questions: &mut Vec<Question>, table: &BTreeMap<u64, Conversation>)
+fn keep_questions(questions: &mut Vec<Question>, table: &NumberedTalks)
     ensures { questions.new.items
-        ≡ filter (λ q. is_some (get nat_cmp table.now q.conv)) questions.old.items }
+        ≡ filter (λ q. is_some (kept_in table.now q.conv)) questions.old.items }
 {
-    questions.retain(|question| table.contains_key(&question.conv));
+    questions.retain(|question| table.contains(question.conv));
 }
 
 // ---- what they meet
@@ -203,7 +202,7 @@ impl Talks {
         ensures questions { self.new.questions ≡ self.old.questions }
         ensures same { OnErr result (SameTalks self.old self.new) }
     {
-        match self.table.get_mut(&conv) {
+        match self.table.get_mut(conv) {
             Some(conversation) => conversation.store(alloc, request),
             None => Ok(()),
         }
@@ -223,7 +222,7 @@ impl Talks {
         ensures meets { Meets self.old self.new conv c.Shut }
         ensures questions { self.new.questions ≡ self.old.questions }
     {
-        if let Some(conversation) = self.table.get_mut(&conv) {
+        if let Some(conversation) = self.table.get_mut(conv) {
             conversation.shut();
         }
     }

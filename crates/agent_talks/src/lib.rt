@@ -19,6 +19,8 @@ mod keeping;
 mod kept;
 mod log;
 mod logged;
+mod number_keys;
+mod numbered;
 mod question;
 mod ready;
 mod room;

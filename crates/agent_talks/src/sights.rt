@@ -62,7 +62,7 @@ impl Talks {
             → IsOpenAt done (conv_of done conn fid) (option_copied result) }
     {
         match self.conv_at(conn, fid) {
-            Some(conv) => self.table.get(&conv),
+            Some(conv) => self.table.get(conv),
             None => None,
         }
     }

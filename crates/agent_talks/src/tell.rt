@@ -41,7 +41,7 @@ impl Talks {
             ≡ option_map (fits count) answer) }
         ensures held { result ≡ option_map (fits count) (answer_at self.now conv) }
     {
-        match self.table.get(&conv) {
+        match self.table.get(conv) {
             Some(conversation) => match conversation.answer() {
                 Some(answer) => Some(answer_fits(answer, count)),
                 None => None,
@@ -56,7 +56,7 @@ impl Talks {
         ensures told { ShowsAnswer self.old conv (λ answer. result ≡ option_map t.Answer answer) }
         ensures held { result ≡ option_map t.Answer (answer_at self.old conv) }
     {
-        match self.table.get_mut(&conv) {
+        match self.table.get_mut(conv) {
             Some(conversation) => match conversation.take_answer() {
                 Some(answer) => Some(Told::Answer(answer)),
                 None => None,

@@ -7,5 +7,5 @@ use Rattle.agent_talks.proofs.held.Talks.conversation_at.Goals as goal
 
 pub returns-in-Some : goal.returns-in-Some
 returns-in-Some c = λ done h.
-    subst (λ (o : Option Conversation). IsOpenAt done (conv_of done c.args.conn c.args.fid) o) (sym c.get.ensures.value)
+    subst (λ (o : Option Conversation). IsOpenAt done (conv_of done c.args.conn c.args.fid) o) (sym c.get.ensures)
     (open_at done c.args.self.now c.args.conn c.args.fid c.in-Some.conv (sym c.in-Some.is ∙ c.conv_at.ensures done h) h)

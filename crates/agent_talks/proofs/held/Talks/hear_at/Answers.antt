@@ -1,0 +1,14 @@
+use Rattle.std.proofs.Common.{refl}
+use Rattle.std.proofs.lemmas.Result.{on_ok_weaker, on_err_weaker}
+use Rattle.agent_talks.proofs.NumberedLemmas.{both_met, put_same}
+use Rattle.agent_talks.proofs.held.Talks.hear_at.Goals as goal
+
+pub returns-in-Some-clause-meets : goal.returns-in-Some-clause-meets
+returns-in-Some-clause-meets c =
+    let puts = rw c.in-Some.is at c.get_mut.follows.holds c.heard.new.self in
+    on_ok_weaker c.heard.result (λ kept. record { opened = refl; speakers = refl; this = both_met _ _ c.args.conv _ _ _ c.in-Some.ensures.value puts kept; others = puts.others; raised = refl }) c.heard.ensures.kept
+
+pub returns-in-Some-clause-same : goal.returns-in-Some-clause-same
+returns-in-Some-clause-same c =
+    let puts = rw c.in-Some.is at c.get_mut.follows.holds c.heard.new.self in
+    on_err_weaker c.heard.result (λ same. record { opened = refl; speakers = refl; table = put_same _ _ c.args.conv _ _ c.in-Some.ensures.value puts same; raised = refl; questions = refl }) c.heard.ensures.unchanged
