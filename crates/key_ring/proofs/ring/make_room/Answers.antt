@@ -6,7 +6,7 @@ use Rattle.key_ring.proofs.ring.make_room.Goals as goal
 pub returns-in-None-clause-taken : goal.returns-in-None-clause-taken
 returns-in-None-clause-taken c = λ free.
     let none : position (is_same c.args.tuple.now) c.args.keys.now.keys ≡ None = sym c.find_equal.ensures ∙ c.in-None.is in
-    let many : 1024 ≤ length c.args.keys.now.keys = omega (arith, c.len.ensures) in
+    let many : 4096 ≤ length c.args.keys.now.keys = omega (arith, c.len.ensures) in
     let full = full_with_none c.args.tuple.now c.args.keys.now.keys none many in
     absurd cc
 
