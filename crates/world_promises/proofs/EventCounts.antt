@@ -74,21 +74,21 @@ request_there frame word h k runs =
 
 -- ---- requests
 
-pub request_little : (frame word : List ℕ) (h : History) → IsTaken h → left_to_hand (after_frame (deeds h) (call_of 0 frame word) frame) ≤ 300 → Runs (Request 0 frame word ∷ h) → IsLittle (deeds (Request 0 frame word ∷ h))
+pub request_little : (frame word : List ℕ) (h : History) → IsTaken h → left_to_hand (after_frame (deeds h) (call_of 0 frame word) frame) ≤ 1100 → Runs (Request 0 frame word ∷ h) → IsLittle (deeds (Request 0 frame word ∷ h))
 request_little frame word h k few runs =
     let done = deeds h in
     let call = call_of 0 frame word in
     record {
       entered = (request_there frame word h k runs).0;
       replies = request_few frame word h runs k.entered k.there k.taken;
-      left = subst (λ d. left_to_hand d ≤ 300) (sym (request_deeds frame word h runs k.entered k.there)) (left_swept (has_settled (answered done call frame)) (answered done call frame) (left_replied call (body_to done call frame) (after_frame done call frame) few));
+      left = subst (λ d. left_to_hand d ≤ 1100) (sym (request_deeds frame word h runs k.entered k.there)) (left_swept (has_settled (answered done call frame)) (answered done call frame) (left_replied call (body_to done call frame) (after_frame done call frame) few));
     }
   where
-    left_replied : (call : Call) (o : Option RBody) (done : List Deed) → left_to_hand done ≤ 300 → left_to_hand (replied call o done) ≤ 300
+    left_replied : (call : Call) (o : Option RBody) (done : List Deed) → left_to_hand done ≤ 1100 → left_to_hand (replied call o done) ≤ 1100
     left_replied call None done few = few
     left_replied call (Some body) done few = few
 
-    left_swept : (b : Bool) (done : List Deed) → left_to_hand done ≤ 300 → left_to_hand (cond b (Swept ∷ done) done) ≤ 300
+    left_swept : (b : Bool) (done : List Deed) → left_to_hand done ≤ 1100 → left_to_hand (cond b (Swept ∷ done) done) ≤ 1100
     left_swept true done few = few
     left_swept false done few = few
 
@@ -102,7 +102,7 @@ request_taken frame word h k runs =
 
 -- what a request of a type does
 abbrev pub Left : List Deed → Type 0
-Left done = left_to_hand done ≤ 300
+Left done = left_to_hand done ≤ 1100
 
 pub frame_left : (asked : TMsg) (word : List ℕ) (done : List Deed) → Left done → ((m : TMsg) → request_of (t_frame asked) ≡ Some m → Left (after done (call_of 0 (t_frame asked) word) m.body)) → Left (after_frame done (call_of 0 (t_frame asked) word) (t_frame asked))
 unfolding after_frame

@@ -104,11 +104,11 @@ pigeons (suc n) from xs all =
     let most = pigeons n from (without last xs) (λ k low high. still k last xs (not_same k last high) (all k (omega arith) (omega arith))) in
     omega (arith, less, most)
 
--- where all that are held are among at most 256
-pub least_small : (held xs : List ℕ) → ((k : ℕ) → is_held k held ≡ true → is_held k xs ≡ true) → length xs ≤ 256 → least_fid held < 65535
-least_small held xs among few = elim (cases_Bool (ltb (least_fid held) 259)) [
-  | inl small ↦ omega (arith, ltb-true (least_fid held) 259 small)
+-- where all that are held are among at most 1024
+pub least_small : (held xs : List ℕ) → ((k : ℕ) → is_held k held ≡ true → is_held k xs ≡ true) → length xs ≤ 1024 → least_fid held < 65535
+least_small held xs among few = elim (cases_Bool (ltb (least_fid held) 1027)) [
+  | inl small ↦ omega (arith, ltb-true (least_fid held) 1027 small)
   | inr over ↦ (
-      let most = ltb-false (least_fid held) 259 over in
-      absurd (omega (arith, pigeons 257 2 xs (λ k low high. among k (below_least held k low (omega arith))))))
+      let most = ltb-false (least_fid held) 1027 over in
+      absurd (omega (arith, pigeons 1025 2 xs (λ k low high. among k (below_least held k low (omega arith))))))
 ]

@@ -71,7 +71,7 @@ raised_adds : (n conv : ℕ) (done : List Deed) → AtMost n done → AtMost (n 
 raised_adds n conv done a = record { names = a.names; few = omega (arith, a.few, last_unhanded (questions done) (record { call = raised done + 1; conv = conv; handed = false })) }
 
 -- a deed of a fid may give up one of each conversation
-pub fid_adds : (n at : ℕ) (deed : FidDeed) (done : List Deed) → length (speakers done) ≤ 256 → left_to_hand done ≤ n → left_to_hand (OfFids at deed ∷ done) ≤ n + 256
+pub fid_adds : (n at : ℕ) (deed : FidDeed) (done : List Deed) → length (speakers done) ≤ 1024 → left_to_hand done ≤ n → left_to_hand (OfFids at deed ∷ done) ≤ n + 1024
 fid_adds n at deed done few left =
     let ss = filter (λ s. gives_up (OfFids at deed) done s.conv) (speakers done) in
     let kept = kept_few (λ q. list_any (λ s. eqb s.conv q.conv) (speakers (OfFids at deed ∷ done))) (questions done) in

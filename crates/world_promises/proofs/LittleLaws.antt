@@ -76,11 +76,11 @@ talk_left n call fid count (Some conv) done a =
     more_room (n + 5 + 1) (n + 6) (reading_answer call conv fid count (standing_of d conv).phase d) (omega arith)
     (answer_left (n + 5) call conv fid count (standing_of d conv).phase d (carried_adds n conv call.word (standing_of done conv).phase done a))
 
-listing_left : (b : Bool) (conn fid : ℕ) (done : List Deed) → length (speakers done) ≤ 256 → left_to_hand done ≤ 0 → left_to_hand (cond b (OfFids conn (Listed fid) ∷ done) done) ≤ 256
+listing_left : (b : Bool) (conn fid : ℕ) (done : List Deed) → length (speakers done) ≤ 1024 → left_to_hand done ≤ 0 → left_to_hand (cond b (OfFids conn (Listed fid) ∷ done) done) ≤ 1024
 listing_left true conn fid done few left = fid_adds 0 conn (Listed fid) done few left
 listing_left false conn fid done few left = omega arith
 
-other_left : (conn fid offset count : ℕ) (node : Node) (done : List Deed) → length (speakers done) ≤ 256 → left_to_hand done ≤ 0 → left_to_hand (reading done conn fid offset count node) ≤ 256
+other_left : (conn fid offset count : ℕ) (node : Node) (done : List Deed) → length (speakers done) ≤ 1024 → left_to_hand done ≤ 0 → left_to_hand (reading done conn fid offset count node) ≤ 1024
 other_left conn fid offset count Root done few left = fid_adds 0 conn (Browsed fid (dir_end Root offset count)) done few left
 other_left conn fid offset count Factotum done few left = fid_adds 0 conn (Browsed fid (dir_end Factotum offset count)) done few left
 other_left conn fid offset count Ctl done few left = listing_left (eqb offset 0) conn fid done few left
@@ -91,7 +91,7 @@ by_file true line one two three off p q = p
 by_file false true one two three off p q = absurd cc
 by_file false false one two three off p q = q
 
-read_left : (done : List Deed) (call : Call) (fid offset count : ℕ) → length (speakers done) ≤ 256 → AtMost 0 done → Left (after done call (t.Read fid offset count))
+read_left : (done : List Deed) (call : Call) (fid offset count : ℕ) → length (speakers done) ≤ 1024 → AtMost 0 done → Left (after done call (t.Read fid offset count))
 unfolding after
 read_left done call fid offset count few a =
     let node = node_of (fid_of done call.conn fid) in
@@ -109,11 +109,11 @@ read_little fid word h k named runs =
 
 -- ---- fids
 
-walking_left : (conn newfid : ℕ) (o : Option Node) (done : List Deed) → length (speakers done) ≤ 256 → left_to_hand done ≤ 0 → Left (walking conn newfid o done)
+walking_left : (conn newfid : ℕ) (o : Option Node) (done : List Deed) → length (speakers done) ≤ 1024 → left_to_hand done ≤ 0 → Left (walking conn newfid o done)
 walking_left conn newfid None done few left = omega arith
 walking_left conn newfid (Some node) done few left = omega (arith, fid_adds 0 conn (Walked newfid node) done few left)
 
-walk_left : (done : List Deed) (call : Call) (fid newfid : ℕ) (names : List (List ℕ)) → length (speakers done) ≤ 256 → left_to_hand done ≤ 0 → Left (after done call (t.Walk fid newfid names))
+walk_left : (done : List Deed) (call : Call) (fid newfid : ℕ) (names : List (List ℕ)) → length (speakers done) ≤ 1024 → left_to_hand done ≤ 0 → Left (after done call (t.Walk fid newfid names))
 unfolding after
 walk_left done call fid newfid names few left = walking_left call.conn newfid (lead_to (node_of (fid_of done call.conn fid)) names) done few left
 
@@ -123,7 +123,7 @@ walk_little fid file h k runs =
     let call = call_of 0 (t_frame asked) no_word in
     request_little (t_frame asked) no_word h k (frame_left asked no_word (deeds h) (omega (arith, k.left)) (λ m is. walk_so (λ body. Left (after (deeds h) call body)) (λ f g names. walk_left (deeds h) call f g names (few_speak h) k.left) (t_frame asked) m.body (frame_read asked m is))) runs
 
-open_left : (done : List Deed) (call : Call) (fid mode : ℕ) → length (speakers done) ≤ 256 → left_to_hand done ≤ 0 → Left (after done call (t.Open fid mode))
+open_left : (done : List Deed) (call : Call) (fid mode : ℕ) → length (speakers done) ≤ 1024 → left_to_hand done ≤ 0 → Left (after done call (t.Open fid mode))
 unfolding after
 open_left done call fid mode few left = omega (arith, fid_adds 0 call.conn (Opened fid mode) done few left)
 
@@ -133,7 +133,7 @@ open_little fid h k runs =
     let call = call_of 0 (t_frame asked) no_word in
     request_little (t_frame asked) no_word h k (frame_left asked no_word (deeds h) (omega (arith, k.left)) (λ m is. open_so (λ body. Left (after (deeds h) call body)) (λ f mode. open_left (deeds h) call f mode (few_speak h) k.left) (t_frame asked) m.body (frame_read asked m is))) runs
 
-attach_left : (done : List Deed) (call : Call) (fid afid : ℕ) (uname aname : List ℕ) → length (speakers done) ≤ 256 → left_to_hand done ≤ 0 → Left (after done call (t.Attach fid afid uname aname))
+attach_left : (done : List Deed) (call : Call) (fid afid : ℕ) (uname aname : List ℕ) → length (speakers done) ≤ 1024 → left_to_hand done ≤ 0 → Left (after done call (t.Attach fid afid uname aname))
 unfolding after
 attach_left done call fid afid uname aname few left = omega (arith, fid_adds 0 call.conn (Attached fid) done few left)
 
@@ -146,7 +146,7 @@ attach_little h k runs =
 -- one that is given up
 record Gone (done : List Deed) : Type 0 where
   pub left : left_to_hand done ≤ 0
-  pub few : length (speakers done) ≤ 256
+  pub few : length (speakers done) ≤ 1024
 
 clunk_left : (h : History) (call : Call) (fid : ℕ) → call.conn ≡ 0 → NamesNoLines (deeds h) → left_to_hand (deeds h) ≤ 0 → Left (after (deeds h) call (t.Clunk fid))
 clunk_left h call fid on named left =

@@ -123,17 +123,17 @@ asks_short (suc n) h = either_short (hands_out (answer h TakeAsk).0) (ask_up n (
 pub record IsLittle (done : List Deed) : Type 0 where
   pub entered : was_opened done 0 ≡ true
   pub replies : length (untaken done 0) ≤ 65
-  pub left : left_to_hand done ≤ 300
+  pub left : left_to_hand done ≤ 1100
 
 pub record IsShort (e : Event) (h : History) : Type 0 where
   pub runs : Runs (drive e h)
   pub driven : list_all is_driven (drive e h) ≡ true
-  pub size : length (drive e h) ≤ length h + 512
+  pub size : length (drive e h) ≤ length h + 2048
 
 left_kept : (n : ℕ) → KeepsTakes (λ done. left_to_hand done ≤ n)
 left_kept n = record { takes = λ done few. few }
 
-pub short_so : (e : Event) (h : History) → is_driven e ≡ true → list_all is_driven h ≡ true → length h + 512 < most_events → (Runs (e ∷ h) → IsLittle (deeds (e ∷ h))) → IsShort e h
+pub short_so : (e : Event) (h : History) → is_driven e ≡ true → list_all is_driven h ≡ true → length h + 2048 < most_events → (Runs (e ∷ h) → IsLittle (deeds (e ∷ h))) → IsShort e h
 unfolding drive
 short_so e h is all room few =
     let one = e ∷ h in
@@ -143,8 +143,8 @@ short_so e h is all room few =
     let two = all_taken one in
     let two_size = takes_short (takes_of one) one in
     let two_runs = runs_short two (takes_driven (takes_of one) one one_driven) (omega (arith, little.replies)) in
-    let left = (takes_keep (λ done. left_to_hand done ≤ 300) (left_kept 300) (takes_of one) one two_runs (little.entered, little.left)).1 in
+    let left = (takes_keep (λ done. left_to_hand done ≤ 1100) (left_kept 1100) (takes_of one) one two_runs (little.entered, little.left)).1 in
     let three_size = asks_short (asks_of two) two in
     let driven = drive_driven e h is all in
-    let size : length (drive e h) ≤ length h + 512 = omega (arith, two_size, three_size, left, little.replies) in
+    let size : length (drive e h) ≤ length h + 2048 = omega (arith, two_size, three_size, left, little.replies) in
     record { runs = runs_short (drive e h) driven (omega arith); driven = driven; size = size }
