@@ -11,3 +11,4 @@ pub mod AuthdWords
 pub mod Renewals
 pub mod RenewalLines
 pub mod MemoryTables
+pub mod KeysWords

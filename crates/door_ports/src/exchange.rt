@@ -120,7 +120,7 @@ fn open_ctl(alloc: Global, agent: &mut Agent, conn: u64) -> Result<(), NoMemory>
 }
 
 /// A connection is made ready: its fid 0 names the root, and its fid 1 has ctl open.
-pub(crate) fn prepare(alloc: Global, agent: &mut Agent, conn: u64) -> Result<(), NoMemory>
+pub fn prepare(alloc: Global, agent: &mut Agent, conn: u64) -> Result<(), NoMemory>
     ensures { OnOk result ((H : History) → StandsFor H agent.old
         → StandsFor (prepared conn H) agent.new) }
 {
@@ -177,8 +177,8 @@ pub(crate) fn open_rpc(
     Ok(false)
 }
 
-// A request is written.
-fn write(
+/// Bytes are written by a fid. What that is replied.
+pub fn write(
     alloc: Global,
     agent: &mut Agent,
     conn: u64,

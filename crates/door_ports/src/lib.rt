@@ -8,4 +8,5 @@ mod frames;
 mod reply;
 
 pub use core_port::CorePort;
+pub use exchange::{prepare, write};
 pub use reply::Reply;
