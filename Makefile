@@ -7,7 +7,7 @@ VERSION = 0.1
 DESTDIR =
 
 help:
-	@echo 'make build   proves the programs and leaves them as bin/factotum, bin/authd, bin/pass_change and bin/nine_show'
+	@echo 'make build   proves the programs and leaves them as bin/factotum, bin/authd, bin/auth_attach, bin/pass_change and bin/nine_show'
 	@echo 'make demo    runs logins between two agents and a conversation, without proofs, and shows each request and reply'
 	@echo 'make attacks plays the attacks of docs/WEAKNESSES.md, without proofs, and says what happened'
 	@echo 'make test    builds without proofs and runs every row, stored run and test: minutes'
@@ -24,13 +24,13 @@ help:
 build:
 	@scripts/need rt bash awk python3
 	@mkdir -p bin
-	@OF='factotum authd pass_change nine_show' scripts/progress bin/build.log scripts/programs factotum authd pass_change nine_show
-	@echo 'bin/factotum, bin/authd, bin/pass_change and bin/nine_show are built, each proved'
+	@OF='factotum authd auth_attach pass_change nine_show' scripts/progress bin/build.log scripts/programs factotum authd auth_attach pass_change nine_show
+	@echo 'bin/factotum, bin/authd, bin/auth_attach, bin/pass_change and bin/nine_show are built, each proved'
 
 demo:
 	@scripts/need rt python3
 	@echo 'The programs are built without their proofs for this demonstration, each once; make build proves them.'
-	@scripts/build_unproved factotum authd pass_change nine_show
+	@scripts/build_unproved factotum authd auth_attach pass_change nine_show
 	@scripts/login bin/unproved
 	@scripts/demo bin/unproved
 

@@ -12,3 +12,4 @@ pub mod AuthdWords
 pub mod Renewals
 pub mod RenewalLines
 pub mod MemoryTables
+pub mod KeysWords

@@ -1,5 +1,5 @@
-//! command_rows: cases of the commands, of their words and of the statuses that they end with, and of changes of passwords, which
-//! stand in files of rows. It tells how many cases each file has, and each that isn't as wanted, and ends with status 1 where there is one.
+//! command_rows: cases of the commands, of their words and of the statuses that they end with, of changes of passwords and
+//! of connections to a file server that asks an agent, which stand in files of rows. It tells how many cases each file has, and each that isn't as wanted, and ends with status 1 where there is one.
 //! Before them it writes the log of a server whose tables change.
 #![tactic(auto)]
 
@@ -8,6 +8,7 @@ use row_files::{Report, Row, read_rows};
 use std::process::ExitCode;
 use wire_streams::{WriteSink, write_all};
 
+mod attaches;
 mod came;
 mod changes;
 mod command_words;
@@ -29,6 +30,7 @@ enum Subject {
     CommandWords,
     Statuses,
     Changes,
+    Attaches,
 }
 
 /// A file of rows.
@@ -37,7 +39,7 @@ struct Listed {
     subject: Subject,
 }
 
-static FILES: [Listed; 9] = [
+static FILES: [Listed; 10] = [
     Listed {
         file: "pipes.rows",
         subject: Subject::Commands,
@@ -74,6 +76,10 @@ static FILES: [Listed; 9] = [
         file: "changes.rows",
         subject: Subject::Changes,
     },
+    Listed {
+        file: "attaches.rows",
+        subject: Subject::Attaches,
+    },
 ];
 
 // Writes to standard output.
@@ -97,6 +103,7 @@ fn play_rows(
         Subject::CommandWords => command_words::play(rt.alloc(), file, rows, report),
         Subject::Statuses => statuses::play(rt.alloc(), file, rows, report),
         Subject::Changes => changes::play(rt, file, rows, report),
+        Subject::Attaches => attaches::play(rt, file, rows, report),
     }
 }
 

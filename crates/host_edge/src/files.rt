@@ -4,6 +4,11 @@ use std::fs::{File, Files};
 use std::io::{self, Eprint, ErrorKind, Read};
 use std::os::unix::fs::MetadataExt;
 
+/// The bits of a mode that tell the kind of a file, and the kind of a device that gives characters.
+const KIND: u32 = 0o170000;
+
+const DEVICE: u32 = 0o020000;
+
 /// A file; each read of one that couldn't be opened fails.
 #[derive(Drop)]
 pub enum Opened {
@@ -23,7 +28,7 @@ impl Read for Opened {
 /// Which of a table's bits of mode have to be clear.
 #[derive(Clone, Copy, Debug, PartialEq, Eq)]
 pub enum Guard {
-    /// It has secrets: others than its owner may do nothing with it.
+    /// It has secrets: others than its owner may do nothing with it. A device, as the null device, keeps none.
     Secret,
     /// Others may read it. What is no regular file, as the null device, isn't looked at.
     Unchanged,
@@ -90,7 +95,7 @@ pub fn open_table<R: Files<File = File> + Eprint>(
         return Opened::Shut;
     };
     match guard {
-        Guard::Secret if found.mode() & 0o077 != 0 => {
+        Guard::Secret if found.mode() & KIND != DEVICE && found.mode() & 0o077 != 0 => {
             let why = "its mode must be 0600";
             tell_why(rt, program, "others may read or write", path, why);
             Opened::Shut

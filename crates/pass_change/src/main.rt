@@ -2,13 +2,12 @@
 //! here the table of keys is opened, and the new one made beside it and put in its place.
 #![tactic(auto)]
 
+use auth_program::read_keys_words;
 use host_edge::{
     Form, Guard, Opt, Program, Value, WordsFault, command_words, find_asked, hold_standard, open,
     open_table, tell as tell_line, tell_asked, tell_usage,
 };
-use pass_program::{
-    Event, Log, PassStatus, print_event, print_status, read_pass_words, run_pass_noting,
-};
+use pass_program::{Event, Log, PassStatus, print_event, print_status, run_pass_noting};
 use std::fs::{self, File, OpenOptions, TryLockError};
 use std::io::{self, ErrorKind, Read, Write};
 use std::net::TcpStream;
@@ -294,7 +293,7 @@ fn run(rt: &HostRuntime, words: &[Text]) -> Ending {
             Ending::Status(PassStatus::WriteFault)
         };
     }
-    let Some(path) = read_pass_words(words) else {
+    let Some(path) = read_keys_words(words) else {
         return Ending::Status(PassStatus::Usage);
     };
     match std::str::from_utf8(path.as_slice()) {

@@ -14,5 +14,5 @@ mod table;
 
 pub use log::{Log, NoLog, print_event};
 pub use refusal::{Event, Refusal};
-pub use run::{read_pass_words, run_pass, run_pass_noting};
+pub use run::{run_pass, run_pass_noting};
 pub use status::{PassStatus, print_status};

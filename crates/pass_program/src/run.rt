@@ -1,31 +1,17 @@
 // The program: its words, the table, and one client.
-ghost use Rattle.std.specs.Prelude.{◌≡◌, ◌⊎◌, ◌≤◌, None, IfNone, IfSome, true, false};
+ghost use Rattle.std.specs.Prelude.{◌≡◌, ◌⊎◌, ◌≤◌, None};
 ghost use Rattle.wire_streams.specs.Causes.{Rose};
 ghost use Rattle.pass_program.specs.Changing.{IsCaused, outside};
-ghost use Rattle.pass_program.specs.Words.{RunsSo, are_words, path_of};
+ghost use Rattle.pass_program.specs.Words.{RunsSo};
 
 use crate::log::{Log, NoLog};
 use crate::session::change_password;
 use crate::status::PassStatus;
 use crate::table::read_table;
-use auth_program::is_value;
+use auth_program::read_keys_words;
 use std::alloc::Global;
 use wire_base::Text;
 use wire_streams::{Sink, Source, Words};
-
-/// The path of the table of keys: the words behind the program's name are `--keys` and a path. None exactly where they
-/// aren't so.
-pub fn read_pass_words(words: &[Text]) -> Option<&Text>
-    ensures path { IfSome result (λ path. path.now ≡ path_of words.now) }
-    ensures some { IfSome result (λ path. are_words words.now ≡ true) }
-    ensures none { IfNone result (are_words words.now ≡ false) }
-{
-    match words {
-        [option, path] if option.as_slice() == b"--keys".as_slice() && is_value(path.as_slice()) =>
-            { Some(path) }
-        _ => None,
-    }
-}
 
 /// Changes one password.
 pub fn run_pass<R: Source, F: Source, W: Sink, T: Sink, G: Words>(
@@ -89,7 +75,7 @@ pub fn run_pass_noting<R: Source, F: Source, W: Sink, T: Sink, G: Words, L: Log>
     ensures counted_table { T.faults table.old ≤ T.faults table.new }
     ensures counted_words { G.faults rand.old ≤ G.faults rand.new }
 {
-    if read_pass_words(words).is_none() {
+    if read_keys_words(words).is_none() {
         return PassStatus::Usage;
     }
     match read_table(alloc, keys) {
