@@ -156,14 +156,3 @@ pub fn shared_asker(shared: &Shared, kind: PromptKind, tag: u64) -> Option<u64>
 {
     shared.asker(kind, tag)
 }
-
-/// As `Shared::switch`.
-pub fn shared_switch(shared: &mut Shared)
-    ensures shares { (done : List Deed) (conn : ℕ) → Shares done shared.old
-        → Shares (OfKeys conn Switched ∷ done) shared.new }
-    ensures ring { shared.new.ring ≡ shared.old.ring }
-    ensures holders { shared.new.holders ≡ shared.old.holders }
-    ensures mail { shared.new.mailboxes ≡ shared.old.mailboxes }
-{
-    shared.switch()
-}

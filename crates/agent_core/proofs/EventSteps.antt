@@ -19,7 +19,7 @@ use Rattle.mailboxes.specs.Deliveries.{Delivers, replies_at}
 use Rattle.agent_requests.specs.declared.connection.Connection.{Connection}
 use Rattle.agent_requests.specs.Connections.{Keeps, is_opened}
 use Rattle.agent_requests.proofs.OwnRequests.{IsOwn, answered_own, entered_by}
-use Rattle.agent_requests.specs.LoggedTalks.{LoggedTalks}
+use Rattle.agent_requests.specs.Conversations.{Conversations}
 use Rattle.agent_requests.specs.Logging.{Logs}
 use Rattle.agent_requests.proofs.DeedLemmas.{replies_logs}
 use Rattle.agent_requests.specs.declared.shared.Shared.{Shared}
@@ -241,7 +241,7 @@ take_serves done conn c d s u x rest live before opened k some ring holders talk
         ring = ring ∙ shares.ring;
         holders = subst (λ (now : Holders). Holds (OfReplies conn Taken ∷ entered conn done) now) (sym holders) (record { confirm = shares.holders.confirm; needkey = shares.holders.needkey; log = shares.holders.log });
         mail = pops (entered conn done) shares.mail;
-        talks = subst (λ (now : LoggedTalks). Logs (OfReplies conn Taken ∷ entered conn done) now) (sym talks) (replies_logs (entered conn done) s.talks conn Taken shares.talks);
+        talks = subst (λ (now : Conversations). Logs (OfReplies conn Taken ∷ entered conn done) now) (sym talks) (replies_logs (entered conn done) s.talks conn Taken shares.talks);
         live = shares.live;
         held = shares.held;
       };
@@ -290,7 +290,7 @@ runs_on done v.TakeAsk h go = handing_by (λ now. is_halted now ≡ false) (λ n
 runs_on done v.Stop h go = absurd (false≢true (sym go))
 
 -- what is shared after something was handed out
-pub shares_handed : (done : List Deed) (s : Shared) (t : LoggedTalks) → Logs (HandedOut ∷ done) t → Shares done s → Shares (HandedOut ∷ done) (with_talks s t)
+pub shares_handed : (done : List Deed) (s : Shared) (t : Conversations) → Logs (HandedOut ∷ done) t → Shares done s → Shares (HandedOut ∷ done) (with_talks s t)
 shares_handed done s t logs h = record {
   ring = h.ring;
   holders = record { confirm = h.holders.confirm; needkey = h.holders.needkey; log = h.holders.log };
@@ -300,7 +300,7 @@ shares_handed done s t logs h = record {
   held = h.held;
 }
 
-pub shares_dropped : (done : List Deed) (s : Shared) (t : LoggedTalks) → Logs (DropTaken ∷ done) t → Shares done s → Shares (DropTaken ∷ done) (with_talks s t)
+pub shares_dropped : (done : List Deed) (s : Shared) (t : Conversations) → Logs (DropTaken ∷ done) t → Shares done s → Shares (DropTaken ∷ done) (with_talks s t)
 shares_dropped done s t logs h = record {
   ring = h.ring;
   holders = record { confirm = h.holders.confirm; needkey = h.holders.needkey; log = h.holders.log };

@@ -410,13 +410,7 @@ impl Agent {
     {
         match &self.state {
             State::Stopped => None,
-            State::Runs(running) => running
-                .shared
-                .talks
-                .asking
-                .talks
-                .talks
-                .outcome_at(conn, fid),
+            State::Runs(running) => running.shared.talks.talks.outcome_at(conn, fid),
         }
     }
 
@@ -427,7 +421,7 @@ impl Agent {
     {
         match &self.state {
             State::Stopped => None,
-            State::Runs(running) => running.shared.talks.asking.talks.talks.chosen_at(conn, fid),
+            State::Runs(running) => running.shared.talks.talks.chosen_at(conn, fid),
         }
     }
 }

@@ -177,7 +177,7 @@ fn take_ask(shared: &mut Shared, out: &mut Bytes) -> Stepped
     ensures takes_none { unasked shared.old ≡ 0 → IsOk result }
     ensures none { IfOk result (λ a. is_reply a ≡ false) }
 {
-    match shared.talks.asking.talks.due() {
+    match shared.talks.due() {
         Due::Nothing => Ok(StepAnswer::NoAsk),
         Due::Call(given) => {
             shared.talks.take_drop();
@@ -218,7 +218,7 @@ fn put_question(shared: &Shared, conv: u64, out: &mut Bytes) -> Result<Option<Sh
     ensures behind { take (length out.old) out.new ≡ out.old }
     ensures err { OnErr result (out.new ≡ out.old) }
 {
-    let Some(conversation) = shared.talks.asking.talks.talks.conversation(conv) else {
+    let Some(conversation) = shared.talks.talks.conversation(conv) else {
         return Ok(None);
     };
     let Some((request, shape)) = conversation.question() else {

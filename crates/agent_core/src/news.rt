@@ -34,6 +34,6 @@ pub(crate) fn news_of(shared: &mut Shared) -> News
 {
     News {
         settled: shared.mailboxes.take_settled(),
-        asks: !matches!(shared.talks.asking.talks.due(), Due::Nothing),
+        asks: !matches!(shared.talks.due(), Due::Nothing),
     }
 }

@@ -16,7 +16,7 @@ use Rattle.agent_history.specs.SideFiles.{askers, prompts_of}
 use Rattle.agent_history.specs.Conversations.{Speaker, shut, speakers}
 use Rattle.agent_talks.specs.Speaks.{is_among}
 use Rattle.agent_talks.specs.Asking.{times}
-use Rattle.agent_talks.specs.declared.logged.LoggedTalks.{LoggedTalks}
+use Rattle.agent_talks.specs.declared.standing.Conversations.{Conversations}
 use Rattle.agent_talks.specs.Logging.{Logs}
 use Rattle.agent_requests.proofs.OwnDeeds.{delivered_answers}
 
@@ -123,10 +123,10 @@ apart_few (x ∷ xs) ns a among =
 
 -- ---- those who wait
 
-pub askers_apart : (done : List Deed) (t : LoggedTalks) (kind : PromptKind) → Logs done t → AreApart (askers done kind)
+pub askers_apart : (done : List Deed) (t : Conversations) (kind : PromptKind) → Logs done t → AreApart (askers done kind)
 askers_apart done t kind h = once_apart (askers done kind) (λ n. h.tells.users.once kind n)
 
-pub few_askers : (done : List Deed) (t : LoggedTalks) (kind : PromptKind) → Logs done t → length (askers done kind) ≤ length (speakers done)
+pub few_askers : (done : List Deed) (t : Conversations) (kind : PromptKind) → Logs done t → length (askers done kind) ≤ length (speakers done)
 few_askers done t kind h = apart_few (speakers done) (askers done kind) (askers_apart done t kind h) (λ n e. (h.tells.users.asked kind n e).stands)
 
 -- the first of them

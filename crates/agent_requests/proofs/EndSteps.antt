@@ -12,7 +12,7 @@ use Rattle.agent_history.specs.Deeds.{Deed, OfFids, OfConnection, OfPrompts, OfT
 use Rattle.agent_history.specs.SideFiles.{askers, file_of, prompts_of}
 use Rattle.agent_history.specs.Conversations.{all_shut, all_withdrawn, closed, ended_by, shut, speakers}
 use Rattle.mailboxes.specs.Deliveries.{Delivers}
-use Rattle.agent_talks.specs.declared.logged.LoggedTalks.{LoggedTalks}
+use Rattle.agent_talks.specs.declared.standing.Conversations.{Conversations}
 use Rattle.agent_talks.specs.Logging.{Logs}
 use Rattle.agent_requests.specs.declared.shared.Shared.{Shared}
 use Rattle.agent_requests.specs.Sharing.{Holds, Shares}
@@ -58,7 +58,7 @@ hung_shares done conn s u ring h parts =
 
 -- ---- one that waits is shut
 
-pub shut_shares : (done : List Deed) (kind : PromptKind) (conv : ℕ) (s : Shared) (t : LoggedTalks) → Shares done s → Logs (OfTalk conv calls.Shut ∷ OfPrompts kind (side.Withdrawn conv) ∷ done) t → Shares (OfTalk conv calls.Shut ∷ OfPrompts kind (side.Withdrawn conv) ∷ done) (with_talks s t)
+pub shut_shares : (done : List Deed) (kind : PromptKind) (conv : ℕ) (s : Shared) (t : Conversations) → Shares done s → Logs (OfTalk conv calls.Shut ∷ OfPrompts kind (side.Withdrawn conv) ∷ done) t → Shares (OfTalk conv calls.Shut ∷ OfPrompts kind (side.Withdrawn conv) ∷ done) (with_talks s t)
 shut_shares done kind conv s t h logs =
     let talks = rest_talks s in
     let withdrawn : List Deed = OfPrompts kind (side.Withdrawn conv) ∷ done in

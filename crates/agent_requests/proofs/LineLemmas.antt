@@ -7,7 +7,7 @@ use Rattle.file_tree.specs.declared.tree.Node.{Node}
 use Rattle.side_files.specs.Lines.{TooLong, First, Hands, found, if_handed}
 use Rattle.agent_history.specs.Deeds.{Deed}
 use Rattle.agent_history.specs.SideFiles.{line_read}
-use Rattle.agent_talks.specs.declared.logged.LoggedTalks.{LoggedTalks}
+use Rattle.agent_talks.specs.declared.standing.Conversations.{Conversations}
 use Rattle.agent_talks.specs.Logging.{Logs}
 use Rattle.agent_requests.specs.declared.shared.Shared.{Shared}
 use Rattle.agent_requests.specs.Sharing.{Shares}
@@ -37,7 +37,7 @@ handed_rest : (done : List Deed) (node : Node) (s : Shared) (o : Option (List �
 handed_rest done node s None h = h
 handed_rest done node s (Some line) h = read_talks (λ now. Rest now s) (rest_talks s) node done h
 
-pub handed_shares : (done : List Deed) (node : Node) (s : Shared) (t : LoggedTalks) (count : ℕ) (o : Option (List ℕ)) → Shares done s → Logs (if_handed (Ok o) (line_read node done) done) t → Shares (if_handed (Ok (option_map (take count) o)) (line_read node done) done) (with_talks s t)
+pub handed_shares : (done : List Deed) (node : Node) (s : Shared) (t : Conversations) (count : ℕ) (o : Option (List ℕ)) → Shares done s → Logs (if_handed (Ok o) (line_read node done) done) t → Shares (if_handed (Ok (option_map (take count) o)) (line_read node done) done) (with_talks s t)
 handed_shares done node s t count o h logs =
     subst (λ (now : List Deed). Shares now (with_talks s t)) (sym (cut_handed count o (line_read node done) done))
     (shares_with (if_handed (Ok o) (line_read node done) done) s t (handed_rest done node s o (rest_of done s h)) logs)

@@ -1,5 +1,6 @@
 -- What a conversation meets, and what follows.
-use Rattle.std.proofs.Common.{◌≡◌, ℕ, List, [], ◌∷◌, ◌++◌, map, Bool, true, false, eqb, ◌==◌, ◌||◌, Option, Some, None, refl, sym, subst, ◌∙◌, inl, inr}
+use Rattle.std.specs.Prelude.{IsOk, OnOk}
+use Rattle.std.proofs.Common.{◌≡◌, ℕ, List, [], ◌∷◌, ◌++◌, map, Bool, true, false, eqb, ◌==◌, ◌||◌, Option, Some, None, refl, sym, subst, ◌∙◌, inl, inr, Result, Ok, Err}
 use Rattle.std.specs.List.{list_any}
 use Rattle.std.proofs.lemmas.Bool.{cases_Bool, eq-eqb, false≢true}
 use Rattle.talks.specs.Calls as calls
@@ -19,7 +20,7 @@ use Rattle.agent_history.specs.Conversations.{asking, resumed, standing_of}
 use Rattle.agent_history.specs.Requests.{carried, carrying_out, said_by}
 use Rattle.agent_talks.specs.Speaks.{IsReady, stands}
 use Rattle.agent_talks.specs.Asking.{is_asker}
-use Rattle.agent_talks.specs.declared.logged.LoggedTalks.{LoggedTalks}
+use Rattle.agent_talks.specs.declared.standing.Conversations.{Conversations}
 use Rattle.agent_talks.specs.Logging.{Logs, carried_logged, carried_logged_in, logged_by, logged_talk}
 use Rattle.agent_requests.specs.declared.shared.Shared.{Shared}
 use Rattle.agent_requests.specs.Sharing.{Shares}
@@ -54,12 +55,12 @@ carried_rest done conv word s h = here (standing_of done conv).phase
     here OnServer = h
     here (Kept answer) = h
 
-pub carried_shares : (done : List Deed) (conv : ℕ) (word : List ℕ) (s : Shared) (t : LoggedTalks) → Shares done s → Logs (carried_logged conv word done) t → Shares (carried_logged conv word done) (with_talks s t)
+pub carried_shares : (done : List Deed) (conv : ℕ) (word : List ℕ) (s : Shared) (t : Conversations) → Shares done s → Logs (carried_logged conv word done) t → Shares (carried_logged conv word done) (with_talks s t)
 carried_shares done conv word s t h logs = shares_with (carried_logged conv word done) s t (carried_rest done conv word s (rest_of done s h)) logs
 
 -- ---- the authentication server is done with a question
 
-pub met_shares : (done : List Deed) (o : Option ℕ) (call : calls.Call) (s : Shared) (t : LoggedTalks) → Shares done s → Logs (logged_by o call done) t → Shares (logged_by o call done) (with_talks s t)
+pub met_shares : (done : List Deed) (o : Option ℕ) (call : calls.Call) (s : Shared) (t : Conversations) → Shares done s → Logs (logged_by o call done) t → Shares (logged_by o call done) (with_talks s t)
 met_shares done o call s t h logs = shares_with (logged_by o call done) s t (logged_by_talks (λ now. Rest now s) (rest_talks s) o call done (rest_of done s h)) logs
 
 -- what a conversation meets, and what follows
@@ -68,10 +69,15 @@ resumes None call done = refl
 resumes (Some conv) call done = refl
 
 -- it was this one's question
-pub heard_shares : (done : List Deed) (o p : Option ℕ) (call : calls.Call) (s : Shared) (t : LoggedTalks) (v : Shared) → o ≡ p → Shares done s → Logs (logged_by p call done) t → ((now : List Deed) → Shares now (with_talks s t) → Shares (swept (followed o now)) v) → Shares (swept (resumed p call done)) v
+pub heard_shares : (done : List Deed) (o p : Option ℕ) (call : calls.Call) (s : Shared) (t : Conversations) (v : Shared) → o ≡ p → Shares done s → Logs (logged_by p call done) t → ((now : List Deed) → Shares now (with_talks s t) → Shares (swept (followed o now)) v) → Shares (swept (resumed p call done)) v
 heard_shares done o p call s t v is h logs f =
     subst (λ (now : List Deed). Shares (swept now) v) (resumes p call done)
     (subst (λ (q : Option ℕ). Shares (swept (followed q (logged_by p call done))) v) is (f (logged_by p call done) (met_shares done p call s t h logs)))
+
+-- what takes no memory was done
+pub was_done : {T E P : Type 0} (r : Result T E) → IsOk r → OnOk r P → P
+was_done (Ok x) ok is = is
+was_done (Err e) ok is = absurd (false≢true ok)
 
 -- ---- who waits for a reply
 
@@ -103,7 +109,7 @@ replier_stands done kind tag conv s is h = (h.talks.tells.users.asked kind conv 
 abbrev pub replied_deeds : PromptKind → ℕ → ℕ → Bool → List Deed → List Deed
 replied_deeds kind tag conv agrees done = logged_talk conv (said_by kind agrees) (OfPrompts kind (side.Replied tag) ∷ done)
 
-pub replied_shares : (done : List Deed) (kind : PromptKind) (tag conv : ℕ) (agrees : Bool) (s : Shared) (t : LoggedTalks) → Shares done s → Logs (replied_deeds kind tag conv agrees done) t → Shares (replied_deeds kind tag conv agrees done) (with_talks s t)
+pub replied_shares : (done : List Deed) (kind : PromptKind) (tag conv : ℕ) (agrees : Bool) (s : Shared) (t : Conversations) → Shares done s → Logs (replied_deeds kind tag conv agrees done) t → Shares (replied_deeds kind tag conv agrees done) (with_talks s t)
 replied_shares done kind tag conv agrees s t h logs =
     let replied : List Deed = OfPrompts kind (side.Replied tag) ∷ done in
     let rest : Rest replied s = (rest_talks s).asked kind (side.Replied tag) done (rest_of done s h) in

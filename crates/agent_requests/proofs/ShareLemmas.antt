@@ -12,7 +12,7 @@ use Rattle.agent_talks.specs.Tells.{TellsBy}
 use Rattle.mailboxes.specs.declared.mailboxes.Mailboxes.{Mailboxes}
 use Rattle.mailboxes.specs.Deliveries.{Delivers, SameMail}
 use Rattle.mailboxes.proofs.DeliveryLemmas as mail
-use Rattle.agent_talks.specs.declared.logged.LoggedTalks.{LoggedTalks}
+use Rattle.agent_talks.specs.declared.standing.Conversations.{Conversations}
 use Rattle.agent_talks.specs.Logging.{Logs}
 use Rattle.agent_talks.proofs.DeedLemmas.{replies_logs, swept_logs}
 use Rattle.agent_requests.specs.declared.holders.Holders.{Holders}
@@ -106,13 +106,13 @@ rest_talks s =
       raised = λ conv done h. record { ring = h.ring; holders = holds.raised conv done h.holders; mail = mails.raised conv done h.mail; live = h.live; held = h.held };
     }
 
-abbrev pub with_talks : Shared → LoggedTalks → Shared
+abbrev pub with_talks : Shared → Conversations → Shared
 with_talks s t = record { ring = s.ring; holders = s.holders; mailboxes = s.mailboxes; talks = t }
 
 abbrev pub with_mail : Shared → Mailboxes → Shared
 with_mail s m = record { ring = s.ring; holders = s.holders; mailboxes = m; talks = s.talks }
 
-pub shares_with : (done : List Deed) (s : Shared) (t : LoggedTalks) → Rest done s → Logs done t → Shares done (with_talks s t)
+pub shares_with : (done : List Deed) (s : Shared) (t : Conversations) → Rest done s → Logs done t → Shares done (with_talks s t)
 shares_with done s t rest logs = record { ring = rest.ring; holders = rest.holders; mail = rest.mail; talks = logs; live = rest.live; held = rest.held }
 
 -- ---- deeds of one kind
@@ -124,16 +124,6 @@ replied_shares done s m conn deed delivers h = record {
   holders = (holds_all s.holders).replies conn deed done h.holders;
   mail = delivers;
   talks = replies_logs done s.talks conn deed h.talks;
-  live = h.live;
-  held = h.held;
-}
-
-pub switched_shares : (done : List Deed) (s : Shared) (t : LoggedTalks) (conn : ℕ) → Logs (OfKeys conn Switched ∷ done) t → Shares done s → Shares (OfKeys conn Switched ∷ done) (with_talks s t)
-switched_shares done s t conn logs h = record {
-  ring = h.ring;
-  holders = holds_keys conn s.holders Switched done h.holders;
-  mail = mail.keys_delivers done s.mailboxes conn Switched h.mail;
-  talks = logs;
   live = h.live;
   held = h.held;
 }
@@ -177,7 +167,7 @@ live_speaker done conv s live e = live_found (λ conn. was_hung done conn) (λ x
 
 -- ---- a read is told an answer
 
-pub tells_shares : (phase : Phase) (done : List Deed) (s : Shared) (t : LoggedTalks) (conv count : ℕ) (o : Option Telling) → Rest done s → TellsBy (λ d. Logs d t) phase done conv count o → TellsBy (λ d. Shares d (with_talks s t)) phase done conv count o
+pub tells_shares : (phase : Phase) (done : List Deed) (s : Shared) (t : Conversations) (conv count : ℕ) (o : Option Telling) → Rest done s → TellsBy (λ d. Logs d t) phase done conv count o → TellsBy (λ d. Shares d (with_talks s t)) phase done conv count o
 tells_shares (Kept answer) done s t conv count o rest tells = (tells.0, shares_with (then_took conv count answer done) s t (took_talks (λ now. Rest now s) (rest_talks s) conv count answer done rest) tells.1)
 tells_shares Resting done s t conv count o rest tells = (tells.0, shares_with done s t rest tells.1)
 tells_shares (Waiting request) done s t conv count o rest tells = (tells.0, shares_with done s t rest tells.1)

@@ -54,7 +54,7 @@ impl Shared {
             ≡ (talks_in self.old.talks).questions }
         ensures drops { calls_in self.new.talks ≡ calls_in self.old.talks }
     {
-        let Some(speaker) = self.talks.asking.talks.talks.speaker_of(conv) else {
+        let Some(speaker) = self.talks.talks.speaker_of(conv) else {
             return;
         };
         let Speaker { conn, fid, .. } = *speaker;

@@ -9,6 +9,7 @@ ghost use Rattle.agent_talks.specs.Asking.{is_asker};
 ghost use Rattle.agent_requests.specs.Sharing.{Shares};
 
 use crate::shared::Shared;
+use agent_talks::Leaving;
 use file_tree::Node;
 use side_files::PromptKind;
 use std::alloc::Global;
@@ -22,7 +23,7 @@ impl Shared {
         ensures room { SameRoom self.old.mailboxes self.new.mailboxes }
     {
         self.ring.forget();
-        self.talks.clunk(conn, fid);
+        self.talks.end(Leaving::Fid(conn, fid));
         self.holders.clunk(conn, fid);
         self.mailboxes.give_up(conn, fid);
         self.close_both(alloc);
@@ -37,7 +38,7 @@ impl Shared {
         ensures room { SameRoom self.old.mailboxes self.new.mailboxes }
     {
         self.ring.forget();
-        self.talks.version(conn);
+        self.talks.end(Leaving::Connection(conn));
         self.holders.leave(conn);
         self.mailboxes.drop_waits(conn);
         self.close_both(alloc);
@@ -51,7 +52,7 @@ impl Shared {
         ensures none { KeepsNone self.new.mailboxes conn }
     {
         self.ring.forget();
-        self.talks.hang(conn);
+        self.talks.end(Leaving::Connection(conn));
         self.holders.leave(conn);
         self.mailboxes.leave(conn);
         self.close_both(alloc);
@@ -80,7 +81,7 @@ impl Shared {
         if self.holders.has(file_of(kind)) {
             return;
         }
-        let most = self.talks.asking.talks.talks.count();
+        let most = self.talks.talks.count();
         self.shut_all(alloc, kind, most);
     }
 

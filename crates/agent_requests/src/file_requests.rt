@@ -24,7 +24,7 @@ use crate::line_requests::{kind_at, read_line, write_answer};
 use crate::msize::Msize;
 use crate::refused::{Refusal, Refused, Tried};
 use crate::rpc_requests::{read_rpc, write_reply, write_rpc};
-use crate::{LoggedTalks, Shared, is_rpc};
+use crate::{Conversations, Shared, is_rpc};
 use file_tree::{Node, reads, writes};
 use mailboxes::Reply;
 use nine::put_read;
@@ -237,7 +237,7 @@ fn write_lines(call: Call, shared: &mut Shared, content: &[u8]) -> Result<Reply,
 }
 
 // The further lines of the log are switched, where lines of ctl do that an odd number of times.
-fn switch(talks: &mut LoggedTalks, switches: bool)
+fn switch(talks: &mut Conversations, switches: bool)
     ensures { (done : List Deed) (conn : ℕ) → Logs done talks.old
         → Logs (switching switches conn done) talks.new }
 {

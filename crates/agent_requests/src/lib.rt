@@ -20,7 +20,7 @@ mod serve;
 mod serve_lines;
 mod shared;
 
-pub use agent_talks::LoggedTalks;
+pub use agent_talks::Conversations;
 pub use call::Call;
 pub use connection::{Connection, Phase};
 pub use deliver::{read_too_small, spell_told};

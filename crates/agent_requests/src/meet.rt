@@ -15,6 +15,7 @@ ghost use Rattle.agent_requests.specs.Sharing.{GivesOne, SameShared, Shares};
 ghost use Rattle.agent_requests.specs.Serving.{followed};
 
 use crate::shared::Shared;
+use agent_talks::Said;
 use side_files::PromptKind;
 use std::alloc::Global;
 use wire_base::NoMemory;
@@ -30,7 +31,7 @@ impl Shared {
         ensures place { SamePlace self.old.mailboxes self.new.mailboxes }
         ensures same { OnErr result (SameShared self.old self.new) }
     {
-        if !self.talks.asking.talks.talks.has_request(conv) {
+        if !self.talks.talks.has_request(conv) {
             return Ok(());
         }
         let asking = self.holders.asking();
@@ -77,8 +78,8 @@ impl Shared {
         ensures unknown { is_asked call (questions_in (talks_in self.old.talks)) ≡ false
             → IsOk result }
     {
-        let asker = self.talks.asking.talks.talks.asker(call);
-        self.talks.heard(alloc, call, bytes)?;
+        let asker = self.talks.talks.asker(call);
+        self.talks.server_told(alloc, call, Said::Answer(bytes))?;
         self.follow_and_sweep(alloc, asker);
         Ok(())
     }
@@ -91,8 +92,8 @@ impl Shared {
         ensures fewer { unasked (talks_in self.new.talks) ≤ unasked (talks_in self.old.talks) }
         ensures drops { GivesOne self.old self.new }
     {
-        let asker = self.talks.asking.talks.talks.asker(call);
-        self.talks.unheard(call);
+        let asker = self.talks.talks.asker(call);
+        self.talks.server_told(alloc, call, Said::Nothing).unwrap();
         self.follow_and_sweep(alloc, asker);
     }
 
@@ -104,8 +105,8 @@ impl Shared {
         ensures fewer { unasked (talks_in self.new.talks) ≤ unasked (talks_in self.old.talks) }
         ensures drops { GivesOne self.old self.new }
     {
-        let asker = self.talks.asking.talks.talks.asker(call);
-        self.talks.roomless(call);
+        let asker = self.talks.talks.asker(call);
+        self.talks.server_told(alloc, call, Said::NoRoom).unwrap();
         self.follow_and_sweep(alloc, asker);
     }
 

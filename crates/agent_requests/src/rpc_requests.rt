@@ -37,19 +37,13 @@ pub(crate) fn read_rpc(call: Call, shared: &mut Shared, fid: u32, count: u32) ->
     if shared.mailboxes.has_fid(call.conn, fid) {
         return Err(Refused::For(Refusal::RpcBusy));
     }
-    if shared
-        .talks
-        .asking
-        .talks
-        .talks
-        .is_resting_at(call.conn, fid)
-    {
+    if shared.talks.talks.is_resting_at(call.conn, fid) {
         return Err(Refused::For(Refusal::NoRpcPending));
     }
     if is_crowded(shared, call.conn, fid) {
         return Err(Refused::For(Refusal::TooManyWaiting));
     }
-    let Some(conv) = shared.talks.asking.talks.talks.conv_at(call.conn, fid) else {
+    let Some(conv) = shared.talks.talks.conv_at(call.conn, fid) else {
         return Err(Refused::For(Refusal::NoRpcPending));
     };
     let read = Read {
@@ -65,7 +59,7 @@ fn is_crowded(shared: &Shared, conn: u64, fid: u32) -> bool
     ensures { (done : List Deed) → was_hung done conn ≡ false → Shares done shared.now
         → result ≡ (not (has_answer (phase_of done conn fid)) && waits_enough done conn) }
 {
-    if shared.talks.asking.talks.talks.has_answer_at(conn, fid) {
+    if shared.talks.talks.has_answer_at(conn, fid) {
         return false;
     }
     waits_enough(shared, conn)
@@ -114,18 +108,12 @@ pub(crate) fn write_rpc(call: Call, shared: &mut Shared, fid: u32, content: &[u8
     ensures mail { shared.new.mailboxes ≡ shared.old.mailboxes }
     ensures same { OnErr result (SameShared shared.old shared.new) }
 {
-    if !shared
-        .talks
-        .asking
-        .talks
-        .talks
-        .is_resting_at(call.conn, fid)
-    {
+    if !shared.talks.talks.is_resting_at(call.conn, fid) {
         return Err(Refused::For(Refusal::RpcBusy));
     }
     let request = read_request(content)?;
     let reply = write_reply(call, content)?;
-    let conv = shared.talks.asking.talks.talks.conv_at(call.conn, fid);
+    let conv = shared.talks.talks.conv_at(call.conn, fid);
     store_at(shared, call.alloc, conv, request)?;
     Ok(Some(reply))
 }

@@ -6,6 +6,7 @@ ghost use Rattle.agent_history.specs.Deeds.{Deed, was_hung};
 ghost use Rattle.agent_history.specs.Replies.{reader};
 ghost use Rattle.agent_history.specs.SideFiles.{all_served, lines_in, serve_first, serve_reads, served};
 ghost use Rattle.mailboxes.specs.Deliveries.{SamePlace, SameRoom, StillNone};
+ghost use Rattle.agent_talks.specs.Logging.{keeping_of};
 ghost use Rattle.agent_requests.specs.Sharing.{Shares};
 ghost use Rattle.agent_requests.specs.Serving.{LineTold, Serves};
 
@@ -25,7 +26,7 @@ impl Shared {
         ensures room { SameRoom self.old.mailboxes self.new.mailboxes }
         ensures place { SamePlace self.old.mailboxes self.new.mailboxes }
         ensures none { StillNone self.old.mailboxes self.new.mailboxes }
-        ensures talks { self.new.talks.asking.talks ≡ self.old.talks.asking.talks }
+        ensures talks { keeping_of self.new.talks ≡ keeping_of self.old.talks }
     {
         self.serve(Node::Confirm);
         self.serve(Node::Needkey);
@@ -40,7 +41,7 @@ impl Shared {
         ensures room { SameRoom self.old.mailboxes self.new.mailboxes }
         ensures place { SamePlace self.old.mailboxes self.new.mailboxes }
         ensures none { StillNone self.old.mailboxes self.new.mailboxes }
-        ensures talks { self.new.talks.asking.talks ≡ self.old.talks.asking.talks }
+        ensures talks { keeping_of self.new.talks ≡ keeping_of self.old.talks }
     {
         let Some((conn, fid)) = self.holders.holder(node) else {
             return;
@@ -57,7 +58,7 @@ impl Shared {
         ensures room { SameRoom self.old.mailboxes self.new.mailboxes }
         ensures place { SamePlace self.old.mailboxes self.new.mailboxes }
         ensures none { StillNone self.old.mailboxes self.new.mailboxes }
-        ensures talks { self.new.talks.asking.talks ≡ self.old.talks.asking.talks }
+        ensures talks { keeping_of self.new.talks ≡ keeping_of self.old.talks }
     {
         if most == 0 {
             return;
@@ -75,7 +76,7 @@ impl Shared {
         ensures room { SameRoom self.old.mailboxes self.new.mailboxes }
         ensures place { SamePlace self.old.mailboxes self.new.mailboxes }
         ensures none { StillNone self.old.mailboxes self.new.mailboxes }
-        ensures talks { self.new.talks.asking.talks ≡ self.old.talks.asking.talks }
+        ensures talks { keeping_of self.new.talks ≡ keeping_of self.old.talks }
     {
         let Some(read) = self.mailboxes.reader(conn, fid) else {
             return false;
@@ -94,7 +95,7 @@ impl Shared {
         ensures ring { self.new.ring ≡ self.old.ring }
         ensures holders { self.new.holders ≡ self.old.holders }
         ensures mail { self.new.mailboxes ≡ self.old.mailboxes }
-        ensures talks { self.new.talks.asking.talks ≡ self.old.talks.asking.talks }
+        ensures talks { keeping_of self.new.talks ≡ keeping_of self.old.talks }
     {
         match self.hand_out_line(node, u32::from(read.count)) {
             Ok(Some(line)) => Some(Reply::Line {

@@ -10,11 +10,11 @@ ghost use Rattle.agent_history.specs.SideFiles.{line_read, lines_in, prompts_of}
 ghost use Rattle.agent_history.specs.Conversations.{speakers, stands, standing_of};
 ghost use Rattle.agent_history.specs.Requests.{is_rpc, most_talks};
 ghost use Rattle.agent_talks.specs.Tells.{IsShort, TellsBy};
-ghost use Rattle.agent_talks.specs.Logging.{Logs, SameLogs, calls_in, talks_in};
+ghost use Rattle.agent_talks.specs.Logging.{Logs, SameLogs, calls_in, keeping_of, talks_in};
 ghost use Rattle.agent_requests.specs.Sharing.{SameShared, Shares};
 
 use crate::holders::Holders;
-use agent_talks::{LoggedTalks, Told};
+use agent_talks::{Conversations, Told};
 use file_tree::Node;
 use key_ring::ListedRing;
 use mailboxes::Mailboxes;
@@ -35,7 +35,7 @@ pub fn is_rpc(node: Node) -> bool
 
 // A conversation begins where the file of a fid that is held is rpc.
 fn open_talk(
-    talks: &mut LoggedTalks,
+    talks: &mut Conversations,
     alloc: Global,
     node: Node,
     conn: u64,
@@ -69,7 +69,7 @@ pub struct Shared {
     pub ring: ListedRing,
     pub holders: Holders,
     pub mailboxes: Mailboxes,
-    pub talks: LoggedTalks,
+    pub talks: Conversations,
 }
 
 impl Shared {
@@ -77,7 +77,7 @@ impl Shared {
     pub fn new(alloc: Global) -> Result<Shared, NoMemory>
         ensures { IfOk result (λ shared. Shares [] shared) }
     {
-        let talks = LoggedTalks::new(alloc)?;
+        let talks = Conversations::new(alloc)?;
         Ok(Shared {
             ring: ListedRing::new(alloc),
             holders: Holders::new(),
@@ -91,7 +91,7 @@ impl Shared {
         ensures { (done : List Deed) → Logs done self.now.talks → result
             ≡ (is_rpc node && not (nat_lt (length (speakers done)) most_talks)) }
     {
-        is_rpc(node) && self.talks.asking.talks.talks.count() >= MOST_TALKS
+        is_rpc(node) && self.talks.talks.count() >= MOST_TALKS
     }
 
     /// A fid that is held and names this file opens it: where it is rpc, a conversation begins.
@@ -160,20 +160,9 @@ impl Shared {
         ensures ring { self.new.ring ≡ self.old.ring }
         ensures holders { self.new.holders ≡ self.old.holders }
         ensures mail { self.new.mailboxes ≡ self.old.mailboxes }
-        ensures talks { self.new.talks.asking.talks ≡ self.old.talks.asking.talks }
+        ensures talks { keeping_of self.new.talks ≡ keeping_of self.old.talks }
     {
         let line = self.talks.hand_out_line(node, count)?;
         Ok(cut_line(line, count))
-    }
-
-    /// A line of ctl switches the further lines of the log on or off.
-    pub fn switch(&mut self)
-        ensures shares { (done : List Deed) (conn : ℕ) → Shares done self.old
-            → Shares (OfKeys conn Switched ∷ done) self.new }
-        ensures ring { self.new.ring ≡ self.old.ring }
-        ensures holders { self.new.holders ≡ self.old.holders }
-        ensures mail { self.new.mailboxes ≡ self.old.mailboxes }
-    {
-        self.talks.switch();
     }
 }

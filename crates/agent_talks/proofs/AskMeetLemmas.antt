@@ -12,11 +12,11 @@ use Rattle.agent_talks.specs.Tells.{TellsBy}
 use Rattle.agent_talks.proofs.AskLemmas.{is_asked, met_rests}
 use Rattle.agent_talks.proofs.StandLemmas.{same}
 use Rattle.agent_talks.specs.Keeps.{Converses}
-use Rattle.agent_talks.specs.declared.keeping.KeepingTalks.{KeepingTalks}
+use Rattle.agent_talks.specs.Keeps.{KeepingTalks}
 use Rattle.agent_talks.proofs.MeetLemmas.{Rests}
 use Rattle.agent_talks.specs.declared.files.LineFiles.{LineFiles}
 use Rattle.agent_talks.specs.Files.{Files}
-use Rattle.agent_talks.specs.declared.asking.AskingTalks.{AskingTalks}
+use Rattle.agent_talks.specs.Asking.{AskingTalks}
 use Rattle.agent_talks.specs.Asking.{AllWait, Tells}
 use Rattle.agent_talks.proofs.WaitLemmas.{Leaves, met_wait, took_leaves}
 

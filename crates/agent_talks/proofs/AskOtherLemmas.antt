@@ -15,11 +15,11 @@ use Rattle.agent_history.specs.Histories.{entered}
 use Rattle.agent_history.specs.Replies.{has_settled, swept}
 use Rattle.agent_history.specs.SideFiles.{askers, line_read, log_of, prompts_of}
 use Rattle.agent_talks.specs.Keeps.{Converses, SameConverses}
-use Rattle.agent_talks.specs.declared.keeping.KeepingTalks.{KeepingTalks}
+use Rattle.agent_talks.specs.Keeps.{KeepingTalks}
 use Rattle.agent_talks.proofs.OtherCalls as kept
 use Rattle.agent_talks.specs.declared.files.LineFiles.{LineFiles}
 use Rattle.agent_talks.specs.Files.{Files}
-use Rattle.agent_talks.specs.declared.asking.AskingTalks.{AskingTalks}
+use Rattle.agent_talks.specs.Asking.{AskingTalks}
 use Rattle.agent_talks.specs.Asking.{AllWait, SameTells, Tells, times}
 use Rattle.agent_talks.proofs.StandLemmas.{same}
 use Rattle.agent_talks.proofs.TimesLemmas.{times_none}

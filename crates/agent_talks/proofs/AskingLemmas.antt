@@ -8,7 +8,7 @@ use Rattle.roles.specs.Templates.{shown_text}
 use Rattle.side_files.specs.declared.line.PromptKind.{PromptKind}
 use Rattle.side_files.specs.declared.line.PromptKind.TheVariants as k
 use Rattle.side_files.specs.Calls as side
-use Rattle.agent_talks.specs.declared.keeping.KeepingTalks.{KeepingTalks}
+use Rattle.agent_talks.specs.Keeps.{KeepingTalks}
 use Rattle.side_files.specs.Questions.{Questions, asked_by}
 use Rattle.talks.specs.Calls.{AsksConsent, AsksKey, Call, CarriedOut, Chosen, Denied, Found, NoneServes, Offered, Picked, Sought}
 use Rattle.talks.specs.declared.said.Asking.{Asking}
@@ -39,7 +39,7 @@ use Rattle.agent_talks.specs.declared.files.LineFiles.{LineFiles}
 use Rattle.agent_talks.specs.Asked.{Asked, AskedIn, NoneAsked, asks_about}
 use Rattle.agent_talks.specs.Files.{Files, asked_in}
 use Rattle.agent_talks.proofs.AskedLemmas.{talked_asks}
-use Rattle.agent_talks.specs.declared.asking.AskingTalks.{AskingTalks}
+use Rattle.agent_talks.specs.Asking.{AskingTalks}
 use Rattle.agent_talks.specs.Asking.{AllWait, AsksBy, Tells, Waits, is_asker, times}
 use Rattle.agent_talks.proofs.TimesLemmas.{asked_last, asked_once, convs}
 

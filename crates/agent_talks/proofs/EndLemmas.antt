@@ -17,11 +17,11 @@ use Rattle.agent_talks.specs.Kept.{leaves, speaker_of}
 use Rattle.agent_talks.specs.Speaks.{is_among, stands}
 use Rattle.agent_talks.proofs.StandLemmas.{Apart, are_numbered, left_among, other_way, same}
 use Rattle.agent_talks.specs.Keeps.{Converses}
-use Rattle.agent_talks.specs.declared.keeping.KeepingTalks.{KeepingTalks}
+use Rattle.agent_talks.specs.Keeps.{KeepingTalks}
 use Rattle.agent_talks.proofs.OtherCalls.{prompts_converses}
 use Rattle.agent_talks.specs.declared.files.LineFiles.{LineFiles}
 use Rattle.agent_talks.specs.Files.{Files}
-use Rattle.agent_talks.specs.declared.asking.AskingTalks.{AskingTalks}
+use Rattle.agent_talks.specs.Asking.{AskingTalks}
 use Rattle.agent_talks.specs.Asking.{AllWait, Tells, Waits, convs_leaving, ended, is_asker, times}
 use Rattle.agent_talks.proofs.ShutLemmas.{withdrawn_left}
 use Rattle.agent_talks.proofs.TimesLemmas.{has, more_has, withdrawn_fewer}

@@ -38,3 +38,5 @@ pub mod LogLemmas
 pub mod OtherDeedLemmas
 pub mod MeetingLemmas
 pub mod DeedLemmas
+pub mod EndingLemmas
+pub mod ServerLemmas

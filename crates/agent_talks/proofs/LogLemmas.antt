@@ -13,10 +13,10 @@ use Rattle.agent_talks.specs.Speaks.{is_among, stands, talked}
 use Rattle.agent_talks.proofs.GrowLemmas as grow
 use Rattle.agent_talks.specs.Asking.{Tells}
 use Rattle.agent_talks.proofs.AskingLemmas.{talk_apart}
-use Rattle.agent_talks.specs.declared.logged.LoggedTalks.{LoggedTalks}
+use Rattle.agent_talks.specs.declared.standing.Conversations.{Conversations}
 use Rattle.agent_talks.specs.declared.ready.ReadyLine.{ReadyLine}
 use Rattle.agent_talks.specs.Ahead.{IsMadeFor, goes_on, start_by}
-use Rattle.agent_talks.specs.Logging.{HasItsLine, IsTold, Logs, SameOthers, line_at, logged_talk}
+use Rattle.agent_talks.specs.Logging.{HasItsLine, IsTold, Logs, SameOthers, asking_of, line_at, logged_talk}
 use Rattle.agent_talks.proofs.LineLemmas.{ended_started, of_template, started_begun, told_lines}
 use Rattle.agent_talks.proofs.SearchedLaws.{talked_over}
 use Rattle.agent_talks.proofs.TemplateLaws.{IsOf}
@@ -33,7 +33,7 @@ logged_speakers (line ∷ more) done = logged_speakers more (OfLog (side.Pushed 
 
 -- ---- all that stand have their lines
 
-abbrev pub AllHaveLines : List Deed → LoggedTalks → Type 0
+abbrev pub AllHaveLines : List Deed → Conversations → Type 0
 AllHaveLines done t = (q : ℕ) → stands done q ≡ true → HasItsLine done t q
 
 -- the line for a talk
@@ -49,7 +49,7 @@ apart a b e is = false≢true (sym e ∙ eq-eqb a b is)
 -- ---- behind what a conversation met
 
 -- what its next step needs is there
-pub record Ahead (done : List Deed) (mid : LoggedTalks) (conv : ℕ) (call : Call) (over : Bool) (start : Option (List ℕ)) (coming : Option (List Attr)) : Type 0 where
+pub record Ahead (done : List Deed) (mid : Conversations) (conv : ℕ) (call : Call) (over : Bool) (start : Option (List ℕ)) (coming : Option (List Attr)) : Type 0 where
   pub there : stands done conv ≡ true
   pub is_over : over ≡ is_end (outcome_of (standing_of done conv))
   -- the line of its end
@@ -62,10 +62,10 @@ pub record Ahead (done : List Deed) (mid : LoggedTalks) (conv : ℕ) (call : Cal
 talked_debug : (done : List Deed) (conv : ℕ) (call : Call) → is_debug (talked conv call done) ≡ is_debug done
 talked_debug done conv call = grow.met_keeps (λ d. is_debug d ≡ is_debug done) (record { met = λ d conv call h. h; asked = λ d kind call h. h; raised = λ d conv h. h }) done conv call refl
 
-pub talk_logs : (done : List Deed) (old mid new : LoggedTalks) (conv : ℕ) (call : Call) (over : Bool) (start : Option (List ℕ)) (coming : Option (List Attr)) → Ahead done mid conv call over start coming
-    → AllHaveLines done old → SameOthers conv old mid → Tells (talked conv call done) mid.asking → IsTold conv over start mid new → Logs (logged_talk conv call done) new
+pub talk_logs : (done : List Deed) (old mid new : Conversations) (conv : ℕ) (call : Call) (over : Bool) (start : Option (List ℕ)) (coming : Option (List Attr)) → Ahead done mid conv call over start coming
+    → AllHaveLines done old → SameOthers conv old mid → Tells (talked conv call done) (asking_of mid) → IsTold conv over start mid new → Logs (logged_talk conv call done) new
 talk_logs done old mid new conv call over start coming a ends others tells told = record {
-  tells = subst (λ (lines : List (List ℕ)). Tells (logged lines after) new.asking) (told_lines (is_debug after) conv was now over start coming a.is_over starts a.of) (told.told after template still may_end tells);
+  tells = subst (λ (lines : List (List ℕ)). Tells (logged lines after) (asking_of new)) (told_lines (is_debug after) conv was now over start coming a.is_over starts a.of) (told.told after template still may_end tells);
   ends = λ q there.
       line_for (talk after q) (talk (logged lines after) q) q (line_at new q) (line_at new q) (logged_talks lines after q) refl
       (elim (cases_Bool (eqb conv q)) [

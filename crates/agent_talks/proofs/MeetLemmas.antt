@@ -16,13 +16,10 @@ use Rattle.agent_talks.proofs.AskLemmas.{is_asked, met_rests}
 use Rattle.agent_talks.proofs.GrowLemmas as grow
 use Rattle.agent_talks.specs.Calls.{Calls, ended_if}
 use Rattle.agent_talks.specs.Keeps.{Converses, EndsAsker, EndsOver, Keeps, is_over_at}
-use Rattle.agent_talks.specs.declared.keeping.KeepingTalks.{KeepingTalks}
+use Rattle.agent_talks.specs.Keeps.{KeepingTalks}
 use Rattle.agent_talks.proofs.CallLemmas.{same}
 use Rattle.agent_talks.proofs.SeekLemmas.{SameBegun}
 use Rattle.agent_talks.proofs.TalkLemmas.{answered_keeps, carried_keeps, talk_keeps, then_took_keeps}
-
-abbrev with_talks : KeepingTalks → Talks → KeepingTalks
-with_talks k t = record { talks = t; calls = k.calls }
 
 -- what conversations and calls become
 both : (done : List Deed) (new : KeepingTalks) (t : Talks) (c : Calls) → new.talks ≡ t → new.calls ≡ c → Speak done t → Keeps done c → Converses done new
@@ -30,7 +27,7 @@ both done new t c e f h k = record { speak = subst (λ (u : Talks). Speak done u
 
 -- ---- a request is carried out
 
-pub carried_converses : (done : List Deed) (old new : KeepingTalks) (t : Talks) (conv behind : ℕ) (word : List ℕ) → stands done conv ≡ true → behind ≡ raised done → Speak (carried_talk conv word done) t → EndsOver conv behind (with_talks old t) new → new.talks ≡ t → Converses done old → Converses (carried_talk conv word done) new
+pub carried_converses : (done : List Deed) (old new : KeepingTalks) (t : Talks) (conv behind : ℕ) (word : List ℕ) → stands done conv ≡ true → behind ≡ raised done → Speak (carried_talk conv word done) t → EndsOver conv behind t old.calls new.calls → new.talks ≡ t → Converses done old → Converses (carried_talk conv word done) new
 carried_converses done old new t conv behind word there b speak ends e h =
     let after : List Deed = carried_talk conv word done in
     let still : stands after conv ≡ true = grow.carried_keeps (λ d. stands d conv ≡ true) (grow.stands_stay conv) done conv word there in
@@ -39,14 +36,14 @@ carried_converses done old new t conv behind word there b speak ends e h =
 
 -- ---- its user answered, or can't
 
-pub answered_converses : (done : List Deed) (old new : KeepingTalks) (t : Talks) (conv behind : ℕ) (call : Call) → SameBegun call → asks_user (standing_of done conv).phase ≡ true → stands done conv ≡ true → behind ≡ raised done → Speak (talked conv call done) t → EndsOver conv behind (with_talks old t) new → new.talks ≡ t → Converses done old → Converses (talked conv call done) new
+pub answered_converses : (done : List Deed) (old new : KeepingTalks) (t : Talks) (conv behind : ℕ) (call : Call) → SameBegun call → asks_user (standing_of done conv).phase ≡ true → stands done conv ≡ true → behind ≡ raised done → Speak (talked conv call done) t → EndsOver conv behind t old.calls new.calls → new.talks ≡ t → Converses done old → Converses (talked conv call done) new
 answered_converses done old new t conv behind call begun asks there b speak ends e h =
     let after : List Deed = talked conv call done in
     let still : stands after conv ≡ true = grow.met_keeps (λ d. stands d conv ≡ true) (grow.stands_stay conv) done conv call there in
     both after new t (ended_if (is_over_at after conv) conv behind old.calls) e (ends after still speak) speak
     (subst (λ (n : ℕ). Keeps after (ended_if (is_over_at after conv) conv n old.calls)) (sym b) (answered_keeps done old.calls conv call begun asks h.calls))
 
-pub shut_converses : (done : List Deed) (old new : KeepingTalks) (t : Talks) (conv behind : ℕ) → stands done conv ≡ true → behind ≡ raised done → Speak (OfTalk conv calls.Shut ∷ done) t → EndsOver conv behind (with_talks old t) new → new.talks ≡ t → Converses done old → Converses (OfTalk conv calls.Shut ∷ done) new
+pub shut_converses : (done : List Deed) (old new : KeepingTalks) (t : Talks) (conv behind : ℕ) → stands done conv ≡ true → behind ≡ raised done → Speak (OfTalk conv calls.Shut ∷ done) t → EndsOver conv behind t old.calls new.calls → new.talks ≡ t → Converses done old → Converses (OfTalk conv calls.Shut ∷ done) new
 shut_converses done old new t conv behind there b speak ends e h =
     let after : List Deed = OfTalk conv calls.Shut ∷ done in
     both after new t (ended_if (is_over_at after conv) conv behind old.calls) e (ends after there speak) speak
@@ -65,11 +62,11 @@ abbrev pub Rests : List Deed → Call → Type 0
 Rests done call = (conv : ℕ) → (standing_of done conv).phase ≡ OnServer → (answer : RpcAnswer) × ((standing (call ∷ talk done conv)).phase ≡ Kept answer)
 
 pub met_converses : (done : List Deed) (old new : KeepingTalks) (t : Talks) (asker : Option ℕ) (behind number : ℕ) (call : Call) → Rests done call → asker ≡ told.asker done number → behind ≡ raised done
-    → Speak (talked_by (told.asker done number) call done) t → EndsAsker asker behind (with_talks old t) new → new.talks ≡ t → Converses done old → Converses (talked_by (told.asker done number) call done) new
+    → Speak (talked_by (told.asker done number) call done) t → EndsAsker asker behind t old.calls new.calls → new.talks ≡ t → Converses done old → Converses (talked_by (told.asker done number) call done) new
 met_converses done old new t asker behind number call rests is b speak ends e h =
     subst (λ (o : Option ℕ). Converses (talked_by o call done) new) is (here asker is (subst (λ (o : Option ℕ). Speak (talked_by o call done) t) (sym is) speak) ends)
   where
-    here : (o : Option ℕ) → o ≡ told.asker done number → Speak (talked_by o call done) t → EndsAsker o behind (with_talks old t) new → Converses (talked_by o call done) new
+    here : (o : Option ℕ) → o ≡ told.asker done number → Speak (talked_by o call done) t → EndsAsker o behind t old.calls new.calls → Converses (talked_by o call done) new
     here None f now kept = both done new t old.calls e kept now h.calls
     here (Some conv) f now kept =
         let after : List Deed = talked conv call done in

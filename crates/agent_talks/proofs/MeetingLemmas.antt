@@ -20,11 +20,11 @@ use Rattle.agent_history.specs.Conversations.{standing_of}
 use Rattle.agent_history.specs.Requests.{said_by}
 use Rattle.agent_talks.specs.Speaks.{carried_in, carried_talk, stands, talked, talked_by}
 use Rattle.agent_talks.proofs.AskLemmas.{is_asked}
-use Rattle.agent_talks.specs.declared.asking.AskingTalks.{AskingTalks}
+use Rattle.agent_talks.specs.Asking.{AskingTalks}
 use Rattle.agent_talks.specs.Asking.{Tells}
-use Rattle.agent_talks.specs.declared.logged.LoggedTalks.{LoggedTalks}
+use Rattle.agent_talks.specs.declared.standing.Conversations.{Conversations}
 use Rattle.agent_talks.specs.Ahead.{IsMadeFor, ShowsOf, coming_by, new_by, new_template, start_by, template_coming}
-use Rattle.agent_talks.specs.Logging.{AskerTold, CanEnd, IsTold, Logs, SameOthers, carried_logged, carried_logged_in, line_at, logged_by, logged_talk, talks_in}
+use Rattle.agent_talks.specs.Logging.{AskerTold, CanEnd, IsTold, Logs, SameOthers, asking_of, carried_logged, carried_logged_in, line_at, logged_by, logged_talk, talks_in, with_ends}
 use Rattle.agent_talks.proofs.LineLemmas.{of_template, own_line, started_begun}
 use Rattle.agent_talks.proofs.LogLemmas.{talk_logs}
 use Rattle.agent_talks.proofs.SearchedLaws.{carried_talk_of, talked_of}
@@ -56,8 +56,8 @@ new_in debug conv false waits (Some b) p e = none_starts debug conv (ends b.star
 new_starts : (debug : Bool) (conv : ℕ) (s : Standing) → has_request s.phase ≡ true → start_by debug conv (outcome_of s) (new_template s) ≡ start_by debug conv (outcome_of s) (template_coming s)
 new_starts debug conv s has = new_in debug conv s.starting (waits_for_user s.phase) s.begun s.phase (waits_not s.phase has)
 
-pub carried_logs : (done : List Deed) (old mid new : LoggedTalks) (conv : ℕ) (word : List ℕ) (over : Bool) (start : Option (List ℕ)) → stands done conv ≡ true → has_request (standing_of done conv).phase ≡ true → over ≡ is_end (outcome_of (standing_of done conv))
-    → start ≡ start_by (is_debug done) conv (outcome_of (standing_of done conv)) (new_template (standing_of done conv)) → CanEnd done mid conv → SameOthers conv old mid → Tells (carried_talk conv word done) mid.asking → IsTold conv over start mid new
+pub carried_logs : (done : List Deed) (old mid new : Conversations) (conv : ℕ) (word : List ℕ) (over : Bool) (start : Option (List ℕ)) → stands done conv ≡ true → has_request (standing_of done conv).phase ≡ true → over ≡ is_end (outcome_of (standing_of done conv))
+    → start ≡ start_by (is_debug done) conv (outcome_of (standing_of done conv)) (new_template (standing_of done conv)) → CanEnd done mid conv → SameOthers conv old mid → Tells (carried_talk conv word done) (asking_of mid) → IsTold conv over start mid new
     → Logs done old → Logs (carried_logged conv word done) new
 carried_logs done old mid new conv word over start there has is starts can others tells told h = by_phase (standing_of done conv).phase refl has
   where
@@ -67,7 +67,7 @@ carried_logs done old mid new conv word over start there has is starts can other
     by_phase : (p : Phase) → (standing_of done conv).phase ≡ p → has_request p ≡ true → Logs (carried_logged_in conv word p done) new
     by_phase (Waiting request) e now =
         talk_logs done old mid new conv (CarriedOut word) over start (template_coming s)
-        (record { there = there; is_over = is; can = can; starts = λ started. starts ∙ new_starts (is_debug done) conv s has; of = carried_talk_of done conv word request e }) h.ends others (subst (λ (p : Phase). Tells (carried_in conv word p done) mid.asking) e tells) told
+        (record { there = there; is_over = is; can = can; starts = λ started. starts ∙ new_starts (is_debug done) conv s has; of = carried_talk_of done conv word request e }) h.ends others (subst (λ (p : Phase). Tells (carried_in conv word p done) (asking_of mid)) e tells) told
     by_phase Resting e now = absurd (false≢true now)
     by_phase Seeking e now = absurd (false≢true now)
     by_phase (OnConfirm serial) e now = absurd (false≢true now)
@@ -91,8 +91,8 @@ said_carries : (kind : PromptKind) (agrees : Bool) → carries_out (said_by kind
 said_carries k.Confirm agrees = refl
 said_carries k.Needkey agrees = refl
 
-pub replied_logs : (done : List Deed) (old mid new : LoggedTalks) (kind : PromptKind) (tag conv : ℕ) (agrees over : Bool) (start : Option (List ℕ)) → stands done conv ≡ true → over ≡ is_end (outcome_of (standing_of done conv))
-    → start ≡ start_by (is_debug done) conv (outcome_of (standing_of done conv)) (template_begun (standing_of done conv).begun) → ((q : ℕ) → line_at mid q ≡ line_at old q) → Tells (talked conv (said_by kind agrees) (OfPrompts kind (side.Replied tag) ∷ done)) mid.asking → IsTold conv over start mid new
+pub replied_logs : (done : List Deed) (old mid new : Conversations) (kind : PromptKind) (tag conv : ℕ) (agrees over : Bool) (start : Option (List ℕ)) → stands done conv ≡ true → over ≡ is_end (outcome_of (standing_of done conv))
+    → start ≡ start_by (is_debug done) conv (outcome_of (standing_of done conv)) (template_begun (standing_of done conv).begun) → ((q : ℕ) → line_at mid q ≡ line_at old q) → Tells (talked conv (said_by kind agrees) (OfPrompts kind (side.Replied tag) ∷ done)) (asking_of mid) → IsTold conv over start mid new
     → Logs done old → Logs (logged_talk conv (said_by kind agrees) (OfPrompts kind (side.Replied tag) ∷ done)) new
 replied_logs done old mid new kind tag conv agrees over start there is starts lines tells told h =
     let s : Standing = standing_of done conv in
@@ -121,8 +121,8 @@ begun_has : (begun : Option Begun) (template : List Attr) → template_begun beg
 begun_has None template e = absurd cc
 begun_has (Some b) template e = refl
 
-server_logs : (done : List Deed) (old mid new : LoggedTalks) (conv : ℕ) (call : Call) (over : Bool) → carries_out call ≡ false → stands done conv ≡ true → (standing_of done conv).phase ≡ OnServer → over ≡ is_end (outcome_of (standing_of done conv)) → ((q : ℕ) → line_at mid q ≡ line_at old q)
-    → Tells (talked conv call done) mid.asking → IsTold conv over None mid new → Logs done old → Logs (logged_talk conv call done) new
+server_logs : (done : List Deed) (old mid new : Conversations) (conv : ℕ) (call : Call) (over : Bool) → carries_out call ≡ false → stands done conv ≡ true → (standing_of done conv).phase ≡ OnServer → over ≡ is_end (outcome_of (standing_of done conv)) → ((q : ℕ) → line_at mid q ≡ line_at old q)
+    → Tells (talked conv call done) (asking_of mid) → IsTold conv over None mid new → Logs done old → Logs (logged_talk conv call done) new
 server_logs done old mid new conv call over begins there on is lines tells told h =
     talk_logs done old mid new conv call over None (template_begun s.begun)
     (record {
@@ -143,16 +143,16 @@ server_logs done old mid new conv call over begins there on is lines tells told 
     of : IsOf (template_begun (standing_of done conv).begun) (standing_of (talked conv call done) conv).begun
     of = talked_of done conv call begins
 
-pub asker_logs : (done : List Deed) (old : LoggedTalks) (asking : AskingTalks) (new : LoggedTalks) (asker : Option ℕ) (number : ℕ) (call : Call) (over : Bool) → carries_out call ≡ false → asker ≡ told.asker done number → IfSome asker (λ conv. ShowsOf (talks_in old) conv (λ s. is_end (outcome_of s)) over)
-    → Tells (talked_by (told.asker done number) call done) asking → AskerTold asker over (record { asking = asking; ends = old.ends }) new → Logs done old → Logs (logged_by (told.asker done number) call done) new
+pub asker_logs : (done : List Deed) (old : Conversations) (asking : AskingTalks) (new : Conversations) (asker : Option ℕ) (number : ℕ) (call : Call) (over : Bool) → carries_out call ≡ false → asker ≡ told.asker done number → IfSome asker (λ conv. ShowsOf (talks_in old) conv (λ s. is_end (outcome_of s)) over)
+    → Tells (talked_by (told.asker done number) call done) asking → AskerTold asker over (with_ends asking old.ends) new → Logs done old → Logs (logged_by (told.asker done number) call done) new
 asker_logs done old asking new asker number call over begins is shown tells wrote h =
     subst (λ (o : Option ℕ). Logs (logged_by o call done) new) is (here asker is shown (subst (λ (o : Option ℕ). Tells (talked_by o call done) asking) (sym is) tells) wrote)
   where
-    mid : LoggedTalks
-    mid = record { asking = asking; ends = old.ends }
+    mid : Conversations
+    mid = with_ends asking old.ends
 
-    here : (o : Option ℕ) → o ≡ told.asker done number → IfSome o (λ conv. ShowsOf (talks_in old) conv (λ s. is_end (outcome_of s)) over) → Tells (talked_by o call done) asking → AskerTold o over (record { asking = asking; ends = old.ends }) new → Logs (logged_by o call done) new
-    here None e shown tells same = subst (λ (t : LoggedTalks). Logs done t) (sym same) (record { tells = tells; ends = h.ends })
+    here : (o : Option ℕ) → o ≡ told.asker done number → IfSome o (λ conv. ShowsOf (talks_in old) conv (λ s. is_end (outcome_of s)) over) → Tells (talked_by o call done) asking → AskerTold o over (with_ends asking old.ends) new → Logs (logged_by o call done) new
+    here None e shown tells same = subst (λ (t : Conversations). Logs done t) (sym same) (record { tells = tells; ends = h.ends })
     here (Some conv) e shown tells wrote =
         let on = is_asked done (talks_in old) number conv e h.tells.talks.speak in
         server_logs done old mid new conv call over begins on.stands on.phase (shown done on.stands h.tells.talks.speak) (λ q. refl) tells wrote h

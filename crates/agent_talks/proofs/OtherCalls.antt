@@ -16,7 +16,7 @@ use Rattle.agent_talks.proofs.OtherLemmas as talks
 use Rattle.agent_talks.proofs.StandLemmas.{among_last}
 use Rattle.agent_talks.specs.Calls.{Calls, none_kept, taken}
 use Rattle.agent_talks.specs.Keeps.{Converses, Keeps}
-use Rattle.agent_talks.specs.declared.keeping.KeepingTalks.{KeepingTalks}
+use Rattle.agent_talks.specs.Keeps.{KeepingTalks}
 
 pub none_keeps : Keeps [] none_kept
 none_keeps = record { kept = λ q. refl; drops = refl; alive = λ q e. absurd (false≢true e) }

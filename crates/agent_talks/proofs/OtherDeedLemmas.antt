@@ -20,11 +20,11 @@ use Rattle.agent_talks.specs.Changes.{left_at, leaving_at}
 use Rattle.agent_talks.proofs.LeaveLemmas.{left_same}
 use Rattle.agent_talks.proofs.SpeakLemmas.{leaving_map}
 use Rattle.agent_talks.proofs.StandLemmas.{among_last, are_numbered, leaving, left_among, left_gone, or_cases}
-use Rattle.agent_talks.specs.declared.asking.AskingTalks.{AskingTalks}
+use Rattle.agent_talks.specs.Asking.{AskingTalks}
 use Rattle.agent_talks.specs.Asking.{Tells}
-use Rattle.agent_talks.specs.declared.logged.LoggedTalks.{LoggedTalks}
+use Rattle.agent_talks.specs.declared.standing.Conversations.{Conversations}
 use Rattle.agent_talks.specs.Ahead.{EndLines, line_in}
-use Rattle.agent_talks.specs.Logging.{HasItsLine, Logs, line_at}
+use Rattle.agent_talks.specs.Logging.{HasItsLine, Logs, line_at, with_ends}
 use Rattle.agent_talks.proofs.EndedLaws.{stays_over}
 use Rattle.agent_talks.proofs.LineLemmas.{line_stays}
 use Rattle.agent_talks.proofs.LogLemmas.{AllHaveLines, LineFor, line_for}
@@ -33,13 +33,13 @@ use Rattle.agent_talks.proofs.TemplateLaws.{carries_out, its_own, keeps_template
 -- ---- nobody meets anything
 
 -- where those who stand stood, and met nothing since
-pub still_have : (done after : List Deed) (old new : LoggedTalks) → ((q : ℕ) → stands after q ≡ true → stands done q ≡ true) → ((q : ℕ) → talk after q ≡ talk done q) → ((q : ℕ) → stands after q ≡ true → line_at new q ≡ line_at old q) → AllHaveLines done old → AllHaveLines after new
+pub still_have : (done after : List Deed) (old new : Conversations) → ((q : ℕ) → stands after q ≡ true → stands done q ≡ true) → ((q : ℕ) → talk after q ≡ talk done q) → ((q : ℕ) → stands after q ≡ true → line_at new q ≡ line_at old q) → AllHaveLines done old → AllHaveLines after new
 still_have done after old new stood talks lines ends q there = line_for (talk done q) (talk after q) q (line_at old q) (line_at new q) (talks q) (lines q there) (ends q (stood q there))
 
 -- ---- one is opened
 
 -- one that is new wasn't begun, so it needs no line
-pub opened_have : (done : List Deed) (t : LoggedTalks) (conn fid mode : ℕ) → Speak done t.asking.talks.talks → names Rpc (fid_of done conn fid) ≡ true → AllHaveLines done t → AllHaveLines (OfFids conn (Opened fid mode) ∷ done) t
+pub opened_have : (done : List Deed) (t : Conversations) (conn fid mode : ℕ) → Speak done t.talks → names Rpc (fid_of done conn fid) ≡ true → AllHaveLines done t → AllHaveLines (OfFids conn (Opened fid mode) ∷ done) t
 opened_have done t conn fid mode h named ends q there = or_cases (is_among (speakers done) q) (eqb (opened_talks done) q) (sym among ∙ there) (λ stood. ends q stood) (λ is. new q (eqb-true (opened_talks done) q is))
   where
     next : Speaker
@@ -85,7 +85,7 @@ left_lines done after convs who keep every xs ys e same left old new kept q ther
     by_leaving true is = absurd (false≢true (sym (left_gone keep (speakers done) q (are_numbered done).apart (all_leaving ∙ is)) ∙ left_now))
     by_leaving false is = refl
 
-pub left_have : (done after : List Deed) (convs : List ℕ) (keep : Speaker → Bool) (old new : LoggedTalks) → speakers after ≡ filter keep (speakers (all_withdrawn convs done)) → ((q : ℕ) → talk after q ≡ talk (all_withdrawn convs done) q) → ((q : ℕ) → stands after q ≡ true → line_at new q ≡ line_at old q)
+pub left_have : (done after : List Deed) (convs : List ℕ) (keep : Speaker → Bool) (old new : Conversations) → speakers after ≡ filter keep (speakers (all_withdrawn convs done)) → ((q : ℕ) → talk after q ≡ talk (all_withdrawn convs done) q) → ((q : ℕ) → stands after q ≡ true → line_at new q ≡ line_at old q)
     → AllHaveLines done old → AllHaveLines after new
 left_have done after convs keep old new left talks kept ends =
     still_have done after old new
@@ -94,7 +94,7 @@ left_have done after convs keep old new left talks kept ends =
 
 -- ---- a conversation meets what begins nothing
 
-pub met_have : (done : List Deed) (t : LoggedTalks) (conv : ℕ) (call : Call) → carries_out call ≡ false → AllHaveLines done t → AllHaveLines (OfTalk conv call ∷ done) t
+pub met_have : (done : List Deed) (t : Conversations) (conv : ℕ) (call : Call) → carries_out call ≡ false → AllHaveLines done t → AllHaveLines (OfTalk conv call ∷ done) t
 met_have done t conv call begins ends q there = by_number (eqb conv q) refl
   where
     was : Standing
@@ -109,14 +109,14 @@ met_have done t conv call begins ends q there = by_number (eqb conv q) refl
 
 -- ---- an answer is read
 
-took_have : (done : List Deed) (t : LoggedTalks) (conv count : ℕ) (answer : RpcAnswer) → AllHaveLines done t → AllHaveLines (then_took conv count answer done) t
+took_have : (done : List Deed) (t : Conversations) (conv count : ℕ) (answer : RpcAnswer) → AllHaveLines done t → AllHaveLines (then_took conv count answer done) t
 took_have done t conv count answer ends = by_size (fits count answer)
   where
     by_size : (b : Bool) → AllHaveLines (cond b (OfTalk conv Took ∷ done) done) t
     by_size true = met_have done t conv Took refl ends
     by_size false = ends
 
-pub told_logs : (p : Phase) (done : List Deed) (old : LoggedTalks) (asking : AskingTalks) (conv count : ℕ) (result : Option Told) → Logs done old → TellsBy (λ d. Tells d asking) p done conv count result → TellsBy (λ d. Logs d (record { asking = asking; ends = old.ends })) p done conv count result
+pub told_logs : (p : Phase) (done : List Deed) (old : Conversations) (asking : AskingTalks) (conv count : ℕ) (result : Option Told) → Logs done old → TellsBy (λ d. Tells d asking) p done conv count result → TellsBy (λ d. Logs d (with_ends asking old.ends)) p done conv count result
 told_logs (Kept answer) done old asking conv count result h t = (t.0, record { tells = t.1; ends = took_have done old conv count answer h.ends })
 told_logs Resting done old asking conv count result h t = (t.0, record { tells = t.1; ends = h.ends })
 told_logs (Waiting request) done old asking conv count result h t = (t.0, record { tells = t.1; ends = h.ends })

@@ -19,13 +19,16 @@ use Rattle.agent_history.specs.SideFiles.{askers, prompts_of}
 use Rattle.agent_talks.specs.Speaks.{IsReady, Readied, stands, talked}
 use Rattle.agent_talks.proofs.GrowLemmas as grow
 use Rattle.agent_talks.proofs.StandLemmas.{same}
+use Rattle.agent_talks.proofs.SeekLemmas.{SameBegun, consented_begun, told_begun}
 use Rattle.agent_talks.specs.Keeps.{Converses}
 use Rattle.agent_talks.proofs.OtherCalls.{prompts_converses}
 use Rattle.agent_talks.specs.declared.files.LineFiles.{LineFiles}
 use Rattle.agent_talks.specs.Files.{Files}
-use Rattle.agent_talks.specs.declared.asking.AskingTalks.{AskingTalks}
+use Rattle.agent_talks.specs.Asking.{AskingTalks}
 use Rattle.agent_talks.specs.Asking.{AllWait, AsksBy, Tells, Waits, is_asker, times}
 use Rattle.agent_talks.specs.Asking as asking
+use Rattle.agent_talks.specs.declared.standing.Conversations.{Conversations}
+use Rattle.agent_talks.specs.Logging.{Logs}
 use Rattle.agent_talks.proofs.AskingLemmas.{AsksOn, asks_on, talked_tells}
 use Rattle.agent_talks.proofs.TimesLemmas.{asker_waits, convs, replied_fewer, replied_less, times_none}
 use Rattle.agent_talks.proofs.WaitLemmas.{no_more_wait}
@@ -35,9 +38,9 @@ use Rattle.agent_talks.proofs.WaitLemmas.{no_more_wait}
 pub who_asked : (done : List Deed) (kind : PromptKind) (tag conv : ℕ) → asker_of tag (prompts_of done kind) ≡ Some conv → AllWait done → Waits done kind conv
 who_asked done kind tag conv e h = h.asked kind conv (asker_waits (prompts_of done kind) tag conv e)
 
-pub asker_stands : (t : AskingTalks) (kind : PromptKind) (tag : ℕ) (result : Option ℕ) → ((done : List Deed) → Tells done t → result ≡ asker_of tag (prompts_of done kind)) → IfSome result (λ conv. (done : List Deed) → Tells done t → stands done conv ≡ true)
-asker_stands t kind tag None is = tt
-asker_stands t kind tag (Some conv) is = λ done h. (who_asked done kind tag conv (sym (is done h)) h.users).stands
+pub replier_stands : (t : Conversations) (kind : PromptKind) (tag : ℕ) (result : Option ℕ) → ((done : List Deed) → Logs done t → result ≡ asker_of tag (prompts_of done kind)) → IfSome result (λ conv. (done : List Deed) → Logs done t → stands done conv ≡ true)
+replier_stands t kind tag None is = tt
+replier_stands t kind tag (Some conv) is = λ done h. (who_asked done kind tag conv (sym (is done h)) h.tells.users).stands
 
 -- ---- behind the reply it waits for none, and all others wait as before
 
@@ -136,6 +139,11 @@ other_order done k.Needkey k.Needkey tag conv about f h = record { confirm = h.c
 forgets_on : (now : Option PromptKind) (done : List Deed) (kind : PromptKind) (tag conv : ℕ) (mid asked new : LineFiles) → AsksBy now conv mid asked → Forgets kind tag asked new → Files done mid → AsksOn now (told_deeds kind tag done) conv mid.asks new
 forgets_on None done kind tag conv mid asked new asks forgets h = forgets done (asks_on None done conv mid asked asks h)
 forgets_on (Some at) done kind tag conv mid asked new asks forgets h = λ about made. other_order done kind at tag conv about new (forgets (OfPrompts at (side.Asked conv about) ∷ done) (asks done about made h))
+
+-- what a user says begins nothing
+pub said_begun : (kind : PromptKind) (agrees : Bool) → SameBegun (said_by kind agrees)
+said_begun k.Confirm agrees = consented_begun agrees
+said_begun k.Needkey agrees = told_begun
 
 -- ---- all of it
 

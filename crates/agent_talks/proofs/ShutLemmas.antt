@@ -17,10 +17,10 @@ use Rattle.agent_history.specs.Conversations.{standing_of, talk}
 use Rattle.agent_history.specs.SideFiles.{askers, prompts_of}
 use Rattle.agent_talks.proofs.StandLemmas.{other_way}
 use Rattle.agent_talks.specs.Keeps.{Converses}
-use Rattle.agent_talks.specs.declared.keeping.KeepingTalks.{KeepingTalks}
+use Rattle.agent_talks.specs.Keeps.{KeepingTalks}
 use Rattle.agent_talks.specs.declared.files.LineFiles.{LineFiles}
 use Rattle.agent_talks.specs.Files.{Files}
-use Rattle.agent_talks.specs.declared.asking.AskingTalks.{AskingTalks}
+use Rattle.agent_talks.specs.Asking.{AskingTalks}
 use Rattle.agent_talks.specs.Asking.{AllWait, Tells, Waits, is_asker, times}
 use Rattle.agent_talks.proofs.AskingLemmas.{or_cases}
 use Rattle.agent_talks.proofs.TimesLemmas.{convs, has, withdrawn_fewer}

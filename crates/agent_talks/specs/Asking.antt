@@ -13,10 +13,9 @@ use Rattle.agent_talks.specs.declared.speaker.Speaker.{Speaker}
 use Rattle.agent_talks.specs.declared.speaker.Leaving.{Leaving}
 use Rattle.agent_talks.specs.Kept.{leaves}
 use Rattle.agent_talks.specs.Speaks.{stands, talked}
-use Rattle.agent_talks.specs.Keeps.{Converses}
+use Rattle.agent_talks.specs.Keeps.{Converses, KeepingTalks}
 use Rattle.agent_talks.specs.declared.files.LineFiles.{LineFiles}
 use Rattle.agent_talks.specs.Files.{Files, asked_in}
-use Rattle.agent_talks.specs.declared.asking.AskingTalks.{AskingTalks}
 
 -- a conversation waits for a reply by a file
 abbrev pub is_asker : List Deed → PromptKind → ℕ → Bool
@@ -36,6 +35,11 @@ times n (m ∷ more) = if m == n then times n more + 1 else times n more
 pub record AllWait (done : List Deed) : Type 0 where
   pub asked : (kind : PromptKind) (conv : ℕ) → is_asker done kind conv ≡ true → Waits done kind conv
   pub once : (kind : PromptKind) (conv : ℕ) → times conv (askers done kind) ≤ 1
+
+-- the conversations with the questions to their users and the log
+pub record AskingTalks : Type 0 where
+  pub talks : KeepingTalks
+  pub files : LineFiles
 
 pub record Tells (done : List Deed) (t : AskingTalks) : Type 0 where
   pub talks : Converses done t.talks

@@ -9,7 +9,12 @@ use Rattle.agent_talks.specs.Speaks.{Speak}
 use Rattle.agent_talks.specs.Calls.{Calls, drop_of, ended_if, is_kept}
 use Rattle.agent_talks.specs.declared.due.Due.{Due as HeldDue}
 use Rattle.agent_talks.specs.declared.due.Due.TheVariants as d
-use Rattle.agent_talks.specs.declared.keeping.KeepingTalks.{KeepingTalks}
+use Rattle.agent_talks.specs.declared.held.Talks.{Talks}
+
+-- the conversations with the connections that they keep
+pub record KeepingTalks : Type 0 where
+  pub talks : Talks
+  pub calls : Calls
 
 -- a conversation has come to its end
 abbrev pub is_over_at : List Deed → ℕ → Bool
@@ -36,13 +41,13 @@ SameConverses old new = (done : List Deed) → Converses done old → Converses 
 
 -- of the code alone: a conversation gives up the connection that it keeps, if it has come to its end; where one is
 -- meant
-abbrev pub EndsOver : ℕ → ℕ → KeepingTalks → KeepingTalks → Type 0
-EndsOver conv behind old new = (done : List Deed) → stands done conv ≡ true → Speak done old.talks
-    → new.calls ≡ ended_if (is_over_at done conv) conv behind old.calls
+abbrev pub EndsOver : ℕ → ℕ → Talks → Calls → Calls → Type 0
+EndsOver conv behind talks old new = (done : List Deed) → stands done conv ≡ true → Speak done talks
+    → new ≡ ended_if (is_over_at done conv) conv behind old
 
-abbrev pub EndsAsker : Option ℕ → ℕ → KeepingTalks → KeepingTalks → Type 0
-EndsAsker None behind old new = new.calls ≡ old.calls
-EndsAsker (Some conv) behind old new = EndsOver conv behind old new
+abbrev pub EndsAsker : Option ℕ → ℕ → Talks → Calls → Calls → Type 0
+EndsAsker None behind talks old new = new ≡ old
+EndsAsker (Some conv) behind talks old new = EndsOver conv behind talks old new
 
 -- ---- what is due
 

@@ -14,3 +14,5 @@ pub mod Asked
 pub mod Asking
 pub mod Ahead
 pub mod Logging
+pub mod Ending
+pub mod Server

@@ -5,12 +5,12 @@ ghost use Rattle.agent_history.specs.Conversations.{due, first_due};
 ghost use Rattle.agent_history.specs.Conversations as told;
 ghost use Rattle.agent_talks.specs.Kept.{question_of, unasked};
 ghost use Rattle.agent_talks.specs.Calls.{drop_of};
-ghost use Rattle.agent_talks.specs.Keeps.{Converses, IsLeft, due_of};
-ghost use Rattle.agent_talks.specs.declared.keeping.KeepingTalks.{KeepingTalks};
+ghost use Rattle.agent_talks.specs.Keeps.{IsLeft, KeepingTalks, due_of};
+ghost use Rattle.agent_talks.specs.Logging.{Logs, keeping_of};
 
-use crate::keeping::KeepingTalks;
 use crate::kept::GivenUp;
 use crate::question::Question;
+use crate::standing::Conversations;
 
 /// What is due to be handed out next, if anything is: a connection that is to be given up, or a question.
 #[derive(Clone, Copy, Debug)]
@@ -46,11 +46,11 @@ fn ask_due(question: Option<Question>) -> Due
     }
 }
 
-impl KeepingTalks {
+impl Conversations {
     /// What is due to be handed out next. It takes no memory.
     pub fn due(&self) -> Due
-        ensures told { (done : List Deed) → Converses done self.now → due_of result ≡ due done }
-        ensures left { IsLeft result self.now }
+        ensures told { (done : List Deed) → Logs done self.now → due_of result ≡ due done }
+        ensures left { IsLeft result (keeping_of self.now) }
     {
         let question = self.talks.next_question().copied();
         match self.calls.front() {

@@ -6,9 +6,12 @@ ghost use Rattle.side_files.specs.Questions.{asked_by, asker_of, first_conv, nex
 ghost use Rattle.side_files.specs.declared.line.PromptKind.TheVariants as k;
 ghost use Rattle.conversations.specs.Asking.{IsMade};
 ghost use Rattle.agent_history.specs.Deeds.{Deed, OfKeys, OfLog, OfPrompts, Switched, is_debug};
+ghost use Rattle.agent_history.specs.Conversations.{all_withdrawn};
 ghost use Rattle.agent_history.specs.SideFiles.{line_read, lines_in, prompts_of};
+ghost use Rattle.agent_talks.specs.Asking.{convs_leaving};
 ghost use Rattle.agent_talks.specs.Files.{Files, asked_in};
 
+use crate::speaker::{Leaving, Speaker, leaves};
 use conversations::Asks;
 use file_tree::Node;
 use side_files::{LogRing, PromptKind, Prompts, TooSmall, UnknownTag};
@@ -146,5 +149,18 @@ fn ask_ready(prompts: &mut Prompts, conv: u64)
 {
     if prompts.is_ready() {
         prompts.ask_reserved(conv);
+    }
+}
+
+/// The questions of those who leave are withdrawn. It takes no memory.
+pub(crate) fn withdraw_all(files: &mut LineFiles, speakers: &[Speaker], leaving: Leaving)
+    ensures { (done : List Deed) → Files done files.old
+        → Files (all_withdrawn (convs_leaving leaving speakers.now) done) files.new }
+{
+    for speaker in speakers {
+        if leaves(leaving, speaker) {
+            files.withdraw(PromptKind::Confirm, speaker.conv);
+            files.withdraw(PromptKind::Needkey, speaker.conv);
+        }
     }
 }

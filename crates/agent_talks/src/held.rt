@@ -1,11 +1,12 @@
 // The conversations of an agent.
-ghost use Rattle.std.specs.Prelude.{◌≡◌, [], ◌∷◌, List, ℕ, Option, OnOk, OnErr, filter, is_some, length, map, option_copied, option_map, true};
+ghost use Rattle.std.specs.Prelude.{◌≡◌, [], ◌∷◌, List, ℕ, Option, Some, OnOk, OnErr, filter, is_some, length, map, option_copied, option_map, true};
 ghost use Rattle.file_tree.specs.declared.tree.Node.TheVariants.{Rpc};
 ghost use Rattle.talks.specs.Requests.{meant};
 ghost use Rattle.talks.specs.Calls as c;
-ghost use Rattle.agent_history.specs.Deeds.{Deed, OfConnection, OfFids, OfTalk, Clunked, Hung, Opened, Versioned, fid_of, names};
+ghost use Rattle.agent_history.specs.Deeds.{Deed, OfFids, OfTalk, Opened, fid_of, names};
 ghost use Rattle.agent_history.specs.Conversations.{conv_of, raised, speaker_of, speakers, talk};
 ghost use Rattle.agent_talks.specs.Kept as kept;
+ghost use Rattle.agent_talks.specs.Ending.{leaving_of};
 ghost use Rattle.agent_talks.specs.Numbered.{kept_in};
 ghost use Rattle.agent_talks.specs.Changes.{Leaves, Meets, Opens, left_at, left_one};
 ghost use Rattle.agent_talks.specs.Speaks.{IsKept, SameTalks, Speak, stands};
@@ -140,28 +141,13 @@ impl Talks {
         keep_questions(&mut self.questions, &self.table);
     }
 
-    /// A fid of a connection is given up: its conversation ends, and so do its questions. It takes no memory.
-    pub fn clunk(&mut self, conn: u64, fid: u32)
-        ensures { (done : List Deed) → Speak done self.old
-            → Speak (OfFids conn (Clunked fid) ∷ done) self.new }
+    /// A fid is given up, or a version of a connection is answered, or it is hung up: their conversations end, and so do
+    /// their questions. It takes no memory.
+    pub fn end(&mut self, leaving: Leaving)
+        ensures { (done : List Deed) (deed : Deed) → leaving_of deed ≡ Some leaving
+            → Speak done self.old → Speak (deed ∷ done) self.new }
     {
-        self.leave(Leaving::Fid(conn, fid));
-    }
-
-    /// A version of a connection is answered: all its conversations end. It takes no memory.
-    pub fn version(&mut self, conn: u64)
-        ensures { (done : List Deed) (msize : Option ℕ) → Speak done self.old
-            → Speak (OfFids conn (Versioned msize) ∷ done) self.new }
-    {
-        self.leave(Leaving::Connection(conn));
-    }
-
-    /// A connection is hung up: all its conversations end. It takes no memory.
-    pub fn hang(&mut self, conn: u64)
-        ensures { (done : List Deed) → Speak done self.old
-            → Speak (OfConnection conn Hung ∷ done) self.new }
-    {
-        self.leave(Leaving::Connection(conn));
+        self.leave(leaving);
     }
 }
 

@@ -6,8 +6,6 @@
 #![tactic(auto)]
 
 mod ahead;
-mod asking;
-mod asking_ends;
 mod asks;
 mod carry;
 mod due;
@@ -15,28 +13,28 @@ mod end_line;
 mod ends;
 mod files;
 mod held;
-mod keeping;
 mod kept;
 mod log;
-mod logged;
+mod meeting;
 mod number_keys;
 mod numbered;
 mod question;
 mod ready;
 mod room;
+mod server;
 mod sights;
 mod speaker;
 mod speakers;
+mod standing;
 mod tell;
 
-pub use asking::AskingTalks;
 pub use due::Due;
 pub use end_line::{EndLine, build_start};
 pub use files::LineFiles;
 pub use held::Talks;
-pub use keeping::KeepingTalks;
 pub use kept::{GivenUp, KeptCalls};
-pub use logged::LoggedTalks;
 pub use question::Question;
+pub use server::Said;
 pub use speaker::{Leaving, Speaker, leaves};
+pub use standing::Conversations;
 pub use tell::Told;

@@ -1,7 +1,7 @@
 // The public calls of `agent_talks`.
-ghost use Rattle.std.specs.Prelude.{◌≡◌, IfOk, ◌∷◌, List, Some, OnErr, OnOk, ◌≤◌, ◌+◌, false, length, IsOk, ◌-◌, [], Option, true, IfNone, IfSome, ℕ};
-ghost use Rattle.agent_history.specs.Conversations.{asker, all_withdrawn, ended_by};
-ghost use Rattle.agent_history.specs.Deeds.{Deed, OfPrompts, OfLog, is_debug, OfFids, Clunked, OfConnection, Hung, OfKeys, Switched};
+ghost use Rattle.std.specs.Prelude.{◌≡◌, IfOk, ◌∷◌, List, Some, OnErr, OnOk, ◌≤◌, ◌+◌, false, length, drop, IsOk, [], Option, true, IfNone, IfSome, ℕ};
+ghost use Rattle.agent_history.specs.Conversations.{asker};
+ghost use Rattle.agent_history.specs.Deeds.{Deed, DropTaken, OfPrompts, OfLog, OfTalk, is_debug, OfKeys, Switched};
 ghost use Rattle.agent_history.specs.Requests.{said_by};
 ghost use Rattle.agent_history.specs.SideFiles.{prompts_of, askers};
 ghost use Rattle.agent_talks.specs.Kept.{is_asked, questions_in, unasked};
@@ -10,11 +10,13 @@ ghost use Rattle.side_files.specs.Calls as side;
 ghost use Rattle.side_files.specs.Questions.{asker_of, first_conv, standing};
 ghost use Rattle.talks.specs.Calls as c;
 ghost use Rattle.talks.specs.Lines.{start_line};
-ghost use Rattle.agent_talks.specs.Asking.{is_asker};
+ghost use Rattle.agent_talks.specs.Asking.{ended, is_asker};
+ghost use Rattle.agent_talks.specs.Ending.{leaving_of};
+ghost use Rattle.agent_talks.specs.Server.{call_of, is_answer};
 ghost use Rattle.agent_talks.specs.Files.{Files};
-ghost use Rattle.agent_talks.specs.Logging.{Logs, SameLogs, logged_talk, calls_in, logged_by, talks_in};
+ghost use Rattle.agent_talks.specs.Logging.{Logs, SameLogs, logged_talk, calls_in, keeping_of, logged_by, talks_in};
 
-use agent_talks::{LineFiles, LoggedTalks};
+use agent_talks::{Conversations, Leaving, LineFiles, Said};
 use attr_tuples::Tuple;
 use key_ring::KeyRing;
 use side_files::PromptKind;
@@ -52,9 +54,9 @@ pub fn line_files_is_debug(line_files: &LineFiles) -> bool
     line_files.is_debug()
 }
 
-/// As `LoggedTalks::reply`.
-pub fn logged_talks_reply(
-    logged_talks: &mut LoggedTalks,
+/// As `Conversations::reply`.
+pub fn conversations_reply(
+    conversations: &mut Conversations,
     alloc: Global,
     kind: PromptKind,
     tag: u64,
@@ -65,77 +67,76 @@ pub fn logged_talks_reply(
 ) -> Result<(), NoMemory>
     ensures kept { OnOk result ((done : List Deed)
         → asker_of tag (prompts_of done kind) ≡ Some conv → IsReady done conv ring.now asking
-        → Logs done logged_talks.old → Logs (logged_talk conv (said_by kind agrees)
-        (OfPrompts kind (side.Replied tag) ∷ done)) logged_talks.new) }
-    ensures same { OnErr result (SameLogs logged_talks.old logged_talks.new) }
+        → Logs done conversations.old → Logs (logged_talk conv (said_by kind agrees)
+        (OfPrompts kind (side.Replied tag) ∷ done)) conversations.new) }
+    ensures same { OnErr result (SameLogs conversations.old conversations.new) }
 {
-    logged_talks.reply(alloc, kind, tag, conv, agrees, ring, asking)
+    conversations.reply(alloc, kind, tag, conv, agrees, ring, asking)
 }
 
-/// As `LoggedTalks::heard`.
-pub fn logged_talks_heard(
-    logged_talks: &mut LoggedTalks,
+/// As `Conversations::server_told`.
+pub fn conversations_server_told(
+    conversations: &mut Conversations,
     alloc: Global,
     call: u64,
-    bytes: &[u8],
+    said: Said<'_>,
 ) -> Result<(), NoMemory>
-    ensures kept { OnOk result ((done : List Deed) → Logs done logged_talks.old
-        → Logs (logged_by (asker done call) (c.Heard bytes.now) done) logged_talks.new) }
-    ensures same { OnErr result (SameLogs logged_talks.old logged_talks.new) }
-    ensures fewer { unasked (talks_in logged_talks.new) ≤ unasked (talks_in logged_talks.old) }
-    ensures drops { length (calls_in logged_talks.new).drops
-        ≤ length (calls_in logged_talks.old).drops + 1 }
-    ensures unknown { is_asked call (questions_in (talks_in logged_talks.old)) ≡ false → IsOk result }
+    ensures told { OnOk result ((done : List Deed) → Logs done conversations.old
+        → Logs (logged_by (asker done call) (call_of said.entry) done) conversations.new) }
+    ensures same { OnErr result (SameLogs conversations.old conversations.new) }
+    ensures fewer { unasked (talks_in conversations.new) ≤ unasked (talks_in conversations.old) }
+    ensures drops { length (calls_in conversations.new).drops
+        ≤ length (calls_in conversations.old).drops + 1 }
+    ensures unknown { is_asked call (questions_in (talks_in conversations.old)) ≡ false → IsOk result }
+    ensures takes_none { is_answer said.entry ≡ false → IsOk result }
 {
-    logged_talks.heard(alloc, call, bytes)
+    conversations.server_told(alloc, call, said)
 }
 
-/// As `LoggedTalks::unheard`.
-pub fn logged_talks_unheard(logged_talks: &mut LoggedTalks, call: u64)
-    ensures met { (done : List Deed) → Logs done logged_talks.old
-        → Logs (logged_by (asker done call) c.Unheard done) logged_talks.new }
-    ensures fewer { unasked (talks_in logged_talks.new) ≤ unasked (talks_in logged_talks.old) }
-    ensures drops { length (calls_in logged_talks.new).drops
-        ≤ length (calls_in logged_talks.old).drops + 1 }
+/// As `Conversations::end`.
+pub fn conversations_end(conversations: &mut Conversations, leaving: Leaving)
+    ensures { (done : List Deed) (deed : Deed) → leaving_of deed ≡ Some leaving
+        → Logs done conversations.old → Logs (ended deed done) conversations.new }
 {
-    logged_talks.unheard(call)
+    conversations.end(leaving)
 }
 
-/// As `LoggedTalks::clunk`.
-pub fn logged_talks_clunk(logged_talks: &mut LoggedTalks, conn: u64, fid: u32)
-    ensures { (done : List Deed) → Logs done logged_talks.old
-        → Logs (OfFids conn (Clunked fid)
-        ∷ all_withdrawn (ended_by (OfFids conn (Clunked fid)) done) done) logged_talks.new }
+/// As `Conversations::shut`.
+pub fn conversations_shut(conversations: &mut Conversations, kind: PromptKind, conv: u64)
+    ensures shut { (done : List Deed) → is_asker done kind conv ≡ true → Logs done conversations.old
+        → Logs (OfTalk conv c.Shut ∷ OfPrompts kind (side.Withdrawn conv) ∷ done) conversations.new }
+    ensures questions { (talks_in conversations.new).questions ≡ (talks_in conversations.old).questions }
 {
-    logged_talks.clunk(conn, fid)
+    conversations.shut(kind, conv)
 }
 
-/// As `LoggedTalks::hang`.
-pub fn logged_talks_hang(logged_talks: &mut LoggedTalks, conn: u64)
-    ensures { (done : List Deed) → Logs done logged_talks.old
-        → Logs (OfConnection conn Hung
-        ∷ all_withdrawn (ended_by (OfConnection conn Hung) done) done) logged_talks.new }
+/// As `Conversations::take_drop`.
+pub fn conversations_take_drop(conversations: &mut Conversations)
+    ensures taken { (done : List Deed) → Logs done conversations.old
+        → Logs (DropTaken ∷ done) conversations.new }
+    ensures talks { talks_in conversations.new ≡ talks_in conversations.old }
+    ensures drops { (calls_in conversations.new).drops ≡ drop 1 (calls_in conversations.old).drops }
 {
-    logged_talks.hang(conn)
+    conversations.take_drop()
 }
 
-/// As `LoggedTalks::first_asker`.
-pub fn logged_talks_first_asker(logged_talks: &LoggedTalks, kind: PromptKind) -> Option<u64>
-    ensures some { IfSome result (λ conv. (done : List Deed) → Logs done logged_talks.now
+/// As `Conversations::first_asker`.
+pub fn conversations_first_asker(conversations: &Conversations, kind: PromptKind) -> Option<u64>
+    ensures some { IfSome result (λ conv. (done : List Deed) → Logs done conversations.now
         → is_asker done kind conv ≡ true) }
-    ensures none { IfNone result ((done : List Deed) → Logs done logged_talks.now
+    ensures none { IfNone result ((done : List Deed) → Logs done conversations.now
         → askers done kind ≡ []) }
-    ensures first { (done : List Deed) → Logs done logged_talks.now
+    ensures first { (done : List Deed) → Logs done conversations.now
         → result ≡ first_conv (standing (prompts_of done kind)) }
 {
-    logged_talks.first_asker(kind)
+    conversations.first_asker(kind)
 }
 
-/// As `LoggedTalks::switch`.
-pub fn logged_talks_switch(logged_talks: &mut LoggedTalks)
-    ensures switched { (done : List Deed) (conn : ℕ) → Logs done logged_talks.old
-        → Logs (OfKeys conn Switched ∷ done) logged_talks.new }
-    ensures talks { logged_talks.new.asking.talks ≡ logged_talks.old.asking.talks }
+/// As `Conversations::switch`.
+pub fn conversations_switch(conversations: &mut Conversations)
+    ensures switched { (done : List Deed) (conn : ℕ) → Logs done conversations.old
+        → Logs (OfKeys conn Switched ∷ done) conversations.new }
+    ensures talks { keeping_of conversations.new ≡ keeping_of conversations.old }
 {
-    logged_talks.switch()
+    conversations.switch()
 }

@@ -1,6 +1,6 @@
 // Conversations that ask their users for a key, and what becomes of them when they are told, or end.
 use crate::expect::{expect, expect_told};
-use agent_talks::AskingTalks;
+use agent_talks::{Conversations, Leaving};
 use file_tree::Node;
 use key_ring::KeyRing;
 use side_files::PromptKind;
@@ -78,7 +78,7 @@ static ENDED: [Step; 14] = [
 // Writes a request of a conversation and carries it out.
 fn carry(
     alloc: Global,
-    talks: &mut AskingTalks,
+    talks: &mut Conversations,
     ring: &KeyRing,
     conv: u64,
     request: Request<'_>,
@@ -90,7 +90,7 @@ fn carry(
 // A fid of a connection opens a conversation of this number, which asks for a key.
 fn ask(
     alloc: Global,
-    talks: &mut AskingTalks,
+    talks: &mut Conversations,
     ring: &KeyRing,
     conn: u64,
     fid: u32,
@@ -102,7 +102,7 @@ fn ask(
     carry(alloc, talks, ring, conv, Request::Write(b"<5.1@x>"))
 }
 
-fn check_line(rt: &impl Abort, talks: &mut AskingTalks, wanted: &[u8]) {
+fn check_line(rt: &impl Abort, talks: &mut Conversations, wanted: &[u8]) {
     match talks.hand_out_line(Node::Needkey, 8192) {
         Ok(Some(line)) => expect(rt, &line.as_slice(), &wanted),
         Ok(None) => assert!(rt; wanted.is_empty()),
@@ -117,7 +117,7 @@ fn see(rt: &impl Abort, found: Option<u64>, wanted: Option<u64>) {
 fn follow(
     rt: &impl Abort,
     alloc: Global,
-    talks: &mut AskingTalks,
+    talks: &mut Conversations,
     ring: &KeyRing,
     step: Step,
 ) -> Result<(), NoMemory> {
@@ -132,9 +132,9 @@ fn follow(
         Step::Asker(wanted) => see(rt, talks.asker(kind, 1), wanted),
         Step::First(wanted) => see(rt, talks.first_asker(kind), wanted),
         Step::NoKey(conv) => return talks.reply(alloc, kind, 1, conv, false, ring, OPEN),
-        Step::Clunk(conn, fid) => talks.clunk(conn, fid),
-        Step::Version(conn) => talks.version(conn),
-        Step::Hang(conn) => talks.hang(conn),
+        Step::Clunk(conn, fid) => talks.end(Leaving::Fid(conn, fid)),
+        Step::Version(conn) => talks.end(Leaving::Connection(conn)),
+        Step::Hang(conn) => talks.end(Leaving::Connection(conn)),
         Step::Shut(conv) => talks.shut(kind, conv),
     }
     Ok(())
@@ -143,7 +143,7 @@ fn follow(
 fn follow_all(
     rt: &impl Abort,
     alloc: Global,
-    talks: &mut AskingTalks,
+    talks: &mut Conversations,
     ring: &KeyRing,
     steps: &[Step],
 ) -> Result<(), Fail> {
@@ -155,7 +155,7 @@ fn follow_all(
 
 // Conversations that nobody has begun yet, and no keys, go through these steps.
 fn check(rt: &impl Abort, alloc: Global, steps: &[Step]) -> Result<(), Fail> {
-    let mut talks = AskingTalks::new(alloc)?;
+    let mut talks = Conversations::new(alloc)?;
     let ring = KeyRing::new(alloc);
     follow_all(rt, alloc, &mut talks, &ring, steps)
 }

@@ -1,8 +1,7 @@
 // Conversations that come to keep a connection to the authentication server, and how they part with it.
 use crate::expect::expect;
 use crate::rings::ring_of;
-use agent_talks::{Due, KeepingTalks};
-use conversations::Asks;
+use agent_talks::{Conversations, Due, Leaving, Said};
 use key_ring::KeyRing;
 use std::alloc::Global;
 use std::process::Abort;
@@ -75,20 +74,10 @@ static TO_THEIR_ENDS: [Step; 15] = [
     Step::Next(100, 0),
 ];
 
-fn carry_out(
-    alloc: Global,
-    talks: &mut KeepingTalks,
-    ring: &KeyRing,
-    conv: u64,
-) -> Result<(), NoMemory> {
-    let mut asks = Asks::new(alloc);
-    talks.carry_out(alloc, conv, WORD, ring, CLOSED, &mut asks)
-}
-
 // A fid of a connection opens a conversation of this number, which asks for a challenge.
 fn ask(
     alloc: Global,
-    talks: &mut KeepingTalks,
+    talks: &mut Conversations,
     ring: &KeyRing,
     conn: u64,
     fid: u32,
@@ -96,11 +85,11 @@ fn ask(
 ) -> Result<(), NoMemory> {
     talks.open(alloc, conn, fid)?;
     talks.store(alloc, conv, Request::Start(MAIL))?;
-    carry_out(alloc, talks, ring, conv)
+    talks.carry_out(alloc, conv, WORD, ring, CLOSED)
 }
 
 // What is due next, which is handed out: a question by its number, a connection by its conversation.
-fn hand_out(talks: &mut KeepingTalks) -> Result<(u64, u64), NoMemory> {
+fn hand_out(talks: &mut Conversations) -> Result<(u64, u64), NoMemory> {
     match talks.due() {
         Due::Nothing => Ok((0, 0)),
         Due::Question(question) => {
@@ -116,7 +105,7 @@ fn hand_out(talks: &mut KeepingTalks) -> Result<(u64, u64), NoMemory> {
 
 fn check_next(
     rt: &impl Abort,
-    talks: &mut KeepingTalks,
+    talks: &mut Conversations,
     call: u64,
     conv: u64,
 ) -> Result<(), NoMemory> {
@@ -129,19 +118,21 @@ fn check_next(
 fn follow(
     rt: &impl Abort,
     alloc: Global,
-    talks: &mut KeepingTalks,
+    talks: &mut Conversations,
     ring: &KeyRing,
     step: Step,
 ) -> Result<(), NoMemory> {
     match step {
         Step::Ask(conn, fid, conv) => return ask(alloc, talks, ring, conn, fid, conv),
         Step::Next(call, conv) => return check_next(rt, talks, call, conv),
-        Step::Clunk(conn, fid) => talks.clunk(conn, fid),
-        Step::Version(conn) => talks.version(conn),
-        Step::Hang(conn) => talks.hang(conn),
-        Step::Heard(call) => return talks.heard(alloc, call, b"\x09    5<1@x>"),
-        Step::Unheard(call) => talks.unheard(call),
-        Step::Roomless(call) => talks.roomless(call),
+        Step::Clunk(conn, fid) => talks.end(Leaving::Fid(conn, fid)),
+        Step::Version(conn) => talks.end(Leaving::Connection(conn)),
+        Step::Hang(conn) => talks.end(Leaving::Connection(conn)),
+        Step::Heard(call) => {
+            return talks.server_told(alloc, call, Said::Answer(b"\x09    5<1@x>"));
+        }
+        Step::Unheard(call) => return talks.server_told(alloc, call, Said::Nothing),
+        Step::Roomless(call) => return talks.server_told(alloc, call, Said::NoRoom),
     }
     Ok(())
 }
@@ -149,7 +140,7 @@ fn follow(
 fn follow_all(
     rt: &impl Abort,
     alloc: Global,
-    talks: &mut KeepingTalks,
+    talks: &mut Conversations,
     ring: &KeyRing,
     steps: &[Step],
 ) -> Result<(), Fail> {
@@ -163,7 +154,7 @@ fn follow_all(
 // Conversations that nobody has begun yet go through these steps, behind which nothing is due.
 fn check(rt: &impl Abort, alloc: Global, steps: &[Step]) -> Result<(), Fail> {
     let ring = ring_of(alloc, SRV)?;
-    let mut talks = KeepingTalks::new(alloc);
+    let mut talks = Conversations::new(alloc)?;
     follow_all(rt, alloc, &mut talks, &ring, steps)
 }
 

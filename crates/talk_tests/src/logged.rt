@@ -1,7 +1,7 @@
 // What becomes of conversations, as the log tells it.
 use crate::expect::expect;
 use crate::rings::ring_of;
-use agent_talks::LoggedTalks;
+use agent_talks::{Conversations, Leaving, Said};
 use file_tree::Node;
 use key_ring::KeyRing;
 use side_files::PromptKind;
@@ -75,7 +75,7 @@ static AGREED: [Step; 8] = [
 // A fid of a connection opens a conversation of this number, which is started.
 fn start(
     alloc: Global,
-    talks: &mut LoggedTalks,
+    talks: &mut Conversations,
     ring: &KeyRing,
     asking: Asking,
     fid: u32,
@@ -87,7 +87,7 @@ fn start(
 }
 
 // The first line of the log that nobody has read is this one; none where it is empty.
-fn check_line(rt: &impl Abort, talks: &mut LoggedTalks, wanted: &[u8]) {
+fn check_line(rt: &impl Abort, talks: &mut Conversations, wanted: &[u8]) {
     match talks.hand_out_line(Node::Log, 8192) {
         Ok(Some(line)) => expect(rt, &line.as_slice(), &wanted),
         Ok(None) => assert!(rt; wanted.is_empty()),
@@ -96,7 +96,7 @@ fn check_line(rt: &impl Abort, talks: &mut LoggedTalks, wanted: &[u8]) {
 }
 
 // The user of a conversation is asked by tag 1, and reads that.
-fn check_asked(rt: &impl Abort, talks: &mut LoggedTalks, conv: u64) {
+fn check_asked(rt: &impl Abort, talks: &mut Conversations, conv: u64) {
     let kind = PromptKind::Confirm;
     assert!(rt; talks.first_asker(kind) == Some(conv));
     assert!(rt; talks.hand_out_line(Node::Confirm, 8192).is_ok());
@@ -106,7 +106,7 @@ fn check_asked(rt: &impl Abort, talks: &mut LoggedTalks, conv: u64) {
 fn follow(
     rt: &impl Abort,
     alloc: Global,
-    talks: &mut LoggedTalks,
+    talks: &mut Conversations,
     ring: &KeyRing,
     step: Step,
 ) -> Result<(), NoMemory> {
@@ -118,9 +118,9 @@ fn follow(
         Step::Agrees(conv) => {
             return talks.reply(alloc, PromptKind::Confirm, 1, conv, true, ring, ASKS);
         }
-        Step::Clunk => talks.clunk(1, 7),
-        Step::Unheard(call) => talks.unheard(call),
-        Step::Roomless(call) => talks.roomless(call),
+        Step::Clunk => talks.end(Leaving::Fid(1, 7)),
+        Step::Unheard(call) => return talks.server_told(alloc, call, Said::Nothing),
+        Step::Roomless(call) => return talks.server_told(alloc, call, Said::NoRoom),
     }
     Ok(())
 }
@@ -128,7 +128,7 @@ fn follow(
 fn follow_all(
     rt: &impl Abort,
     alloc: Global,
-    talks: &mut LoggedTalks,
+    talks: &mut Conversations,
     ring: &KeyRing,
     steps: &[Step],
 ) -> Result<(), Fail> {
@@ -142,7 +142,7 @@ fn follow_all(
 // Conversations that nobody has begun yet go through these steps, behind which the log has no line that nobody has read.
 fn check(rt: &impl Abort, alloc: Global, key: &[u8], steps: &[Step]) -> Result<(), Fail> {
     let ring = ring_of(alloc, key)?;
-    let mut talks = LoggedTalks::new(alloc)?;
+    let mut talks = Conversations::new(alloc)?;
     follow_all(rt, alloc, &mut talks, &ring, steps)
 }
 

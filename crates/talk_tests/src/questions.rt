@@ -2,7 +2,7 @@
 // those of a login of ann at srv in the domain x, made by bench/vectors over OpenSSL's DES.
 use crate::expect::{expect, expect_told};
 use crate::rings::ring_of;
-use agent_talks::{Talks, Told};
+use agent_talks::{Leaving, Talks, Told};
 use conversations::Asks;
 use key_ring::KeyRing;
 use std::alloc::Global;
@@ -165,13 +165,13 @@ fn check_answered(rt: &impl Abort, alloc: Global, talks: &mut Talks) -> Result<(
 }
 
 fn check_ended(rt: &impl Abort, alloc: Global, talks: &mut Talks) -> Result<(), NoMemory> {
-    talks.clunk(1, 7);
+    talks.end(Leaving::Fid(1, 7));
     check_asker(rt, talks, 1, None);
     check_asker(rt, talks, 2, Some(1));
     talks.roomless(2);
     check_told(rt, alloc, talks, 1, b"error out of memory")?;
-    talks.version(2);
-    talks.hang(3);
+    talks.end(Leaving::Connection(2));
+    talks.end(Leaving::Connection(3));
     expect(rt, &talks.count(), &0);
     assert!(rt; talks.outcome_at(2, 7).is_none());
     Ok(())

@@ -6,4 +6,4 @@ use Rattle.agent_requests.proofs.shared.Shared.hear.Goals as goal
 pub returns-clause-shares : goal.returns-clause-shares
 returns-clause-shares c =
     let a = c.args in
-    λ done h. heard_shares done c.asker-asker.result (asker done a.call) (Heard c.args.bytes.now) a.self.now c.heard.new.self c.follow_and_sweep.new.self (c.asker-asker.ensures.told done h.talks.tells.talks.speak) h (c.in_ok-heard.ensures.kept done h.talks) c.follow_and_sweep.ensures.shares
+    λ done h. heard_shares done c.asker-asker.result (asker done a.call) (Heard c.args.bytes.now) a.self.now c.server_told.new.self c.follow_and_sweep.new.self (c.asker-asker.ensures.told done h.talks.tells.talks.speak) h (c.in_ok-server_told.ensures.told done h.talks) c.follow_and_sweep.ensures.shares
