@@ -107,12 +107,13 @@ fn add_many(
     came.count(ring.keys().len())
 }
 
-// A line for each number below a count, with two letters that tell the number between two texts.
+// A line for each number below a count, with three letters that tell the number between two texts.
 fn many_lines(alloc: Global, row: &Row) -> anyhow::Result<Bytes> {
     let mut lines = Bytes::new(alloc);
     for number in 0..number_at(row, 1)? {
         lines.append(bytes_at(row, 2))?;
-        lines.push(b'A' + (number / 32 % 64) as u8)?;
+        lines.push(b'A' + (number / 1024 % 32) as u8)?;
+        lines.push(b'A' + (number / 32 % 32) as u8)?;
         lines.push(b'A' + (number % 32) as u8)?;
         lines.append(bytes_at(row, 3))?;
     }
