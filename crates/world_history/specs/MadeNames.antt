@@ -1,6 +1,6 @@
--- What may still refuse a line of a script that is made of a number, whose form is right: no name that nobody made, none
--- that is taken, and no place. Its nodes and its conversations are made before they are used, each once, and the tables
--- of the authentication server are told before it is asked.
+-- What may still refuse a line of a script that is made of a number, whose form is right: no name that nobody made,
+-- none that is taken, and no place. Its nodes and its conversations are made before they are used, each once, and the
+-- tables of the authentication server are told before it is asked.
 use Rattle.std.specs.Prelude.{◌≡◌, ◌≤◌, ℕ, List, Bool, true, false, not, Some}
 use Rattle.auth_program.specs.declared.cause.ScriptCause.{ScriptCause}
 use Rattle.auth_program.specs.declared.cause.ScriptCause.TheVariants.{BadLine, UnknownNode, UnknownConv, NoSuchMessage}
@@ -19,8 +19,8 @@ hangs_on_others acts (Unanswered conv call) = true
 hangs_on_others acts (Asked session request words) = true
 hangs_on_others acts act = false
 
--- these causes may refuse a line behind acts: a message that it cites isn't recorded, or it is such an act that can't be
--- done
+-- these causes may refuse a line behind acts: a message that it cites isn't recorded, or it is such an act that can't
+-- be done
 abbrev pub MayRefuse : List Act → ScriptCause → Type 0
 MayRefuse acts UnknownNode = ⊥
 MayRefuse acts UnknownConv = ⊥
@@ -29,4 +29,5 @@ MayRefuse acts BadLine = (act : Act) × ((hangs_on_others acts act ≡ true) × 
 
 abbrev pub MadeIsNamed : Type 0
 MadeIsNamed = (number rounds line : ℕ) (cause : ScriptCause) → rounds ≤ most_rounds
-    → (play (gen_text number rounds)).refused ≡ Some (line, cause) → MayRefuse (play (gen_text number rounds)).acts cause
+    → (play (gen_text number rounds)).refused ≡ Some (line, cause)
+    → MayRefuse (play (gen_text number rounds)).acts cause
