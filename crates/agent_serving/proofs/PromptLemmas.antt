@@ -35,7 +35,7 @@ use Rattle.prompters.specs.Requests.{answer_text, opening, read_of, write_of}
 use Rattle.prompters.specs.Replies.{are_open, file_read, is_number, is_refusal, meets_use, question_read, refuses_by, too_small_text}
 use Rattle.prompters.specs.Wanted.{wanted}
 use Rattle.agent_serving.specs.declared.prompts.PromptsEnd.{PromptsEnd}
-use Rattle.agent_serving.specs.declared.prompts.PromptsEnd.TheVariants.{Idle, InUse, TooLong, Gone}
+use Rattle.agent_serving.specs.declared.prompts.PromptsEnd.TheVariants.{Idle, InUse, TooLong, NoQuestion, Gone}
 use Rattle.agent_serving.specs.declared.prompts.PromptsEnd.TheVariants as e
 use Rattle.agent_serving.specs.Prompting.{Asked, Begins, Hears, MadeAll, Makes, Opening, PromptsSo, Speaks, SpeaksOn, Stops, Takes, TakesNone, TakesOne, asks, is_in_use, is_stopped, is_too_long, opened_by, taken_of, zeros}
 
@@ -321,7 +321,7 @@ module _ (conn : ℕ) (chain : List Manner) where
         too_long = rw (d.fits, of_read, is) refl;
       }
 
-      -- it holds none, or there is no memory for it
+      -- there is no memory for it
       unread : (file : PromptKind) → file_read reply ≡ Some file → refuses_by too_small_text reply ≡ false → Stops conn chain now first seat e.NoMemory
       unread file of_read fits = record {
         entered = 6;
@@ -339,10 +339,29 @@ module _ (conn : ℕ) (chain : List Manner) where
         too_long = rw (d.fits, of_read, fits) refl;
       }
 
+      -- it holds none
+      holds_none : (file : PromptKind) → file_read reply ≡ Some file → question_read reply ≡ None → refuses_by too_small_text reply ≡ false → Stops conn chain now first seat NoQuestion
+      holds_none file of_read none fits = record {
+        entered = 6;
+        heard = d.begun.heard;
+        opened = d.opened;
+        opens = d.begun.opens;
+        talk = d.talk;
+        added = d.added;
+        made = d.made;
+        replies = reply ∷ d.replies;
+        talks = d.talks;
+        begins = inl d.begun.both;
+        all = (record { whole = refl; both_open = d.begun.both; all = rw (d.goes, of_read, none) (sym d.wants); asked = rw (d.goes, of_read, none) (sym d.asked) }, rw (d.goes, of_read, none) refl);
+        in_use = sym d.begun.free;
+        too_long = rw (d.fits, of_read, fits) refl;
+      }
+
       pub unanswered : (file : PromptKind) (end : PromptsEnd) → file_read reply ≡ Some file → Asked (Err end) reply → Stops conn chain now first seat end
       unanswered file Idle of_read is = absurd is
       unanswered file InUse of_read is = absurd is
       unanswered file TooLong of_read is = too_long file of_read is
+      unanswered file NoQuestion of_read is = holds_none file of_read is.0 is.1
       unanswered file Gone of_read is = absurd is
       unanswered file e.NoMemory of_read is = unread file of_read is
 
@@ -370,6 +389,26 @@ module _ (conn : ℕ) (chain : List Manner) where
     still_open some Idle live d = absurd d.all
     still_open some InUse live d = absurd (live refl)
     still_open some TooLong live d = (
+      some,
+      record {
+        entered = d.entered;
+        heard = d.heard;
+        opened = d.opened;
+        opens = d.opens;
+        talk = d.talk;
+        last = [];
+        added = d.added;
+        made = d.made;
+        replies = d.replies;
+        talks = d.talks;
+        begins = d.begins;
+        all = d.all;
+        in_use = d.in_use;
+        too_long = d.too_long;
+        leaves = refl;
+      },
+    )
+    still_open some NoQuestion live d = (
       some,
       record {
         entered = d.entered;
@@ -456,6 +495,7 @@ module _ (conn : ℕ) (chain : List Manner) where
   )
   hung now first before after old new n is_mine some Idle reply is s d = absurd d.all
   hung now first before after old new n is_mine some TooLong reply is s d = absurd cc
+  hung now first before after old new n is_mine some NoQuestion reply is s d = absurd cc
   hung now first before after old new n is_mine some Gone reply is s d = absurd cc
   hung now first before after old new n is_mine some e.NoMemory reply is s d = absurd cc
 

@@ -6,7 +6,7 @@ use Rattle.wire_streams.specs.Spawning.{Gains}
 use Rattle.prompters.specs.Manners.{Manner}
 use Rattle.agent_hub.specs.Submits.{HubSeat}
 use Rattle.agent_serving.specs.declared.prompts.PromptsEnd.{PromptsEnd}
-use Rattle.agent_serving.specs.declared.prompts.PromptsEnd.TheVariants.{Idle, InUse, TooLong, Gone, NoMemory}
+use Rattle.agent_serving.specs.declared.prompts.PromptsEnd.TheVariants.{Idle, InUse, TooLong, NoQuestion, Gone, NoMemory}
 use Rattle.agent_serving.specs.Prompting.{PromptsSo}
 
 -- nobody answers any more behind this end
@@ -14,6 +14,7 @@ abbrev pub is_last : PromptsEnd → Bool
 is_last Idle = true
 is_last InUse = false
 is_last TooLong = false
+is_last NoQuestion = false
 is_last Gone = true
 is_last NoMemory = false
 
@@ -22,6 +23,7 @@ abbrev pub conn_behind : PromptsEnd → ℕ → ℕ
 conn_behind InUse conn = conn - 1
 conn_behind Idle conn = conn
 conn_behind TooLong conn = conn
+conn_behind NoQuestion conn = conn
 conn_behind Gone conn = conn
 conn_behind NoMemory conn = conn
 

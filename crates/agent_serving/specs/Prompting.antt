@@ -1,6 +1,6 @@
 -- What a program that answers for its user enters at an agent, and how that ends. Own entries stand with the newest
 -- first. The definitions are the project's own.
-use Rattle.std.specs.Prelude.{◌≡◌, ◌<◌, ◌≤◌, ◌⊎◌, ℕ, List, [], ◌∷◌, ◌++◌, length, map, reverse, take, Bool, true, false, not, ◌||◌, nat_lt, Some, Result, Ok, Err, if◌then◌else◌}
+use Rattle.std.specs.Prelude.{◌≡◌, ◌<◌, ◌≤◌, ◌⊎◌, ℕ, List, [], ◌∷◌, ◌++◌, length, map, reverse, take, Bool, true, false, not, ◌||◌, nat_lt, Some, None, Result, Ok, Err, if◌then◌else◌}
 use Rattle.nine.specs.declared.message.TMsg.{TMsg}
 use Rattle.nine.specs.Messages.{t_frame}
 use Rattle.wire_base.specs.declared.bytes.NoMemory.{NoMemory}
@@ -24,7 +24,7 @@ use Rattle.prompters.specs.Requests.{opening}
 use Rattle.prompters.specs.Replies.{are_open, meets_use, question_read, refuses_by, too_small_text}
 use Rattle.prompters.specs.Wanted.{chain_behind, is_over, meets_long_line, wanted}
 use Rattle.agent_serving.specs.declared.prompts.PromptsEnd.{PromptsEnd}
-use Rattle.agent_serving.specs.declared.prompts.PromptsEnd.TheVariants.{Idle, InUse, TooLong, Gone}
+use Rattle.agent_serving.specs.declared.prompts.PromptsEnd.TheVariants.{Idle, InUse, TooLong, NoQuestion, Gone}
 use Rattle.agent_serving.specs.declared.prompts.PromptsEnd.TheVariants as e
 
 -- the word of each of its requests: eight zeros
@@ -70,6 +70,7 @@ abbrev pub is_in_use : PromptsEnd → Bool
 is_in_use Idle = false
 is_in_use InUse = true
 is_in_use TooLong = false
+is_in_use NoQuestion = false
 is_in_use Gone = false
 is_in_use e.NoMemory = false
 
@@ -77,6 +78,7 @@ abbrev pub is_too_long : PromptsEnd → Bool
 is_too_long Idle = false
 is_too_long InUse = false
 is_too_long TooLong = true
+is_too_long NoQuestion = false
 is_too_long Gone = false
 is_too_long e.NoMemory = false
 
@@ -104,6 +106,7 @@ abbrev pub Leaves : PromptsEnd → ℕ → List Entered → Type 0
 Leaves Idle conn last = ⊥
 Leaves InUse conn last = events_in last ≡ Hang conn ∷ []
 Leaves TooLong conn last = last ≡ []
+Leaves NoQuestion conn last = last ≡ []
 Leaves Gone conn last = last ≡ []
 Leaves e.NoMemory conn last = last ≡ []
 
@@ -115,11 +118,14 @@ pub record Opened (conn : ℕ) (opened : List Entered) : Type 0 where
   pub free : meets_use heard ≡ false
 
 module _ (conn : ℕ) (chain now : List Manner) (before after : HubSeat) where
-  -- what was made unless memory was short, by the end
+  -- what was made unless memory was short, by the end; a reply without a question is the end only where a read brought
+  -- none
   abbrev pub MadeAll : PromptsEnd → ℕ → List ℕ → List Entered → List TMsg → List (List ℕ) → Type 0
   MadeAll Idle entered heard talk made replies = ⊥
   MadeAll InUse entered heard talk made replies = NotBegun chain now talk
   MadeAll TooLong entered heard talk made replies = AllMade chain now entered heard made replies
+  MadeAll NoQuestion entered heard talk made replies = AllMade chain now entered heard made replies
+      × (is_over replies ≡ true)
   MadeAll Gone entered heard talk made replies = IsGoneBy talk after
       × (AllMade chain now entered heard made replies ⊎ NotBegun chain now talk)
   MadeAll e.NoMemory entered heard talk made replies = Unit {0}
@@ -154,6 +160,7 @@ module _ (conn : ℕ) (chain now : List Manner) (before after : HubSeat) where
   PromptsSo Idle = (length chain < 2) × Rests
   PromptsSo InUse = (2 ≤ length chain) × Prompts InUse
   PromptsSo TooLong = (2 ≤ length chain) × Prompts TooLong
+  PromptsSo NoQuestion = (2 ≤ length chain) × Prompts NoQuestion
   PromptsSo Gone = (2 ≤ length chain) × Prompts Gone
   PromptsSo e.NoMemory = (2 ≤ length chain) × Prompts e.NoMemory
 
@@ -248,5 +255,6 @@ Asked (Ok q) reply = (question_read reply ≡ Some q) × (refuses_by too_small_t
 Asked (Err Idle) reply = ⊥
 Asked (Err InUse) reply = ⊥
 Asked (Err TooLong) reply = refuses_by too_small_text reply ≡ true
+Asked (Err NoQuestion) reply = (question_read reply ≡ None) × (refuses_by too_small_text reply ≡ false)
 Asked (Err Gone) reply = ⊥
 Asked (Err e.NoMemory) reply = refuses_by too_small_text reply ≡ false

@@ -115,7 +115,9 @@ fn is_last(end: PromptsEnd) -> bool
 {
     match end {
         PromptsEnd::Idle | PromptsEnd::Gone => true,
-        PromptsEnd::InUse | PromptsEnd::TooLong | PromptsEnd::NoMemory => false,
+        PromptsEnd::InUse | PromptsEnd::TooLong | PromptsEnd::NoQuestion | PromptsEnd::NoMemory => {
+            false
+        }
     }
 }
 
@@ -132,7 +134,11 @@ fn conn_behind(end: PromptsEnd, conn: u64) -> u64
 {
     match end {
         PromptsEnd::InUse => conn.saturating_sub(1),
-        PromptsEnd::Idle | PromptsEnd::Gone | PromptsEnd::TooLong | PromptsEnd::NoMemory => conn,
+        PromptsEnd::Idle
+        | PromptsEnd::Gone
+        | PromptsEnd::TooLong
+        | PromptsEnd::NoQuestion
+        | PromptsEnd::NoMemory => conn,
     }
 }
 
@@ -179,6 +185,8 @@ fn tell_end<R: Eprint>(rt: &R, end: PromptsEnd) {
         PromptsEnd::Idle | PromptsEnd::Gone => "factotum: nobody answers questions any more\n",
         PromptsEnd::InUse => "factotum: another program has confirm or needkey open\n",
         PromptsEnd::TooLong => "factotum: a question was too long, and is denied\n",
+        PromptsEnd::NoQuestion =>
+            "factotum: a read brought no question: none is answered for a second\n",
         PromptsEnd::NoMemory => "factotum: out of memory: no question is answered for a second\n",
     };
     let _ = rt.eprint(line);

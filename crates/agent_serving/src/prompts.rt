@@ -32,6 +32,8 @@ pub enum PromptsEnd {
     InUse,
     /// A question's line is longer than any read may ask for.
     TooLong,
+    /// The reply to a read holds no question, for another reason.
+    NoQuestion,
     /// The connection was hung up, or the agent stopped.
     Gone,
     /// Memory was short; or a reply came that comes to nobody who has the connection for himself.
@@ -198,7 +200,7 @@ fn question_of(alloc: Global, reply: &[u8]) -> Result<Question, PromptsEnd>
     }
     match question_read(alloc, reply) {
         Ok(Some(question)) => Ok(question),
-        Ok(None) => Err(PromptsEnd::NoMemory),
+        Ok(None) => Err(PromptsEnd::NoQuestion),
         Err(NoMemory) => Err(PromptsEnd::NoMemory),
     }
 }

@@ -2,3 +2,4 @@ pub mod RecordLemmas
 pub mod SpellLemmas
 pub mod TextLemmas
 pub mod TellLemmas
+mod NamedLemmas

@@ -8,3 +8,4 @@ pub mod Writing
 pub mod Told
 pub mod Servers
 pub mod Telling
+pub mod MadeNames

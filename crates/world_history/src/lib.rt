@@ -10,7 +10,7 @@ mod spelling;
 mod tables;
 mod told;
 
-pub use laws::tables_are_told_in_time;
+pub use laws::{names_in_made_scripts_are_known, tables_are_told_in_time};
 pub use question::{Question, Questions};
 pub use record::{Cut, Record};
 pub use tables::{Tables, read_tables};

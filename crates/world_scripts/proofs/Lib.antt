@@ -8,4 +8,5 @@ pub mod PieceLemmas
 pub mod LineLemmas
 pub mod ScriptLemmas
 pub mod LengthLemmas
-mod MadeLemmas
+pub mod MadeLemmas
+pub mod NameLemmas
