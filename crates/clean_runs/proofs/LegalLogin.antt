@@ -13,9 +13,8 @@ use Rattle.sealing.specs.Fitting.{FitsName, IsBlock}
 use Rattle.sealing.specs.Request.{request_of, request_text}
 use Rattle.sealing.specs.Ticket.{ticket_text}
 use Rattle.auth_tables.specs.Speaks.{may_speak}
-use Rattle.auth_server.specs.Requests.{Asked, asked_so}
-use Rattle.auth_server.specs.Standing.{knowledge}
-use Rattle.auth_server.specs.Answers.{Knowledge, answer, is_over, wrong_by}
+use Rattle.auth_server.specs.Requests.{asked_so}
+use Rattle.auth_server.specs.Answers.{Knowledge, wrong_by}
 use Rattle.roles.specs.declared.answer.Gave.TheVariants as g
 use Rattle.roles.specs.declared.answer.Cause.TheVariants.{BadKey, WrongKind}
 use Rattle.roles.specs.declared.need.Need.{Need}
@@ -45,10 +44,11 @@ use Rattle.wire_histories.specs.Histories.{Act, started, gave, took, asked, answ
 use Rattle.wire_histories.specs.declared.step.Protocol.TheVariants.{P9any}
 use Rattle.wire_histories.specs.declared.step.Role.TheVariants.{Client as Clients, Server as Serves}
 use Rattle.wire_histories.specs.Conversations.{Speaker, speaks, talk_acts, met_in}
-use Rattle.wire_histories.specs.Sessions.{MayCome, ends_by, session_deals}
-use Rattle.wire_histories.specs.Legal.{IsConversation, IsLegal, IsMet, IsRingKey, IsServed, MayBe}
-use Rattle.clean_runs.specs.Login.{Secrets, Word, ann, answer_bytes, choice_bytes, conv_c, conv_s, key_bytes, key_of, login, login_setting, offer_bytes, proof_bytes, request_bytes, session_r, shown_bytes, spoken, spoken_c, spoken_s, srv, start_as, tables, word_bytes}
+use Rattle.wire_histories.specs.Sessions.{Came, MayCome, answer, ends_by, is_over, session_deals}
+use Rattle.wire_histories.specs.Legal.{IsConversation, IsLegal, IsMet, IsRingKey, IsServed, MayBe, known_at}
+use Rattle.clean_runs.specs.Login.{Secrets, Word, ann, answer_bytes, choice_bytes, conv_c, conv_s, key_bytes, key_of, login, login_setting, offer_bytes, proof_bytes, request_bytes, session_r, shown_bytes, spoken, spoken_c, spoken_s, srv, start_as, word_bytes}
 use Rattle.clean_runs.specs.ExampleStatements.{AreBytes, AreFresh, LoginIsLegal}
+use Rattle.wire_histories.proofs.RestartLemmas.{unrestarted}
 use Rattle.clean_runs.proofs.ActLemmas as talk
 use Rattle.clean_runs.proofs.LoginLaw.{login_is_clean}
 use Rattle.clean_runs.proofs.MailOf.{block_7, block_8, fits_ann, fits_srv, fits_x}
@@ -73,7 +73,7 @@ of k = record {
   server = inner_start (codes "p9sk1") (ss k) (codes "x");
   server_key = key_of srv k.srv_key;
   server_password = Some k.srv_password;
-  known = knowledge (tables k);
+  known = known_at (login_setting k (spoken k)) 0;
   before = [];
   words = words k;
 }
@@ -492,20 +492,20 @@ conversations k f name = elim (cases_Bool (bytes_eq conv_c name)) [
 
 -- ---- the session
 
-abbrev known : Secrets → Knowledge
-known k = knowledge (tables k)
+abbrev known : Secrets → ℕ → Knowledge
+known k = known_at (login_setting k (spoken k))
 
 abbrev question : Secrets → List ℕ
 question k = request_text (alone.question (of k))
 
-abbrev asks_once : Secrets → Asked
-asks_once k = asked_so (question k) (words k)
+abbrev asks_once : Secrets → Came
+asks_once k = record { tables = 0; request = question k; words = words k }
 
 question_read : (k : Secrets) → AreFresh k → request_of (question k) ≡ Ok (alone.question (of k))
 question_read k f = request_read (alone.question (of k)) (alone.fits_question (of k) (may k f))
 
 never_wrong : (k : Secrets) → AreFresh k → is_over (known k) (asks_once k ∷ []) ≡ false
-never_wrong k f = ap (λ r. nat_le 5 (0 + wrong_by (known k) (asks_once k) None r)) (question_read k f)
+never_wrong k f = ap (λ r. nat_le 5 (0 + wrong_by (known k 0) (asked_so (question k) (words k)) None r)) (question_read k f)
 
 answer_comes : (k : Secrets) → AreFresh k → answer (known k) [] (asks_once k) ≡ 4 ∷ alone.both (of k)
 answer_comes k f = alone.grant_is (of k) (may k f) ∙ alone.tickets_are (of k)
@@ -521,8 +521,8 @@ comes_once k f = let long = length_request (alone.question (of k)) (alone.fits_q
 r_left : (k : Secrets) → AreFresh k → session_deals (known k) (asks_once k ∷ []) ≡ deals_of session_r (login k)
 unfolding request_text ticket_text role_of value_of
 r_left k f =
-    ap (λ (over : Bool). ends_by over ++ (replied (answer (known k) [] (asks_once k)) ∷ requested (question k) (words k) ∷ [])) (never_wrong k f)
-    ∙ ap (λ (a : List ℕ). replied a ∷ requested (question k) (words k) ∷ []) (answer_comes k f)
+    ap (λ (over : Bool). ends_by over ++ (replied (answer (known k) [] (asks_once k)) ∷ requested 0 (question k) (words k) ∷ [])) (never_wrong k f)
+    ∙ ap (λ (a : List ℕ). replied a ∷ requested 0 (question k) (words k) ∷ []) (answer_comes k f)
 
 r_is : (k : Secrets) → AreFresh k → IsServed (known k) (deals_of session_r (login k))
 r_is k f = record { requests = asks_once k ∷ []; session = (comes_once k f, tt); later = []; left = r_left k f }
@@ -541,7 +541,9 @@ sessions k f name = elim (cases_Bool (bytes_eq session_r name)) [
 legal : (k : Secrets) → AreFresh k → IsLegal (login k) (login_setting k (spoken k))
 legal k f = record {
   domain = fits_x.short;
+  tables = refl;
   conversations = conversations k f;
+  restarts = λ name. unrestarted (spoken k name) name (login k) refl;
   sessions = sessions k f;
   numbered = (tt, (tt, (refl, (tt, (tt, (refl, (tt, (refl, (tt, (refl, (tt, (refl, (tt, (refl, (tt, (refl, (tt, (refl, (tt, (tt, tt))))))))))))))))))));
 }

@@ -51,3 +51,4 @@ mod LegalLogin
 mod MailOf
 mod MailClean
 mod LegalMail
+pub mod KeyNameLaws

@@ -1,3 +1,4 @@
+pub mod KeyNames
 pub mod Labels
 pub mod Runs
 pub mod Forms
