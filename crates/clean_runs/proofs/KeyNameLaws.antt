@@ -33,7 +33,7 @@ one_key a b same =
     ap (λ d. record { des = d; password = a.password }) ((bytes_eq-Decides a.des b.des).0 parts.0)
     ∙ ap (λ p. record { des = b.des; password = p }) (one_password a.password b.password parts.1)
 
-is_here : (tables : Tables) (name : List ℕ) (key : UserKey) → key_of name tables.keys ≡ Some key → holds tables name key ≡ true
+pub is_here : (tables : Tables) (name : List ℕ) (key : UserKey) → key_of name tables.keys ≡ Some key → holds tables name key ≡ true
 is_here tables name key has = ap (is_this key) has ∙ self_key key
 
 found_by : (key : UserKey) (o : Option UserKey) → is_this key o ≡ true → o ≡ Some key

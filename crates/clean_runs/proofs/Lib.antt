@@ -52,3 +52,4 @@ mod MailOf
 mod MailClean
 mod LegalMail
 pub mod KeyNameLaws
+mod RemovalLaw

@@ -195,9 +195,9 @@ pub record IsClientUnder {history : History} (l : Labelling) (a : ClientAcceptan
       ∷ hears (tickets (seal (long_key (l.holder a.conv))
       (ticket for_client chal cuid suid (ticket_key number))) handed) ∷ before
 
--- before a client accepts, a server answered it: its holder is the key name of whom the grant's request named, whose key
--- sealed the ticket for the server, it accepted by that very ticket, and it gave its authenticator for this client's
--- word under the grant's key
+-- before a client accepts, a server answered it: its holder is the key name of whom the grant's request named, and
+-- that key sealed the ticket for the server; it accepted by that very ticket, and it gave its authenticator for this
+-- client's word under the grant's key
 pub record IsAnswered (history : History) (z : Setting) (l : Labelling) (a : ClientAcceptance history)
     (number : ℕ) : Type 0 where
   pub made : IsMade a.past z l number

@@ -1,8 +1,8 @@
 -- Clean histories: ideal assumptions on a labelled history and a reading of its atoms, which no program checks. (i)
 -- The reading spells each word, key and password by its atom, and different atoms of a kind differently. (ii) What is
 -- taken is spelled by its label, and the label derives from what is known at its place: the keys and passwords of the
--- compromised key names, and the labels of what was given before (Dolev and Yao, On the Security of Public Key Protocols,
--- 1983). (iii) The label of a message whose tests all passed has the form of its move.
+-- compromised key names, and the labels of what was given before (Dolev and Yao, On the Security of Public Key
+-- Protocols, 1983). (iii) The label of a message whose tests all passed has the form of its move.
 use Rattle.std.specs.Prelude.{◌≡◌, ℕ, ◌+◌, ◌*◌, ◌<◌, ◌^◌, List, [], ◌∷◌, ◌++◌, All, Bool, true, false, length, Option, Some, None, Ok, unwrap_or}
 use Rattle.hex.specs.Hex.{encode_lower}
 use Rattle.symbolic_runs.specs.Trees.{Tree, Trees, plain, nonce, challenge, long_key, ticket_key, junk_key, password, joined, seal, digest, none, piece}

@@ -70,8 +70,7 @@ speakers z number user = map (key_name z.tables number)
 abbrev pub HasNoBlank : List ℕ → Type 0
 HasNoBlank name = All (λ b. b ≡ 32 → ⊥) name
 
--- two key names are the same exactly where the users, their keys and their passwords are; of tables there are fewer than
--- 2^64
+-- of fewer than 2^64 tables two key names are the same exactly where the users, their keys and their passwords are
 abbrev pub KeyNamesTellKeys : Type 0
 KeyNamesTellKeys = (tables : List Tables) (e f : ℕ) (a b : List ℕ) (j k : UserKey) → length tables < 2 ^ 64
     → HasNoBlank a → HasNoBlank b

@@ -66,8 +66,8 @@ abbrev pub name_where : Bool → Option (List ℕ) → Option (List ℕ)
 name_where may name = if may then name else None
 
 -- a ticket request uses the keys of the server and of the host, where the host may speak for the user; a mail request
--- the key of the server and the password of the user. These are told by their key names in the tables of a number, which
--- are in force. The challenge is that of the request's label, the names are written anew
+-- the key of the server and the password of the user. These are told by their key names in the tables of a number,
+-- which are in force. The challenge is that of the request's label, the names are written anew
 abbrev pub tickets_for : Setting → ℕ → TicketReq → Tree → Grant
 tickets_for z number r label = record {
   used = keys (name_where ((known_at z number).speaks r.hostid r.uid) (known_name z number r.authid))
