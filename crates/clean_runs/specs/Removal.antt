@@ -1,5 +1,5 @@
--- What may come behind the login that is written out: ann is removed from the tables of the authentication server, which
--- are read again, and her node is restarted. It shows that records with both can be clean.
+-- What may come behind the login that is written out: ann is removed from the tables of the authentication server,
+-- which are read again, and her node is restarted. It shows that records with both can be clean.
 use Rattle.std.specs.Prelude.{[], ◌∷◌, codes}
 use Rattle.wire_histories.specs.declared.step.Step.TheVariants.{Reload, Restart}
 use Rattle.wire_histories.specs.Histories.{History}
