@@ -91,7 +91,7 @@ pub enum Step {
     AsEnd {
         session: Bytes,
     },
-    /// A node was restarted: its conversations are gone, and it has its lines of ctl again.
+    /// A node was restarted: its conversations are gone, and so are its keys.
     Restart {
         node: Bytes,
     },
