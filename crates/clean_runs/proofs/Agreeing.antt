@@ -7,8 +7,8 @@ use Rattle.symbolic_runs.specs.Sessions.{keys, key_and_password}
 use Rattle.symbolic_runs.specs.Agreement.{Matches as MatchesInRun, client_matches as by_client, mail_client_matches as by_mail_client, server_name, client_name, SpeakersAreTrue as RunSpeakersAreTrue, IsGrantedTo as IsGrantedInRun}
 use Rattle.symbolic_runs.proofs.Servers.{server_agrees}
 use Rattle.symbolic_runs.proofs.Matching.{matched}
-use Rattle.wire_histories.specs.Histories.{History}
-use Rattle.clean_runs.specs.Runs.{speakers}
+use Rattle.wire_histories.specs.Histories.{History, reloads_in}
+use Rattle.clean_runs.specs.KeyNames.{speakers}
 use Rattle.clean_runs.proofs.Bridge.{Case, SessionsGo, run, setting}
 use Rattle.clean_runs.specs.Agreement.{Acceptance, IsByTicket, IsGrantedTo, IsMade, IsMatched, client_matches, granted, mail_client_matches, moves_in}
 use Rattle.clean_runs.specs.AgreementStatements.{ClientsMatch, ServersAgree, SpeakersAreTrue}
@@ -29,7 +29,7 @@ rests_on c sessions a number g =
       made = m.made;
       by_its_ticket = subst (IsByTicket c.l a) (sym m.ticket_is) (shows_out c a g.for_the_server g.by_its_ticket);
       sealed_for = sealed;
-      named = sealer_named c.z m.made.read (c.l.label (length m.made.asked)) (c.l.holder a.conv) sealed;
+      named = sealer_named c.z (reloads_in m.made.asked) m.made.read (c.l.label (length m.made.asked)) (c.l.holder a.conv) sealed;
       user = sym (ap (λ x. x.user) grant_is) ∙ g.user ∙ user_is c a;
       chal = sym (ap (λ x. x.chal) grant_is) ∙ g.chal;
     }
@@ -41,8 +41,8 @@ servers_agree c sessions a is =
 
 -- ---- and has a match
 
-speak_true : (c : Case) (past later : History) → c.history ≡ later ++ past → (number : ℕ) (made : IsMade past c.z c.l number) → SpeakersAreTrue c.history c.z c.l made.read.uid → RunSpeakersAreTrue (setting c) number
-speak_true c past later place number made is name has = is name (subst (λ names. Contains names name) (ap (λ g. g.speakers) (grants_are c past later place number made) ∙ speakers_are c.z made.read (c.l.label (length made.asked))) has)
+speak_true : (c : Case) (past later : History) → c.history ≡ later ++ past → (number : ℕ) (made : IsMade past c.z c.l number) → SpeakersAreTrue c.history c.z c.l made → RunSpeakersAreTrue (setting c) number
+speak_true c past later place number made is name has = is name (subst (λ names. Contains names name) (ap (λ g. g.speakers) (grants_are c past later place number made) ∙ speakers_are c.z (reloads_in made.asked) made.read (c.l.label (length made.asked))) has)
 
 match_out : (c : Case) (sessions : SessionsGo c) (past later : History) (place : c.history ≡ later ++ past) (number : ℕ) (made : IsMade past c.z c.l number) (user : List ℕ) (k : ℕ) → MatchesInRun (setting c) (run c past) number user k → client_name ((setting c).grants number).used ≡ Some ((setting c).holder k) → IsMatched c.history past c.z c.l made user
 match_out c sessions past later place number made user k (by_client {sealer} {handed} {cuid} {before} {gave} role used speaks opened stands) named =
@@ -58,7 +58,7 @@ match_out c sessions past later place number made user k (by_client {sealer} {ha
       matches = client_matches
           (g.plays_so ∙ ap Some role)
           (sym (ap (λ x. x.used) grant_is) ∙ used ∙ ap (λ h. keys sealer (Some h)) holder)
-          (subst (λ h. Contains (speakers c.z.server made.read.uid) h) holder (subst (λ names. Contains names ((setting c).holder k)) (ap (λ x. x.speakers) grant_is ∙ speakers_are c.z made.read (c.l.label (length made.asked))) speaks))
+          (subst (λ h. Contains (speakers c.z (reloads_in made.asked) made.read.uid) h) holder (subst (λ names. Contains names ((setting c).holder k)) (ap (λ x. x.speakers) grant_is ∙ speakers_are c.z (reloads_in made.asked) made.read (c.l.label (length made.asked))) speaks))
           forms
           g.happens
           (g.labels ∙ ap (λ x. client_message handed (ticket_key number) x.chal ∷ []) grant_is);
@@ -77,7 +77,7 @@ match_out c sessions past later place number made user k (by_mail_client {kind} 
           v.0
           v.1
           g.happens
-          (g.labels ∙ ap (λ h. digest kind (password h) (mail_challenge c.z.server.dom first) ∷ []) holder);
+          (g.labels ∙ ap (λ h. digest kind (password h) (mail_challenge c.z.dom first) ∷ []) holder);
       holder = sym (ap (λ x. client_name x.used) grant_is) ∙ named ∙ ap Some holder;
     }
 

@@ -26,9 +26,10 @@ use Rattle.symbolic_runs.specs.Spellings.{Atoms, Spelling, and_then, atom_bytes,
 use Rattle.symbolic_runs.specs.Forms.{answer_ok, by_client, Fields, AreFields, authenticator, mail_challenge, pair, request, ticket}
 use Rattle.symbolic_runs.specs.Gifts.{part as piece_of}
 use Rattle.symbolic_runs.specs.Sessions.{client_key, server_key, ticket_for_client, ticket_for_server, tickets_given, vouch_given, vouched_proof, vouched_ticket}
-use Rattle.wire_histories.specs.Legal.{Setting, known_to}
-use Rattle.clean_runs.specs.Runs.{known_name, name_where, tickets_for, vouch_for}
-use Rattle.clean_runs.specs.Clean.{GivesSevens, Reads, ReadsTable, ReadsWords}
+use Rattle.wire_histories.specs.Legal.{Setting, known_at}
+use Rattle.clean_runs.specs.KeyNames.{key_name, known_name}
+use Rattle.clean_runs.specs.Runs.{name_where, tickets_for, vouch_for}
+use Rattle.clean_runs.specs.Clean.{GivesSevens, Reads, ReadsTables, ReadsWords}
 use Rattle.clean_runs.proofs.Bytes.{authenticator_is, authenticator_spells, ticket_long, ticket_spells, ticket_with}
 use Rattle.clean_runs.proofs.Spelled.{all_parts, all_spell, seal_spells}
 
@@ -91,25 +92,25 @@ pub record KeySpells (atoms : Atoms) (k : Tree) (key : List ℕ) : Type 0 where
   pub spells : spelling atoms k ≡ Ok key
   pub seven : length key ≡ 7
 
--- what the reading says of a request: of its words and of the server's table
+-- what the reading says of a request: of its words and of the server's tables
 pub record IsReading (atoms : Atoms) (z : Setting) (number : ℕ) (words : List (List ℕ)) : Type 0 where
   pub drawn : ReadsWords atoms number words
-  pub table : ReadsTable atoms z
+  pub tables : ReadsTables atoms z
   pub sevens : GivesSevens atoms
 
 shared_spells : (atoms : Atoms) (z : Setting) (number : ℕ) (words : List (List ℕ)) → IsReading atoms z number words → KeySpells atoms (ticket_key number) (shared_key words)
 shared_spells atoms z number words read = record { spells = ap atom_bytes read.drawn.shared; seven = read.sevens (ticket_key number) (shared_key words) refl read.drawn.shared }
 
 -- the key of the server's ticket, and that of the client's, from the table or made up
-server_spells : (atoms : Atoms) (z : Setting) (number : ℕ) (words : List (List ℕ)) → IsReading atoms z number words → (name : List ℕ) (may : Bool) (o : Option UserKey) → (known_to z).key name ≡ o → KeySpells atoms (server_key (name_where may (if is_some o then Some name else None)) number) (granted_key may o (word 1 words))
-server_spells atoms z number words read name true (Some key) found = record { spells = ap atom_bytes (read.table name key found).0; seven = read.sevens (long_key name) key.des refl (read.table name key found).0 }
-server_spells atoms z number words read name true None found = record { spells = ap atom_bytes read.drawn.for_server; seven = read.sevens (junk_key (2 * number)) _ refl read.drawn.for_server }
-server_spells atoms z number words read name false o found = record { spells = ap atom_bytes read.drawn.for_server; seven = read.sevens (junk_key (2 * number)) _ refl read.drawn.for_server }
+server_spells : (atoms : Atoms) (z : Setting) (tables number : ℕ) (words : List (List ℕ)) → IsReading atoms z number words → (name : List ℕ) (may : Bool) (o : Option UserKey) → (known_at z tables).key name ≡ o → KeySpells atoms (server_key (name_where may (if is_some o then Some (key_name z.tables tables name) else None)) number) (granted_key may o (word 1 words))
+server_spells atoms z tables number words read name true (Some key) found = record { spells = ap atom_bytes (read.tables tables name key found).0; seven = read.sevens (long_key (key_name z.tables tables name)) key.des refl (read.tables tables name key found).0 }
+server_spells atoms z tables number words read name true None found = record { spells = ap atom_bytes read.drawn.for_server; seven = read.sevens (junk_key (2 * number)) _ refl read.drawn.for_server }
+server_spells atoms z tables number words read name false o found = record { spells = ap atom_bytes read.drawn.for_server; seven = read.sevens (junk_key (2 * number)) _ refl read.drawn.for_server }
 
-client_spells : (atoms : Atoms) (z : Setting) (number : ℕ) (words : List (List ℕ)) → IsReading atoms z number words → (name : List ℕ) (may : Bool) (o : Option UserKey) → (known_to z).key name ≡ o → KeySpells atoms (client_key (name_where may (if is_some o then Some name else None)) number) (granted_key may o (word 2 words))
-client_spells atoms z number words read name true (Some key) found = record { spells = ap atom_bytes (read.table name key found).0; seven = read.sevens (long_key name) key.des refl (read.table name key found).0 }
-client_spells atoms z number words read name true None found = record { spells = ap atom_bytes read.drawn.for_client; seven = read.sevens (junk_key (2 * number + 1)) _ refl read.drawn.for_client }
-client_spells atoms z number words read name false o found = record { spells = ap atom_bytes read.drawn.for_client; seven = read.sevens (junk_key (2 * number + 1)) _ refl read.drawn.for_client }
+client_spells : (atoms : Atoms) (z : Setting) (tables number : ℕ) (words : List (List ℕ)) → IsReading atoms z number words → (name : List ℕ) (may : Bool) (o : Option UserKey) → (known_at z tables).key name ≡ o → KeySpells atoms (client_key (name_where may (if is_some o then Some (key_name z.tables tables name) else None)) number) (granted_key may o (word 2 words))
+client_spells atoms z tables number words read name true (Some key) found = record { spells = ap atom_bytes (read.tables tables name key found).0; seven = read.sevens (long_key (key_name z.tables tables name)) key.des refl (read.tables tables name key found).0 }
+client_spells atoms z tables number words read name true None found = record { spells = ap atom_bytes read.drawn.for_client; seven = read.sevens (junk_key (2 * number + 1)) _ refl read.drawn.for_client }
+client_spells atoms z tables number words read name false o found = record { spells = ap atom_bytes read.drawn.for_client; seven = read.sevens (junk_key (2 * number + 1)) _ refl read.drawn.for_client }
 
 -- ---- tickets
 
@@ -147,38 +148,38 @@ unfolding vouch_text
 vouch_is r shared servers = refl
 
 -- the tickets of a request
-pub grant_spells : (atoms : Atoms) (z : Setting) (number : ℕ) (words : List (List ℕ)) → IsReading atoms z number words → (r : TicketReq) (t : Tree) → ChallengeIs atoms (piece_of t 3) r.chal → length r.hostid < 28 → length r.uid < 28 → spelling atoms (tickets_given (tickets_for z.server r t) number) ≡ Ok (grant (known_to z) words r)
-grant_spells atoms z number words read r t of_chal of_host of_user =
-    let known = known_to z in
+pub grant_spells : (atoms : Atoms) (z : Setting) (tables number : ℕ) (words : List (List ℕ)) → IsReading atoms z number words → (r : TicketReq) (t : Tree) → ChallengeIs atoms (piece_of t 3) r.chal → length r.hostid < 28 → length r.uid < 28 → spelling atoms (tickets_given (tickets_for z tables r t) number) ≡ Ok (grant (known_at z tables) words r)
+grant_spells atoms z tables number words read r t of_chal of_host of_user =
+    let known = known_at z tables in
     let may = known.speaks r.hostid r.uid in
     let shared = shared_spells atoms z number words read in
     let hosts = granted_key may (known.key r.hostid) (word 2 words) in
     let servers = granted_key may (known.key r.authid) (word 1 words) in
-    let for_host = client_spells atoms z number words read r.hostid may (known.key r.hostid) refl in
-    let for_authid = server_spells atoms z number words read r.authid may (known.key r.authid) refl in
-    let a = ticket_seals atoms 65 (piece_of t 3) (ticket_key number) (client_key (name_where may (known_name known r.hostid)) number) r.chal r.hostid r.uid (shared_key words) hosts of_chal of_host of_user shared for_host in
-    let b = ticket_seals atoms 64 (piece_of t 3) (ticket_key number) (server_key (name_where may (known_name known r.authid)) number) r.chal r.hostid r.uid (shared_key words) servers of_chal of_host of_user shared for_authid in
-    let grant_is = tickets_for z.server r t in
+    let for_host = client_spells atoms z tables number words read r.hostid may (known.key r.hostid) refl in
+    let for_authid = server_spells atoms z tables number words read r.authid may (known.key r.authid) refl in
+    let a = ticket_seals atoms 65 (piece_of t 3) (ticket_key number) (client_key (name_where may (known_name z tables r.hostid)) number) r.chal r.hostid r.uid (shared_key words) hosts of_chal of_host of_user shared for_host in
+    let b = ticket_seals atoms 64 (piece_of t 3) (ticket_key number) (server_key (name_where may (known_name z tables r.authid)) number) r.chal r.hostid r.uid (shared_key words) servers of_chal of_host of_user shared for_authid in
+    let grant_is = tickets_for z tables r t in
     let first = ticket_bytes 65 r.chal r.hostid r.uid (shared_key words) hosts in
     let second = ticket_bytes 64 r.chal r.hostid r.uid (shared_key words) servers in
     both_spell atoms (ticket_for_client grant_is number) (ticket_for_server grant_is number) first second a b ∙ ap Ok (two_behind first second ∙ sym (tickets_are r (shared_key words) hosts servers))
 
 -- what vouches for a right answer
-pub vouch_spells : (atoms : Atoms) (z : Setting) (number : ℕ) (words : List (List ℕ)) → IsReading atoms z number words → (r : TicketReq) (t : Tree) → ChallengeIs atoms (piece_of (piece_of t 0) 3) r.chal → length r.uid < 28 → spelling atoms (vouch_given (vouch_for z.server r t) number) ≡ Ok (vouch_bytes (known_to z) words r)
-vouch_spells atoms z number words read r t of_chal of_user =
-    let known = known_to z in
+pub vouch_spells : (atoms : Atoms) (z : Setting) (tables number : ℕ) (words : List (List ℕ)) → IsReading atoms z number words → (r : TicketReq) (t : Tree) → ChallengeIs atoms (piece_of (piece_of t 0) 3) r.chal → length r.uid < 28 → spelling atoms (vouch_given (vouch_for z tables r t) number) ≡ Ok (vouch_bytes (known_at z tables) words r)
+vouch_spells atoms z tables number words read r t of_chal of_user =
+    let known = known_at z tables in
     let chal = piece_of (piece_of t 0) 3 in
     let shared = shared_spells atoms z number words read in
     let servers = granted_key true (known.key r.authid) (word 1 words) in
-    let for_authid = server_spells atoms z number words read r.authid true (known.key r.authid) refl in
-    let a = ticket_seals atoms 64 chal (ticket_key number) (server_key (known_name known r.authid) number) r.chal r.uid r.uid (shared_key words) servers of_chal of_user of_user shared for_authid in
+    let for_authid = server_spells atoms z tables number words read r.authid true (known.key r.authid) refl in
+    let a = ticket_seals atoms 64 chal (ticket_key number) (server_key (known_name z tables r.authid) number) r.chal r.uid r.uid (shared_key words) servers of_chal of_user of_user shared for_authid in
     let body = (67 ∷ []) ++ (r.chal ++ (0 ∷ 0 ∷ 0 ∷ 0 ∷ [])) in
     let size = length-append r.chal (0 ∷ 0 ∷ 0 ∷ 0 ∷ []) in
     let eight = of_chal.eight in
     let b : spelling atoms (seal (ticket_key number) (authenticator by_client chal)) ≡ Ok (sealed (shared_key words) (authenticator_text (record { num = 67; chal = r.chal; id = 0 }))) =
     seal_spells atoms (ticket_key number) (authenticator by_client chal) (shared_key words) body shared.spells (authenticator_spells atoms by_client chal r.chal of_chal.spells) shared.seven (omega (arith, size, eight))
     ∙ ap (λ text. Ok (sealed (shared_key words) text)) (sym (authenticator_is 67 r.chal)) in
-    let grant_is = vouch_for z.server r t in
+    let grant_is = vouch_for z tables r t in
     let first = ticket_bytes 64 r.chal r.uid r.uid (shared_key words) servers in
     let second = sealed (shared_key words) (authenticator_text (record { num = 67; chal = r.chal; id = 0 })) in
     both_spell atoms (vouched_ticket grant_is number) (vouched_proof grant_is number) first second a b ∙ ap Ok (two_behind first second ∙ sym (vouch_is r (shared_key words) servers))

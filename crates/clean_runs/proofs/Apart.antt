@@ -11,9 +11,10 @@ use Rattle.symbolic_runs.specs.Runs.{Event, Run, moves}
 use Rattle.symbolic_runs.specs.Sessions.{keys, key_and_password}
 use Rattle.symbolic_runs.specs.Agreement.{Matches as MatchesInRun, client_matches as by_client, mail_client_matches as by_mail_client}
 use Rattle.symbolic_runs.proofs.Apart.{a_ticket, by_one_ticket, matched_by_one, under_one_grant}
-use Rattle.wire_histories.specs.Histories.{History}
+use Rattle.wire_histories.specs.Histories.{History, reloads_in}
 use Rattle.clean_runs.specs.Labels.{started_as, starts_in}
-use Rattle.clean_runs.specs.Runs.{events_of, number_of, speakers}
+use Rattle.clean_runs.specs.KeyNames.{speakers}
+use Rattle.clean_runs.specs.Runs.{events_of, number_of}
 use Rattle.clean_runs.proofs.Bridge.{Case, SessionsGo, orderly, run, setting}
 use Rattle.clean_runs.proofs.Numbers.{IsOrderly, same_name}
 use Rattle.clean_runs.proofs.Steps.{Kind, InOrder, begins, deals, does, kind, nothing}
@@ -108,7 +109,7 @@ match_in c sessions past later place number made user conv (client_matches {seal
       matches = by_client
           p.role_is
           (ap (λ x. x.used) grant_is ∙ used ∙ ap (λ h. keys sealer (Some h)) (sym p.holder_is))
-          (subst (λ names. Contains names ((setting c).holder k)) (sym (ap (λ x. x.speakers) grant_is ∙ speakers_are c.z made.read (c.l.label (length made.asked)))) (subst (λ h. Contains (speakers c.z.server made.read.uid) h) (sym p.holder_is) speaks))
+          (subst (λ names. Contains names ((setting c).holder k)) (sym (ap (λ x. x.speakers) grant_is ∙ speakers_are c.z (reloads_in made.asked) made.read (c.l.label (length made.asked)))) (subst (λ h. Contains (speakers c.z (reloads_in made.asked) made.read.uid) h) (sym p.holder_is) speaks))
           (moves_are c conv client gave behind_it here p ∙ opened
           ∙ ap (λ h. hears (tickets (seal (long_key h) (ticket for_client (granted made).chal cuid user (ticket_key number))) handed) ∷ before) (sym p.holder_is)
           ∙ ap (λ x. hears (tickets (seal (long_key ((setting c).holder k)) (ticket for_client x.chal cuid user (ticket_key number))) handed) ∷ before) (sym grant_is))
@@ -129,7 +130,7 @@ match_in c sessions past later place number made user conv (mail_client_matches 
           p.role_is
           (ap (λ x. x.used) grant_is ∙ used ∙ ap (key_and_password sealer) (sym p.holder_is))
           v.1
-          (given_out c past later gave conv b message (digest kind (password ((setting c).holder (number_of conv gave))) (mail_challenge c.z.server.dom first)) place happens (λ x e. cc) (labels ∙ ap (λ h. digest kind (password h) (mail_challenge c.z.server.dom first) ∷ []) (sym p.holder_is)));
+          (given_out c past later gave conv b message (digest kind (password ((setting c).holder (number_of conv gave))) (mail_challenge c.z.dom first)) place happens (λ x e. cc) (labels ∙ ap (λ h. digest kind (password h) (mail_challenge c.z.dom first) ∷ []) (sym p.holder_is)));
     }
   where
     l_holder : (c : Case) → List ℕ → List ℕ

@@ -282,7 +282,7 @@ act_goes c later past step conv act d place =
 
 -- each deal of a session goes well
 abbrev pub SessionsGo : Case → Type 0
-SessionsGo c = (later past : History) (step : Step) (session : List ℕ) (deal : Deal) → Deals session deal step → c.history ≡ later ++ step ∷ past → GoesWell c past step
+SessionsGo c = (later past : History) (step : Step) (session : List ℕ) (deal : ℕ → Deal) → Deals session deal step → c.history ≡ later ++ step ∷ past → GoesWell c past step
 
 pub goes_by : (c : Case) → SessionsGo c → (later past : History) (step : Step) → Kind step → c.history ≡ later ++ step ∷ past → GoesWell c past step
 goes_by c sessions later past step (begins conv protocol role word) place = record { runs = λ is. then_starts is; spelled = tt; short = omega arith }

@@ -9,7 +9,7 @@ use Rattle.symbolic_runs.specs.Secrets.{is_compromised}
 use Rattle.symbolic_runs.specs.Sessions.{keys}
 use Rattle.symbolic_runs.specs.Agreement.{ClientAcceptance as RunClientAcceptance, IsClientUnder as IsClientUnderInRun, server_name}
 use Rattle.symbolic_runs.proofs.Clients.{client_answered, client_hosted}
-use Rattle.wire_histories.specs.Histories.{History}
+use Rattle.wire_histories.specs.Histories.{History, reloads_in}
 use Rattle.clean_runs.specs.Labels.{labelled}
 use Rattle.clean_runs.specs.Runs.{accepted_field, moves_by, number_of}
 use Rattle.clean_runs.proofs.Bridge.{Case, SessionsGo, one_more, run, setting}
@@ -109,6 +109,6 @@ clients_are_hosts c sessions a is =
         made = m.made;
         sealer = h.1.sealer;
         used = used;
-        host = host_named c.z m.made.read (c.l.label (length m.made.asked)) h.1.sealer (c.l.holder a.conv) used;
+        host = host_named c.z (reloads_in m.made.asked) m.made.read (c.l.label (length m.made.asked)) h.1.sealer (c.l.holder a.conv) used;
       },
     )

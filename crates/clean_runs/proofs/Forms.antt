@@ -19,7 +19,7 @@ names = record { client_whole = refl; server_whole = refl }
 seven : (k : Secrets) (b : List ℕ) → spelling (reading k) (ticket_key 0) ≡ Ok b → length b ≡ 7
 seven k b is = (let same : key_bytes k.first ≡ b = cc in subst (λ (x : List ℕ). length x ≡ 7) same refl)
 
-all : (k : Secrets) (spoken : List ℕ → Option Spoken) → Everywhere (FormsStep (reading k) (setting_of (login_setting k spoken) labelling (login k)) labelling) (login k)
+pub all : (k : Secrets) (spoken : List ℕ → Option Spoken) → Everywhere (FormsStep (reading k) (setting_of (login_setting k spoken) labelling (login k)) labelling) (login k)
 all k spoken = (refl, (tt, (tt, (record { cuid = name_28 ann; suid = name_28 ann; names = names; key = ticket_key 0; is = refl }, (tt, (record { cuid = name_28 ann; suid = name_28 ann; names = names; key = ticket_key 0; seven = seven k; handed = handed; is = refl }, (tt, ((record { fields = fields ann; whole = whole ann refl; chal = nonce 1; is = refl }, tt), (tt, (record { fields = fields []; whole = whole [] refl; chal = nonce 1; is = refl }, (tt, (tt, (tt, (tt, (tt, (tt, (tt, (tt, (tt, (tt, tt))))))))))))))))))))
 
 pub forms : (k : Secrets) (spoken : List ℕ → Option Spoken) → AtEachPlace (login k) (FormsStep (reading k) (setting_of (login_setting k spoken) labelling (login k)) labelling)

@@ -3,7 +3,7 @@ use Rattle.std.proofs.Common.{◌≡◌, ℕ, List, [], ◌∷◌, ◌++◌, app
 use Rattle.symbolic_runs.specs.Trees.{Tree, plain}
 use Rattle.symbolic_runs.specs.Spellings.{Atoms}
 use Rattle.wire_histories.specs.declared.step.Step.{Step}
-use Rattle.wire_histories.specs.declared.step.Step.TheVariants.{Start, Out, In, Ask, Heard, Unheard, Accept, Fail, Reply, Refused, AsGot, AsGave, AsEnd}
+use Rattle.wire_histories.specs.declared.step.Step.TheVariants.{Start, Out, In, Ask, Heard, Unheard, Accept, Fail, Reply, Refused, AsGot, AsGave, AsEnd, Restart, Reload}
 use Rattle.symbolic_runs.specs.Moves.{Role, Move, gives, Own}
 use Rattle.symbolic_runs.specs.Runs.{Run, moves, moves_of, serves, given as labels_given}
 use Rattle.symbolic_runs.specs.Places.{Stands}
@@ -66,6 +66,8 @@ gave_at c later past (Refused node answer) k t place is = absurd (cc)
 gave_at c later past (AsGot session b words) k t place is = absurd (cc)
 gave_at c later past (AsGave n session b) k t place is = absurd (served_none (session_number session past) k (deeds_for_deal (deeds_by (dealt c.l session past)) (dealt c.l session past) (replied b) (requests_in past) (c.l.label (length past))) t is)
 gave_at c later past (AsEnd session) k t place is = absurd (cc)
+gave_at c later past (Restart node) k t place is = absurd (cc)
+gave_at c later past Reload k t place is = absurd (cc)
 
 -- ---- a message of the run, in the history
 

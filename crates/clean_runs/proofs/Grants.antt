@@ -3,13 +3,13 @@ use Rattle.std.proofs.Common.{◌≡◌, ℕ, List, [], ◌∷◌, ◌++◌, app
 use Rattle.std.proofs.lemmas.Bool.{cases_Bool, eqb-true}
 use Rattle.sealing.specs.declared.request.TicketReq.{TicketReq}
 use Rattle.sealing.specs.Request.{request_of}
-use Rattle.auth_server.specs.Requests.{Asked, kind_of}
+use Rattle.auth_server.specs.Requests.{kind_of}
 use Rattle.auth_server.specs.Answers.{Knowledge}
 use Rattle.symbolic_runs.specs.declared.kind.MacKind.{MacKind}
 use Rattle.symbolic_runs.specs.declared.kind.MacKind.TheVariants.{Apop, Cram}
 use Rattle.symbolic_runs.specs.Trees.{Tree}
 use Rattle.wire_histories.specs.declared.step.Step.{Step}
-use Rattle.wire_histories.specs.declared.step.Step.TheVariants.{Start, Out, In, Ask, Heard, Unheard, Accept, Fail, Reply, Refused, AsGot, AsGave, AsEnd}
+use Rattle.wire_histories.specs.declared.step.Step.TheVariants.{Start, Out, In, Ask, Heard, Unheard, Accept, Fail, Reply, Refused, AsGot, AsGave, AsEnd, Restart, Reload}
 use Rattle.symbolic_runs.specs.Moves.{Move}
 use Rattle.symbolic_runs.specs.Runs.{Event, Run, moves, serves, talks}
 use Rattle.symbolic_runs.specs.Places.{Stands, answers_to}
@@ -17,10 +17,12 @@ use Rattle.symbolic_runs.proofs.OnceLaws.{one_event}
 use Rattle.symbolic_runs.proofs.SessionLaws.{one_answer}
 use Rattle.symbolic_runs.specs.Sessions.{Deed, got, gives_tickets, gives_challenge, gives_vouch, refuses, held, Grant, keys, key_and_password, ticket_for_server, vouched_ticket}
 use Rattle.symbolic_runs.specs.Agreement.{Grants, IsGranted, by_tickets, by_vouching, server_name}
-use Rattle.wire_histories.specs.Histories.{History, requested}
-use Rattle.wire_histories.specs.Legal.{Setting, known_to}
+use Rattle.wire_histories.specs.Histories.{History, reloads_in, requested}
+use Rattle.wire_histories.specs.Legal.{Setting, known_at}
+use Rattle.wire_histories.specs.Sessions.{Came}
+use Rattle.clean_runs.specs.KeyNames.{key_name, known_name, speakers}
 use Rattle.clean_runs.specs.Labels.{labelled, requests_in}
-use Rattle.clean_runs.specs.Runs.{deed_by, deeds_by, events_of, grant_at, grant_by, mail_kind, number_of, known_name, name_where, session_number, speakers, tickets_for, vouch_deed, vouch_for, is_choosing, acts_in}
+use Rattle.clean_runs.specs.Runs.{deed_by, deeds_by, events_of, grant_at, grant_by, mail_kind, number_of, name_where, session_number, tickets_for, vouch_deed, vouch_for, is_choosing, acts_in}
 use Rattle.clean_runs.proofs.Bridge.{Case, SessionsGo, run, runs_on, setting}
 use Rattle.clean_runs.proofs.Served.{grant_placed}
 use Rattle.clean_runs.proofs.SessionLaw.{Answering, answering}
@@ -140,6 +142,8 @@ gives_of c later past (AsGave message name b) session deed place answers is =
     let same : serves (session_number name past) (deed_by (got a.d.number a.d.label ∷ deeds_by a.older) a.d.number a.owed.asked.request b) ∷ [] ≡ serves session deed ∷ [] = sym a.events ∙ is in
     record { message = message; session = name; b = b; step_is = refl; answering = a; deed_is = (let one : deed_by (got a.d.number a.d.label ∷ deeds_by a.older) a.d.number a.owed.asked.request b ≡ deed = cc in one) }
 gives_of c later past (AsEnd name) session deed place answers is = absurd (cc)
+gives_of c later past (Restart node) session deed place answers is = absurd (cc)
+gives_of c later past Reload session deed place answers is = absurd (cc)
 
 -- ---- a grant of the run was made
 
@@ -149,9 +153,9 @@ grants_are c past later place number made =
     let got_step = AsGot made.session made.request made.words in
     let here = further_in later place made.came in
     ap (setting c).grants (sym made.numbered)
-    ∙ ap (λ h. grant_at c.z.server c.l h (requests_in made.asked)) here.place
-    ∙ grant_placed c.z.server c.l here.later made.session made.request made.words made.asked
-    ∙ ap (λ r. grant_by c.z.server r (c.l.label (length made.asked))) made.is_read
+    ∙ ap (λ h. grant_at c.z c.l h (requests_in made.asked)) here.place
+    ∙ grant_placed c.z c.l here.later made.session made.request made.words made.asked
+    ∙ ap (λ r. grant_by c.z (reloads_in made.asked) r (c.l.label (length made.asked))) made.is_read
 
 pub record Made (c : Case) (past : History) (number : ℕ) (deed : Deed) (r : TicketReq) : Type 0 where
   pub made : IsMade past c.z c.l number
@@ -167,10 +171,12 @@ made_at c past later earlier step number deed place happens g number_is ok r rea
     let request = a.owed.asked.request in
     let words = a.owed.asked.words in
     let label_is : a.d.label ≡ c.l.label (length a.at.earlier) = a.at.label in
-    let d_is : a.d ≡ record { deal = requested request words; number = number; label = c.l.label (length a.at.earlier) } =
-    ap (λ x. record { deal = x; number = a.d.number; label = a.d.label }) a.deal_is
-    ∙ ap (λ n. record { deal = requested request words; number = n; label = a.d.label }) number_is
-    ∙ ap (λ t. record { deal = requested request words; number = number; label = t }) label_is in
+    let tables = reloads_in a.at.earlier in
+    let deal_is : a.d.deal ≡ requested tables request words = a.deal_is ∙ ap (λ n. requested n request words) a.at.in_force in
+    let d_is : a.d ≡ record { deal = requested tables request words; number = number; label = c.l.label (length a.at.earlier) } =
+    ap (λ x. record { deal = x; number = a.d.number; label = a.d.label }) deal_is
+    ∙ ap (λ n. record { deal = requested tables request words; number = n; label = a.d.label }) number_is
+    ∙ ap (λ t. record { deal = requested tables request words; number = number; label = t }) label_is in
     let came : Happens past a.at.earlier (AsGot g.session request words) = record { later = happens.later ++ gave ∷ a.at.later; place = answered.place ∙ ap (λ xs. happens.later ++ gave ∷ xs) a.at.place ∙ sym (append_assoc happens.later (gave ∷ a.at.later) (AsGot g.session request words ∷ a.at.earlier)) } in
     record {
       made = record {
@@ -204,20 +210,20 @@ record IsRead (request : List ℕ) (P : TicketReq → Type 0) : Type 0 where
   pub is : request_of request ≡ Ok r
   pub so : P r
 
-read_of_tickets : (known : Knowledge) (before : List Asked) (asked : Asked) (deeds : List Deed) (number n : ℕ) (deed : Deed) → Answered known before asked deeds number deed → deed ≡ gives_tickets n → IsRead asked.request (λ r. r.kind ≡ 1)
+read_of_tickets : (known : ℕ → Knowledge) (before : List Came) (asked : Came) (deeds : List Deed) (number n : ℕ) (deed : Deed) → Answered known before asked deeds number deed → deed ≡ gives_tickets n → IsRead asked.request (λ r. r.kind ≡ 1)
 read_of_tickets known before asked deeds number n deed (answered_by_tickets r read kind text holds) is = record { r = r; is = read; so = kind }
 read_of_tickets known before asked deeds number n deed (by_challenge r kind read kind_is none text holds) is = absurd (cc)
-read_of_tickets known before asked deeds number n deed (by_vouch r kind first read kind_is for_it holds text after) is = absurd (cc)
+read_of_tickets known before asked deeds number n deed (by_vouch r kind first read kind_is for_it holds text after has) is = absurd (cc)
 read_of_tickets known before asked deeds number n deed (by_refusal holds) is = absurd (cc)
 
 other_kind : (kind : MacKind) (n : ℕ) → n ≡ kind_number kind → eqb n 1 ≡ false
 other_kind Apop n is = ap (λ m. eqb m 1) is
 other_kind Cram n is = ap (λ m. eqb m 1) is
 
-read_of_vouch : (known : Knowledge) (before : List Asked) (asked : Asked) (deeds : List Deed) (number n : ℕ) (kind : MacKind) (first : ℕ) (deed : Deed) → Answered known before asked deeds number deed → deed ≡ gives_vouch kind n first → IsRead asked.request (λ r. eqb r.kind 1 ≡ false)
+read_of_vouch : (known : ℕ → Knowledge) (before : List Came) (asked : Came) (deeds : List Deed) (number n : ℕ) (kind : MacKind) (first : ℕ) (deed : Deed) → Answered known before asked deeds number deed → deed ≡ gives_vouch kind n first → IsRead asked.request (λ r. eqb r.kind 1 ≡ false)
 read_of_vouch known before asked deeds number n kind first deed (answered_by_tickets r read one text holds) is = absurd (cc)
 read_of_vouch known before asked deeds number n kind first deed (by_challenge r other read kind_is none text holds) is = absurd (cc)
-read_of_vouch known before asked deeds number n kind first deed (by_vouch r other f read kind_is for_it holds text after) is = record { r = r; is = read; so = other_kind other r.kind kind_is }
+read_of_vouch known before asked deeds number n kind first deed (by_vouch r other f read kind_is for_it holds text after has) is = record { r = r; is = read; so = other_kind other r.kind kind_is }
 read_of_vouch known before asked deeds number n kind first deed (by_refusal holds) is = absurd (cc)
 
 -- ---- a grant with its ticket for the server
@@ -237,7 +243,7 @@ tickets_made c sessions past later place number session gave stands =
     let g = gives_of c (later ++ at.happens.later) at.earlier at.step session (gives_tickets number) here refl at.events in
     let a = g.answering in
     let by = tickets_by (got a.d.number a.d.label ∷ deeds_by a.older) a.d.number number a.owed.asked.request g.b _ (granted_as (got a.d.number a.d.label ∷ deeds_by a.older) a.d.number a.owed.asked.request g.b) g.deed_is in
-    let read = read_of_tickets (known_to c.z) a.owed.before a.owed.asked (deeds_by a.older) a.d.number number _ a.is_answered g.deed_is in
+    let read = read_of_tickets (known_at c.z) a.owed.before a.owed.asked (deeds_by a.older) a.d.number number _ a.is_answered g.deed_is in
     let m = made_at c past later at.earlier at.step number (gives_tickets number) place at.happens g by.same by.ok read.r read.is in
     record {
       made = m.made;
@@ -252,7 +258,7 @@ vouch_made c sessions past later place number session first kind gave stands =
     let g = gives_of c (later ++ at.happens.later) at.earlier at.step session (gives_vouch kind number first) here refl at.events in
     let a = g.answering in
     let by = vouch_by (got a.d.number a.d.label ∷ deeds_by a.older) a.d.number number a.owed.asked.request g.b kind first _ (granted_as (got a.d.number a.d.label ∷ deeds_by a.older) a.d.number a.owed.asked.request g.b) g.deed_is in
-    let read = read_of_vouch (known_to c.z) a.owed.before a.owed.asked (deeds_by a.older) a.d.number number kind first _ a.is_answered g.deed_is in
+    let read = read_of_vouch (known_at c.z) a.owed.before a.owed.asked (deeds_by a.older) a.d.number number kind first _ a.is_answered g.deed_is in
     let m = made_at c past later at.earlier at.step number (gives_vouch kind number first) place at.happens g by.same by.ok read.r read.is in
     record {
       made = m.made;
@@ -277,39 +283,41 @@ name_of_where : (may : Bool) (o : Option (List ℕ)) (name : List ℕ) → name_
 name_of_where true o name is = is
 name_of_where false o name is = absurd (cc)
 
-name_of_known : (k : Knowledge) (name wanted : List ℕ) → known_name k name ≡ Some wanted → name ≡ wanted
-name_of_known k name wanted is = elim (cases_Bool (is_some (k.key name))) [
-  | inl some ↦ (let one : Some name ≡ Some wanted = sym (ap (λ (b : Bool). if b then Some name else None) some) ∙ is in cc)
-  | inr none ↦ absurd (let one : None ≡ Some wanted = sym (ap (λ (b : Bool). if b then Some name else None) none) ∙ is in cc)
-]
+name_of_known : (z : Setting) (tables : ℕ) (name wanted : List ℕ) → known_name z tables name ≡ Some wanted → key_name z.tables tables name ≡ wanted
+name_of_known z tables name wanted is =
+    let named = key_name z.tables tables name in
+    elim (cases_Bool (is_some ((known_at z tables).key name))) [
+      | inl some ↦ (let one : Some named ≡ Some wanted = sym (ap (λ (b : Bool). if b then Some named else None) some) ∙ is in cc)
+      | inr none ↦ absurd (let one : None ≡ Some wanted = sym (ap (λ (b : Bool). if b then Some named else None) none) ∙ is in cc)
+    ]
 
 -- a read request is a ticket request, or for a mail server
-tickets_granted : (z : Setting) (r : TicketReq) (label : Tree) → eqb r.kind 1 ≡ true → grant_by z.server (Ok r) label ≡ tickets_for z.server r label
-tickets_granted z r label is = ap (λ (b : Bool). if b then tickets_for z.server r label else vouch_for z.server r label) is
+tickets_granted : (z : Setting) (tables : ℕ) (r : TicketReq) (label : Tree) → eqb r.kind 1 ≡ true → grant_by z tables (Ok r) label ≡ tickets_for z tables r label
+tickets_granted z tables r label is = ap (λ (b : Bool). if b then tickets_for z tables r label else vouch_for z tables r label) is
 
-vouch_granted : (z : Setting) (r : TicketReq) (label : Tree) → eqb r.kind 1 ≡ false → grant_by z.server (Ok r) label ≡ vouch_for z.server r label
-vouch_granted z r label is = ap (λ (b : Bool). if b then tickets_for z.server r label else vouch_for z.server r label) is
+vouch_granted : (z : Setting) (tables : ℕ) (r : TicketReq) (label : Tree) → eqb r.kind 1 ≡ false → grant_by z tables (Ok r) label ≡ vouch_for z tables r label
+vouch_granted z tables r label is = ap (λ (b : Bool). if b then tickets_for z tables r label else vouch_for z tables r label) is
 
 -- the name whose key sealed the ticket for the server is the one that the request named
-pub sealer_named : (z : Setting) (r : TicketReq) (label : Tree) (name : List ℕ) → server_name (grant_by z.server (Ok r) label).used ≡ Some name → r.authid ≡ name
-sealer_named z r label name is = elim (cases_Bool (eqb r.kind 1)) [
-  | inl one ↦ name_of_known (known_to z) r.authid name (name_of_where ((known_to z).speaks r.hostid r.uid) (known_name (known_to z) r.authid) name (sym (ap (λ g. server_name g.used) (tickets_granted z r label one)) ∙ is))
-  | inr other ↦ name_of_known (known_to z) r.authid name (sym (ap (λ g. server_name g.used) (vouch_granted z r label other)) ∙ is)
+pub sealer_named : (z : Setting) (tables : ℕ) (r : TicketReq) (label : Tree) (name : List ℕ) → server_name (grant_by z tables (Ok r) label).used ≡ Some name → key_name z.tables tables r.authid ≡ name
+sealer_named z tables r label name is = elim (cases_Bool (eqb r.kind 1)) [
+  | inl one ↦ name_of_known z tables r.authid name (name_of_where ((known_at z tables).speaks r.hostid r.uid) (known_name z tables r.authid) name (sym (ap (λ g. server_name g.used) (tickets_granted z tables r label one)) ∙ is))
+  | inr other ↦ name_of_known z tables r.authid name (sym (ap (λ g. server_name g.used) (vouch_granted z tables r label other)) ∙ is)
 ]
 
 -- and the host is the one that it named
-pub host_named : (z : Setting) (r : TicketReq) (label : Tree) (sealer : Option (List ℕ)) (name : List ℕ) → (grant_by z.server (Ok r) label).used ≡ keys sealer (Some name) → r.hostid ≡ name
-host_named z r label sealer name is = elim (cases_Bool (eqb r.kind 1)) [
-  | inl one ↦ (let used : keys (name_where ((known_to z).speaks r.hostid r.uid) (known_name (known_to z) r.authid)) (name_where ((known_to z).speaks r.hostid r.uid) (known_name (known_to z) r.hostid)) ≡ keys sealer (Some name) = sym (ap (λ g. g.used) (tickets_granted z r label one)) ∙ is in
-      name_of_known (known_to z) r.hostid name (name_of_where ((known_to z).speaks r.hostid r.uid) (known_name (known_to z) r.hostid) name cc))
-  | inr other ↦ absurd (let used : key_and_password (known_name (known_to z) r.authid) r.uid ≡ keys sealer (Some name) = sym (ap (λ g. g.used) (vouch_granted z r label other)) ∙ is in cc)
+pub host_named : (z : Setting) (tables : ℕ) (r : TicketReq) (label : Tree) (sealer : Option (List ℕ)) (name : List ℕ) → (grant_by z tables (Ok r) label).used ≡ keys sealer (Some name) → key_name z.tables tables r.hostid ≡ name
+host_named z tables r label sealer name is = elim (cases_Bool (eqb r.kind 1)) [
+  | inl one ↦ (let used : keys (name_where ((known_at z tables).speaks r.hostid r.uid) (known_name z tables r.authid)) (name_where ((known_at z tables).speaks r.hostid r.uid) (known_name z tables r.hostid)) ≡ keys sealer (Some name) = sym (ap (λ g. g.used) (tickets_granted z tables r label one)) ∙ is in
+      name_of_known z tables r.hostid name (name_of_where ((known_at z tables).speaks r.hostid r.uid) (known_name z tables r.hostid) name cc))
+  | inr other ↦ absurd (let used : key_and_password (known_name z tables r.authid) (key_name z.tables tables r.uid) ≡ keys sealer (Some name) = sym (ap (λ g. g.used) (vouch_granted z tables r label other)) ∙ is in cc)
 ]
 
 -- who may speak for its user
-pub speakers_are : (z : Setting) (r : TicketReq) (label : Tree) → (grant_by z.server (Ok r) label).speakers ≡ speakers z.server r.uid
-speakers_are z r label = elim (cases_Bool (eqb r.kind 1)) [
-  | inl one ↦ ap (λ g. g.speakers) (tickets_granted z r label one)
-  | inr other ↦ ap (λ g. g.speakers) (vouch_granted z r label other)
+pub speakers_are : (z : Setting) (tables : ℕ) (r : TicketReq) (label : Tree) → (grant_by z tables (Ok r) label).speakers ≡ speakers z tables r.uid
+speakers_are z tables r label = elim (cases_Bool (eqb r.kind 1)) [
+  | inl one ↦ ap (λ g. g.speakers) (tickets_granted z tables r label one)
+  | inr other ↦ ap (λ g. g.speakers) (vouch_granted z tables r label other)
 ]
 
 -- ---- for which challenge it vouches
@@ -319,10 +327,10 @@ answer_stands : (c : Case) (past later : History) → c.history ≡ later ++ pas
 answer_stands c past later place number made =
     let here = further_in later place made.answered in
     let a = answering c here.later made.past made.message made.session made.reply here.place in
-    let fronts : a.d ∷ a.older ≡ record { deal = requested made.request made.words; number = number; label = c.l.label (length made.asked) } ∷ made.older = sym a.front ∙ made.newest in
-    let d_is : a.d ≡ record { deal = requested made.request made.words; number = number; label = c.l.label (length made.asked) } = cc in
+    let fronts : a.d ∷ a.older ≡ record { deal = requested (reloads_in made.asked) made.request made.words; number = number; label = c.l.label (length made.asked) } ∷ made.older = sym a.front ∙ made.newest in
+    let d_is : a.d ≡ record { deal = requested (reloads_in made.asked) made.request made.words; number = number; label = c.l.label (length made.asked) } = cc in
     let older_is : a.older ≡ made.older = cc in
-    let deal_is : requested a.owed.asked.request a.owed.asked.words ≡ requested made.request made.words = sym a.deal_is ∙ ap (λ d. d.deal) d_is in
+    let deal_is : requested a.owed.asked.tables a.owed.asked.request a.owed.asked.words ≡ requested (reloads_in made.asked) made.request made.words = sym a.deal_is ∙ ap (λ d. d.deal) d_is in
     let request_is : a.owed.asked.request ≡ made.request = cc in
     let deed_is : deed_by (got a.d.number a.d.label ∷ deeds_by a.older) a.d.number a.owed.asked.request made.reply ≡ deed_by (got number (c.l.label (length made.asked)) ∷ deeds_by made.older) number made.request made.reply =
     ap (λ d. deed_by (got d.number d.label ∷ deeds_by a.older) d.number a.owed.asked.request made.reply) d_is
@@ -367,15 +375,15 @@ no_tickets : (c : Case) (past later : History) → c.history ≡ later ++ past �
 no_tickets c past later place number made sealer name used one =
     let here = further_in later place made.answered in
     let a = answering c here.later made.past made.message made.session made.reply here.place in
-    let fronts : a.d ∷ a.older ≡ record { deal = requested made.request made.words; number = number; label = c.l.label (length made.asked) } ∷ made.older = sym a.front ∙ made.newest in
-    let d_is : a.d ≡ record { deal = requested made.request made.words; number = number; label = c.l.label (length made.asked) } = cc in
-    let deal_is : requested a.owed.asked.request a.owed.asked.words ≡ requested made.request made.words = sym a.deal_is ∙ ap (λ d. d.deal) d_is in
+    let fronts : a.d ∷ a.older ≡ record { deal = requested (reloads_in made.asked) made.request made.words; number = number; label = c.l.label (length made.asked) } ∷ made.older = sym a.front ∙ made.newest in
+    let d_is : a.d ≡ record { deal = requested (reloads_in made.asked) made.request made.words; number = number; label = c.l.label (length made.asked) } = cc in
+    let deal_is : requested a.owed.asked.tables a.owed.asked.request a.owed.asked.words ≡ requested (reloads_in made.asked) made.request made.words = sym a.deal_is ∙ ap (λ d. d.deal) d_is in
     let request_is : a.owed.asked.request ≡ made.request = cc in
     let tickets_given = deed_tickets (got a.d.number a.d.label ∷ deeds_by a.older) a.d.number a.owed.asked.request made.reply made.ok (ap (λ r. eqb (kind_of r) 1) request_is ∙ one) in
-    let read = read_of_tickets (known_to c.z) a.owed.before a.owed.asked (deeds_by a.older) a.d.number a.d.number _ a.is_answered tickets_given in
+    let read = read_of_tickets (known_at c.z) a.owed.before a.owed.asked (deeds_by a.older) a.d.number a.d.number _ a.is_answered tickets_given in
     let same : Ok made.read ≡ Ok read.r = sym made.is_read ∙ ap request_of (sym request_is) ∙ read.is in
     let r_is : made.read ≡ read.r = cc in
-    let used_is : (tickets_for c.z.server made.read (c.l.label (length made.asked))).used ≡ key_and_password sealer name = sym (ap (λ g. g.used) (tickets_granted c.z made.read (c.l.label (length made.asked)) (ap (λ r. eqb r.kind 1) r_is ∙ ap (λ n. eqb n 1) read.so))) ∙ used in
+    let used_is : (tickets_for c.z (reloads_in made.asked) made.read (c.l.label (length made.asked))).used ≡ key_and_password sealer name = sym (ap (λ g. g.used) (tickets_granted c.z (reloads_in made.asked) made.read (c.l.label (length made.asked)) (ap (λ r. eqb r.kind 1) r_is ∙ ap (λ n. eqb n 1) read.so))) ∙ used in
     absurd (cc)
   where
     deed_tickets : (before : List Deed) (number : ℕ) (request b : List ℕ) → kind_of b ≡ 4 → eqb (kind_of request) 1 ≡ true → deed_by before number request b ≡ gives_tickets number

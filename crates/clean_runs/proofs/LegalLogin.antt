@@ -13,9 +13,8 @@ use Rattle.sealing.specs.Fitting.{FitsName, IsBlock}
 use Rattle.sealing.specs.Request.{request_of, request_text}
 use Rattle.sealing.specs.Ticket.{ticket_text}
 use Rattle.auth_tables.specs.Speaks.{may_speak}
-use Rattle.auth_server.specs.Requests.{Asked, asked_so}
-use Rattle.auth_server.specs.Standing.{knowledge}
-use Rattle.auth_server.specs.Answers.{Knowledge, answer, is_over, wrong_by}
+use Rattle.auth_server.specs.Requests.{asked_so}
+use Rattle.auth_server.specs.Answers.{Knowledge, wrong_by}
 use Rattle.roles.specs.declared.answer.Gave.TheVariants as g
 use Rattle.roles.specs.declared.answer.Cause.TheVariants.{BadKey, WrongKind}
 use Rattle.roles.specs.declared.need.Need.{Need}
@@ -45,10 +44,11 @@ use Rattle.wire_histories.specs.Histories.{Act, started, gave, took, asked, answ
 use Rattle.wire_histories.specs.declared.step.Protocol.TheVariants.{P9any}
 use Rattle.wire_histories.specs.declared.step.Role.TheVariants.{Client as Clients, Server as Serves}
 use Rattle.wire_histories.specs.Conversations.{Speaker, speaks, talk_acts, met_in}
-use Rattle.wire_histories.specs.Sessions.{MayCome, ends_by, session_deals}
-use Rattle.wire_histories.specs.Legal.{IsConversation, IsLegal, IsMet, IsRingKey, IsServed, MayBe}
+use Rattle.wire_histories.specs.Sessions.{Came, MayCome, answer, ends_by, is_over, session_deals}
+use Rattle.wire_histories.specs.Legal.{IsConversation, IsLegal, IsMet, IsRingKey, IsServed, MayBe, Setting, Tables, known_at}
 use Rattle.clean_runs.specs.Login.{Secrets, Word, ann, answer_bytes, choice_bytes, conv_c, conv_s, key_bytes, key_of, login, login_setting, offer_bytes, proof_bytes, request_bytes, session_r, shown_bytes, spoken, spoken_c, spoken_s, srv, start_as, tables, word_bytes}
 use Rattle.clean_runs.specs.ExampleStatements.{AreBytes, AreFresh, LoginIsLegal}
+use Rattle.wire_histories.proofs.RestartLemmas.{unrestarted}
 use Rattle.clean_runs.proofs.ActLemmas as talk
 use Rattle.clean_runs.proofs.LoginLaw.{login_is_clean}
 use Rattle.clean_runs.proofs.MailOf.{block_7, block_8, fits_ann, fits_srv, fits_x}
@@ -73,7 +73,7 @@ of k = record {
   server = inner_start (codes "p9sk1") (ss k) (codes "x");
   server_key = key_of srv k.srv_key;
   server_password = Some k.srv_password;
-  known = knowledge (tables k);
+  known = known_at (login_setting k (spoken k)) 0;
   before = [];
   words = words k;
 }
@@ -481,7 +481,7 @@ c_is k f = record { may = c_may k f; talk = c_talk k; met = c_met k f; later = [
 s_is : (k : Secrets) → AreFresh k → IsConversation (spoken k conv_s) (acts_of conv_s (login k))
 s_is k f = record { may = s_may k f; talk = s_talk k; met = s_met k f; later = []; left = s_left k f }
 
-conversations : (k : Secrets) → AreFresh k → (name : List ℕ) → IsConversation (spoken k name) (acts_of name (login k))
+pub conversations : (k : Secrets) → AreFresh k → (name : List ℕ) → IsConversation (spoken k name) (acts_of name (login k))
 conversations k f name = elim (cases_Bool (bytes_eq conv_c name)) [
   | inl is ↦ subst (λ (n : List ℕ). IsConversation (spoken k n) (acts_of n (login k))) ((bytes_eq-Decides conv_c name).0 is) (c_is k f)
   | inr isnt ↦ elim (cases_Bool (bytes_eq conv_s name)) [
@@ -492,57 +492,63 @@ conversations k f name = elim (cases_Bool (bytes_eq conv_c name)) [
 
 -- ---- the session
 
-abbrev known : Secrets → Knowledge
-known k = knowledge (tables k)
+-- whatever tables may come later
+abbrev with_tables : Secrets → List Tables → Setting
+with_tables k more = record { spoken = spoken k; dom = codes "x"; tables = tables k ∷ more }
+
+abbrev known : Secrets → List Tables → ℕ → Knowledge
+known k more = known_at (with_tables k more)
 
 abbrev question : Secrets → List ℕ
 question k = request_text (alone.question (of k))
 
-abbrev asks_once : Secrets → Asked
-asks_once k = asked_so (question k) (words k)
+abbrev asks_once : Secrets → Came
+asks_once k = record { tables = 0; request = question k; words = words k }
 
 question_read : (k : Secrets) → AreFresh k → request_of (question k) ≡ Ok (alone.question (of k))
 question_read k f = request_read (alone.question (of k)) (alone.fits_question (of k) (may k f))
 
-never_wrong : (k : Secrets) → AreFresh k → is_over (known k) (asks_once k ∷ []) ≡ false
-never_wrong k f = ap (λ r. nat_le 5 (0 + wrong_by (known k) (asks_once k) None r)) (question_read k f)
+never_wrong : (k : Secrets) → AreFresh k → (more : List Tables) → is_over (known k more) (asks_once k ∷ []) ≡ false
+never_wrong k f more = ap (λ r. nat_le 5 (0 + wrong_by (known k more 0) (asked_so (question k) (words k)) None r)) (question_read k f)
 
-answer_comes : (k : Secrets) → AreFresh k → answer (known k) [] (asks_once k) ≡ 4 ∷ alone.both (of k)
-answer_comes k f = alone.grant_is (of k) (may k f) ∙ alone.tickets_are (of k)
+answer_comes : (k : Secrets) → AreFresh k → (more : List Tables) → answer (known k more) [] (asks_once k) ≡ 4 ∷ alone.both (of k)
+answer_comes k f more = alone.grant_is (of k) (may k f) ∙ alone.tickets_are (of k)
 
 three : (k : Secrets) → AreFresh k → All (IsBlock 8) (words k)
 three k f = All-cons (IsBlock 8) (word_bytes k.first) (word_bytes k.second ∷ word_bytes k.third ∷ []) (block_8 k.first f.first) (All-cons (IsBlock 8) (word_bytes k.second) (word_bytes k.third ∷ []) (block_8 k.second f.second) (All-cons (IsBlock 8) (word_bytes k.third) [] (block_8 k.third f.third) (All-nil (IsBlock 8))))
 
-comes_once : (k : Secrets) → AreFresh k → MayCome (known k) [] (asks_once k)
+comes_once : (k : Secrets) → AreFresh k → (more : List Tables) → MayCome (known k more) [] (asks_once k)
 unfolding request_text
-comes_once k f = let long = length_request (alone.question (of k)) (alone.fits_question (of k) (may k f)) in
+comes_once k f more = let long = length_request (alone.question (of k)) (alone.fits_question (of k) (may k f)) in
     record { goes_on = refl; some = omega (arith, long); long = long; three = refl; words = three k f }
 
-r_left : (k : Secrets) → AreFresh k → session_deals (known k) (asks_once k ∷ []) ≡ deals_of session_r (login k)
+r_left : (k : Secrets) → AreFresh k → (more : List Tables) → session_deals (known k more) (asks_once k ∷ []) ≡ deals_of session_r (login k)
 unfolding request_text ticket_text role_of value_of
-r_left k f =
-    ap (λ (over : Bool). ends_by over ++ (replied (answer (known k) [] (asks_once k)) ∷ requested (question k) (words k) ∷ [])) (never_wrong k f)
-    ∙ ap (λ (a : List ℕ). replied a ∷ requested (question k) (words k) ∷ []) (answer_comes k f)
+r_left k f more =
+    ap (λ (over : Bool). ends_by over ++ (replied (answer (known k more) [] (asks_once k)) ∷ requested 0 (question k) (words k) ∷ [])) (never_wrong k f more)
+    ∙ ap (λ (a : List ℕ). replied a ∷ requested 0 (question k) (words k) ∷ []) (answer_comes k f more)
 
-r_is : (k : Secrets) → AreFresh k → IsServed (known k) (deals_of session_r (login k))
-r_is k f = record { requests = asks_once k ∷ []; session = (comes_once k f, tt); later = []; left = r_left k f }
+r_is : (k : Secrets) → AreFresh k → (more : List Tables) → IsServed (known k more) (deals_of session_r (login k))
+r_is k f more = record { requests = asks_once k ∷ []; session = (comes_once k f more, tt); later = []; left = r_left k f more }
 
-nobody_asks : (k : Secrets) → IsServed (known k) []
-nobody_asks k = record { requests = []; session = tt; later = []; left = refl }
+nobody_asks : (k : Secrets) (more : List Tables) → IsServed (known k more) []
+nobody_asks k more = record { requests = []; session = tt; later = []; left = refl }
 
-sessions : (k : Secrets) → AreFresh k → (name : List ℕ) → IsServed (known k) (deals_of name (login k))
-sessions k f name = elim (cases_Bool (bytes_eq session_r name)) [
-  | inl is ↦ subst (λ (n : List ℕ). IsServed (known k) (deals_of n (login k))) ((bytes_eq-Decides session_r name).0 is) (r_is k f)
-  | inr isnt ↦ rw isnt (nobody_asks k)
+pub sessions : (k : Secrets) → AreFresh k → (more : List Tables) → (name : List ℕ) → IsServed (known k more) (deals_of name (login k))
+sessions k f more name = elim (cases_Bool (bytes_eq session_r name)) [
+  | inl is ↦ subst (λ (n : List ℕ). IsServed (known k more) (deals_of n (login k))) ((bytes_eq-Decides session_r name).0 is) (r_is k f more)
+  | inr isnt ↦ rw isnt (nobody_asks k more)
 ]
 
 -- ---- all of it
 
-legal : (k : Secrets) → AreFresh k → IsLegal (login k) (login_setting k (spoken k))
+pub legal : (k : Secrets) → AreFresh k → IsLegal (login k) (login_setting k (spoken k))
 legal k f = record {
   domain = fits_x.short;
+  tables = refl;
   conversations = conversations k f;
-  sessions = sessions k f;
+  restarts = λ name. unrestarted (spoken k name) name (login k) refl;
+  sessions = sessions k f [];
   numbered = (tt, (tt, (refl, (tt, (tt, (refl, (tt, (refl, (tt, (refl, (tt, (refl, (tt, (refl, (tt, (refl, (tt, (refl, (tt, (tt, tt))))))))))))))))))));
 }
 

@@ -15,8 +15,7 @@ use Rattle.sealing.specs.Authenticator.{authenticator_text}
 use Rattle.sealing.specs.Request.{request_of, request_text}
 use Rattle.sealing.specs.Ticket.{ticket_text}
 use Rattle.auth_server.specs.Requests.{Asked, asked_so, kind_of, needed}
-use Rattle.auth_server.specs.Standing.{knowledge}
-use Rattle.auth_server.specs.Answers.{Knowledge, answer, challenge_answer, challenge_at, held, is_over, wrong_by}
+use Rattle.auth_server.specs.Answers.{Knowledge, challenge_answer, challenge_at, wrong_by}
 use Rattle.roles.specs.declared.answer.Cause.TheVariants.{BadKey}
 use Rattle.roles.specs.declared.answer.Gave.{Gave}
 use Rattle.roles.specs.declared.answer.Gave.TheVariants as g
@@ -41,11 +40,12 @@ use Rattle.wire_histories.specs.Histories.{Act, Deal, started, gave, took, asked
 use Rattle.wire_histories.specs.declared.step.Protocol.TheVariants.{Apop}
 use Rattle.wire_histories.specs.declared.step.Role.TheVariants.{Client as Clients, Server as Serves}
 use Rattle.wire_histories.specs.Conversations.{Speaker, speaks, talk_acts, met_in}
-use Rattle.wire_histories.specs.Sessions.{IsLong, MayCome, ends_by, session_deals}
-use Rattle.wire_histories.specs.Legal.{IsConversation, IsLegal, IsMet, IsServed, MayBe}
+use Rattle.wire_histories.specs.Sessions.{Came, IsLong, MayCome, answer, ends_by, held, is_over, session_deals}
+use Rattle.wire_histories.specs.Legal.{IsConversation, IsLegal, IsMet, IsServed, MayBe, known_at}
 use Rattle.clean_runs.specs.Login.{ann, conv_c, conv_s, key_of, session_r, srv, word_bytes}
-use Rattle.clean_runs.specs.MailLogin.{Secrets, challenge_bytes, checked_bytes, digits as login_digits, first_words, given_bytes, login, mail_key, request_bytes, setting, spoken, spoken_c, spoken_s, tables, then_words, vouch_bytes}
+use Rattle.clean_runs.specs.MailLogin.{Secrets, challenge_bytes, checked_bytes, digits as login_digits, first_words, given_bytes, login, mail_key, request_bytes, setting, spoken, spoken_c, spoken_s, then_words, vouch_bytes}
 use Rattle.clean_runs.specs.ExampleStatements.{AreFreshInMail, MailLoginIsLegal}
+use Rattle.wire_histories.proofs.RestartLemmas.{unrestarted}
 use Rattle.clean_runs.proofs.ActLemmas as talk
 use Rattle.clean_runs.proofs.MailClean.{mail_login_is_clean}
 use Rattle.clean_runs.proofs.MailOf.{block_7, block_8, fits_ann, fits_none, fits_srv, fits_x, may, of}
@@ -320,28 +320,35 @@ conversations k f name = elim (cases_Bool (bytes_eq conv_c name)) [
 
 -- ---- the session
 
-abbrev known : Secrets → Knowledge
-known k = knowledge (tables k)
+abbrev known : Secrets → ℕ → Knowledge
+known k = known_at (setting k)
 
-abbrev asks_challenge : Secrets → Asked
-asks_challenge k = asked_so (alone.first_request (of k)) (first_words k)
+abbrev asks_challenge : Secrets → Came
+asks_challenge k = record { tables = 0; request = alone.first_request (of k); words = first_words k }
 
-abbrev asks_vouch : Secrets → Asked
-asks_vouch k = asked_so (alone.then_request (of k)) (then_words k)
+abbrev asks_vouch : Secrets → Came
+asks_vouch k = record { tables = 0; request = alone.then_request (of k); words = then_words k }
+
+-- as they are put to the authentication server
+abbrev puts_first : Secrets → Asked
+puts_first k = asked_so (alone.first_request (of k)) (first_words k)
+
+abbrev puts_then : Secrets → Asked
+puts_then k = asked_so (alone.then_request (of k)) (then_words k)
 
 first_read : (k : Secrets) → AreFreshInMail k → request_of (alone.first_request (of k)) ≡ Ok (alone.request_about [] (of k))
 first_read k f = request_read (alone.request_about [] (of k)) (alone.fits_first (of k) (may k f))
 
 -- neither is a wrong answer
-first_counts : (k : Secrets) → AreFreshInMail k → wrong_by (known k) (asks_challenge k) None (request_of (alone.first_request (of k))) ≡ 0
+first_counts : (k : Secrets) → AreFreshInMail k → wrong_by (known k 0) (puts_first k) None (request_of (alone.first_request (of k))) ≡ 0
 unfolding proto_of value_of
-first_counts k f = ap (wrong_by (known k) (asks_challenge k) None) (first_read k f)
+first_counts k f = ap (wrong_by (known k 0) (puts_first k) None) (first_read k f)
 
-then_counts : (k : Secrets) → AreFreshInMail k → wrong_by (known k) (asks_vouch k) (held (known k) (asks_challenge k ∷ [])) (request_of (alone.then_request (of k))) ≡ 0
+then_counts : (k : Secrets) → AreFreshInMail k → wrong_by (known k 0) (puts_then k) (held (known k) (asks_challenge k ∷ [])) (request_of (alone.then_request (of k))) ≡ 0
 unfolding proto_of value_of
 then_counts k f =
-    ap (wrong_by (known k) (asks_vouch k) (held (known k) (asks_challenge k ∷ []))) (alone.then_read (of k) (may k f))
-    ∙ ap (λ h. wrong_by (known k) (asks_vouch k) h (Ok (alone.request_about ann (of k)))) (alone.held_is (of k) (may k f))
+    ap (wrong_by (known k 0) (puts_then k) (held (known k) (asks_challenge k ∷ []))) (alone.then_read (of k) (may k f))
+    ∙ ap (λ h. wrong_by (known k 0) (puts_then k) h (Ok (alone.request_about ann (of k)))) (alone.held_is (of k) (may k f))
     ∙ rw (alone.right (of k) (may k f)) refl
 
 goes_on : (k : Secrets) → AreFreshInMail k → is_over (known k) (asks_challenge k ∷ []) ≡ false
@@ -349,7 +356,7 @@ goes_on k f = ap (λ n. nat_le 5 (0 + n)) (first_counts k f)
 
 never_over : (k : Secrets) → AreFreshInMail k → is_over (known k) (asks_vouch k ∷ asks_challenge k ∷ []) ≡ false
 never_over k f =
-    ap (λ n. nat_le 5 (0 + n + wrong_by (known k) (asks_vouch k) (held (known k) (asks_challenge k ∷ [])) (request_of (alone.then_request (of k))))) (first_counts k f)
+    ap (λ n. nat_le 5 (0 + n + wrong_by (known k 0) (puts_then k) (held (known k) (asks_challenge k ∷ [])) (request_of (alone.then_request (of k))))) (first_counts k f)
     ∙ ap (λ n. nat_le 5 (0 + 0 + n)) (then_counts k f)
 
 challenge_comes : (k : Secrets) → AreFreshInMail k → answer (known k) [] (asks_challenge k) ≡ given (of k)
@@ -391,12 +398,12 @@ comes_then k f =
 -- what each request leaves, by what is known of its answer and of the end
 abbrev then_left : Secrets → Bool → Bool → List ℕ → List ℕ → List Deal
 then_left k over once vouched challenged =
-    ends_by over ++ (replied vouched ∷ requested (alone.then_request (of k)) (then_words k)
-    ∷ (ends_by once ++ (replied challenged ∷ requested (alone.first_request (of k)) (first_words k) ∷ [])))
+    ends_by over ++ (replied vouched ∷ requested 0 (alone.then_request (of k)) (then_words k)
+    ∷ (ends_by once ++ (replied challenged ∷ requested 0 (alone.first_request (of k)) (first_words k) ∷ [])))
 
 abbrev deals_with : Secrets → List ℕ → List ℕ → List ℕ → List ℕ → List Deal
 deals_with k vouched checked challenged asking =
-    replied vouched ∷ requested checked (then_words k) ∷ replied challenged ∷ requested asking (first_words k) ∷ []
+    replied vouched ∷ requested 0 checked (then_words k) ∷ replied challenged ∷ requested 0 asking (first_words k) ∷ []
 
 deals_are : (k : Secrets) → deals_with k (4 ∷ alone.both (of k)) (alone.then_request (of k)) (given (of k)) (alone.first_request (of k)) ≡ deals_of session_r (login k)
 deals_are k =
@@ -431,7 +438,9 @@ sessions k f name = elim (cases_Bool (bytes_eq session_r name)) [
 legal : (k : Secrets) → AreFreshInMail k → IsLegal (login k) (setting k)
 legal k f = record {
   domain = fits_x.short;
+  tables = refl;
   conversations = conversations k f;
+  restarts = λ name. unrestarted (spoken k name) name (login k) refl;
   sessions = sessions k f;
   numbered = (tt, (tt, (refl, (tt, (refl, (tt, (tt, (refl, (tt, (tt, (refl, (tt, (refl, (tt, (refl, (tt, tt))))))))))))))));
 }

@@ -51,3 +51,5 @@ mod LegalLogin
 mod MailOf
 mod MailClean
 mod LegalMail
+pub mod KeyNameLaws
+mod RemovalLaw

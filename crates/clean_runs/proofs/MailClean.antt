@@ -27,12 +27,14 @@ use Rattle.symbolic_runs.specs.Derivations.{by_knowing, in_public}
 use Rattle.symbolic_runs.specs.declared.kind.MacKind.TheVariants as mac
 use Rattle.symbolic_runs.specs.Forms.{AreFields, mail_request, pair, request}
 use Rattle.symbolic_runs.specs.Moves.{AreNames}
-use Rattle.clean_runs.specs.Clean.{FormsStep, GivesBytes, GivesSevens, IsClean, LabelsStep, Reads, ReadsHolder, ReadsPassword, ReadsStep, ReadsTable, is_challenge, is_key, is_nonce, is_password}
+use Rattle.clean_runs.specs.Clean.{FormsStep, GivesBytes, GivesSevens, IsClean, LabelsStep, Reads, ReadsHolder, ReadsPassword, ReadsStep, ReadsTables, is_challenge, is_key, is_nonce, is_password}
 use Rattle.symbolic_runs.specs.Sessions.{Grant, vouch_given}
 use Rattle.clean_runs.specs.Runs.{grant_by, setting_of}
 use Rattle.clean_runs.specs.Login.{Word, ann, key_bytes, name_28, srv, user_key, word_bytes}
 use Rattle.clean_runs.specs.MailLogin.{Secrets, answering, challenged, fields, head, labelling, login, reading, request_about as request_tree, request_bytes, checked_bytes, digits, proof_bytes, setting, tables, ticket_bytes}
 use Rattle.clean_runs.specs.ExampleStatements.{AreBytes, AreDifferent, AreFreshInMail}
+use Rattle.clean_runs.specs.KeyNames.{key_in}
+use Rattle.clean_runs.proofs.KeyNameLaws.{first_name, none_in}
 use Rattle.clean_runs.proofs.Bytes.{digits_small}
 use Rattle.clean_runs.proofs.MailOf.{may, of}
 use Rattle.clean_runs.proofs.LoginPlaces.{Everywhere, everywhere}
@@ -77,8 +79,8 @@ entry : (k : Secrets) (name user : List ℕ) (at : Word) (secret : List ℕ) (ke
     → Reads (reading k) (long_key user) (key_bytes at) × ReadsPassword (reading k) user (Some secret) → Reads (reading k) (long_key name) key.des × ReadsPassword (reading k) name key.password
 entry k name user at secret key named is h = subst (λ (n : List ℕ). Reads (reading k) (long_key n) key.des × ReadsPassword (reading k) n key.password) (sym named) (subst (λ (u : UserKey). Reads (reading k) (long_key user) u.des × ReadsPassword (reading k) user u.password) is h)
 
-table : (k : Secrets) → ReadsTable (reading k) (setting k)
-table k name key is = elim (cases_Bool (bytes_eq name ann)) [
+read_first : (k : Secrets) (name : List ℕ) (key : UserKey) → key_in (tables k ∷ []) 0 name ≡ Some key → Reads (reading k) (long_key name) key.des × ReadsPassword (reading k) name key.password
+read_first k name key is = elim (cases_Bool (bytes_eq name ann)) [
   | inl first ↦ (
       let here : Some (user_key k.ann_key k.ann_password) ≡ Some key = rw first at is in
       entry k name ann k.ann_key k.ann_password key ((bytes_eq-Decides name ann).0 first) (let same : user_key k.ann_key k.ann_password ≡ key = cc in same) (refl, refl))
@@ -90,6 +92,10 @@ table k name key is = elim (cases_Bool (bytes_eq name ann)) [
   ]
 ]
 
+tables_read : (k : Secrets) → ReadsTables (reading k) (setting k)
+tables_read k zero name key is = subst (λ (n : List ℕ). Reads (reading k) (long_key n) key.des × ReadsPassword (reading k) n key.password) (sym (first_name (tables k ∷ []) name (key_in (tables k ∷ []) 0 name))) (read_first k name key is)
+tables_read k (suc number) name key is = absurd (none_in number name key is)
+
 -- ---- what is taken
 
 -- the request that has the digits behind it is read as one about ann
@@ -99,7 +105,7 @@ checked_read k f = then_read (of k) (may k f)
 
 -- what it grants, by what it is read as
 abbrev granted : Secrets → Result TicketReq FieldFault → Grant
-granted k r = grant_by (tables k) r (pair (request_tree ann) answering)
+granted k r = grant_by (setting k) 0 r (pair (request_tree ann) answering)
 
 labels : (k : Secrets) → AreFreshInMail k → Everywhere (LabelsStep (reading k) (setting_of (setting k) labelling (login k)) labelling) (login k)
 unfolding request_of request_fields name_in before_nul is_text is_utf8 chars encode may_speak encode_with proto_of value_of
@@ -193,7 +199,7 @@ mail_login_is_clean k f = record {
   bytes = gives k f;
   sevens = sevens k;
   words = everywhere (ReadsStep (reading k)) (login k) (words k);
-  table = table k;
+  tables = tables_read k;
   holders = everywhere (ReadsHolder (reading k) (setting k) labelling) (login k) (holders k);
   nonces_apart = apart is_nonce (reading k) (any_two is_nonce (reading k) (tt, tt));
   challenges_apart = apart is_challenge (reading k) (any_two is_challenge (reading k) (challenges k f));

@@ -6,11 +6,11 @@ use Rattle.std.proofs.lemmas.List.Elements.{All-nil, All-take}
 use Rattle.wire_base.specs.Texts.{is_text}
 use Rattle.attr_tuples.specs.Matching.{value_of}
 use Rattle.sealing.specs.Fitting.{FitsName, IsBlock}
-use Rattle.auth_server.specs.Standing.{knowledge}
 use Rattle.conv_challenge.specs.Starts.{proto_of, side_of}
 use Rattle.complete_logins.specs.MailLogins.{MailLogin, MayMail}
+use Rattle.wire_histories.specs.Legal.{known_at}
 use Rattle.clean_runs.specs.Login.{Word, ann, key_bytes, key_of, srv, start_as, word_bytes}
-use Rattle.clean_runs.specs.MailLogin.{Secrets, first_words, mail_key, tables, then_words}
+use Rattle.clean_runs.specs.MailLogin.{Secrets, first_words, mail_key, setting, then_words}
 use Rattle.clean_runs.specs.ExampleStatements.{AreBytes, AreFreshInMail}
 use Rattle.clean_runs.proofs.Readings.{small}
 
@@ -23,7 +23,7 @@ of k = record {
   server_key = key_of srv k.srv_key;
   server_password = Some k.srv_password;
   user = ann;
-  known = knowledge (tables k);
+  known = known_at (setting k) 0;
   before = [];
   words = first_words k;
   later_words = then_words k;

@@ -9,7 +9,7 @@ use Rattle.wire_histories.specs.declared.step.Step.TheVariants.{Start}
 use Rattle.symbolic_runs.specs.Moves.{Move}
 use Rattle.symbolic_runs.specs.Sessions.{Deed}
 use Rattle.symbolic_runs.specs.Runs.{Setting as Symbolic, Event, Run, starts, talks, moves, serves, moves_of, own_of, started as started_run}
-use Rattle.wire_histories.specs.Histories.{History, Act, started, gave, took, asked, answered, unanswered, accepted, failed, Deal, act_in, if_named}
+use Rattle.wire_histories.specs.Histories.{History, Act, started, gave, took, asked, answered, unanswered, accepted, failed, Deal, act_in, if_named, reloads_in}
 use Rattle.clean_runs.specs.Labels.{Labelled, Labelling, dealt, labelled, or_zero, requests_in, started_as, starts_in}
 use Rattle.clean_runs.specs.Runs.{acts_in, deeds_by, deeds_for_deal, events_of, is_choosing, moves_by, moves_for, number_of, run_from, session_number, talk_events}
 use Rattle.clean_runs.proofs.Steps.{begins, deals, does, nothing, HasStarted, InOrder, Kind, kind}
@@ -149,7 +149,7 @@ fresh_in s l step past number (deals session deal d) order most so =
     let bound : starts_in past ≤ number = subst (λ n. n ≤ number) (d.none.starts past) most in
     moves_append number (events_of s l past step) (run_from s l past)
     ∙ ap (λ es. moves_of number es ++ moves_of number (run_from s l past)) (d.events s l past)
-    ∙ ap (λ xs. xs ++ moves_of number (run_from s l past)) (moves_served (session_number session past) number (deeds_at l past session deal))
+    ∙ ap (λ xs. xs ++ moves_of number (run_from s l past)) (moves_served (session_number session past) number (deeds_at l past session (deal (reloads_in past))))
     ∙ so bound
 fresh_in s l step past number (nothing d) order most so =
     let bound : starts_in past ≤ number = subst (λ n. n ≤ number) (d.none.starts past) most in
@@ -242,7 +242,7 @@ own_in s l step past name number (does conv act d) order orderly is so =
 own_in s l step past name number (deals session deal d) order orderly is so =
     moves_append number (events_of s l past step) (run_from s l past)
     ∙ ap (λ es. moves_of number es ++ moves_of number (run_from s l past)) (d.events s l past)
-    ∙ ap (λ xs. xs ++ moves_of number (run_from s l past)) (moves_served (session_number session past) number (deeds_at l past session deal))
+    ∙ ap (λ xs. xs ++ moves_of number (run_from s l past)) (moves_served (session_number session past) number (deeds_at l past session (deal (reloads_in past))))
     ∙ so (sym (d.none.started name past) ∙ is)
     ∙ sym (ap (moves_by (own_of s number) (s.role number)) (labelled_by l name step past [] (d.acts name)))
 own_in s l step past name number (nothing d) order orderly is so =
@@ -297,7 +297,7 @@ started_in s l step past (does conv act d) so =
     omega (arith, a, b, c, t, m, so, kept)
 started_in s l step past (deals session deal d) so =
     let a = started_append (events_of s l past step) (run_from s l past) in
-    let b = ap started_run (d.events s l past) ∙ none_served (session_number session past) (deeds_at l past session deal) in
+    let b = ap started_run (d.events s l past) ∙ none_served (session_number session past) (deeds_at l past session (deal (reloads_in past))) in
     let kept = d.none.starts past in
     omega (arith, a, b, so, kept)
 started_in s l step past (nothing d) so = ap (λ es. started_run (es ++ run_from s l past)) (d.events s l past) ∙ so ∙ sym (d.none.starts past)

@@ -7,7 +7,7 @@ use Rattle.symbolic_runs.specs.Trees.{nonce, long_key, password}
 use Rattle.wire_histories.specs.declared.step.Protocol.{Protocol}
 use Rattle.wire_histories.specs.declared.step.Role.{Role as Part}
 use Rattle.wire_histories.specs.declared.step.Step.{Step}
-use Rattle.wire_histories.specs.declared.step.Step.TheVariants.{Start, Out, In, Ask, Heard, Unheard, Accept, Fail, Reply, Refused, AsGot, AsGave, AsEnd}
+use Rattle.wire_histories.specs.declared.step.Step.TheVariants.{Start, Out, In, Ask, Heard, Unheard, Accept, Fail, Reply, Refused, AsGot, AsGave, AsEnd, Restart, Reload}
 use Rattle.symbolic_runs.specs.Moves.{Role}
 use Rattle.symbolic_runs.specs.Places.{Stands}
 use Rattle.symbolic_runs.specs.Runs.{Event, Run, moves_of, own_of}
@@ -110,6 +110,8 @@ placed c conv role (Refused node answer ∷ past) later place is = placed_before
 placed c conv role (AsGot session b words ∷ past) later place is = placed_before c conv role past (AsGot session b words) refl (placed c conv role past (later ++ AsGot session b words ∷ []) (one_more c later past (AsGot session b words) place) is)
 placed c conv role (AsGave n session b ∷ past) later place is = placed_before c conv role past (AsGave n session b) refl (placed c conv role past (later ++ AsGave n session b ∷ []) (one_more c later past (AsGave n session b) place) is)
 placed c conv role (AsEnd session ∷ past) later place is = placed_before c conv role past (AsEnd session) refl (placed c conv role past (later ++ AsEnd session ∷ []) (one_more c later past (AsEnd session) place) is)
+placed c conv role (Restart node ∷ past) later place is = placed_before c conv role past (Restart node) refl (placed c conv role past (later ++ Restart node ∷ []) (one_more c later past (Restart node) place) is)
+placed c conv role (Reload ∷ past) later place is = placed_before c conv role past Reload refl (placed c conv role past (later ++ Reload ∷ []) (one_more c later past Reload place) is)
 
 pub plays_in : (c : Case) (conv : List ℕ) (role : Role) (past later : History) → c.history ≡ later ++ past → plays conv past ≡ Some role → Plays c conv role past
 plays_in c conv role past later place is =
@@ -146,6 +148,8 @@ plays_by c conv (Refused node answer ∷ past) later place number is = plays_by 
 plays_by c conv (AsGot session b words ∷ past) later place number is = plays_by c conv past (later ++ AsGot session b words ∷ []) (one_more c later past (AsGot session b words) place) number is
 plays_by c conv (AsGave n session b ∷ past) later place number is = plays_by c conv past (later ++ AsGave n session b ∷ []) (one_more c later past (AsGave n session b) place) number is
 plays_by c conv (AsEnd session ∷ past) later place number is = plays_by c conv past (later ++ AsEnd session ∷ []) (one_more c later past (AsEnd session) place) number is
+plays_by c conv (Restart node ∷ past) later place number is = plays_by c conv past (later ++ Restart node ∷ []) (one_more c later past (Restart node) place) number is
+plays_by c conv (Reload ∷ past) later place number is = plays_by c conv past (later ++ Reload ∷ []) (one_more c later past Reload place) number is
 
 -- what it has of its own is what it has in the run, and so are its moves
 pub own_is : (c : Case) (conv : List ℕ) (past : History) → (setting c).holder (number_of conv past) ≡ c.l.holder conv → own_of (setting c) (number_of conv past) ≡ own_in c.l conv past

@@ -5,14 +5,14 @@ use Rattle.std.proofs.Common.{◌≡◌, ◌⊎◌, ℕ, ◌+◌, ◌<◌, List,
 use Rattle.std.proofs.lemmas.Bool.{cases_Bool, eq-eqb}
 use Rattle.std.proofs.lemmas.Slice.Eq.{bytes_eq-Decides}
 use Rattle.std.specs.Str.{bytes_eq}
-use Rattle.auth_server.specs.Standing.{Server}
 use Rattle.symbolic_runs.specs.Trees.{Tree}
 use Rattle.wire_histories.specs.declared.step.Step.{Step}
-use Rattle.wire_histories.specs.declared.step.Step.TheVariants.{Start, Out, In, Ask, Heard, Unheard, Accept, Fail, Reply, Refused, AsGot, AsGave, AsEnd}
+use Rattle.wire_histories.specs.declared.step.Step.TheVariants.{Start, Out, In, Ask, Heard, Unheard, Accept, Fail, Reply, Refused, AsGot, AsGave, AsEnd, Restart, Reload}
 use Rattle.symbolic_runs.specs.Moves.{Move}
 use Rattle.symbolic_runs.specs.Sessions.{Deed, got, gives_tickets, gives_challenge, gives_vouch, refuses}
 use Rattle.symbolic_runs.specs.Runs.{Setting as Symbolic, Run, starts, talks, moves, serves, deeds_of, requests as requests_run}
-use Rattle.wire_histories.specs.Histories.{History, Act, started, gave, took, asked, answered, unanswered, accepted, failed, Deal, requested, replied, ended, deal_in, if_named}
+use Rattle.wire_histories.specs.Histories.{History, Act, started, gave, took, asked, answered, unanswered, accepted, failed, Deal, requested, replied, ended, deal_in, if_named, reloads_in}
+use Rattle.wire_histories.specs.Legal.{Setting}
 use Rattle.clean_runs.specs.Labels.{Dealt, Labelling, dealt, opened_as, or_so, or_zero, requests_in}
 use Rattle.clean_runs.specs.Runs.{conv_events, deed_by, deeds_answering, deeds_by, deeds_for_deal, events_of, grant_at, if_some, is_request, session_events, session_number, talk_events}
 use Rattle.clean_runs.proofs.Numbers.{differ, same_name}
@@ -23,12 +23,12 @@ use Rattle.clean_runs.proofs.Numbers.{differ, same_name}
 pub record AsksNone (step : Step) : Type 0 where
   pub requests : (past : History) → requests_in (step ∷ past) ≡ requests_in past
   pub opened : (name : List ℕ) (past : History) → opened_as name (step ∷ past) ≡ opened_as name past
-  pub grants : (tables : Server) (l : Labelling) (past : History) (number : ℕ) → grant_at tables l (step ∷ past) number ≡ grant_at tables l past number
+  pub grants : (z : Setting) (l : Labelling) (past : History) (number : ℕ) → grant_at z l (step ∷ past) number ≡ grant_at z l past number
 
 -- it is of no session
 pub record IsElsewhere (step : Step) : Type 0 where
   pub none : AsksNone step
-  pub deals : (name : List ℕ) → deal_in name step ≡ []
+  pub deals : (tables : ℕ) (name : List ℕ) → deal_in tables name step ≡ []
   pub deeds : (s : Symbolic) (l : Labelling) (past : History) (number : ℕ) → deeds_of number (events_of s l past step) ≡ []
   pub came : (s : Symbolic) (l : Labelling) (past : History) → requests_run (events_of s l past step) ≡ 0
 
@@ -36,7 +36,7 @@ pub record IsElsewhere (step : Step) : Type 0 where
 pub record IsLater (session : List ℕ) (deal : Deal) (step : Step) : Type 0 where
   pub none : AsksNone step
   pub asks : is_request deal ≡ None
-  pub deals : (name : List ℕ) → deal_in name step ≡ if_named session name deal
+  pub deals : (tables : ℕ) (name : List ℕ) → deal_in tables name step ≡ if_named session name deal
   pub events : (s : Symbolic) (l : Labelling) (past : History) → events_of s l past step ≡ session_events l past session deal
 
 pub data Serving : Step → Type 0 where
@@ -129,19 +129,21 @@ conv_requests s l past conv act = none_in_talk _ _ act _
 -- ---- each step is so
 
 pub serving : (step : Step) → Serving step
-serving (Start conv protocol role word) = elsewhere (record { none = record { requests = λ past. refl; opened = λ name past. refl; grants = λ tables l past n. refl }; deals = λ name. refl; deeds = λ s l past n. refl; came = λ s l past. refl })
-serving (Out number conv b) = elsewhere (record { none = record { requests = λ past. refl; opened = λ name past. refl; grants = λ tables l past n. refl }; deals = λ name. refl; deeds = λ s l past n. conv_deeds s l past conv (gave b) n; came = λ s l past. conv_requests s l past conv (gave b) })
-serving (In conv b) = elsewhere (record { none = record { requests = λ past. refl; opened = λ name past. refl; grants = λ tables l past n. refl }; deals = λ name. refl; deeds = λ s l past n. conv_deeds s l past conv (took b) n; came = λ s l past. conv_requests s l past conv (took b) })
-serving (Ask number conv b) = elsewhere (record { none = record { requests = λ past. refl; opened = λ name past. refl; grants = λ tables l past n. refl }; deals = λ name. refl; deeds = λ s l past n. conv_deeds s l past conv (asked b) n; came = λ s l past. conv_requests s l past conv (asked b) })
-serving (Heard conv b) = elsewhere (record { none = record { requests = λ past. refl; opened = λ name past. refl; grants = λ tables l past n. refl }; deals = λ name. refl; deeds = λ s l past n. conv_deeds s l past conv (answered b) n; came = λ s l past. conv_requests s l past conv (answered b) })
-serving (Unheard conv) = elsewhere (record { none = record { requests = λ past. refl; opened = λ name past. refl; grants = λ tables l past n. refl }; deals = λ name. refl; deeds = λ s l past n. conv_deeds s l past conv unanswered n; came = λ s l past. conv_requests s l past conv unanswered })
-serving (Accept conv cuid suid) = elsewhere (record { none = record { requests = λ past. refl; opened = λ name past. refl; grants = λ tables l past n. refl }; deals = λ name. refl; deeds = λ s l past n. conv_deeds s l past conv (accepted cuid suid) n; came = λ s l past. conv_requests s l past conv (accepted cuid suid) })
-serving (Fail conv cause) = elsewhere (record { none = record { requests = λ past. refl; opened = λ name past. refl; grants = λ tables l past n. refl }; deals = λ name. refl; deeds = λ s l past n. conv_deeds s l past conv (failed cause) n; came = λ s l past. conv_requests s l past conv (failed cause) })
-serving (Reply conv answer) = elsewhere (record { none = record { requests = λ past. refl; opened = λ name past. refl; grants = λ tables l past n. refl }; deals = λ name. refl; deeds = λ s l past n. refl; came = λ s l past. refl })
-serving (Refused node answer) = elsewhere (record { none = record { requests = λ past. refl; opened = λ name past. refl; grants = λ tables l past n. refl }; deals = λ name. refl; deeds = λ s l past n. refl; came = λ s l past. refl })
+serving (Start conv protocol role word) = elsewhere (record { none = record { requests = λ past. refl; opened = λ name past. refl; grants = λ z l past n. refl }; deals = λ tables name. refl; deeds = λ s l past n. refl; came = λ s l past. refl })
+serving (Out number conv b) = elsewhere (record { none = record { requests = λ past. refl; opened = λ name past. refl; grants = λ z l past n. refl }; deals = λ tables name. refl; deeds = λ s l past n. conv_deeds s l past conv (gave b) n; came = λ s l past. conv_requests s l past conv (gave b) })
+serving (In conv b) = elsewhere (record { none = record { requests = λ past. refl; opened = λ name past. refl; grants = λ z l past n. refl }; deals = λ tables name. refl; deeds = λ s l past n. conv_deeds s l past conv (took b) n; came = λ s l past. conv_requests s l past conv (took b) })
+serving (Ask number conv b) = elsewhere (record { none = record { requests = λ past. refl; opened = λ name past. refl; grants = λ z l past n. refl }; deals = λ tables name. refl; deeds = λ s l past n. conv_deeds s l past conv (asked b) n; came = λ s l past. conv_requests s l past conv (asked b) })
+serving (Heard conv b) = elsewhere (record { none = record { requests = λ past. refl; opened = λ name past. refl; grants = λ z l past n. refl }; deals = λ tables name. refl; deeds = λ s l past n. conv_deeds s l past conv (answered b) n; came = λ s l past. conv_requests s l past conv (answered b) })
+serving (Unheard conv) = elsewhere (record { none = record { requests = λ past. refl; opened = λ name past. refl; grants = λ z l past n. refl }; deals = λ tables name. refl; deeds = λ s l past n. conv_deeds s l past conv unanswered n; came = λ s l past. conv_requests s l past conv unanswered })
+serving (Accept conv cuid suid) = elsewhere (record { none = record { requests = λ past. refl; opened = λ name past. refl; grants = λ z l past n. refl }; deals = λ tables name. refl; deeds = λ s l past n. conv_deeds s l past conv (accepted cuid suid) n; came = λ s l past. conv_requests s l past conv (accepted cuid suid) })
+serving (Fail conv cause) = elsewhere (record { none = record { requests = λ past. refl; opened = λ name past. refl; grants = λ z l past n. refl }; deals = λ tables name. refl; deeds = λ s l past n. conv_deeds s l past conv (failed cause) n; came = λ s l past. conv_requests s l past conv (failed cause) })
+serving (Reply conv answer) = elsewhere (record { none = record { requests = λ past. refl; opened = λ name past. refl; grants = λ z l past n. refl }; deals = λ tables name. refl; deeds = λ s l past n. refl; came = λ s l past. refl })
+serving (Refused node answer) = elsewhere (record { none = record { requests = λ past. refl; opened = λ name past. refl; grants = λ z l past n. refl }; deals = λ tables name. refl; deeds = λ s l past n. refl; came = λ s l past. refl })
+serving (Restart node) = elsewhere (record { none = record { requests = λ past. refl; opened = λ name past. refl; grants = λ z l past n. refl }; deals = λ tables name. refl; deeds = λ s l past n. refl; came = λ s l past. refl })
+serving Reload = elsewhere (record { none = record { requests = λ past. refl; opened = λ name past. refl; grants = λ z l past n. refl }; deals = λ tables name. refl; deeds = λ s l past n. refl; came = λ s l past. refl })
 serving (AsGot session b words) = comes session b words
-serving (AsGave number session b) = proceeds session (replied b) (record { none = record { requests = λ past. refl; opened = λ name past. refl; grants = λ tables l past n. refl }; asks = refl; deals = λ name. refl; events = λ s l past. refl })
-serving (AsEnd session) = proceeds session ended (record { none = record { requests = λ past. refl; opened = λ name past. refl; grants = λ tables l past n. refl }; asks = refl; deals = λ name. refl; events = λ s l past. refl })
+serving (AsGave number session b) = proceeds session (replied b) (record { none = record { requests = λ past. refl; opened = λ name past. refl; grants = λ z l past n. refl }; asks = refl; deals = λ tables name. refl; events = λ s l past. refl })
+serving (AsEnd session) = proceeds session ended (record { none = record { requests = λ past. refl; opened = λ name past. refl; grants = λ z l past n. refl }; asks = refl; deals = λ tables name. refl; events = λ s l past. refl })
 
 -- ---- numbers of sessions
 
@@ -233,7 +235,7 @@ other_number past session name number differs is = by (opening past session)
 abbrev pub deal_of : Labelling → History → Deal → Dealt
 deal_of l past deal = record { deal = deal; number = requests_in past; label = l.label (length past) }
 
-pub dealt_by : (l : Labelling) (name : List ℕ) (step : Step) (past : History) (deals : List Deal) → deal_in name step ≡ deals → dealt l name (step ∷ past) ≡ map (deal_of l past) deals ++ dealt l name past
+pub dealt_by : (l : Labelling) (name : List ℕ) (step : Step) (past : History) (deals : List Deal) → deal_in (reloads_in past) name step ≡ deals → dealt l name (step ∷ past) ≡ map (deal_of l past) deals ++ dealt l name past
 dealt_by l name step past deals is = ap (λ xs. map (deal_of l past) xs ++ dealt l name past) is
 
 pub named_deal : (name session : List ℕ) (deal : Deal) → bytes_eq session name ≡ true → if_named session name deal ≡ deal ∷ []
@@ -252,7 +254,7 @@ unasked_answer before [] b none = refl
 unasked_answer before (d ∷ ds) b none = ap (λ (o : Option (List ℕ)). map (λ request. deed_by before d.number request b) (if_some o)) none.0
 
 pub unasked_deal : (before : List Deed) (ds : List Dealt) (deal : Deal) (number : ℕ) (label : Tree) → is_request deal ≡ None → Unasked ds → deeds_for_deal before ds deal number label ≡ []
-unasked_deal before ds (requested b words) number label asks none = absurd (cc)
+unasked_deal before ds (requested tables b words) number label asks none = absurd (cc)
 unasked_deal before ds (replied b) number label asks none = unasked_answer before ds b none
 unasked_deal before ds ended number label asks none = refl
 
@@ -267,13 +269,13 @@ unasked_in l step past name (comes session b words) so is = elim (cases_Bool (by
       let empty = (or_none (opened_as name past) (if bytes_eq session name then Some (requests_in past) else None) is).1 in
       let here : Some (requests_in past) ≡ None = ap (λ (x : Bool). if x then Some (requests_in past) else None) (sym same) ∙ empty in
       cc)
-  | inr differs ↦ subst Unasked (sym (dealt_by l name (AsGot session b words) past [] (other_deal name session (requested b words) differs))) (so (or_none (opened_as name past) (if bytes_eq session name then Some (requests_in past) else None) is).0)
+  | inr differs ↦ subst Unasked (sym (dealt_by l name (AsGot session b words) past [] (other_deal name session (requested (reloads_in past) b words) differs))) (so (or_none (opened_as name past) (if bytes_eq session name then Some (requests_in past) else None) is).0)
 ]
 unasked_in l step past name (proceeds session deal d) so is = elim (cases_Bool (bytes_eq session name)) [
-  | inl same ↦ subst Unasked (sym (dealt_by l name step past (deal ∷ []) (d.deals name ∙ named_deal name session deal same))) (d.asks, so (sym (d.none.opened name past) ∙ is))
-  | inr differs ↦ subst Unasked (sym (dealt_by l name step past [] (d.deals name ∙ other_deal name session deal differs))) (so (sym (d.none.opened name past) ∙ is))
+  | inl same ↦ subst Unasked (sym (dealt_by l name step past (deal ∷ []) (d.deals (reloads_in past) name ∙ named_deal name session deal same))) (d.asks, so (sym (d.none.opened name past) ∙ is))
+  | inr differs ↦ subst Unasked (sym (dealt_by l name step past [] (d.deals (reloads_in past) name ∙ other_deal name session deal differs))) (so (sym (d.none.opened name past) ∙ is))
 ]
-unasked_in l step past name (elsewhere d) so is = subst Unasked (sym (dealt_by l name step past [] (d.deals name))) (so (sym (d.none.opened name past) ∙ is))
+unasked_in l step past name (elsewhere d) so is = subst Unasked (sym (dealt_by l name step past [] (d.deals (reloads_in past) name))) (so (sym (d.none.opened name past) ∙ is))
 
 pub unasked : (l : Labelling) (past : History) (name : List ℕ) → opened_as name past ≡ None → Unasked (dealt l name past)
 unasked l [] name is = tt

@@ -5,14 +5,14 @@ use Rattle.std.proofs.lemmas.Bool.{cases_Bool, eq-eqb}
 use Rattle.std.specs.Str.{bytes_eq}
 use Rattle.sealing.specs.Request.{request_of}
 use Rattle.auth_server.specs.Requests.{kind_of}
-use Rattle.auth_server.specs.Standing.{Server}
 use Rattle.symbolic_runs.specs.Trees.{Tree}
 use Rattle.symbolic_runs.specs.declared.kind.MacKind.{MacKind}
 use Rattle.wire_histories.specs.declared.step.Step.{Step}
 use Rattle.wire_histories.specs.declared.step.Step.TheVariants.{AsGot}
 use Rattle.symbolic_runs.specs.Sessions.{Deed, got, gives_tickets, gives_challenge, held, refuses}
 use Rattle.symbolic_runs.specs.Runs.{Setting as Symbolic, serves, deeds_of, requests as requests_run}
-use Rattle.wire_histories.specs.Histories.{History, Deal, requested, replied, ended}
+use Rattle.wire_histories.specs.Histories.{History, Deal, requested, replied, ended, reloads_in}
+use Rattle.wire_histories.specs.Legal.{Setting}
 use Rattle.clean_runs.specs.Labels.{Dealt, Labelling, dealt, opened_as, requests_in}
 use Rattle.clean_runs.specs.Runs.{deed_by, deeds_by, deeds_for_deal, events_of, grant_at, grant_by, if_some, is_request, mail_kind, run_from, session_events, session_number, vouch_deed}
 use Rattle.clean_runs.proofs.Numbers.{deeds_at, differ, same_name}
@@ -68,7 +68,7 @@ IsOwn s l name number past = deeds_of number (run_from s l past) ≡ deeds_by (d
 came_here : (s : Symbolic) (l : Labelling) (past : History) (name b : List ℕ) (words : List (List ℕ)) (number : ℕ) → opened_as name (AsGot name b words ∷ past) ≡ Some number → (opened_as name past ≡ Some number → IsOwn s l name number past) → bytes_eq name name ≡ true → IsOwn s l name number (AsGot name b words ∷ past)
 came_here s l past name b words number is so same =
     let new = got (requests_in past) (l.label (length past)) in
-    let labels = dealt_by l name (AsGot name b words) past (requested b words ∷ []) (named_deal name name (requested b words) same) in
+    let labels = dealt_by l name (AsGot name b words) past (requested (reloads_in past) b words ∷ []) (named_deal name name (requested (reloads_in past) b words) same) in
     let parts : deeds_of number (run_from s l (AsGot name b words ∷ past)) ≡ deeds_of number (map (serves (session_number name past)) (new ∷ [])) ++ deeds_of number (run_from s l past) = deeds_append number (events_of s l past (AsGot name b words)) (run_from s l past) in
     let here : session_number name past ≡ number → deeds_of number (run_from s l past) ≡ deeds_by (dealt l name past) → IsOwn s l name number (AsGot name b words ∷ past) = λ one rest.
     parts
@@ -103,7 +103,7 @@ own_in s l step past name number (comes session b words) so is = elim (cases_Boo
         deeds_append number (events_of s l past (AsGot session b words)) (run_from s l past)
         ∙ ap (λ xs. xs ++ deeds_of number (run_from s l past)) (deeds_other (session_number session past) number (got (requests_in past) (l.label (length past)) ∷ []) (other_number past session name number differs before))
         ∙ so before
-        ∙ sym (ap deeds_by (dealt_by l name (AsGot session b words) past [] (other_deal name session (requested b words) differs)))
+        ∙ sym (ap deeds_by (dealt_by l name (AsGot session b words) past [] (other_deal name session (requested (reloads_in past) b words) differs)))
 own_in s l step past name number (proceeds session deal d) so is =
     let stood : opened_as name past ≡ Some number = sym (d.none.opened name past) ∙ is in
     let parts : deeds_of number (run_from s l (step ∷ past)) ≡ deeds_of number (session_events l past session deal) ++ deeds_of number (run_from s l past) = deeds_append number (events_of s l past step) (run_from s l past) ∙ ap (λ es. deeds_of number es ++ deeds_of number (run_from s l past)) (d.events s l past) in
@@ -116,18 +116,18 @@ own_in s l step past name number (proceeds session deal d) so is =
           ∙ ap (λ xs. xs ++ deeds_of number (run_from s l past)) (deeds_same number (deeds_at l past session deal))
           ∙ ap (λ x. deeds_at l past x deal ++ deeds_of number (run_from s l past)) one
           ∙ ap (λ xs. deeds_at l past name deal ++ xs) (so stood)
-          ∙ sym (ap deeds_by (dealt_by l name step past (deal ∷ []) (d.deals name ∙ named_deal name session deal same))))
+          ∙ sym (ap deeds_by (dealt_by l name step past (deal ∷ []) (d.deals (reloads_in past) name ∙ named_deal name session deal same))))
       | inr differs ↦
           parts
           ∙ ap (λ xs. xs ++ deeds_of number (run_from s l past)) (later_elsewhere s l past session deal number d.asks (λ n begun. subst (λ k. eqb k number ≡ false) (opened_number past session n begun) (other_number past session name number differs stood)))
           ∙ so stood
-          ∙ sym (ap deeds_by (dealt_by l name step past [] (d.deals name ∙ other_deal name session deal differs)))
+          ∙ sym (ap deeds_by (dealt_by l name step past [] (d.deals (reloads_in past) name ∙ other_deal name session deal differs)))
     ]
 own_in s l step past name number (elsewhere d) so is =
     deeds_append number (events_of s l past step) (run_from s l past)
     ∙ ap (λ xs. xs ++ deeds_of number (run_from s l past)) (d.deeds s l past number)
     ∙ so (sym (d.none.opened name past) ∙ is)
-    ∙ sym (ap deeds_by (dealt_by l name step past [] (d.deals name)))
+    ∙ sym (ap deeds_by (dealt_by l name step past [] (d.deals (reloads_in past) name)))
 
 pub own_deeds : (s : Symbolic) (l : Labelling) (past : History) (name : List ℕ) (number : ℕ) → opened_as name past ≡ Some number → IsOwn s l name number past
 own_deeds s l [] name number is = absurd (cc)
@@ -154,7 +154,7 @@ answer_asks_none session before number b (Some request) = challenge_asks_none se
 answer_asks_none session before number b None = refl
 
 later_asks_none : (session : ℕ) (before : List Deed) (ds : List Dealt) (deal : Deal) (number : ℕ) (label : Tree) → is_request deal ≡ None → requests_run (map (serves session) (deeds_for_deal before ds deal number label)) ≡ 0
-later_asks_none session before ds (requested b words) number label asks = absurd (cc)
+later_asks_none session before ds (requested tables b words) number label asks = absurd (cc)
 later_asks_none session before [] (replied b) number label asks = refl
 later_asks_none session before (d ∷ ds) (replied b) number label asks = answer_asks_none session before d.number b (is_request d.deal)
 later_asks_none session before ds ended number label asks = refl
@@ -190,60 +190,62 @@ more_requests (step ∷ later) session b words earlier =
     let more = counted_in step (later ++ AsGot session b words ∷ earlier) (serving step) in
     omega (arith, rest, more)
 
-grant_in : (tables : Server) (l : Labelling) (step : Step) (past : History) (number : ℕ) → Serving step → number < requests_in past → grant_at tables l (step ∷ past) number ≡ grant_at tables l past number
-grant_in tables l step past number (comes session b words) far = ap (λ (x : Bool). if x then grant_by tables (request_of b) (l.label (length past)) else grant_at tables l past number) (differ (requests_in past) number (λ e. omega (arith, e, far)))
-grant_in tables l step past number (proceeds session deal d) far = d.none.grants tables l past number
-grant_in tables l step past number (elsewhere d) far = d.none.grants tables l past number
+grant_in : (z : Setting) (l : Labelling) (step : Step) (past : History) (number : ℕ) → Serving step → number < requests_in past → grant_at z l (step ∷ past) number ≡ grant_at z l past number
+grant_in z l step past number (comes session b words) far = ap (λ (x : Bool). if x then grant_by z (reloads_in past) (request_of b) (l.label (length past)) else grant_at z l past number) (differ (requests_in past) number (λ e. omega (arith, e, far)))
+grant_in z l step past number (proceeds session deal d) far = d.none.grants z l past number
+grant_in z l step past number (elsewhere d) far = d.none.grants z l past number
 
-pub grant_placed : (tables : Server) (l : Labelling) (later : History) (session b : List ℕ) (words : List (List ℕ)) (earlier : History) → grant_at tables l (later ++ AsGot session b words ∷ earlier) (requests_in earlier) ≡ grant_by tables (request_of b) (l.label (length earlier))
-grant_placed tables l [] session b words earlier = ap (λ (x : Bool). if x then grant_by tables (request_of b) (l.label (length earlier)) else grant_at tables l earlier (requests_in earlier)) (eq-eqb (requests_in earlier) (requests_in earlier) refl)
-grant_placed tables l (step ∷ later) session b words earlier = grant_in tables l step (later ++ AsGot session b words ∷ earlier) (requests_in earlier) (serving step) (more_requests later session b words earlier) ∙ grant_placed tables l later session b words earlier
+pub grant_placed : (z : Setting) (l : Labelling) (later : History) (session b : List ℕ) (words : List (List ℕ)) (earlier : History) → grant_at z l (later ++ AsGot session b words ∷ earlier) (requests_in earlier) ≡ grant_by z (reloads_in earlier) (request_of b) (l.label (length earlier))
+grant_placed z l [] session b words earlier = ap (λ (x : Bool). if x then grant_by z (reloads_in earlier) (request_of b) (l.label (length earlier)) else grant_at z l earlier (requests_in earlier)) (eq-eqb (requests_in earlier) (requests_in earlier) refl)
+grant_placed z l (step ∷ later) session b words earlier = grant_in z l step (later ++ AsGot session b words ∷ earlier) (requests_in earlier) (serving step) (more_requests later session b words earlier) ∙ grant_placed z l later session b words earlier
 
 -- ---- the place of the newest request of a session
 
-pub record Placed (l : Labelling) (past : History) (name b : List ℕ) (words : List (List ℕ)) (d : Dealt) : Type 0 where
+pub record Placed (l : Labelling) (past : History) (name : List ℕ) (tables : ℕ) (b : List ℕ) (words : List (List ℕ)) (d : Dealt) : Type 0 where
   pub later : History
   pub earlier : History
   pub place : past ≡ later ++ AsGot name b words ∷ earlier
+  pub in_force : tables ≡ reloads_in earlier
   pub number : d.number ≡ requests_in earlier
   pub label : d.label ≡ l.label (length earlier)
 
-further : {l : Labelling} {name b : List ℕ} {words : List (List ℕ)} {d : Dealt} (step : Step) (past : History) → Placed l past name b words d → Placed l (step ∷ past) name b words d
-further step past p = record { later = step ∷ p.later; earlier = p.earlier; place = ap (λ xs. step ∷ xs) p.place; number = p.number; label = p.label }
+further : {l : Labelling} {name : List ℕ} {tables : ℕ} {b : List ℕ} {words : List (List ℕ)} {d : Dealt} (step : Step) (past : History) → Placed l past name tables b words d → Placed l (step ∷ past) name tables b words d
+further step past p = record { later = step ∷ p.later; earlier = p.earlier; place = ap (λ xs. step ∷ xs) p.place; in_force = p.in_force; number = p.number; label = p.label }
 
 heads : (a b : Dealt) (xs ys : List Dealt) → a ∷ xs ≡ b ∷ ys → a ≡ b
 heads a b xs ys e = cc
 
-placed_in : (l : Labelling) (step : Step) (past : History) (name b : List ℕ) (words : List (List ℕ)) (d : Dealt) (older : List Dealt) → Serving step → (dealt l name past ≡ d ∷ older → Placed l past name b words d) → d.deal ≡ requested b words → dealt l name (step ∷ past) ≡ d ∷ older → Placed l (step ∷ past) name b words d
-placed_in l step past name b words d older (comes session bytes drawn) so deal_is is = elim (cases_Bool (bytes_eq session name)) [
+placed_in : (l : Labelling) (step : Step) (past : History) (name : List ℕ) (tables : ℕ) (b : List ℕ) (words : List (List ℕ)) (d : Dealt) (older : List Dealt) → Serving step → (dealt l name past ≡ d ∷ older → Placed l past name tables b words d) → d.deal ≡ requested tables b words → dealt l name (step ∷ past) ≡ d ∷ older → Placed l (step ∷ past) name tables b words d
+placed_in l step past name tables b words d older (comes session bytes drawn) so deal_is is = elim (cases_Bool (bytes_eq session name)) [
   | inl same ↦ (
-      let here = sym (dealt_by l name (AsGot session bytes drawn) past (requested bytes drawn ∷ []) (named_deal name session (requested bytes drawn) same)) ∙ is in
-      let one : deal_of l past (requested bytes drawn) ≡ d = heads (deal_of l past (requested bytes drawn)) d (dealt l name past) older here in
-      let deals : requested bytes drawn ≡ requested b words = ap (λ (x : Dealt). x.deal) one ∙ deal_is in
+      let here = sym (dealt_by l name (AsGot session bytes drawn) past (requested (reloads_in past) bytes drawn ∷ []) (named_deal name session (requested (reloads_in past) bytes drawn) same)) ∙ is in
+      let one : deal_of l past (requested (reloads_in past) bytes drawn) ≡ d = heads (deal_of l past (requested (reloads_in past) bytes drawn)) d (dealt l name past) older here in
+      let deals : requested (reloads_in past) bytes drawn ≡ requested tables b words = ap (λ (x : Dealt). x.deal) one ∙ deal_is in
       let s_is : session ≡ name = same_name session name same in
+      let tables_are : tables ≡ reloads_in past = cc in
       let b_is : bytes ≡ b = cc in
       let w_is : drawn ≡ words = cc in
       let step_is : AsGot session bytes drawn ≡ AsGot name b words = cc in
-      record { later = []; earlier = past; place = ap (λ x. x ∷ past) step_is; number = sym (ap (λ (x : Dealt). x.number) one); label = sym (ap (λ (x : Dealt). x.label) one) })
-  | inr differs ↦ further (AsGot session bytes drawn) past (so (sym (dealt_by l name (AsGot session bytes drawn) past [] (other_deal name session (requested bytes drawn) differs)) ∙ is))
+      record { later = []; earlier = past; place = ap (λ x. x ∷ past) step_is; in_force = tables_are; number = sym (ap (λ (x : Dealt). x.number) one); label = sym (ap (λ (x : Dealt). x.label) one) })
+  | inr differs ↦ further (AsGot session bytes drawn) past (so (sym (dealt_by l name (AsGot session bytes drawn) past [] (other_deal name session (requested (reloads_in past) bytes drawn) differs)) ∙ is))
 ]
-placed_in l step past name b words d older (proceeds session deal x) so deal_is is = elim (cases_Bool (bytes_eq session name)) [
+placed_in l step past name tables b words d older (proceeds session deal x) so deal_is is = elim (cases_Bool (bytes_eq session name)) [
   | inl same ↦ absurd (
-      let here = sym (dealt_by l name step past (deal ∷ []) (x.deals name ∙ named_deal name session deal same)) ∙ is in
+      let here = sym (dealt_by l name step past (deal ∷ []) (x.deals (reloads_in past) name ∙ named_deal name session deal same)) ∙ is in
       let one : deal_of l past deal ≡ d = heads (deal_of l past deal) d (dealt l name past) older here in
       let none : Some b ≡ None = sym (ap is_request (ap (λ (y : Dealt). y.deal) one ∙ deal_is)) ∙ x.asks in
       cc)
-  | inr differs ↦ further step past (so (sym (dealt_by l name step past [] (x.deals name ∙ other_deal name session deal differs)) ∙ is))
+  | inr differs ↦ further step past (so (sym (dealt_by l name step past [] (x.deals (reloads_in past) name ∙ other_deal name session deal differs)) ∙ is))
 ]
-placed_in l step past name b words d older (elsewhere x) so deal_is is = further step past (so (sym (dealt_by l name step past [] (x.deals name)) ∙ is))
+placed_in l step past name tables b words d older (elsewhere x) so deal_is is = further step past (so (sym (dealt_by l name step past [] (x.deals (reloads_in past) name)) ∙ is))
 
-pub placed : (l : Labelling) (past : History) (name b : List ℕ) (words : List (List ℕ)) (d : Dealt) (older : List Dealt) → d.deal ≡ requested b words → dealt l name past ≡ d ∷ older → Placed l past name b words d
-placed l [] name b words d older deal_is is = absurd (cc)
-placed l (step ∷ past) name b words d older deal_is is = placed_in l step past name b words d older (serving step) (placed l past name b words d older deal_is) deal_is is
+pub placed : (l : Labelling) (past : History) (name : List ℕ) (tables : ℕ) (b : List ℕ) (words : List (List ℕ)) (d : Dealt) (older : List Dealt) → d.deal ≡ requested tables b words → dealt l name past ≡ d ∷ older → Placed l past name tables b words d
+placed l [] name tables b words d older deal_is is = absurd (cc)
+placed l (step ∷ past) name tables b words d older deal_is is = placed_in l step past name tables b words d older (serving step) (placed l past name tables b words d older deal_is) deal_is is
 
 -- a session whose newest deal is a request was opened
-pub opened_by : (l : Labelling) (past : History) (name b : List ℕ) (words : List (List ℕ)) (d : Dealt) (older : List Dealt) → d.deal ≡ requested b words → dealt l name past ≡ d ∷ older → (number : ℕ) × (opened_as name past ≡ Some number)
-opened_by l past name b words d older deal_is is = by (opening past name)
+pub opened_by : (l : Labelling) (past : History) (name : List ℕ) (tables : ℕ) (b : List ℕ) (words : List (List ℕ)) (d : Dealt) (older : List Dealt) → d.deal ≡ requested tables b words → dealt l name past ≡ d ∷ older → (number : ℕ) × (opened_as name past ≡ Some number)
+opened_by l past name tables b words d older deal_is is = by (opening past name)
   where
     by : Opening past name → (number : ℕ) × (opened_as name past ≡ Some number)
     by (opened n so) = (n, so)

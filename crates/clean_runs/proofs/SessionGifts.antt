@@ -5,9 +5,8 @@ use Rattle.sealing.specs.Fields.{field}
 use Rattle.sealing.specs.Request.{request_of}
 use Rattle.sealing.specs.declared.request.TicketReq.{TicketReq}
 use Rattle.sealing.proofs.RequestLaws.{request_taken}
-use Rattle.auth_server.specs.Requests.{Asked, Challenge, is_for, kind_of, needed}
-use Rattle.auth_server.specs.Answers.{Knowledge, answer, held, word}
-use Rattle.auth_server.specs.Standing.{knowledge}
+use Rattle.auth_server.specs.Requests.{Challenge, is_for, kind_of, needed}
+use Rattle.auth_server.specs.Answers.{Knowledge, word}
 use Rattle.symbolic_runs.specs.declared.kind.MacKind.{MacKind}
 use Rattle.symbolic_runs.specs.declared.kind.MacKind.TheVariants.{Apop, Cram}
 use Rattle.symbolic_runs.specs.Trees.{Tree, plain, password, digest}
@@ -17,9 +16,10 @@ use Rattle.symbolic_runs.specs.Gifts.{part as piece_of}
 use Rattle.symbolic_runs.specs.Sessions.{Deed, Grant, MaySpeak, SessionRow, got, gives_tickets, gives_challenge, gives_vouch, keys, key_and_password, grants_tickets, challenges, vouches, refusal, deed_labels, tickets_given, vouch_given}
 use Rattle.symbolic_runs.specs.Runs.{Setting as Symbolic, Run, Arrives}
 use Rattle.std.specs.List.{Contains}
-use Rattle.wire_histories.specs.Legal.{Setting, known_to}
-use Rattle.wire_histories.specs.Sessions.{IsLong, MayCome}
-use Rattle.clean_runs.specs.Runs.{grant_by, known_name, name_where, tickets_for, vouch_for}
+use Rattle.wire_histories.specs.Legal.{Setting, known_at}
+use Rattle.wire_histories.specs.Sessions.{Came, IsLong, MayCome, answer, held}
+use Rattle.clean_runs.specs.KeyNames.{key_name, known_name}
+use Rattle.clean_runs.specs.Runs.{grant_by, name_where, tickets_for, vouch_for}
 use Rattle.clean_runs.specs.Forms.{IsAnswered, IsRequest, IsRight}
 use Rattle.clean_runs.proofs.AnswerBytes.{ChallengeIs, IsReading, answered_challenge, challenge_given, challenge_is, first_word, grant_spells, short_name, vouch_spells}
 use Rattle.clean_runs.proofs.SessionStands.{Answered, by_challenge, by_refusal, by_tickets, by_vouch, kind_number}
@@ -56,35 +56,35 @@ pub record Gift (atoms : Atoms) (s : Symbolic) (before : List Deed) (deed : Deed
   pub spells : spelling atoms label ≡ Ok b
 
 -- a request that is to be answered, with its label and what is granted at its number
-pub record IsAsked (atoms : Atoms) (z : Setting) (s : Symbolic) (before : List Asked) (asked : Asked) (number : ℕ) (t : Tree) : Type 0 where
+pub record IsAsked (atoms : Atoms) (z : Setting) (s : Symbolic) (before : List Came) (asked : Came) (number : ℕ) (t : Tree) : Type 0 where
   pub reading : IsReading atoms z number asked.words
-  pub domain : s.domain ≡ z.server.dom
-  pub short : length z.server.dom < 48
-  pub may : MayCome (known_to z) before asked
+  pub domain : s.domain ≡ z.dom
+  pub short : length z.dom < 48
+  pub may : MayCome (known_at z) before asked
   pub spells : spelling atoms t ≡ Ok asked.request
-  pub granted : s.grants number ≡ grant_by z.server (request_of asked.request) t
+  pub granted : s.grants number ≡ grant_by z asked.tables (request_of asked.request) t
 
 same_used : (a b : Option (List ℕ)) (m n : List ℕ) → key_and_password a m ≡ key_and_password b n → m ≡ n
 same_used a b m n e = cc
 
-module _ (atoms : Atoms) (z : Setting) (s : Symbolic) (before : List Asked) (asked : Asked) (number : ℕ) (t : Tree) (deeds : List Deed) (is : IsAsked atoms z s before asked number t) where
-  abbrev known : Knowledge
-  known = known_to z
+module _ (atoms : Atoms) (z : Setting) (s : Symbolic) (before : List Came) (asked : Came) (number : ℕ) (t : Tree) (deeds : List Deed) (is : IsAsked atoms z s before asked number t) where
+  abbrev known : ℕ → Knowledge
+  known = known_at z
 
   abbrev given : List ℕ
   given = answer known before asked
 
   -- tickets for a ticket request
-  gives_two : (r : TicketReq) → request_of asked.request ≡ Ok r → r.kind ≡ 1 → spelling atoms (tickets_given (tickets_for z.server r t) number) ≡ Ok given → IsRequest ticket_request t → Gift atoms s (got number t ∷ deeds) (gives_tickets number) given
+  gives_two : (r : TicketReq) → request_of asked.request ≡ Ok r → r.kind ≡ 1 → spelling atoms (tickets_given (tickets_for z asked.tables r t) number) ≡ Ok given → IsRequest ticket_request t → Gift atoms s (got number t ∷ deeds) (gives_tickets number) given
   gives_two r read one spells form =
-      let grant_is : s.grants number ≡ tickets_for z.server r t = is.granted ∙ ap (λ o. grant_by z.server o t) read ∙ ap (λ (b : Bool). if b then tickets_for z.server r t else vouch_for z.server r t) (eq-eqb r.kind 1 one) in
+      let grant_is : s.grants number ≡ tickets_for z asked.tables r t = is.granted ∙ ap (λ o. grant_by z asked.tables o t) read ∙ ap (λ (b : Bool). if b then tickets_for z asked.tables r t else vouch_for z asked.tables r t) (eq-eqb r.kind 1 one) in
       let chal_is : (s.grants number).chal ≡ form.chal = ap (λ (g : Grant). g.chal) grant_is ∙ ap (λ t. piece_of t 3) form.is in
       let label_is : request ticket_request form.fields (s.grants number).chal ≡ t = ap (request ticket_request form.fields) chal_is ∙ sym form.is in
-      let may = (knowledge z.server).speaks r.hostid r.uid in
-      let server = name_where may (known_name (knowledge z.server) r.authid) in
-      let client = name_where may (known_name (knowledge z.server) r.hostid) in
+      let may = (known asked.tables).speaks r.hostid r.uid in
+      let server = name_where may (known_name z asked.tables r.authid) in
+      let client = name_where may (known_name z asked.tables r.hostid) in
       let used : (s.grants number).used ≡ keys server client = ap (λ (g : Grant). g.used) grant_is in
-      let speaks : MaySpeak (s.grants number).speakers client = subst (λ (g : Grant). MaySpeak g.speakers client) (sym grant_is) (used_speaks z.server r.hostid r.uid) in
+      let speaks : MaySpeak (s.grants number).speakers client = subst (λ (g : Grant). MaySpeak g.speakers client) (sym grant_is) (used_speaks z asked.tables r.hostid r.uid) in
       record {
         row = subst (λ t. SessionRow s.domain s.grants (got number t ∷ deeds) (gives_tickets number)) label_is (grants_tickets form.fields server client form.whole used speaks);
         arrives = λ run. tt;
@@ -108,7 +108,7 @@ module _ (atoms : Atoms) (z : Setting) (s : Symbolic) (before : List Asked) (ask
   gives_first kind row spells = record { row = row; arrives = λ run. tt; label = pair (plain (take 6 given)) (mail_challenge s.domain number); one = refl; spells = spells }
 
   -- what vouches for a right answer
-  gives_second : (r : TicketReq) (kind : MacKind) (first : ℕ) → (s.grants number) ≡ vouch_for z.server r t → spelling atoms (vouch_given (vouch_for z.server r t) number) ≡ Ok given → (form : IsRight s kind number first t) → SessionRow s.domain s.grants (got number t ∷ deeds) (gives_vouch kind number first) → Gift atoms s (got number t ∷ deeds) (gives_vouch kind number first) given
+  gives_second : (r : TicketReq) (kind : MacKind) (first : ℕ) → (s.grants number) ≡ vouch_for z asked.tables r t → spelling atoms (vouch_given (vouch_for z asked.tables r t) number) ≡ Ok given → (form : IsRight s kind number first t) → SessionRow s.domain s.grants (got number t ∷ deeds) (gives_vouch kind number first) → Gift atoms s (got number t ∷ deeds) (gives_vouch kind number first) given
   gives_second r kind first grant_is spells form row = record {
     row = row;
     arrives = λ run. tt;
@@ -132,19 +132,19 @@ module _ (atoms : Atoms) (z : Setting) (s : Symbolic) (before : List Asked) (ask
   pub gift : (deed : Deed) → Answered known before asked deeds number deed → IsAnswered s (got number t ∷ deeds) deed → Gift atoms s (got number t ∷ deeds) deed given
   gift deed (by_tickets r read one answer_is kept) form =
       let taken = request_taken asked.request r read in
-      let spells = grant_spells atoms z number asked.words is.reading r t (two_spell r read one form) (short_name 85 asked.request r.hostid taken.hostid) (short_name 113 asked.request r.uid taken.uid) in
+      let spells = grant_spells atoms z asked.tables number asked.words is.reading r t (two_spell r read one form) (short_name 85 asked.request r.hostid taken.hostid) (short_name 113 asked.request r.uid taken.uid) in
       gives_two r read one (spells ∙ ap Ok (sym answer_is)) form
   gift deed (by_challenge r kind read number_is free answer_is after) form =
-      let c = challenge_given atoms z.server.dom number (word 0 asked.words) is.reading.drawn.digits (first_word asked.words is.may.three is.may.words) is.short in
+      let c = challenge_given atoms z.dom number (word 0 asked.words) is.reading.drawn.digits (first_word asked.words is.may.three is.may.words) is.short in
       let six : length (take 6 given) ≡ 6 = ap (λ b. length (take 6 b)) answer_is ∙ c.six in
-      let spells : spelling atoms (pair (plain (take 6 given)) (mail_challenge s.domain number)) ≡ Ok given = ap (λ d. spelling atoms (pair (plain (take 6 given)) (mail_challenge d number))) is.domain ∙ ap (λ b. spelling atoms (pair (plain (take 6 b)) (mail_challenge z.server.dom number))) answer_is ∙ c.spells ∙ ap Ok (sym answer_is) in
+      let spells : spelling atoms (pair (plain (take 6 given)) (mail_challenge s.domain number)) ≡ Ok given = ap (λ d. spelling atoms (pair (plain (take 6 given)) (mail_challenge d number))) is.domain ∙ ap (λ b. spelling atoms (pair (plain (take 6 b)) (mail_challenge z.dom number))) answer_is ∙ c.spells ∙ ap Ok (sym answer_is) in
       gives_first kind (subst (λ t. SessionRow s.domain s.grants (got number t ∷ deeds) (gives_challenge kind number (take 6 given))) (sym form.is) (challenges form.fields {chal = form.chal} form.whole free six)) spells
-  gift deed (by_vouch r kind first read number_is yes_held first_is answer_is after) form =
+  gift deed (by_vouch r kind first read number_is yes_held first_is answer_is after has) form =
       let taken = request_taken asked.request r read in
       let no_ticket : (r.kind == 1) ≡ false = ap (λ n. n == 1) number_is ∙ mail_is_none kind in
-      let grant_is : s.grants number ≡ vouch_for z.server r t = is.granted ∙ ap (λ o. grant_by z.server o t) read ∙ ap (λ (b : Bool). if b then tickets_for z.server r t else vouch_for z.server r t) no_ticket in
-      let name_is : r.uid ≡ form.name = same_used (known_name (knowledge z.server) r.authid) form.sealer r.uid form.name (sym (ap (λ (g : Grant). g.used) grant_is) ∙ form.used) in
-      let speaks : Contains (s.grants number).speakers form.name = subst (λ n. Contains (s.grants number).speakers n) name_is (subst (λ (g : Grant). Contains g.speakers r.uid) (sym grant_is) (user_speaks z.server r.uid)) in
+      let grant_is : s.grants number ≡ vouch_for z asked.tables r t = is.granted ∙ ap (λ o. grant_by z asked.tables o t) read ∙ ap (λ (b : Bool). if b then tickets_for z asked.tables r t else vouch_for z asked.tables r t) no_ticket in
+      let name_is : key_name z.tables asked.tables r.uid ≡ form.name = same_used (known_name z asked.tables r.authid) form.sealer (key_name z.tables asked.tables r.uid) form.name (sym (ap (λ (g : Grant). g.used) grant_is) ∙ form.used) in
+      let speaks : Contains (s.grants number).speakers form.name = subst (λ n. Contains (s.grants number).speakers n) name_is (subst (λ (g : Grant). Contains g.speakers (key_name z.tables asked.tables r.uid)) (sym grant_is) (user_speaks z asked.tables r.uid has)) in
       let row : SessionRow s.domain s.grants (got number t ∷ deeds) (gives_vouch kind number first) = subst (λ t. SessionRow s.domain s.grants (got number t ∷ deeds) (gives_vouch kind number first)) (sym form.is) (vouches form.fields form.sealer form.name form.whole form.used speaks first_is) in
-      gives_second r kind first grant_is (vouch_spells atoms z number asked.words is.reading r t (second_spells r kind first read number_is yes_held form) (short_name 113 asked.request r.uid taken.uid) ∙ ap Ok (sym answer_is)) form row
+      gives_second r kind first grant_is (vouch_spells atoms z asked.tables number asked.words is.reading r t (second_spells r kind first read number_is yes_held form) (short_name 113 asked.request r.uid taken.uid) ∙ ap Ok (sym answer_is)) form row
   gift deed (by_refusal kept) form = record { row = refusal; arrives = λ run. tt; label = plain given; one = refl; spells = refl }

@@ -3,10 +3,10 @@ use Rattle.std.proofs.Common.{◌≡◌, ℕ, List, [], ◌∷◌, Option, Some,
 use Rattle.wire_histories.specs.declared.step.Protocol.{Protocol}
 use Rattle.wire_histories.specs.declared.step.Role.{Role as Part}
 use Rattle.wire_histories.specs.declared.step.Step.{Step}
-use Rattle.wire_histories.specs.declared.step.Step.TheVariants.{Start, Out, In, Ask, Heard, Unheard, Accept, Fail, Reply, Refused, AsGot, AsGave, AsEnd}
+use Rattle.wire_histories.specs.declared.step.Step.TheVariants.{Start, Out, In, Ask, Heard, Unheard, Accept, Fail, Reply, Refused, AsGot, AsGave, AsEnd, Restart, Reload}
 use Rattle.symbolic_runs.specs.Spellings.{Atoms}
 use Rattle.symbolic_runs.specs.Runs.{Setting as Symbolic}
-use Rattle.wire_histories.specs.Histories.{History, Act, started, gave, took, asked, answered, unanswered, accepted, failed, Deal, requested, replied, ended, act_in, deal_in, if_named}
+use Rattle.wire_histories.specs.Histories.{History, Act, started, gave, took, asked, answered, unanswered, accepted, failed, Deal, requested, replied, ended, act_in, deal_in, if_named, reloads_in}
 use Rattle.clean_runs.specs.Labels.{Labelling, starts_in, started_as, taken, given}
 use Rattle.clean_runs.specs.Runs.{conv_events, session_events, events_of, role_at, holder_at}
 use Rattle.clean_runs.specs.Clean.{FormsStep, GoesOn}
@@ -77,11 +77,12 @@ pub record Does (conv : List ℕ) (act : Act) (step : Step) : Type 0 where
   pub given : given step ≡ given_by act
   pub forms : (atoms : Atoms) (s : Symbolic) (l : Labelling) (past : History) → goes_on act ≡ true → FormsStep atoms s l past step → GoesOn atoms s l conv past
 
-pub record Deals (session : List ℕ) (deal : Deal) (step : Step) : Type 0 where
+-- a deal of a session, by the number of the tables that are in force
+pub record Deals (session : List ℕ) (deal : ℕ → Deal) (step : Step) : Type 0 where
   pub none : StartsNone step
   pub acts : (name : List ℕ) → act_in name step ≡ []
-  pub deals : (name : List ℕ) → deal_in name step ≡ if_named session name deal
-  pub events : (s : Symbolic) (l : Labelling) (past : History) → events_of s l past step ≡ session_events l past session deal
+  pub deals : (tables : ℕ) (name : List ℕ) → deal_in tables name step ≡ if_named session name (deal tables)
+  pub events : (s : Symbolic) (l : Labelling) (past : History) → events_of s l past step ≡ session_events l past session (deal (reloads_in past))
   pub in_order : (past : History) → InOrder past step
 
 pub record SaysNothing (step : Step) : Type 0 where
@@ -94,7 +95,7 @@ pub record SaysNothing (step : Step) : Type 0 where
 pub data Kind : Step → Type 0 where
   begins : (conv : List ℕ) (protocol : Protocol) (role : Part) (word : List ℕ) → Kind (Start conv protocol role word)
   does : {step : Step} (conv : List ℕ) (act : Act) → Does conv act step → Kind step
-  deals : {step : Step} (session : List ℕ) (deal : Deal) → Deals session deal step → Kind step
+  deals : {step : Step} (session : List ℕ) (deal : ℕ → Deal) → Deals session deal step → Kind step
   nothing : {step : Step} → SaysNothing step → Kind step
 
 -- what each step does
@@ -130,6 +131,8 @@ kind (Accept conv cuid suid) = does conv (accepted cuid suid) (accept_does conv 
 kind (Fail conv cause) = does conv (failed cause) (fail_does conv cause)
 kind (Reply conv answer) = nothing (record { none = record { starts = λ past. refl; started = λ name past. refl; roles = λ past n. refl; holders = λ l past n. refl }; acts = λ name. refl; events = λ s l past. refl; in_order = λ past. tt; given = refl })
 kind (Refused node answer) = nothing (record { none = record { starts = λ past. refl; started = λ name past. refl; roles = λ past n. refl; holders = λ l past n. refl }; acts = λ name. refl; events = λ s l past. refl; in_order = λ past. tt; given = refl })
-kind (AsGot session b words) = deals session (requested b words) (record { none = record { starts = λ past. refl; started = λ name past. refl; roles = λ past n. refl; holders = λ l past n. refl }; acts = λ name. refl; deals = λ name. refl; events = λ s l past. refl; in_order = λ past. tt })
-kind (AsGave number session b) = deals session (replied b) (record { none = record { starts = λ past. refl; started = λ name past. refl; roles = λ past n. refl; holders = λ l past n. refl }; acts = λ name. refl; deals = λ name. refl; events = λ s l past. refl; in_order = λ past. tt })
-kind (AsEnd session) = deals session ended (record { none = record { starts = λ past. refl; started = λ name past. refl; roles = λ past n. refl; holders = λ l past n. refl }; acts = λ name. refl; deals = λ name. refl; events = λ s l past. refl; in_order = λ past. tt })
+kind (AsGot session b words) = deals session (λ tables. requested tables b words) (record { none = record { starts = λ past. refl; started = λ name past. refl; roles = λ past n. refl; holders = λ l past n. refl }; acts = λ name. refl; deals = λ tables name. refl; events = λ s l past. refl; in_order = λ past. tt })
+kind (AsGave number session b) = deals session (λ tables. replied b) (record { none = record { starts = λ past. refl; started = λ name past. refl; roles = λ past n. refl; holders = λ l past n. refl }; acts = λ name. refl; deals = λ tables name. refl; events = λ s l past. refl; in_order = λ past. tt })
+kind (AsEnd session) = deals session (λ tables. ended) (record { none = record { starts = λ past. refl; started = λ name past. refl; roles = λ past n. refl; holders = λ l past n. refl }; acts = λ name. refl; deals = λ tables name. refl; events = λ s l past. refl; in_order = λ past. tt })
+kind (Restart node) = nothing (record { none = record { starts = λ past. refl; started = λ name past. refl; roles = λ past n. refl; holders = λ l past n. refl }; acts = λ name. refl; events = λ s l past. refl; in_order = λ past. tt; given = refl })
+kind Reload = nothing (record { none = record { starts = λ past. refl; started = λ name past. refl; roles = λ past n. refl; holders = λ l past n. refl }; acts = λ name. refl; events = λ s l past. refl; in_order = λ past. tt; given = refl })

@@ -16,7 +16,7 @@ use Rattle.clean_runs.proofs.Readings.{small}
 use Rattle.wire_base.specs.Names.{name_field}
 use Rattle.std.specs.Prelude.{codes}
 
-all : (k : Secrets) (spoken : List ℕ → Option Spoken) → Everywhere (LabelsStep (reading k) (setting_of (login_setting k spoken) labelling (login k)) labelling) (login k)
+pub all : (k : Secrets) (spoken : List ℕ → Option Spoken) → Everywhere (LabelsStep (reading k) (setting_of (login_setting k spoken) labelling (login k)) labelling) (login k)
 unfolding request_of request_fields name_in before_nul is_text is_utf8 chars encode may_speak
 all k spoken = (
   tt,

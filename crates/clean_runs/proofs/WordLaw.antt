@@ -1,7 +1,7 @@
 -- In a clean record a word is used once.
 use Rattle.std.proofs.Common.{◌≡◌, ℕ, ◌+◌, ◌≤◌, List, [], ◌∷◌, ◌++◌, length, true, refl, sym, ap, ◌∙◌, arith}
 use Rattle.wire_histories.specs.declared.step.Step.{Step}
-use Rattle.wire_histories.specs.declared.step.Step.TheVariants.{Start, Out, In, Ask, Heard, Unheard, Accept, Fail, Reply, Refused, AsGot, AsGave, AsEnd}
+use Rattle.wire_histories.specs.declared.step.Step.TheVariants.{Start, Out, In, Ask, Heard, Unheard, Accept, Fail, Reply, Refused, AsGot, AsGave, AsEnd, Restart, Reload}
 use Rattle.wire_histories.specs.declared.step.Protocol.{Protocol}
 use Rattle.wire_histories.specs.declared.step.Role.{Role as Part}
 use Rattle.symbolic_runs.specs.Trees.{nonce}
@@ -35,6 +35,8 @@ no_fewer (Refused node text) past = omega arith
 no_fewer (AsGot session b words) past = omega arith
 no_fewer (AsGave number session b) past = omega arith
 no_fewer (AsEnd session) past = omega arith
+no_fewer (Restart node) past = omega arith
+no_fewer Reload past = omega arith
 
 more : (later : History) (conv : List ℕ) (protocol : Protocol) (part : Part) (random : List ℕ) (past : History) → starts_in past + 1 ≤ starts_in (later ++ Start conv protocol part random ∷ past)
 more [] conv protocol part random past = omega arith

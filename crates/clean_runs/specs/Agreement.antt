@@ -17,10 +17,11 @@ use Rattle.symbolic_runs.specs.Moves.{Role, client, server, mail_client, Move, t
 use Rattle.symbolic_runs.specs.Sessions.{Grant, keys, key_and_password, held, ticket_for_server, vouched_ticket}
 use Rattle.symbolic_runs.specs.Runs.{given as labels_given}
 use Rattle.symbolic_runs.specs.Agreement.{is_server, server_name, client_name, Shows}
-use Rattle.wire_histories.specs.Histories.{History, requested}
+use Rattle.wire_histories.specs.Histories.{History, reloads_in, requested}
 use Rattle.wire_histories.specs.Legal.{Setting}
+use Rattle.clean_runs.specs.KeyNames.{key_name, speakers}
 use Rattle.clean_runs.specs.Labels.{Labelling, Dealt, dealt, labelled, requests_in}
-use Rattle.clean_runs.specs.Runs.{accepted_field, deeds_by, events_of, grant_by, mail_kind, moves_by, number_of, role_by, setting_of, speakers}
+use Rattle.clean_runs.specs.Runs.{accepted_field, deeds_by, events_of, grant_by, mail_kind, moves_by, number_of, role_by, setting_of}
 
 -- in a history a step stands right behind this past
 pub record Happens (history past : History) (step : Step) : Type 0 where
@@ -75,11 +76,19 @@ pub record IsMade (history : History) (z : Setting) (l : Labelling) (number : �
   pub ok : kind_of reply ≡ 4
   pub older : List Dealt
   pub newest : dealt l session past
-      ≡ record { deal = requested request words; number = number; label = l.label (length asked) } ∷ older
+      ≡ record {
+        deal = requested (reloads_in asked) request words;
+        number = number;
+        label = l.label (length asked);
+      } ∷ older
+
+-- the number of the tables that were in force when its request came
+abbrev pub tables_of : {history : History} {z : Setting} {l : Labelling} {number : ℕ} → IsMade history z l number → ℕ
+tables_of made = reloads_in made.asked
 
 -- what it used, who may speak for its user, and what its tickets hold
 abbrev pub granted : {history : History} {z : Setting} {l : Labelling} {number : ℕ} → IsMade history z l number → Grant
-granted {z} {l} made = grant_by z.server (Ok made.read) (l.label (length made.asked))
+granted {z} {l} made = grant_by z (tables_of made) (Ok made.read) (l.label (length made.asked))
 
 -- its ticket for the server
 abbrev pub server_ticket : {history : History} {z : Setting} {l : Labelling} {number : ℕ} → IsMade history z l number
@@ -117,27 +126,27 @@ pub record IsUnder {history : History} (l : Labelling) (a : Acceptance history) 
   pub by_ticket : IsByTicket l a (seal key (ticket for_server chal cuid suid (ticket_key number)))
 
 -- an acceptance rests on a grant: it is under it, and the grant was made before; its ticket, by which the server
--- accepts, was sealed under the key of the server's holder, whom the request named, with the user accepted and the
--- conversation's own word as challenge
+-- accepts, was sealed under the key of the server's holder, the key name of whom the request named, with the user
+-- accepted and the conversation's own word as challenge
 pub record IsGrantedTo {history : History} (z : Setting) (l : Labelling) (a : Acceptance history)
     (number : ℕ) : Type 0 where
   pub under : IsUnder l a number
   pub made : IsMade a.past z l number
   pub by_its_ticket : IsByTicket l a (server_ticket made)
   pub sealed_for : server_name (granted made).used ≡ Some (l.holder a.conv)
-  pub named : made.read.authid ≡ l.holder a.conv
+  pub named : key_name z.tables (tables_of made) made.read.authid ≡ l.holder a.conv
   pub user : (granted made).user ≡ user_of l a
   pub chal : (granted made).chal ≡ nonce (number_of a.conv a.past)
 
 -- before this place a conversation matched a grant and a user
 pub data Matches (history past : History) (z : Setting) (l : Labelling) {number : ℕ} (made : IsMade past z l number)
     (user conv : List ℕ) : Type 0 where
-  -- a p9sk1 client whose holder is the host of the grant, with whose key it was made and who may speak for its
-  -- user: it opened a ticket with the grant's key, its challenge and this user, and gave the ticket that it had
-  -- with it and its authenticator
+  -- a p9sk1 client whose holder is the key name of the grant's host, with whose key it was made and who may speak
+  -- for its user: it opened a ticket with the grant's key, its challenge and this user, and gave the ticket that it
+  -- had with it and its authenticator
   client_matches : {sealer : Option (List ℕ)} {message : ℕ} {b : List ℕ} {handed : Tree} {cuid : List ℕ} {before : List Move} {gave : History} →
       plays conv gave ≡ Some client → (granted made).used ≡ keys sealer (Some (l.holder conv))
-      → Contains (speakers z.server made.read.uid) (l.holder conv) →
+      → Contains (speakers z (tables_of made) made.read.uid) (l.holder conv) →
       moves_in l client conv gave
       ≡ hears (tickets (seal (long_key (l.holder conv))
       (ticket for_client (granted made).chal cuid user (ticket_key number))) handed) ∷ before →
@@ -145,14 +154,14 @@ pub data Matches (history past : History) (z : Setting) (l : Labelling) {number 
       gives_labels history z l gave (Out message conv b) ≡ client_message handed (ticket_key number) (granted made).chal
       ∷ [] →
       Matches history past z l made user conv
-  -- a mail client whose holder is the user of the grant, whose password it was made with: it gave its digest of the
-  -- challenge, a right answer to which the grant vouches for
+  -- a mail client whose holder is the key name of the grant's user, whose password it was made with: it gave its
+  -- digest of the challenge, a right answer to which the grant vouches for
   mail_client_matches : {sealer : Option (List ℕ)} {message first : ℕ} {b : List ℕ} {kind : MacKind} {gave : History} →
       plays conv gave ≡ Some (mail_client kind) → (granted made).used ≡ key_and_password sealer (l.holder conv) →
       held (deeds_by made.older) kind ≡ Some first → mail_kind made.request ≡ kind →
       Happens past gave (Out message conv b) →
       gives_labels history z l gave (Out message conv b)
-      ≡ digest kind (password (l.holder conv)) (mail_challenge z.server.dom first) ∷ [] →
+      ≡ digest kind (password (l.holder conv)) (mail_challenge z.dom first) ∷ [] →
       Matches history past z l made user conv
 
 -- a grant and a user have a match before this place
@@ -186,9 +195,9 @@ pub record IsClientUnder {history : History} (l : Labelling) (a : ClientAcceptan
       ∷ hears (tickets (seal (long_key (l.holder a.conv))
       (ticket for_client chal cuid suid (ticket_key number))) handed) ∷ before
 
--- before a client accepts, a server answered it: its holder is the name that the grant's request named and whose key
--- sealed the ticket for the server, it accepted by that very ticket, and it gave its authenticator for this client's
--- word under the grant's key
+-- before a client accepts, a server answered it: its holder is the key name of whom the grant's request named, and
+-- that key sealed the ticket for the server; it accepted by that very ticket, and it gave its authenticator for this
+-- client's word under the grant's key
 pub record IsAnswered (history : History) (z : Setting) (l : Labelling) (a : ClientAcceptance history)
     (number : ℕ) : Type 0 where
   pub made : IsMade a.past z l number
@@ -206,11 +215,11 @@ pub record IsAnswered (history : History) (z : Setting) (l : Labelling) (a : Cli
   pub answered : gives_labels history z l gave (Out message conv b)
       ≡ server_message (ticket_key number) (nonce (number_of a.conv a.past)) ∷ []
 
--- a client accepts under a grant of tickets that was made before, the host of which is its holder
+-- a client accepts under a grant of tickets that was made before, the key name of whose host is its holder
 pub record IsHost {history : History} (z : Setting) (l : Labelling) (a : ClientAcceptance history)
     (number : ℕ) : Type 0 where
   pub under : IsClientUnder l a number
   pub made : IsMade a.past z l number
   pub sealer : Option (List ℕ)
   pub used : (granted made).used ≡ keys sealer (Some (l.holder a.conv))
-  pub host : made.read.hostid ≡ l.holder a.conv
+  pub host : key_name z.tables (tables_of made) made.read.hostid ≡ l.holder a.conv

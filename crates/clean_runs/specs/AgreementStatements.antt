@@ -6,11 +6,12 @@ use Rattle.symbolic_runs.specs.Spellings.{Atoms, bytes_of, spelling}
 use Rattle.symbolic_runs.specs.Secrets.{is_compromised, is_exposed}
 use Rattle.wire_histories.specs.Histories.{History}
 use Rattle.wire_histories.specs.Legal.{Setting}
+use Rattle.clean_runs.specs.KeyNames.{speakers}
 use Rattle.clean_runs.specs.Labels.{Labelling}
-use Rattle.clean_runs.specs.Runs.{setting_of, speakers}
-use Rattle.clean_runs.specs.Agreement.{Acceptance, ClientAcceptance, IsAnswered, IsByTicket, IsClientUnder, IsGrantedTo, IsHost, IsMatched, IsUnder, Matches, user_of}
+use Rattle.clean_runs.specs.Runs.{setting_of}
+use Rattle.clean_runs.specs.Agreement.{Acceptance, ClientAcceptance, IsAnswered, IsByTicket, IsClientUnder, IsGrantedTo, IsHost, IsMade, IsMatched, IsUnder, Matches, tables_of, user_of}
 
--- a name isn't compromised
+-- a key name isn't compromised
 abbrev pub IsTrue : History → Setting → Labelling → List ℕ → Type 0
 IsTrue history z l name = is_compromised (setting_of z l history) name ≡ false
 
@@ -22,19 +23,21 @@ IsTrueServer history z l a = IsTrue history z l (l.holder a.conv)
 abbrev pub ServersNameTheUser : History → Labelling → Type 0
 ServersNameTheUser history l = (a : Acceptance history) → name_text (user_of l a) ≡ a.suid
 
--- none of the names that may speak for a user is compromised
-abbrev pub SpeakersAreTrue : History → Setting → Labelling → List ℕ → Type 0
-SpeakersAreTrue history z l user = (name : List ℕ) → Contains (speakers z.server user) name → IsTrue history z l name
+-- of those who may speak for the user of a grant, by the tables that were in force, no key name is compromised
+abbrev pub SpeakersAreTrue : (history : History) {past : History} (z : Setting) (l : Labelling) {number : ℕ}
+    → IsMade past z l number → Type 0
+SpeakersAreTrue history z l made =
+    (name : List ℕ) → Contains (speakers z (tables_of made) made.read.uid) name → IsTrue history z l name
 
 -- a true server's acceptance rests on a grant
 abbrev pub ServersAgree : History → Setting → Labelling → Type 0
 ServersAgree history z l =
     (a : Acceptance history) → IsTrueServer history z l a → (number : ℕ) × IsGrantedTo z l a number
 
--- where also the names that may speak for the user are true, the acceptance has a match before it
+-- where also those who may speak for the user are true, the acceptance has a match before it
 abbrev pub ClientsMatch : History → Setting → Labelling → Type 0
 ClientsMatch history z l = (a : Acceptance history) → IsTrueServer history z l a
-    → (number : ℕ) (g : IsGrantedTo z l a number) → SpeakersAreTrue history z l g.made.read.uid
+    → (number : ℕ) (g : IsGrantedTo z l a number) → SpeakersAreTrue history z l g.made
     → IsMatched history a.past z l g.made (user_of l a)
 
 -- each acceptance is by a ticket; two by one ticket are one

@@ -1,8 +1,8 @@
 -- Clean histories: ideal assumptions on a labelled history and a reading of its atoms, which no program checks. (i)
 -- The reading spells each word, key and password by its atom, and different atoms of a kind differently. (ii) What is
 -- taken is spelled by its label, and the label derives from what is known at its place: the keys and passwords of the
--- compromised names, and the labels of what was given before (Dolev and Yao, On the Security of Public Key Protocols,
--- 1983). (iii) The label of a message whose tests all passed has the form of its move.
+-- compromised key names, and the labels of what was given before (Dolev and Yao, On the Security of Public Key
+-- Protocols, 1983). (iii) The label of a message whose tests all passed has the form of its move.
 use Rattle.std.specs.Prelude.{◌≡◌, ℕ, ◌+◌, ◌*◌, ◌<◌, ◌^◌, List, [], ◌∷◌, ◌++◌, All, Bool, true, false, length, Option, Some, None, Ok, unwrap_or}
 use Rattle.hex.specs.Hex.{encode_lower}
 use Rattle.symbolic_runs.specs.Trees.{Tree, Trees, plain, nonce, challenge, long_key, ticket_key, junk_key, password, joined, seal, digest, none, piece}
@@ -18,7 +18,8 @@ use Rattle.symbolic_runs.specs.Moves.{Role, client, server, mail_client, mail_se
 use Rattle.symbolic_runs.specs.Sessions.{Deed}
 use Rattle.symbolic_runs.specs.Runs.{Setting as Symbolic, known, own_of}
 use Rattle.wire_histories.specs.Histories.{History, replied}
-use Rattle.wire_histories.specs.Legal.{Setting, Spoken, known_to}
+use Rattle.wire_histories.specs.Legal.{Setting, Spoken, known_at}
+use Rattle.clean_runs.specs.KeyNames.{key_name}
 use Rattle.clean_runs.specs.Labels.{Labelling, starts_in, requests_in, labelled, dealt, taken}
 use Rattle.clean_runs.specs.Runs.{deeds_by, deeds_for_deal, moves_by, number_of, role_by, run_from, setting_of}
 use Rattle.clean_runs.specs.Forms.{IsAnswered, IsFormed}
@@ -57,14 +58,15 @@ ReadsStep atoms past (Start conv protocol role random) = ReadsWord atoms (role_b
 ReadsStep atoms past (AsGot session b words) = ReadsWords atoms (requests_in past) words
 ReadsStep atoms past step = Unit {0}
 
--- the keys and passwords of the authentication server's table are read as those of their names
+-- the keys and passwords of all tables of the authentication server are read as those of their key names
 abbrev pub ReadsPassword : Atoms → List ℕ → Option (List ℕ) → Type 0
 ReadsPassword atoms name None = Unit {0}
 ReadsPassword atoms name (Some text) = Reads atoms (password name) text
 
-abbrev pub ReadsTable : Atoms → Setting → Type 0
-ReadsTable atoms z = (name : List ℕ) (key : UserKey) → (known_to z).key name ≡ Some key
-    → Reads atoms (long_key name) key.des × ReadsPassword atoms name key.password
+abbrev pub ReadsTables : Atoms → Setting → Type 0
+ReadsTables atoms z = (number : ℕ) (name : List ℕ) (key : UserKey) → (known_at z number).key name ≡ Some key
+    → Reads atoms (long_key (key_name z.tables number name)) key.des
+    × ReadsPassword atoms (key_name z.tables number name) key.password
 
 -- the key of a conversation, the one that it found last, is read as that of its holder, and of a mail client the
 -- password
@@ -177,7 +179,7 @@ pub record IsClean (history : History) (z : Setting) (atoms : Atoms) (l : Labell
   pub bytes : GivesBytes atoms
   pub sevens : GivesSevens atoms
   pub words : AtEachPlace history (ReadsStep atoms)
-  pub table : ReadsTable atoms z
+  pub tables : ReadsTables atoms z
   pub holders : AtEachPlace history (ReadsHolder atoms z l)
   pub nonces_apart : AreApart atoms is_nonce
   pub challenges_apart : AreApart atoms is_challenge

@@ -12,6 +12,7 @@ use Rattle.clean_runs.specs.Labels.{Labelling}
 use Rattle.clean_runs.specs.Clean.{IsClean}
 use Rattle.clean_runs.specs.Runs.{role_by}
 use Rattle.clean_runs.specs.MailLogin as mail
+use Rattle.clean_runs.specs.Removal.{removal, removal_setting}
 use Rattle.clean_runs.specs.Login.{HasKey, Secrets, conv_c, conv_s, key_bytes, labelling, login, login_setting, reading, spoken, word_bytes}
 
 abbrev pub AreBytes : List ℕ → Type 0
@@ -56,6 +57,11 @@ pub record IsLegalAndClean (history : History) (z : Setting) (atoms : Atoms) (l 
 abbrev pub LoginIsLegal : Type 0
 LoginIsLegal = (k : Secrets) → AreFresh k
     → IsLegalAndClean (login k) (login_setting k (spoken k)) (reading k) labelling
+
+-- so is this one with a removal behind it, and a restart
+abbrev pub RemovalIsLegal : Type 0
+RemovalIsLegal = (k : Secrets) → AreFresh k
+    → IsLegalAndClean (removal k) (removal_setting k) (reading k) labelling
 
 -- the words, keys and passwords of a login by APOP are bytes; the keys differ, those that are made up too, and so do
 -- the passwords

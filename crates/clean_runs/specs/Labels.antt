@@ -1,16 +1,17 @@
--- A labelling of a history: which names are compromised, the name that holds the key of each conversation, and a tree
--- for each message that is taken. A step is told by its place, the number of steps before it; the starts of
+-- A labelling of a history: which key names are compromised, the key name of each conversation's key, and a tree for
+-- each message that is taken. A step is told by its place, the number of steps before it; the starts of
 -- conversations and the requests to the authentication server are numbered from 0.
 use Rattle.std.specs.Prelude.{ℕ, ◌+◌, List, [], ◌∷◌, ◌++◌, length, map, Option, Some, None, if◌then◌else◌}
 use Rattle.std.specs.Str.{bytes_eq}
 use Rattle.symbolic_runs.specs.Trees.{Tree}
 use Rattle.wire_histories.specs.declared.step.Step.{Step}
 use Rattle.wire_histories.specs.declared.step.Step.TheVariants.{Start, Out, In, Ask, Heard, AsGot, AsGave}
-use Rattle.wire_histories.specs.Histories.{History, Act, Deal, act_in, deal_in}
+use Rattle.wire_histories.specs.Histories.{History, Act, Deal, act_in, deal_in, reloads_in}
 
 pub record Labelling : Type 0 where
+  -- key names
   pub compromised : List (List ℕ)
-  -- by the conversation's name
+  -- the key name of a conversation's key, by the conversation's name
   pub holder : List ℕ → List ℕ
   -- by the place of the step that takes
   pub label : ℕ → Tree
@@ -72,7 +73,7 @@ dealt l name (step ∷ past) = map (λ deal. record {
   number = requests_in past;
   label = l.label
       (length past);
-}) (deal_in name step) ++ dealt l name past
+}) (deal_in (reloads_in past) name step) ++ dealt l name past
 
 -- the bytes that a step takes from the network, and those that it gives to it
 abbrev pub taken : Step → Option (List ℕ)

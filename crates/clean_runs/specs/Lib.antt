@@ -1,3 +1,4 @@
+pub mod KeyNames
 pub mod Labels
 pub mod Runs
 pub mod Forms
@@ -6,5 +7,6 @@ pub mod Statements
 pub mod Agreement
 pub mod AgreementStatements
 pub mod Login
+pub mod Removal
 pub mod MailLogin
 pub mod ExampleStatements

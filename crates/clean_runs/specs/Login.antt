@@ -6,7 +6,6 @@ use Rattle.std.specs.Str.{bytes_eq}
 use Rattle.hex.specs.Hex.{encode_lower}
 use Rattle.sealing.specs.Sealing.{sealed}
 use Rattle.wire_base.specs.Names.{name_field}
-use Rattle.auth_server.specs.Standing.{Server}
 use Rattle.auth_tables.specs.Keys.{UserKey}
 use Rattle.roles.specs.declared.key.SkKey.{SkKey}
 use Rattle.roles.specs.Starts.{Start, start_with}
@@ -19,7 +18,7 @@ use Rattle.wire_histories.specs.declared.step.Step.TheVariants.{Start as Starts,
 use Rattle.wire_histories.specs.declared.step.Protocol.TheVariants.{P9any}
 use Rattle.wire_histories.specs.declared.step.Role.TheVariants.{Client, Server as Serves}
 use Rattle.wire_histories.specs.Histories.{History}
-use Rattle.wire_histories.specs.Legal.{Setting, Spoken}
+use Rattle.wire_histories.specs.Legal.{Setting, Spoken, Tables}
 use Rattle.clean_runs.specs.Labels.{Labelling}
 
 -- ---- what is drawn and known
@@ -132,9 +131,8 @@ login k =
 abbrev pub user_key : Word → List ℕ → UserKey
 user_key key secret = record { des = key_bytes key; password = Some secret }
 
-abbrev pub tables : Secrets → Server
+abbrev pub tables : Secrets → Tables
 tables k = record {
-  dom = codes "x";
   keys = (ann, user_key k.ann_key k.ann_password) ∷ (srv, user_key k.srv_key k.srv_password) ∷ [];
   speaks = [];
 }
@@ -182,7 +180,7 @@ HasKey key None = ⊥
 HasKey key (Some spoken) = last_key spoken.met ≡ Some (key_bytes key)
 
 abbrev pub login_setting : Secrets → (List ℕ → Option Spoken) → Setting
-login_setting k spoken = record { spoken = spoken; server = tables k }
+login_setting k spoken = record { spoken = spoken; dom = codes "x"; tables = tables k ∷ [] }
 
 -- ---- its reading, and its labelling
 

@@ -7,7 +7,6 @@ use Rattle.hex.specs.Hex.{encode_lower}
 use Rattle.sealing.specs.Answer.{apop_digits}
 use Rattle.sealing.specs.Sealing.{sealed}
 use Rattle.wire_base.specs.Names.{name_field}
-use Rattle.auth_server.specs.Standing.{Server}
 use Rattle.roles.specs.declared.key.SkKey.{SkKey}
 use Rattle.roles.specs.Talks.{found}
 use Rattle.symbolic_runs.specs.declared.kind.MacKind.TheVariants as mac
@@ -18,7 +17,7 @@ use Rattle.wire_histories.specs.declared.step.Step.TheVariants.{Start as Starts,
 use Rattle.wire_histories.specs.declared.step.Protocol.TheVariants.{Apop}
 use Rattle.wire_histories.specs.declared.step.Role.TheVariants.{Client, Server as Serves}
 use Rattle.wire_histories.specs.Histories.{History}
-use Rattle.wire_histories.specs.Legal.{Setting, Spoken}
+use Rattle.wire_histories.specs.Legal.{Setting, Spoken, Tables}
 use Rattle.clean_runs.specs.Labels.{Labelling}
 use Rattle.clean_runs.specs.Login.{Word, ann, conv_c, conv_s, key_bytes, key_of, name_28, session_r, srv, start_as, tree_at, user_key, word_bytes}
 
@@ -106,9 +105,8 @@ login k =
 
 -- ---- its setting
 
-abbrev pub tables : Secrets → Server
+abbrev pub tables : Secrets → Tables
 tables k = record {
-  dom = codes "x";
   keys = (ann, user_key k.ann_key k.ann_password) ∷ (srv, user_key k.srv_key k.srv_password) ∷ [];
   speaks = [];
 }
@@ -138,7 +136,7 @@ spoken k name =
     else None
 
 abbrev pub setting : Secrets → Setting
-setting k = record { spoken = spoken k; server = tables k }
+setting k = record { spoken = spoken k; dom = codes "x"; tables = tables k ∷ [] }
 
 -- ---- its reading, and its labelling
 

@@ -2,7 +2,7 @@
 -- computed from what was done before (authsrv(6) of the Plan 9 manual), with the names of a request as they stand in
 -- its bytes. Before p9any has chosen, what is given are bytes that anybody may know. A message behind a
 -- conversation's last move, which is told that it is done, is no event.
-use Rattle.std.specs.Prelude.{ℕ, ◌==◌, List, [], ◌∷◌, ◌++◌, Bool, true, false, length, take, map, filter, is_some, Option, Some, None, Result, Ok, Err, if◌then◌else◌}
+use Rattle.std.specs.Prelude.{ℕ, ◌==◌, List, [], ◌∷◌, ◌++◌, Bool, true, false, length, take, map, Option, Some, None, Result, Ok, Err, if◌then◌else◌}
 use Rattle.std.specs.List.{list_any}
 use Rattle.wire_base.specs.Names.{name_field}
 use Rattle.symbolic_runs.specs.declared.kind.MacKind.{MacKind}
@@ -12,24 +12,22 @@ use Rattle.sealing.specs.Fields.{field}
 use Rattle.sealing.specs.Request.{request_of}
 use Rattle.sealing.specs.declared.fault.FieldFault.{FieldFault}
 use Rattle.sealing.specs.declared.request.TicketReq.{TicketReq}
-use Rattle.auth_tables.specs.Speaks.{may_speak, names_of}
 use Rattle.auth_server.specs.Requests.{kind_of}
-use Rattle.auth_server.specs.Answers.{Knowledge}
-use Rattle.auth_server.specs.Standing.{Server, knowledge}
 use Rattle.conv_p9any.specs.Offers.{consents}
 use Rattle.wire_histories.specs.declared.step.Protocol.{Protocol}
 use Rattle.wire_histories.specs.declared.step.Protocol.TheVariants.{P9sk1, P9any, Apop, Cram}
 use Rattle.wire_histories.specs.declared.step.Role.{Role as Part}
 use Rattle.wire_histories.specs.declared.step.Role.TheVariants as part
 use Rattle.wire_histories.specs.declared.step.Step.{Step}
-use Rattle.wire_histories.specs.declared.step.Step.TheVariants.{Start, Out, In, Ask, Heard, Unheard, Accept, Fail, Reply, Refused, AsGot, AsGave, AsEnd}
+use Rattle.wire_histories.specs.declared.step.Step.TheVariants.{Start, Out, In, Ask, Heard, Unheard, Accept, Fail, Reply, Refused, AsGot, AsGave, AsEnd, Restart, Reload}
 use Rattle.symbolic_runs.specs.Forms.{Fields}
 use Rattle.symbolic_runs.specs.Moves.{Role, client, server, mail_client, mail_server, Move, takes, hears, gives, accepts, fails, Own}
 use Rattle.symbolic_runs.specs.Sessions.{keys, key_and_password, Grant, Deed, got, gives_tickets, gives_challenge, gives_vouch, refuses, held}
 use Rattle.symbolic_runs.specs.Gifts.{bytes, next_gift, opened, part as piece_of, shown}
 use Rattle.symbolic_runs.specs.Runs.{Setting as Symbolic, Event, starts, talks, moves, serves, Run, own_of}
-use Rattle.wire_histories.specs.Histories.{History, Act, started, gave, took, asked, answered, unanswered, accepted, failed, Deal, requested, replied, ended}
-use Rattle.wire_histories.specs.Legal.{Setting}
+use Rattle.wire_histories.specs.Histories.{History, Act, started, gave, took, asked, answered, unanswered, accepted, failed, Deal, requested, replied, ended, reloads_in}
+use Rattle.wire_histories.specs.Legal.{Setting, known_at}
+use Rattle.clean_runs.specs.KeyNames.{key_name, known_name, speakers}
 use Rattle.clean_runs.specs.Labels.{Labelling, Labelled, Dealt, starts_in, requests_in, started_as, opened_as, or_so, or_zero, labelled, dealt}
 
 -- ---- roles and holders of the conversations by the numbers of their starts
@@ -64,35 +62,26 @@ holder_at l (step ∷ past) number = holder_at l past number
 
 -- ---- what was used and granted at each request
 
--- a name whose key the authentication server has, and none where the key is made up
-abbrev pub known_name : Knowledge → List ℕ → Option (List ℕ)
-known_name known name = if is_some (known.key name) then Some name else None
-
 abbrev pub name_where : Bool → Option (List ℕ) → Option (List ℕ)
 name_where may name = if may then name else None
 
--- the names that may speak for a user, himself among them
-abbrev pub speakers : Server → List ℕ → List (List ℕ)
-speakers tables user = user ∷ filter (λ host. may_speak (names_of host tables.speaks) host user)
-    (map (λ line. line.0) tables.speaks)
-
 -- a ticket request uses the keys of the server and of the host, where the host may speak for the user; a mail request
--- the key of the server and the password of the user. The challenge is that of the request's label, the names are
--- written anew
-abbrev pub tickets_for : Server → TicketReq → Tree → Grant
-tickets_for tables r label = record {
-  used = keys (name_where ((knowledge tables).speaks r.hostid r.uid) (known_name (knowledge tables) r.authid))
-      (name_where ((knowledge tables).speaks r.hostid r.uid) (known_name (knowledge tables) r.hostid));
-  speakers = speakers tables r.uid;
+-- the key of the server and the password of the user. These are told by their key names in the tables of a number,
+-- which are in force. The challenge is that of the request's label, the names are written anew
+abbrev pub tickets_for : Setting → ℕ → TicketReq → Tree → Grant
+tickets_for z number r label = record {
+  used = keys (name_where ((known_at z number).speaks r.hostid r.uid) (known_name z number r.authid))
+      (name_where ((known_at z number).speaks r.hostid r.uid) (known_name z number r.hostid));
+  speakers = speakers z number r.uid;
   chal = piece_of label 3;
   host = name_field 28 r.hostid;
   user = name_field 28 r.uid;
 }
 
-abbrev pub vouch_for : Server → TicketReq → Tree → Grant
-vouch_for tables r label = record {
-  used = key_and_password (known_name (knowledge tables) r.authid) r.uid;
-  speakers = speakers tables r.uid;
+abbrev pub vouch_for : Setting → ℕ → TicketReq → Tree → Grant
+vouch_for z number r label = record {
+  used = key_and_password (known_name z number r.authid) (key_name z.tables number r.uid);
+  speakers = speakers z number r.uid;
   chal = piece_of (piece_of label 0) 3;
   host = name_field 28 r.uid;
   user = name_field 28 r.uid;
@@ -102,25 +91,25 @@ vouch_for tables r label = record {
 abbrev pub nothing_granted : Grant
 nothing_granted = record { used = keys None None; speakers = []; chal = plain []; host = []; user = [] }
 
-abbrev pub grant_by : Server → Result TicketReq FieldFault → Tree → Grant
-grant_by tables (Ok r) label = if r.kind == 1 then tickets_for tables r label else vouch_for tables r label
-grant_by tables (Err fault) label = nothing_granted
+abbrev pub grant_by : Setting → ℕ → Result TicketReq FieldFault → Tree → Grant
+grant_by z tables (Ok r) label = if r.kind == 1 then tickets_for z tables r label else vouch_for z tables r label
+grant_by z tables (Err fault) label = nothing_granted
 
-abbrev pub grant_at : Server → Labelling → History → ℕ → Grant
-grant_at tables l [] number = nothing_granted
-grant_at tables l (AsGot session b words ∷ past) number =
-    if requests_in past == number then grant_by tables (request_of b) (l.label (length past))
-    else grant_at tables l past number
-grant_at tables l (step ∷ past) number = grant_at tables l past number
+abbrev pub grant_at : Setting → Labelling → History → ℕ → Grant
+grant_at z l [] number = nothing_granted
+grant_at z l (AsGot session b words ∷ past) number =
+    if requests_in past == number then grant_by z (reloads_in past) (request_of b) (l.label (length past))
+    else grant_at z l past number
+grant_at z l (step ∷ past) number = grant_at z l past number
 
 -- the setting of the run
 abbrev pub setting_of : Setting → Labelling → History → Symbolic
 setting_of z l history = record {
   compromised = l.compromised;
-  domain = z.server.dom;
+  domain = z.dom;
   role = role_at history;
   holder = holder_at l history;
-  grants = grant_at z.server l history;
+  grants = grant_at z l history;
 }
 
 -- ---- what a conversation does, move by move
@@ -190,7 +179,7 @@ mail_kind request = if kind_of request == 7 then mac.Apop else mac.Cram
 
 -- the request that is answered: the newest
 abbrev pub is_request : Deal → Option (List ℕ)
-is_request (requested b words) = Some b
+is_request (requested tables b words) = Some b
 is_request (replied b) = None
 is_request ended = None
 
@@ -213,7 +202,7 @@ deeds_answering before [] b = []
 deeds_answering before (d ∷ older) b = map (λ request. deed_by before d.number request b) (if_some (is_request d.deal))
 
 abbrev pub deeds_for_deal : List Deed → List Dealt → Deal → ℕ → Tree → List Deed
-deeds_for_deal before older (requested b words) number label = got number label ∷ []
+deeds_for_deal before older (requested tables b words) number label = got number label ∷ []
 deeds_for_deal before older (replied b) number label = deeds_answering before older b
 deeds_for_deal before older ended number label = []
 
@@ -265,9 +254,11 @@ events_of s l past (Accept conv cuid suid) = conv_events s l past conv (accepted
 events_of s l past (Fail conv cause) = conv_events s l past conv (failed cause)
 events_of s l past (Reply conv answer) = []
 events_of s l past (Refused node answer) = []
-events_of s l past (AsGot session b words) = session_events l past session (requested b words)
+events_of s l past (AsGot session b words) = session_events l past session (requested (reloads_in past) b words)
 events_of s l past (AsGave number session b) = session_events l past session (replied b)
 events_of s l past (AsEnd session) = session_events l past session ended
+events_of s l past (Restart node) = []
+events_of s l past Reload = []
 
 abbrev pub run_from : Symbolic → Labelling → History → Run
 run_from s l [] = []

@@ -12,7 +12,10 @@ pub use agreement_laws::{
     matching_conversation, server_agreement,
 };
 pub use example_laws::{
-    a_clean_record_uses_a_word_once, a_login_is_clean, a_login_is_legal_and_clean,
-    a_mail_login_is_legal_and_clean,
+    a_clean_record_uses_a_word_once, a_login_and_a_removal_are_legal_and_clean, a_login_is_clean,
+    a_login_is_legal_and_clean, a_mail_login_is_legal_and_clean,
 };
-pub use laws::{clean_histories_are_symbolic_runs, clean_histories_keep_their_secrets};
+pub use laws::{
+    clean_histories_are_symbolic_runs, clean_histories_keep_their_secrets,
+    key_names_tell_keys_apart,
+};

@@ -139,6 +139,10 @@ pub(crate) fn step_of(alloc: Global, row: &Row) -> anyhow::Result<Step> {
         b"asend" => Ok(Step::AsEnd {
             session: bytes_at(alloc, row, 2)?,
         }),
+        b"restart" => Ok(Step::Restart {
+            node: bytes_at(alloc, row, 2)?,
+        }),
+        b"reload" => Ok(Step::Reload),
         _ => plain_of(alloc, row),
     }
 }

@@ -16,7 +16,8 @@ use Rattle.conv_challenge.specs.Starts.{proto_of, side_of, start_fault}
 use Rattle.talks.specs.Protocols.{protocol_of}
 use Rattle.wire_histories.specs.Histories.{Act, started, took, gave}
 use Rattle.wire_histories.specs.Conversations.{met_in, talk_acts}
-use Rattle.wire_histories.specs.Legal.{IsConversation, IsLegal, IsMet, IsRingKey, IsServed, IsTalk, MayBe, known_to}
+use Rattle.wire_histories.specs.Legal.{IsConversation, IsLegal, IsMet, IsRingKey, IsServed, IsTalk, MayBe, known_at}
+use Rattle.wire_histories.proofs.RestartLemmas.{unrestarted}
 use Rattle.wire_histories.specs.Examples.{challenge, conv, eight_zeros, mail_history, mail_key, mail_setting, mail_spoken, mail_start, password}
 use Rattle.wire_histories.specs.declared.step.Protocol.TheVariants.{Apop}
 use Rattle.wire_histories.specs.declared.step.Role.TheVariants.{Client}
@@ -64,7 +65,7 @@ by_name : (des : List ℕ) → IsBlock 7 des → (same : Bool) → IsConversatio
 by_name des block true = is_talk des block
 by_name des block false = refl
 
-nobody : (des : List ℕ) → IsServed (known_to (mail_setting des)) []
+nobody : (des : List ℕ) → IsServed (known_at (mail_setting des)) []
 nobody des = record { requests = []; session = tt; later = []; left = refl }
 
 domain_fits : IsName 48 (codes "x")
@@ -72,4 +73,4 @@ unfolding is_text is_utf8 chars encode
 domain_fits = record { text = refl; short = omega arith }
 
 pub mail_legal : (des : List ℕ) → IsBlock 7 des → IsLegal mail_history (mail_setting des)
-mail_legal des block = record { domain = domain_fits; conversations = λ name. by_name des block (bytes_eq conv name); sessions = λ name. nobody des; numbered = (tt, (refl, (tt, (tt, tt)))) }
+mail_legal des block = record { domain = domain_fits; tables = refl; conversations = λ name. by_name des block (bytes_eq conv name); restarts = λ name. unrestarted ((mail_setting des).spoken name) name mail_history refl; sessions = λ name. nobody des; numbered = (tt, (refl, (tt, (tt, tt)))) }

@@ -48,5 +48,6 @@ mail_spoken des = record { node = codes "a"; start = mail_start; met = found (ma
 abbrev pub mail_setting : List ℕ → Setting
 mail_setting des = record {
   spoken = λ name. if bytes_eq conv name then Some (mail_spoken des) else None;
-  server = record { dom = codes "x"; keys = []; speaks = [] };
+  dom = codes "x";
+  tables = record { keys = []; speaks = [] } ∷ [];
 }

@@ -10,7 +10,7 @@ use Rattle.wire_histories.specs.declared.step.Protocol.TheVariants.{P9sk1, P9any
 use Rattle.wire_histories.specs.declared.step.Role.{Role}
 use Rattle.wire_histories.specs.declared.step.Role.TheVariants.{Client, Server, Speakfor}
 use Rattle.wire_histories.specs.declared.step.Step.{Step}
-use Rattle.wire_histories.specs.declared.step.Step.TheVariants.{Start, Out, In, Ask, Heard, Unheard, Accept, Fail, Reply, Refused, AsGot, AsGave, AsEnd}
+use Rattle.wire_histories.specs.declared.step.Step.TheVariants.{Start, Out, In, Ask, Heard, Unheard, Accept, Fail, Reply, Refused, AsGot, AsGave, AsEnd, Restart, Reload}
 
 -- a word behind its blank
 abbrev pub word : List ℕ → List ℕ
@@ -45,6 +45,8 @@ step_words (AsGot session bytes words) =
 step_words (AsGave number session bytes) =
     codes "asgave" ++ (word (decimal number) ++ (word session ++ word (encode_lower bytes)))
 step_words (AsEnd session) = codes "asend" ++ word session
+step_words (Restart node) = codes "restart" ++ word node
+step_words Reload = codes "reload"
 
 -- the line of a step
 unfoldable pub step_line : Step → List ℕ

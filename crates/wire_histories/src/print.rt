@@ -83,6 +83,8 @@ fn put_words(step: &Step, out: &mut Bytes) -> Result<(), NoMemory>
             out,
         ),
         Step::AsEnd { session } => put_named(b"asend", session.as_slice(), out),
+        Step::Restart { node } => put_named(b"restart", node.as_slice(), out),
+        Step::Reload => out.append(b"reload"),
     }
 }
 

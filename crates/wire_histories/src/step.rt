@@ -91,4 +91,10 @@ pub enum Step {
     AsEnd {
         session: Bytes,
     },
+    /// A node was restarted: its conversations are gone, and so are its keys.
+    Restart {
+        node: Bytes,
+    },
+    /// The authentication server's tables were read again.
+    Reload,
 }

@@ -54,7 +54,9 @@ fn message_in(step: &Step) -> Option<&[u8]>
         | Step::Reply { .. }
         | Step::Refused { .. }
         | Step::AsGot { .. }
-        | Step::AsEnd { .. } => None,
+        | Step::AsEnd { .. }
+        | Step::Restart { .. }
+        | Step::Reload => None,
     }
 }
 

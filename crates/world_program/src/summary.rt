@@ -43,7 +43,9 @@ fn is_message(step: &Step) -> bool
         | Step::Reply { .. }
         | Step::Refused { .. }
         | Step::AsGot { .. }
-        | Step::AsEnd { .. } => false,
+        | Step::AsEnd { .. }
+        | Step::Restart { .. }
+        | Step::Reload => false,
     }
 }
 

@@ -1,11 +1,11 @@
 -- The record is legal where its conversations are, and these are where each agent does as its conversations do.
-use Rattle.std.proofs.Common.{◌≡◌, ℕ, List, [], ◌∷◌, Bool, true, false, All, Option, Some, None, refl, sym, ap, subst, ◌∙◌, reverse}
+use Rattle.std.proofs.Common.{◌≡◌, ℕ, ◌+◌, List, [], ◌∷◌, append-nil, Bool, true, false, All, Option, Some, None, refl, sym, ap, subst, ◌∙◌, reverse}
 use Rattle.std.specs.Option.{option_map}
 use Rattle.std.specs.Prelude.{if◌then◌else◌}
 use Rattle.std.proofs.lemmas.List.Elements.{All-cons, All-nil}
 use Rattle.roles.specs.Talks.{Call as Move}
 use Rattle.talks.specs.Standings.{Begun}
-use Rattle.wire_histories.specs.Histories.{acts_of}
+use Rattle.wire_histories.specs.Histories.{acts_of, reloads_in}
 use Rattle.wire_histories.specs.Conversations.{Speaker, meets, met_by, speaker}
 use Rattle.wire_histories.specs.Legal.{IsConversation, IsLegal, IsMet, MayBe}
 use Rattle.world_history.specs.Acts.{Act}
@@ -26,11 +26,21 @@ use Rattle.world_promises.proofs.PlayLaws.{played}
 use Rattle.world_promises.proofs.NumberLaws.{numbered}
 use Rattle.world_promises.proofs.DomainLaws.{domain_named}
 use Rattle.world_promises.proofs.SessionLaws.{served}
+use Rattle.world_promises.proofs.StayLaws.{record_stays}
+use Rattle.world_promises.proofs.StepLemmas.{no_reload, no_restart}
+use Rattle.wire_histories.proofs.RestartLemmas.{unrestarted}
 use Rattle.world_promises.proofs.WordLaws.{Word, words_so}
 use Rattle.world_promises.proofs.ConversationLaws.{all_said, left_at}
 
 pub legal : (acts : List Act) → AreDone acts → ConversationsAre acts → IsLegal (record_of acts) (setting acts)
-legal acts done conversations = record { domain = domain_named acts done; conversations = conversations; sessions = served acts done; numbered = numbered acts }
+legal acts done conversations = record {
+  domain = domain_named acts done;
+  tables = ap (λ n. n + 1) (sym (ap reloads_in (sym (append-nil (record_of acts))) ∙ no_reload (record_of acts) [] (record_stays acts)));
+  conversations = conversations;
+  restarts = λ name. unrestarted ((setting acts).spoken name) name (record_of acts) (no_restart (record_of acts) (record_stays acts));
+  sessions = served acts done;
+  numbered = numbered acts;
+}
 
 -- ---- keys
 

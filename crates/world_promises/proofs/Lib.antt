@@ -72,6 +72,7 @@ pub mod LeaveLaws
 pub mod BegunLaws
 pub mod NumberLaws
 pub mod StepLemmas
+pub mod StayLaws
 pub mod PlayLaws
 pub mod DomainLaws
 pub mod SessionLaws

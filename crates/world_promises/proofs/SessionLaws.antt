@@ -1,5 +1,5 @@
 -- Each session of the authentication server does what its requests leave, by the tables that were told: these don't change once
--- it was asked.
+-- it was asked, and so are the first.
 use Rattle.std.proofs.Common.{◌≡◌, ℕ, zero, suc, ◌<◌, List, [], ◌∷◌, ◌++◌, map, length, reverse, Option, Some, None, Bool, true, false, not, ◌||◌, ◌&&◌, ◌==◌, if◌then◌else◌, refl, sym, ap, subst, ◌∙◌, arith}
 use Rattle.std.specs.Str.{bytes_eq}
 use Rattle.std.specs.Map.{lookup}
@@ -14,10 +14,10 @@ use Rattle.auth_tables.specs.Keys.{key_of, keys_in}
 use Rattle.auth_tables.specs.Speaks.{SpeakLine as HostLine, may_speak, names_in, names_of, speaks_in}
 use Rattle.auth_server.specs.Requests as req
 use Rattle.auth_server.specs.Requests.{asked_so, is_served, kind_of, needed}
-use Rattle.auth_server.specs.Answers.{Knowledge, answer, held, is_over}
-use Rattle.wire_histories.specs.Histories.{Deal, deals_of, ended, replied, requested}
-use Rattle.wire_histories.specs.Legal.{IsServed, known_to}
-use Rattle.wire_histories.specs.Sessions.{IsLong, IsSession, MayCome, ends_by, replies_to, session_deals}
+use Rattle.auth_server.specs.Answers.{Knowledge, Posed, answer, answer_in, held, held_in, is_over, is_over_in, posed, under}
+use Rattle.wire_histories.specs.Histories.{Deal, ended, replied, requested}
+use Rattle.wire_histories.specs.Legal.{known_at}
+use Rattle.wire_histories.specs.Sessions.{Came, IsLong, IsSession, MayCome, ends_by, posed_by, replies_to, session_deals}
 use Rattle.wire_histories.specs.Sessions as w
 use Rattle.world_history.specs.Acts.{Act, Domain, KeyLine, SpeakLine, Asked, domain, key_lines, speak_lines, was_asked}
 use Rattle.world_history.specs.Scripts.{has_length, is_misshaped, is_unfit}
@@ -26,7 +26,8 @@ use Rattle.world_promises.specs.Agents.{conv_in}
 use Rattle.world_promises.specs.Conditions.{AreDone, MayFollow}
 use Rattle.world_promises.specs.Settings.{merged, setting}
 use Rattle.world_promises.specs.LegalityStatements.{SessionsAre, record_of}
-use Rattle.world_promises.proofs.StepLemmas.{deals_behind, no_deals, turn_each}
+use Rattle.world_promises.proofs.StayLaws.{record_stays}
+use Rattle.world_promises.proofs.StepLemmas.{all_first, deals_behind, first_deals, no_deals, turn_each}
 
 -- ---- what the server knows
 
@@ -74,7 +75,11 @@ same_speaks lines = fun_ext (λ host. fun_ext (λ user. ap (λ names. may_speak 
 abbrev known_as : List Act → (List ℕ → List ℕ → Bool) → Knowledge
 known_as acts speaks = record { dom = domain acts; key = λ user. key_of user (keys_in (tables.counted (key_lines acts))); speaks = speaks }
 
-known_so : (acts : List Act) → known_to (setting acts) ≡ known acts
+-- what is known by the tables of each number, of which there is one
+abbrev known_by : List Act → ℕ → Knowledge
+known_by acts = known_at (setting acts)
+
+known_so : (acts : List Act) → known_by acts 0 ≡ known acts
 known_so acts = ap (known_as acts) (same_speaks (speaks_in (tables.counted (speak_lines acts))))
 
 -- ---- requests
@@ -84,6 +89,18 @@ abbrev asked_of : List Act → List ℕ → List req.Asked
 asked_of [] session = []
 asked_of (Asked name request words ∷ before) session = if bytes_eq name session then asked_so request words ∷ asked_of before session else asked_of before session
 asked_of (act ∷ before) session = asked_of before session
+
+-- the same as requests that came while the first tables were in force
+abbrev came_in : req.Asked → Came
+came_in asked = record { tables = 0; request = asked.request; words = asked.words }
+
+abbrev came_as : List req.Asked → List Came
+came_as asked = map came_in asked
+
+-- so they were put to a server that knows by these
+posed_so : (k : ℕ → Knowledge) (knows : Knowledge) (asked : List req.Asked) → k 0 ≡ knows → posed_by k (came_as asked) ≡ under knows asked
+posed_so k knows [] same = refl
+posed_so k knows (asked ∷ before) same = ap (λ n. posed n asked ∷ posed_by k (came_as before)) same ∙ ap (λ ps. posed knows asked ∷ ps) (posed_so k knows before same)
 
 unasked : (acts : List Act) (session : List ℕ) → was_asked acts ≡ false → asked_of acts session ≡ []
 unasked [] session none = refl
@@ -119,9 +136,9 @@ first_is (Asked name request words ∷ before) session right =
 first_is (act ∷ before) session right = first_is before session right
 
 -- it goes on
-goes_by : (knows : Knowledge) (all : List req.Asked) → first_served all ≡ true → is_over knows all ≡ false → w.has_ended knows all ≡ false
-goes_by knows [] served over = refl
-goes_by knows (asked ∷ before) served over = ap (λ b. not b || is_over knows (asked ∷ before)) served ∙ over
+goes_by : (k : ℕ → Knowledge) (knows : Knowledge) (all : List req.Asked) → k 0 ≡ knows → first_served all ≡ true → is_over knows all ≡ false → w.has_ended k (came_as all) ≡ false
+goes_by k knows [] same served over = refl
+goes_by k knows (asked ∷ before) same served over = ap (λ b. not b || w.is_over k (came_as (asked ∷ before))) served ∙ ap is_over_in (posed_so k knows (asked ∷ before) same) ∙ over
 
 if_parts : (a b : Bool) → (if a then true else b) ≡ false → (a ≡ false) × (b ≡ false)
 if_parts true b none = cc none
@@ -129,13 +146,13 @@ if_parts false b none = (refl, none)
 
 pub record GoesOn (acts : List Act) (session : List ℕ) : Type 0 where
   all : requests acts session ≡ asked_of acts session
-  open_yet : w.has_ended (known acts) (asked_of acts session) ≡ false
+  open_yet : w.has_ended (known_by acts) (came_as (asked_of acts session)) ≡ false
 
 goes_on : (acts : List Act) (session : List ℕ) → has_ended acts session ≡ false → GoesOn acts session
 goes_on acts session none =
     let parts = if_parts (was_misasked acts session) (is_over (known acts) (requests acts session)) none in
     let all = answered_all acts session parts.0 in
-    record { all = all; open_yet = goes_by (known acts) (asked_of acts session) (first_is acts session parts.0) (ap (is_over (known acts)) (sym all) ∙ parts.1) }
+    record { all = all; open_yet = goes_by (known_by acts) (known acts) (asked_of acts session) (known_so acts) (first_is acts session parts.0) (ap (is_over (known acts)) (sym all) ∙ parts.1) }
 
 -- ---- a request fits
 
@@ -155,13 +172,13 @@ some_by : (n : ℕ) → (n == 0) ≡ false → 0 < n
 some_by zero none = cc none
 some_by (suc n) none = omega arith
 
-comes_by : (acts : List Act) (session request : List ℕ) (words : List (List ℕ)) → MayFollow acts (Asked session request words) → GoesOn acts session → is_misshaped acts session request ≡ false → MayCome (known acts) (asked_of acts session) (asked_so request words)
+comes_by : (acts : List Act) (session request : List ℕ) (words : List (List ℕ)) → MayFollow acts (Asked session request words) → GoesOn acts session → is_misshaped acts session request ≡ false → MayCome (known_by acts) (came_as (asked_of acts session)) (came_in (asked_so request words))
 comes_by acts session request words may on shape =
     let parts = or_parts (length request == 0) (is_served (kind_of request) && not (has_length (length request) (needed (held (known acts) (requests acts session)) (kind_of request)))) shape in
     record {
       goes_on = on.open_yet;
       some = some_by (length request) parts.0;
-      long = subst (λ all. IsLong (needed (held (known acts) all) (kind_of request)) (length request)) on.all (long_if (length request) (kind_of request) (held (known acts) (requests acts session)) (is_served (kind_of request)) refl parts.1);
+      long = subst (λ h. IsLong (needed h (kind_of request)) (length request)) (ap (held (known acts)) on.all ∙ ap held_in (sym (posed_so (known_by acts) (known acts) (asked_of acts session) (known_so acts)))) (long_if (length request) (kind_of request) (held (known acts) (requests acts session)) (is_served (kind_of request)) refl parts.1);
       three = may.spelled.0;
       words = may.spelled.1;
     }
@@ -188,43 +205,45 @@ speak_early acts tuple fits = (or_parts (was_asked acts) _ fits).0
 abbrev given_by : Bool → Bool → List ℕ → ℕ → List ℕ → List Step
 given_by served over answer number session = if served then s.AsGave number session answer ∷ (if over then s.AsEnd session ∷ [] else []) else s.AsEnd session ∷ []
 
-left_by : (served over named : Bool) (number : ℕ) (session name answer request : List ℕ) (words : List (List ℕ)) (past : List Deal) → bytes_eq session name ≡ named → deals_of name (reverse (s.AsGot session request words ∷ given_by served over answer number session)) ++ past ≡ (if named then ends_by (not served || over) ++ ((if served then replied answer ∷ [] else []) ++ requested request words ∷ past) else past)
-left_by true true true number session name answer request words past is = ap (λ b. (if b then ended ∷ [] else []) ++ ((if b then replied answer ∷ [] else []) ++ ((if b then requested request words ∷ [] else []) ++ [])) ++ past) is
-left_by true false true number session name answer request words past is = ap (λ b. ((if b then replied answer ∷ [] else []) ++ ((if b then requested request words ∷ [] else []) ++ [])) ++ past) is
-left_by false over true number session name answer request words past is = ap (λ b. ((if b then ended ∷ [] else []) ++ ((if b then requested request words ∷ [] else []) ++ [])) ++ past) is
-left_by true true false number session name answer request words past is = ap (λ b. (if b then ended ∷ [] else []) ++ ((if b then replied answer ∷ [] else []) ++ ((if b then requested request words ∷ [] else []) ++ [])) ++ past) is
-left_by true false false number session name answer request words past is = ap (λ b. ((if b then replied answer ∷ [] else []) ++ ((if b then requested request words ∷ [] else []) ++ [])) ++ past) is
-left_by false over false number session name answer request words past is = ap (λ b. ((if b then ended ∷ [] else []) ++ ((if b then requested request words ∷ [] else []) ++ [])) ++ past) is
+left_by : (served over named : Bool) (number : ℕ) (session name answer request : List ℕ) (words : List (List ℕ)) (past : List Deal) → bytes_eq session name ≡ named → first_deals name (reverse (s.AsGot session request words ∷ given_by served over answer number session)) ++ past ≡ (if named then ends_by (not served || over) ++ ((if served then replied answer ∷ [] else []) ++ requested 0 request words ∷ past) else past)
+left_by true true true number session name answer request words past is = ap (λ b. (if b then ended ∷ [] else []) ++ ((if b then replied answer ∷ [] else []) ++ ((if b then requested 0 request words ∷ [] else []) ++ [])) ++ past) is
+left_by true false true number session name answer request words past is = ap (λ b. ((if b then replied answer ∷ [] else []) ++ ((if b then requested 0 request words ∷ [] else []) ++ [])) ++ past) is
+left_by false over true number session name answer request words past is = ap (λ b. ((if b then ended ∷ [] else []) ++ ((if b then requested 0 request words ∷ [] else []) ++ [])) ++ past) is
+left_by true true false number session name answer request words past is = ap (λ b. (if b then ended ∷ [] else []) ++ ((if b then replied answer ∷ [] else []) ++ ((if b then requested 0 request words ∷ [] else []) ++ [])) ++ past) is
+left_by true false false number session name answer request words past is = ap (λ b. ((if b then replied answer ∷ [] else []) ++ ((if b then requested 0 request words ∷ [] else []) ++ [])) ++ past) is
+left_by false over false number session name answer request words past is = ap (λ b. ((if b then ended ∷ [] else []) ++ ((if b then requested 0 request words ∷ [] else []) ++ [])) ++ past) is
 
 -- ---- all acts
 
 pub record IsLeft (acts : List Act) (name : List ℕ) : Type 0 where
-  session : IsSession (known acts) (asked_of acts name)
-  deals : deals_of name (record_of acts) ≡ session_deals (known acts) (asked_of acts name)
+  session : IsSession (known_by acts) (came_as (asked_of acts name))
+  deals : first_deals name (record_of acts) ≡ session_deals (known_by acts) (came_as (asked_of acts name))
 
 -- an act that isn't a request leaves nothing of a session
-no_deals_by : (number : ℕ) (before : List Act) (done : Option Done) (name : List ℕ) → deals_of name (reverse (steps_to number before done)) ≡ []
+no_deals_by : (number : ℕ) (before : List Act) (done : Option Done) (name : List ℕ) → first_deals name (reverse (steps_to number before done)) ≡ []
 no_deals_by number before None name = refl
 no_deals_by number before (Some done) name = no_deals (conv_in done.turn) name _ (turn_each number done.turn (history before done.node))
 
 abbrev next_number : List Act → ℕ
 next_number before = length (messages_in (steps before))
 
-deals_by : (before : List Act) (act : Act) (name : List ℕ) (past : List Deal) → deals_of name (record_of before) ≡ past → deals_of name (record_of (act ∷ before)) ≡ deals_of name (reverse (steps_by (next_number before) before act)) ++ past
+deals_by : (before : List Act) (act : Act) (name : List ℕ) (past : List Deal) → first_deals name (record_of before) ≡ past → first_deals name (record_of (act ∷ before)) ≡ first_deals name (reverse (steps_by (next_number before) before act)) ++ past
 deals_by before act name past so =
     deals_behind name (steps before) (steps_by (next_number before) before act)
-    ∙ ap (λ xs. deals_of name (reverse (steps_by (next_number before) before act)) ++ xs) so
+    ∙ ap (λ xs. first_deals name (reverse (steps_by (next_number before) before act)) ++ xs) so
 
 -- the same of what was known before, where it is known yet
-same_known : (before : List Act) (act : Act) (name : List ℕ) → steps_by (next_number before) before act ≡ steps_to (next_number before) before (done_by before act) → known (act ∷ before) ≡ known before → asked_of (act ∷ before) name ≡ asked_of before name → IsLeft before name → IsLeft (act ∷ before) name
-same_known before act name by knows all so = record {
-  session = subst (λ k. IsSession k (asked_of (act ∷ before) name)) (sym knows) (subst (IsSession (known before)) (sym all) so.session);
-  deals =
-      deals_by before act name (session_deals (known before) (asked_of before name)) so.deals
-      ∙ ap (λ xs. deals_of name (reverse xs) ++ session_deals (known before) (asked_of before name)) by
-      ∙ ap (λ xs. xs ++ session_deals (known before) (asked_of before name)) (no_deals_by (next_number before) before (done_by before act) name)
-      ∙ sym (ap (λ k. session_deals k (asked_of (act ∷ before) name)) knows ∙ ap (session_deals (known before)) all);
-}
+same_known : (before : List Act) (act : Act) (name : List ℕ) → steps_by (next_number before) before act ≡ steps_to (next_number before) before (done_by before act) → known_by (act ∷ before) ≡ known_by before → asked_of (act ∷ before) name ≡ asked_of before name → IsLeft before name → IsLeft (act ∷ before) name
+same_known before act name by knows all so =
+    let past = session_deals (known_by before) (came_as (asked_of before name)) in
+    record {
+      session = subst (λ k. IsSession k (came_as (asked_of (act ∷ before) name))) (sym knows) (subst (λ xs. IsSession (known_by before) (came_as xs)) (sym all) so.session);
+      deals =
+          deals_by before act name past so.deals
+          ∙ ap (λ xs. first_deals name (reverse xs) ++ past) by
+          ∙ ap (λ xs. xs ++ past) (no_deals_by (next_number before) before (done_by before act) name)
+          ∙ sym (ap (λ k. session_deals k (came_as (asked_of (act ∷ before) name))) knows ∙ ap (λ xs. session_deals (known_by before) (came_as xs)) all);
+    }
 
 -- while nothing was asked
 early : (before : List Act) (act : Act) (name : List ℕ) → steps_by (next_number before) before act ≡ [] → asked_of (act ∷ before) name ≡ asked_of before name → was_asked before ≡ false → IsLeft before name → IsLeft (act ∷ before) name
@@ -232,24 +251,28 @@ early before act name by all none so =
     let empty = unasked before name none in
     let nothing = all ∙ empty in
     record {
-      session = subst (IsSession (known (act ∷ before))) (sym nothing) tt;
+      session = subst (λ xs. IsSession (known_by (act ∷ before)) (came_as xs)) (sym nothing) tt;
       deals =
-          deals_by before act name [] (so.deals ∙ ap (session_deals (known before)) empty)
-          ∙ ap (λ xs. deals_of name (reverse xs) ++ []) by
-          ∙ sym (ap (session_deals (known (act ∷ before))) nothing);
+          deals_by before act name [] (so.deals ∙ ap (λ xs. session_deals (known_by before) (came_as xs)) empty)
+          ∙ ap (λ xs. first_deals name (reverse xs) ++ []) by
+          ∙ sym (ap (λ xs. session_deals (known_by (act ∷ before)) (came_as xs)) nothing);
     }
 
 -- a request
 abbrev Asks : List Act → List ℕ → List ℕ → List (List ℕ) → List ℕ → Bool → Type 0
-Asks before session request words name named = IsSession (known before) (if named then asked_so request words ∷ asked_of before name else asked_of before name)
+Asks before session request words name named = IsSession (known_by before) (came_as (if named then asked_so request words ∷ asked_of before name else asked_of before name))
 
-session_by : (before : List Act) (session request : List ℕ) (words : List (List ℕ)) (name : List ℕ) (named : Bool) → (named ≡ true → MayCome (known before) (asked_of before name) (asked_so request words)) → IsSession (known before) (asked_of before name) → Asks before session request words name named
+session_by : (before : List Act) (session request : List ℕ) (words : List (List ℕ)) (name : List ℕ) (named : Bool) → (named ≡ true → MayCome (known_by before) (came_as (asked_of before name)) (came_in (asked_so request words))) → IsSession (known_by before) (came_as (asked_of before name)) → Asks before session request words name named
 session_by before session request words name true may so = (may refl, so)
 session_by before session request words name false may so = so
 
-deals_so : (knows : Knowledge) (named : Bool) (all : List req.Asked) (asked : req.Asked) → (if named then ends_by (w.has_ended knows (asked ∷ all)) ++ (replies_to knows all asked ++ requested asked.request asked.words ∷ session_deals knows all) else session_deals knows all) ≡ session_deals knows (if named then asked ∷ all else all)
-deals_so knows true all asked = refl
-deals_so knows false all asked = refl
+deals_so : (k : ℕ → Knowledge) (named : Bool) (all : List req.Asked) (asked : req.Asked) → (if named then ends_by (w.has_ended k (came_as (asked ∷ all))) ++ (replies_to k (came_as all) (came_in asked) ++ requested 0 asked.request asked.words ∷ session_deals k (came_as all)) else session_deals k (came_as all)) ≡ session_deals k (came_as (if named then asked ∷ all else all))
+deals_so k true all asked = refl
+deals_so k false all asked = refl
+
+-- what a request leaves, by what is known when it comes and by those before it
+abbrev leaves : List ℕ → List (List ℕ) → List Deal → Knowledge → List Posed → List Deal
+leaves request words past knows before = ends_by (not (is_served (kind_of request)) || is_over_in (posed knows (asked_so request words) ∷ before)) ++ ((if is_served (kind_of request) then replied (answer_in before (posed knows (asked_so request words))) ∷ [] else []) ++ requested 0 request words ∷ past)
 
 asked_left : (before : List Act) (session request : List ℕ) (words : List (List ℕ)) (name : List ℕ) → MayFollow before (Asked session request words) → IsLeft before name → IsLeft (Asked session request words ∷ before) name
 unfolding session_steps
@@ -257,22 +280,27 @@ asked_left before session request words name may so =
     let fits = asked_fits before session request words may.fits in
     let on = goes_on before session fits.0 in
     let knows = known before in
+    let k = known_by before in
     let asked = asked_so request words in
-    let past = session_deals knows (asked_of before name) in
-    let came : bytes_eq session name ≡ true → MayCome knows (asked_of before name) asked = λ is. subst (λ n. MayCome knows (asked_of before n) asked) (same_host session name is) (comes_by before session request words may on fits.1) in
+    let past = session_deals k (came_as (asked_of before name)) in
+    let came : bytes_eq session name ≡ true → MayCome k (came_as (asked_of before name)) (came_in asked) = λ is. subst (λ n. MayCome k (came_as (asked_of before n)) (came_in asked)) (same_host session name is) (comes_by before session request words may on fits.1) in
     let gave : bytes_eq session name ≡ true → requests before session ≡ asked_of before name = λ is. on.all ∙ ap (asked_of before) (same_host session name is) in
     record {
       session = session_by before session request words name (bytes_eq session name) came so.session;
       deals =
           deals_by before (Asked session request words) name past so.deals
           ∙ left_by (is_served (kind_of request)) (is_over knows (asked ∷ requests before session)) (bytes_eq session name) (next_number before) session name (answer knows (requests before session) asked) request words past refl
-          ∙ as_asked (bytes_eq session name) (requests before session) gave
-          ∙ deals_so knows (bytes_eq session name) (asked_of before name) asked;
+          ∙ as_asked past (bytes_eq session name) (requests before session) gave
+          ∙ deals_so k (bytes_eq session name) (asked_of before name) asked;
     }
   where
-    as_asked : (named : Bool) (all : List req.Asked) → (named ≡ true → all ≡ asked_of before name) → (if named then ends_by (not (is_served (kind_of request)) || is_over (known before) (asked_so request words ∷ all)) ++ ((if is_served (kind_of request) then replied (answer (known before) all (asked_so request words)) ∷ [] else []) ++ requested request words ∷ session_deals (known before) (asked_of before name)) else session_deals (known before) (asked_of before name)) ≡ (if named then ends_by (w.has_ended (known before) (asked_so request words ∷ asked_of before name)) ++ (replies_to (known before) (asked_of before name) (asked_so request words) ++ requested request words ∷ session_deals (known before) (asked_of before name)) else session_deals (known before) (asked_of before name))
-    as_asked true all same = ap (λ xs. ends_by (not (is_served (kind_of request)) || is_over (known before) (asked_so request words ∷ xs)) ++ ((if is_served (kind_of request) then replied (answer (known before) xs (asked_so request words)) ∷ [] else []) ++ requested request words ∷ session_deals (known before) (asked_of before name))) (same refl)
-    as_asked false all same = refl
+    as_asked : (past : List Deal) (named : Bool) (all : List req.Asked) → (named ≡ true → all ≡ asked_of before name) → (if named then leaves request words past (known before) (under (known before) all) else past) ≡ (if named then leaves request words past (known_by before 0) (posed_by (known_by before) (came_as (asked_of before name))) else past)
+    as_asked past true all same =
+        let known_there = known_so before in
+        ap (λ xs. leaves request words past (known before) (under (known before) xs)) (same refl)
+        ∙ ap (leaves request words past (known before)) (sym (posed_so (known_by before) (known before) (asked_of before name) known_there))
+        ∙ ap (λ n. leaves request words past n (posed_by (known_by before) (came_as (asked_of before name)))) (sym known_there)
+    as_asked past false all same = refl
 
 pub left : (acts : List Act) (name : List ℕ) → AreDone acts → IsLeft acts name
 left [] name done = record { session = tt; deals = refl }
@@ -285,4 +313,9 @@ left (act ∷ before) name done = same_known before act name refl refl refl (lef
 pub served : (acts : List Act) → AreDone acts → SessionsAre acts
 served acts done name =
     let so = left acts name done in
-    subst (λ k. IsServed k (deals_of name (record_of acts))) (sym (known_so acts)) (record { requests = asked_of acts name; session = so.session; later = []; left = sym so.deals })
+    record {
+      requests = came_as (asked_of acts name);
+      session = so.session;
+      later = [];
+      left = sym (all_first name (record_of acts) (record_stays acts) ∙ so.deals);
+    }

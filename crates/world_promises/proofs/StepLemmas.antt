@@ -1,5 +1,6 @@
 -- Whom the steps of an act concern: those of what is done to an agent concern one conversation and no session.
-use Rattle.std.proofs.Common.{◌≡◌, ℕ, ◌+◌, List, [], ◌∷◌, ◌++◌, length, drop, reverse, codes, Option, Some, None, Bool, true, false, if◌then◌else◌, refl, sym, ap, ◌∙◌}
+use Rattle.std.proofs.Common.{◌≡◌, ℕ, ◌+◌, List, [], ◌∷◌, ◌++◌, append-nil, ◌||◌, length, drop, reverse, codes, Option, Some, None, Bool, true, false, if◌then◌else◌, refl, sym, ap, subst, ◌∙◌}
+use Rattle.std.specs.List.{list_any}
 use Rattle.std.specs.Str.{bytes_eq}
 use Rattle.std.proofs.lemmas.List.{append_assoc, reverse-append}
 use Rattle.nine.specs.declared.message.RMsg.{RMsg}
@@ -13,7 +14,8 @@ use Rattle.talks.specs.Lines.{is_end}
 use Rattle.agent_history.specs.declared.event.Event.TheVariants.{NoAnswer}
 use Rattle.agent_history.specs.declared.event.Event.TheVariants as events
 use Rattle.agent_history.specs.Histories.{History}
-use Rattle.wire_histories.specs.Histories.{Act as Does, Deal, act_in, acts_of, deal_in, deals_of}
+use Rattle.wire_histories.specs.Histories.{Act as Does, Deal, act_in, acts_of, deal_in, deals_of, reloads_in}
+use Rattle.wire_histories.proofs.RestartLemmas.{is_restart}
 use Rattle.wire_histories.specs.Histories as w
 use Rattle.world_history.specs.declared.question.Question.{Question}
 use Rattle.world_history.specs.Driving.{clunks, drive, is_refused, reads, replies_to, writes}
@@ -36,6 +38,8 @@ Concerns conv (s.Refused node text) = Unit {0}
 Concerns conv (s.AsGot session bytes words) = ⊥
 Concerns conv (s.AsGave number session bytes) = ⊥
 Concerns conv (s.AsEnd session) = ⊥
+Concerns conv (s.Restart node) = ⊥
+Concerns conv s.Reload = ⊥
 
 abbrev pub Each : List ℕ → List Step → Type 0
 Each conv [] = Unit {0}
@@ -130,30 +134,86 @@ pub acts_append : (name : List ℕ) (later past : List Step) → acts_of name (l
 acts_append name [] past = refl
 acts_append name (step ∷ later) past = ap (λ xs. act_in name step ++ xs) (acts_append name later past) ∙ sym (append_assoc (act_in name step) (acts_of name later) (acts_of name past))
 
-pub deals_append : (name : List ℕ) (later past : List Step) → deals_of name (later ++ past) ≡ deals_of name later ++ deals_of name past
+-- steps by which the tables stay as they are, and no node is restarted
+abbrev pub stays : Step → Bool
+stays (s.Restart node) = false
+stays s.Reload = false
+stays step = true
+
+abbrev pub AllStay : List Step → Type 0
+AllStay [] = Unit {0}
+AllStay (step ∷ more) = (stays step ≡ true) × AllStay more
+
+pub stay_append : (front rest : List Step) → AllStay front → AllStay rest → AllStay (front ++ rest)
+stay_append [] rest so later = later
+stay_append (step ∷ front) rest so later = (so.0, stay_append front rest so.1 later)
+
+pub stay_reversed : (steps : List Step) → AllStay steps → AllStay (reverse steps)
+stay_reversed [] so = tt
+stay_reversed (step ∷ more) so = subst AllStay (sym (reverse-append (step ∷ []) more)) (stay_append (reverse more) (step ∷ []) (stay_reversed more so.1) (so.0, tt))
+
+step_stays : (conv : List ℕ) (step : Step) → Concerns conv step → stays step ≡ true
+step_stays conv (s.Restart node) so = elim so [ ]
+step_stays conv s.Reload so = elim so [ ]
+step_stays conv step so = refl
+
+pub each_stays : (conv : List ℕ) (steps : List Step) → Each conv steps → AllStay steps
+each_stays conv [] so = tt
+each_stays conv (step ∷ more) so = (step_stays conv step so.0, each_stays conv more so.1)
+
+one_reload : (step : Step) (past : List Step) → stays step ≡ true → reloads_in (step ∷ past) ≡ reloads_in past
+one_reload (s.Restart node) past so = cc so
+one_reload s.Reload past so = cc so
+one_reload step past so = refl
+
+pub no_reload : (steps past : List Step) → AllStay steps → reloads_in (steps ++ past) ≡ reloads_in past
+no_reload [] past so = refl
+no_reload (step ∷ more) past so = one_reload step (more ++ past) so.0 ∙ no_reload more past so.1
+
+one_restart : (step : Step) → stays step ≡ true → is_restart step ≡ false
+one_restart (s.Restart node) so = cc so
+one_restart step so = refl
+
+pub no_restart : (steps : List Step) → AllStay steps → list_any is_restart steps ≡ false
+no_restart [] so = refl
+no_restart (step ∷ more) so = ap (λ (b : Bool). b || list_any is_restart more) (one_restart step so.0) ∙ no_restart more so.1
+
+-- what a record says of a session, where the tables stay as they are
+abbrev pub first_deals : List ℕ → List Step → List Deal
+first_deals name [] = []
+first_deals name (step ∷ past) = deal_in 0 name step ++ first_deals name past
+
+pub all_first : (name : List ℕ) (steps : List Step) → AllStay steps → deals_of name steps ≡ first_deals name steps
+all_first name [] so = refl
+all_first name (step ∷ past) so = ap (λ n. deal_in n name step ++ deals_of name past) (unread past so.1) ∙ ap (λ xs. deal_in 0 name step ++ xs) (all_first name past so.1)
+  where
+    unread : (past : List Step) → AllStay past → reloads_in past ≡ 0
+    unread past so = ap reloads_in (sym (append-nil past)) ∙ no_reload past [] so
+
+deals_append : (name : List ℕ) (later past : List Step) → first_deals name (later ++ past) ≡ first_deals name later ++ first_deals name past
 deals_append name [] past = refl
-deals_append name (step ∷ later) past = ap (λ xs. deal_in name step ++ xs) (deals_append name later past) ∙ sym (append_assoc (deal_in name step) (deals_of name later) (deals_of name past))
+deals_append name (step ∷ later) past = ap (λ xs. deal_in 0 name step ++ xs) (deals_append name later past) ∙ sym (append_assoc (deal_in 0 name step) (first_deals name later) (first_deals name past))
 
 -- what a record says behind another
 pub acts_behind : (name : List ℕ) (front rest : List Step) → acts_of name (reverse (front ++ rest)) ≡ acts_of name (reverse rest) ++ acts_of name (reverse front)
 acts_behind name front rest = ap (acts_of name) (reverse-append front rest) ∙ acts_append name (reverse rest) (reverse front)
 
-pub deals_behind : (name : List ℕ) (front rest : List Step) → deals_of name (reverse (front ++ rest)) ≡ deals_of name (reverse rest) ++ deals_of name (reverse front)
-deals_behind name front rest = ap (deals_of name) (reverse-append front rest) ∙ deals_append name (reverse rest) (reverse front)
+pub deals_behind : (name : List ℕ) (front rest : List Step) → first_deals name (reverse (front ++ rest)) ≡ first_deals name (reverse rest) ++ first_deals name (reverse front)
+deals_behind name front rest = ap (first_deals name) (reverse-append front rest) ∙ deals_append name (reverse rest) (reverse front)
 
 -- ---- of others nothing is said
 
-no_deal : (conv name : List ℕ) (step : Step) → Concerns conv step → deal_in name step ≡ []
+no_deal : (conv name : List ℕ) (step : Step) → Concerns conv step → deal_in 0 name step ≡ []
 no_deal conv name (s.AsGot session bytes words) so = elim so [ ]
 no_deal conv name (s.AsGave number session bytes) so = elim so [ ]
 no_deal conv name (s.AsEnd session) so = elim so [ ]
 no_deal conv name step so = refl
 
-pub no_deals : (conv name : List ℕ) (steps : List Step) → Each conv steps → deals_of name (reverse steps) ≡ []
+pub no_deals : (conv name : List ℕ) (steps : List Step) → Each conv steps → first_deals name (reverse steps) ≡ []
 no_deals conv name [] so = refl
 no_deals conv name (step ∷ more) so =
     deals_behind name (step ∷ []) more
-    ∙ ap (λ xs. xs ++ (deal_in name step ++ [])) (no_deals conv name more so.1)
+    ∙ ap (λ xs. xs ++ (deal_in 0 name step ++ [])) (no_deals conv name more so.1)
     ∙ ap (λ xs. xs ++ []) (no_deal conv name step so.0)
 
 -- of a conversation of another name

@@ -2,7 +2,7 @@
 use Rattle.std.specs.Prelude.{◌≡◌, ℕ, List, All, Some, reverse}
 use Rattle.talks.specs.Standings.{Begun}
 use Rattle.wire_histories.specs.Histories.{History, acts_of, deals_of}
-use Rattle.wire_histories.specs.Legal.{IsConversation, IsMet, IsServed, known_to}
+use Rattle.wire_histories.specs.Legal.{IsConversation, IsMet, IsServed, known_at}
 use Rattle.world_history.specs.Acts.{Act}
 use Rattle.world_history.specs.Worlds.{steps}
 use Rattle.world_promises.specs.Settings.{Place, place_of, setting, spoken_by, standing_at}
@@ -13,7 +13,7 @@ record_of acts = reverse (steps acts)
 
 -- each session of the authentication server does what requests leave
 abbrev pub SessionsAre : List Act → Type 0
-SessionsAre acts = (name : List ℕ) → IsServed (known_to (setting acts)) (deals_of name (record_of acts))
+SessionsAre acts = (name : List ℕ) → IsServed (known_at (setting acts)) (deals_of name (record_of acts))
 
 -- each conversation does what a talk leaves
 abbrev pub ConversationsAre : List Act → Type 0

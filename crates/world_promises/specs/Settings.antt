@@ -1,16 +1,16 @@
 -- The setting of the record of a network: how each of its conversations started and what met its needs, read off the
--- history of its agent, and what the lines of the authentication server's tables say.
+-- history of its agent, and what the lines of the authentication server's tables say. No line has them read again, so
+-- there is one pair of tables.
 use Rattle.std.specs.Prelude.{ℕ, List, [], ◌∷◌, map, Option, Some, None, option_map, if◌then◌else◌}
 use Rattle.std.specs.Str.{bytes_eq}
 use Rattle.auth_tables.specs.Lines.{counted}
 use Rattle.auth_tables.specs.Keys.{keys_in}
 use Rattle.auth_tables.specs.Speaks.{SpeakLine, names_in, speaks_in}
-use Rattle.auth_server.specs.Standing.{Server}
 use Rattle.talks.specs.Standings.{Begun, Standing}
 use Rattle.agent_history.specs.Conversations.{opened_talks, standing_of}
 use Rattle.agent_history.specs.Histories.{deeds}
 use Rattle.wire_histories.specs.Conversations.{met_in}
-use Rattle.wire_histories.specs.Legal.{Setting, Spoken}
+use Rattle.wire_histories.specs.Legal.{Setting, Spoken, Tables}
 use Rattle.world_history.specs.Acts.{Act, Opened, domain, key_lines, speak_lines}
 use Rattle.world_history.specs.Worlds.{history}
 
@@ -20,9 +20,8 @@ use Rattle.world_history.specs.Worlds.{history}
 abbrev pub merged : List SpeakLine → List SpeakLine
 merged lines = map (λ line. (line.0, names_in lines line.0)) lines
 
-abbrev pub server_of : List Act → Server
-server_of acts = record {
-  dom = domain acts;
+abbrev pub tables_of : List Act → Tables
+tables_of acts = record {
   keys = keys_in (counted (key_lines acts));
   speaks = merged (speaks_in (counted (speak_lines acts)));
 }
@@ -55,4 +54,8 @@ spoken_at acts None = None
 spoken_at acts (Some place) = option_map (spoken_by place.node) (standing_at acts place).begun
 
 abbrev pub setting : List Act → Setting
-setting acts = record { spoken = λ name. spoken_at acts (place_of acts name); server = server_of acts }
+setting acts = record {
+  spoken = λ name. spoken_at acts (place_of acts name);
+  dom = domain acts;
+  tables = tables_of acts ∷ [];
+}
