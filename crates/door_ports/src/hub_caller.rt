@@ -17,6 +17,7 @@ use wire_base::{Bytes, NoMemory};
 
 /// An agent behind a hub, that is asked through a seat. What others enter stands between its requests and the takes of their
 /// replies; a reply that isn't there yet is waited for.
+#[derive(Drop)]
 pub struct HubCaller<'a, R: Wait> {
     rt: &'a R,
     hub: &'a Hub,
