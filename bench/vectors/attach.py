@@ -143,11 +143,18 @@ class Session:
         return self.ask(read(9, 8192), rread(user + b"\n")).ask(clunk(9), RCLUNK)
 
 
-def whole() -> Session:
-    """A session in which nobody attaches before he is authenticated, and then one does."""
+def whole(chal: bytes = b"") -> Session:
+    """A session in which nobody attaches before he is authenticated, and then one does; the challenge is this one, if it is given."""
     session = Session().begin().attach(0, NOFID, b"ann", b"authentication required").auth(1, b"ann")
+    session.chal = chal or session.chal
     session.attach(0, 1, b"ann", b"not authenticated").log_in(1)
     return session.attach(0, 1, b"bob", b"wrong attach").attach(0, 1, b"ann").look(0, b"ann")
+
+
+def to_the_end(chal: bytes = b"") -> Session:
+    """The same, and then its conversation is closed by a clunk, and another's by a version."""
+    session = whole(chal).ask(clunk(1), RCLUNK).attach(3, 1, b"ann", b"authentication required")
+    return session.auth(2, b"ann").begin()
 
 
 # ---- rows
