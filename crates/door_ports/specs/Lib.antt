@@ -4,6 +4,3 @@ pub mod Files
 pub mod Asks
 pub mod Settings
 pub mod Ports
-pub mod Agents
-pub mod Hubs
-pub mod Seated
