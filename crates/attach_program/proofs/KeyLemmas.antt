@@ -1,14 +1,37 @@
 -- The lines of a keys file, given one after the other.
-use Rattle.std.proofs.Common.{◌≡◌, ℕ, ◌+◌, ◌≤◌, ◌<◌, List, ◌∷◌, length, Option, None, Some, refl, sym, ap, subst, ◌∙◌, arith}
-use Rattle.std.specs.Prelude.{true, false, IfSome}
+use Rattle.std.proofs.Common.{◌≡◌, ℕ, ◌+◌, ◌≤◌, ◌<◌, List, [], ◌∷◌, length, Option, None, Some, refl, sym, ap, subst, ◌∙◌, append-nil, arith}
+use Rattle.std.specs.Prelude.{true, false, IfSome, codes}
 use Rattle.std.specs.Borrow.{Bor}
 use Rattle.attr_tuples.specs.Cutting.{lines_left, text_lines, turns_left}
 use Rattle.agent_history.specs.Histories.{History}
 use Rattle.agent_core.specs.declared.agent.Agent.{Agent}
 use Rattle.agent_core.specs.Agents.{StandsFor}
 use Rattle.door_ports.specs.declared.reply.Reply.{Reply}
-use Rattle.door_ports.specs.Exchanges.{asked, is_done, reply, writes}
+use Rattle.door_ports.specs.Exchanges.{Exchange, IsPreparing, Sends, agrees, asked, attaches, exchanged, is_done, no_word, opens, prepared, reply, walks, writes}
+use Rattle.door_ports.specs.Agents.{StandsBehind, behind}
+use Rattle.door_ports.specs.Ports.{Did}
 use Rattle.attach_program.specs.Keys.{first_bad, is_empty, is_key_line, is_taken, with_line, with_lines}
+
+-- ---- ctl is opened
+
+-- an exchange in which a frame came
+sent_so : (past : History) (done : List Exchange) (conn : ℕ) (frame word : List ℕ) (e : Exchange) → Sends conn frame word e → behind past (e ∷ done) ≡ exchanged conn frame word (behind past done)
+sent_so past done conn frame word e (is, came, with) = rw (is, came, with) refl
+
+behind_four : (conn : ℕ) (H : History) (more : List Exchange) → IsPreparing conn more → behind H more ≡ prepared conn H
+behind_four conn H [] are = absurd are
+behind_four conn H (d ∷ []) are = absurd are
+behind_four conn H (d ∷ c ∷ []) are = absurd are
+behind_four conn H (d ∷ c ∷ b ∷ []) are = absurd are
+behind_four conn H (d ∷ c ∷ b ∷ a ∷ x ∷ more) are = absurd are
+behind_four conn H (d ∷ c ∷ b ∷ a ∷ []) (e, f, g, h) =
+    sent_so H (c ∷ b ∷ a ∷ []) conn (opens 1) no_word d h
+    ∙ ap (asked conn (opens 1)) (sent_so H (b ∷ a ∷ []) conn (walks 1 (codes "ctl")) no_word c g
+    ∙ ap (asked conn (walks 1 (codes "ctl"))) (sent_so H (a ∷ []) conn attaches no_word b f
+    ∙ ap (asked conn attaches) (sent_so H [] conn agrees no_word a e)))
+
+pub prepared_so : (conn : ℕ) (H : History) (agent : Agent) → Did (StandsBehind H) (IsPreparing conn) [] agent → StandsFor (prepared conn H) agent
+prepared_so conn H agent d = subst (λ (K : History). StandsFor K agent) (behind_four conn H d.more d.are) (subst (λ (l : List Exchange). StandsFor (behind H l) agent) (append-nil d.more) d.leaves.stands)
 
 -- ---- one line
 

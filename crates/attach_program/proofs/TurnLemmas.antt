@@ -11,39 +11,45 @@ use Rattle.agent_history.specs.Histories.{History}
 use Rattle.doors.specs.Calls.{PortCall}
 use Rattle.doors.specs.Doors.{Stepped}
 use Rattle.doors.specs.Histories.{reply_to}
-use Rattle.door_ports.specs.declared.core_port.CorePort.{CorePort}
-use Rattle.door_ports.specs.Settings.{Setting, told_word, unasked}
-use Rattle.door_ports.specs.Ports.{Stands}
-use Rattle.door_ports.proofs.PortLaws.{are_answered}
+use Rattle.agent_core.specs.declared.agent.Agent.{Agent}
+use Rattle.door_ports.specs.declared.agent_port.AgentPort.{AgentPort}
+use Rattle.door_ports.specs.Exchanges.{Exchange}
+use Rattle.door_ports.specs.Agents.{StandsBehind}
+use Rattle.door_ports.specs.Ports.{Stands, StandsWith, Stood, fresh, told_word}
+use Rattle.door_ports.proofs.PortLaws.{came_to}
 use Rattle.attach_program.specs.declared.session.Session.{Session}
 use Rattle.attach_program.specs.declared.status.AttachStatus.{AttachStatus}
 use Rattle.attach_program.specs.declared.status.AttachStatus.TheVariants.{NoMemory, WordFault, WriteFault}
 use Rattle.attach_program.specs.Notes.{Note, note_of}
-use Rattle.attach_program.specs.Runs.{Goes, IsRun, Run, Sight, Turn, door_of, in_door, notes_of, replies_of, sight, told_next, words_of}
-use Rattle.attach_program.specs.Steps.{LacksOne, LosesOne, PortIs, Served, ServedMore, TurnEnds, Turned}
+use Rattle.attach_program.specs.Runs.{Goes, IsRun, Run, Sight, Turn, door_of, in_door, notes_of, replies_of, sight, exchanged_in, told_next, words_of}
+use Rattle.attach_program.specs.Steps.{LacksOne, LosesOne, PortIs, Served, ServedMore, TurnEnds, Turned, stood}
 
 -- ---- the port
 
 -- a port that a run left, and that was told a word
-pub told_so : (keys : History) (run : Run) (word : List ℕ) (old new : CorePort) → PortIs keys run old → ((s : Setting) (calls : List PortCall) → Stands s calls old → Stands (told_word s calls word) [] new) → Stands (told_next keys run word) [] new
-told_so keys [] word old new is told = told (unasked 1 keys) [] is
-told_so keys (turn ∷ before) word old new is told = told (told_next keys before turn.word) turn.calls is
+pub told_so : (keys : History) (run : Run) (word : List ℕ) (old new : AgentPort Agent) → PortIs keys run old
+    → ((s : Stood History) (calls : List PortCall) (more : List Exchange) → StandsWith StandsBehind s calls more old → StandsWith StandsBehind (told_word s calls more word) [] [] new)
+    → StandsWith StandsBehind (stood keys (exchanged_in run) (told_next run word)) [] [] new
+told_so keys [] word old new is told = told (fresh keys 1) [] [] is
+told_so keys (turn ∷ before) word old new is told = told (stood keys (exchanged_in before) (told_next before turn.word)) turn.calls turn.exchanged is
 
 -- ---- one frame
 
 pub turned : (keys : History) (run : Run) (frame word old : List ℕ) (session : Session) → IsRun keys run → old ≡ []
-    → Stepped (Stands (told_next keys run word)) (door_of run) [] frame session.door session.port old session.reply → Turned keys run frame word session
+    → Stepped (Stands StandsBehind (stood keys (exchanged_in run) (told_next run word))) (door_of run) [] frame session.door session.port old session.reply → Turned keys run frame word session
 turned keys run frame word old session is none s =
-    let turn : Turn = record { frame = s.turn.frame; word = word; calls = s.turn.calls } in
-    let told : Stands (told_next keys run word) s.turn.calls session.port = subst (λ (calls : List PortCall). Stands (told_next keys run word) calls session.port) (append-nil s.turn.calls) s.told in
+    let here = stood keys (exchanged_in run) (told_next run word) in
+    let told : Stands StandsBehind here s.turn.calls session.port = subst (λ (calls : List PortCall). Stands StandsBehind here calls session.port) (append-nil s.turn.calls) s.told in
+    let came = came_to StandsBehind here s.turn.calls told.0 session.port told.1 in
+    let turn : Turn = record { frame = s.turn.frame; word = word; calls = s.turn.calls; exchanged = told.0 } in
     record {
       turn = turn;
       frame_is = s.frame_is;
       word_is = refl;
       stands = record {
         door = s.stands_for;
-        port = told;
-        is = (record { asks = s.asks; answered = are_answered (told_next keys run word) s.turn.calls session.port told }, is);
+        port = told.1;
+        is = (record { asks = s.asks; made = came.made; replied = came.stood.replied }, is);
       };
       said = s.said ∙ ap (λ (o : List ℕ). o ++ reply_to (door_of run) (in_door turn)) none;
     }

@@ -1,6 +1,7 @@
 -- A run of the file server over its frames: each is answered by the door as its definitions say, with a word that was
--- drawn for it alone, and what the door asks the agent is answered as the agent answers, whose history begins with the
--- keys and goes on from frame to frame. A run is the list of its turns, the newest first.
+-- drawn for it alone. What the door asks its port is answered by requests to the agent, each replied to as the agent
+-- replies, whose history begins with the keys and goes on from frame to frame. A run is the list of its turns, the
+-- newest first.
 use Rattle.std.specs.Prelude.{ℕ, List, [], ◌∷◌, ◌++◌, Option}
 use Rattle.wire_streams.specs.Spawning.{Gains as Notes}
 use Rattle.wire_streams.specs.Streams.{Gains}
@@ -8,14 +9,18 @@ use Rattle.auth_server.specs.Sessions.{DrawsAll}
 use Rattle.agent_history.specs.Histories.{History}
 use Rattle.doors.specs.Calls.{PortCall}
 use Rattle.doors.specs.Histories.{History as DoorHistory, IsTurn, Turn as DoorTurn, replies, reply_to}
-use Rattle.door_ports.specs.Settings.{AreAnswered, Setting, told_word, unasked}
+use Rattle.door_ports.specs.Exchanges.{Exchange}
+use Rattle.door_ports.specs.Agents.{AreReplied}
+use Rattle.door_ports.specs.Settings.{AreMade, Setting, after, unasked, with_word}
 use Rattle.attach_program.specs.Notes.{Note, note_of}
 
--- a frame, the word that was drawn for it, and the calls of the port that were made for it, the newest first
+-- a frame, the word that was drawn for it, the calls of the port that were made for it, and what was exchanged with
+-- the agent for these, the newest first
 pub record Turn : Type 0 where
   pub frame : List ℕ
   pub word : List ℕ
   pub calls : List PortCall
+  pub exchanged : List Exchange
 
 abbrev pub Run : Type 0
 Run = List Turn
@@ -39,15 +44,22 @@ words_of (turn ∷ before) = words_of before ++ turn.word ∷ []
 
 -- ---- the port, which asks the agent on connection 1
 
--- where a run leaves the port once it is told one more word: the agent was given the keys before
-abbrev pub told_next : History → Run → List ℕ → Setting
-told_next keys [] word = told_word (unasked 1 keys) [] word
-told_next keys (turn ∷ before) word = told_word (told_next keys before turn.word) turn.calls word
+-- where a run leaves the port once it is told one more word
+abbrev pub told_next : Run → List ℕ → Setting
+told_next [] word = with_word word (unasked 1)
+told_next (turn ∷ before) word = with_word word (after (told_next before turn.word) turn.calls)
 
--- the port was asked what the door's definitions say, and answered as the agent answers
+-- all that was exchanged with the agent
+abbrev pub exchanged_in : Run → List Exchange
+exchanged_in [] = []
+exchanged_in (turn ∷ before) = turn.exchanged ++ exchanged_in before
+
+-- The port was asked what the door's definitions say; each call was answered by what was exchanged for it; and the
+-- agent, which was given the keys before, replied so
 pub record IsTurnOf (keys : History) (before : Run) (turn : Turn) : Type 0 where
   pub asks : IsTurn (door_of before) (in_door turn)
-  pub answered : AreAnswered (told_next keys before turn.word) turn.calls
+  pub made : AreMade (told_next before turn.word) turn.calls turn.exchanged
+  pub replied : AreReplied keys (turn.exchanged ++ exchanged_in before)
 
 abbrev pub IsRun : History → Run → Type 0
 IsRun keys [] = Unit {0}

@@ -12,16 +12,18 @@ use Rattle.agent_core.specs.declared.agent.Agent.{Agent}
 use Rattle.agent_core.specs.Agents.{StandsFor}
 use Rattle.doors.specs.Doors.{StandsFor as DoorStands}
 use Rattle.doors.specs.Histories.{reply_to}
-use Rattle.door_ports.specs.declared.core_port.CorePort.{CorePort}
-use Rattle.door_ports.specs.Settings.{unasked}
-use Rattle.door_ports.specs.Ports.{Stands}
+use Rattle.door_ports.specs.declared.agent_port.AgentPort.{AgentPort}
+use Rattle.door_ports.specs.Exchanges.{Exchange}
+use Rattle.door_ports.specs.Agents.{StandsBehind}
+use Rattle.door_ports.specs.Settings.{Setting}
+use Rattle.door_ports.specs.Ports.{StandsWith, Stood, fresh}
 use Rattle.auth_program.specs.declared.status.Status.{Status}
 use Rattle.auth_program.specs.declared.status.Status.TheVariants as files
 use Rattle.attach_program.specs.declared.session.Session.{Session}
 use Rattle.attach_program.specs.declared.status.AttachStatus.{AttachStatus}
 use Rattle.attach_program.specs.declared.status.AttachStatus.TheVariants.{ReadFault, WriteFault, WordFault, BadFrame, BadKeys, NoMemory, Flood}
 use Rattle.attach_program.specs.Keys.{KnowsKeys}
-use Rattle.attach_program.specs.Runs.{Goes, IsRun, Moves, Run, Sight, Turn, door_of, frames_of, in_door, notes_of, replies_of, told_next, words_of}
+use Rattle.attach_program.specs.Runs.{Goes, IsRun, Moves, Run, Sight, Turn, door_of, exchanged_in, frames_of, in_door, notes_of, replies_of, told_next, words_of}
 use Rattle.attach_program.specs.Serving.{Answers, frames_in, most_frame, most_input}
 
 -- ---- the keys
@@ -52,10 +54,16 @@ pub record Knows (before now : Option (List ℕ)) (agent : Agent) : Type 0 where
 
 -- ---- frames
 
+-- the port's agent was given the keys, and this was exchanged with it since; the port is in this setting
+abbrev pub stood : History → List Exchange → Setting → Stood History
+stood keys done setting = record { past = keys; done = done; setting = setting }
+
 -- the port is where a run left it, whatever word it is told
-abbrev pub PortIs : History → Run → CorePort → Type 0
-PortIs keys [] port = Stands (unasked 1 keys) [] port
-PortIs keys (turn ∷ before) port = Stands (told_next keys before turn.word) turn.calls port
+abbrev pub PortIs : History → Run → AgentPort Agent → Type 0
+PortIs keys [] port = StandsWith StandsBehind (fresh keys 1) [] [] port
+PortIs keys (turn ∷ before) port =
+    StandsWith StandsBehind (stood keys (exchanged_in before) (told_next before turn.word))
+    turn.calls turn.exchanged port
 
 -- a session stands where a run left it
 pub record StandsAt (keys : History) (run : Run) (session : Session) : Type 0 where

@@ -4,6 +4,7 @@ ghost use Rattle.wire_streams.specs.Causes.{Rose};
 ghost use Rattle.agent_history.specs.Histories.{History};
 ghost use Rattle.agent_core.specs.Agents.{StandsFor};
 ghost use Rattle.attr_tuples.specs.Cutting.{text_lines};
+ghost use Rattle.door_ports.specs.Exchanges.{is_done};
 ghost use Rattle.attach_program.specs.Keys.{KeysEnd, agent_of, bad_line, first_bad, is_key_line, is_taken, new_agent, with_line, with_lines};
 ghost use Rattle.attach_program.specs.Steps.{IsFileEnd, Knows, Refuses, end_of_file};
 
@@ -41,6 +42,13 @@ fn is_key_line(line: &[u8]) -> bool
     line.starts_with(b"key ") && line.len() <= MOST_LINE
 }
 
+// A request was done.
+fn is_done(reply: &Reply) -> bool
+    ensures { result ≡ is_done reply.now }
+{
+    matches!(reply, Reply::Done)
+}
+
 // Gives a line to the agent, where it isn't empty. Whether it is a key's, and the agent takes it.
 fn give_line(alloc: Global, agent: &mut Agent, line: &[u8]) -> Result<bool, NoMemory>
     ensures taken { IfOk result (λ taken. (H : History) → StandsFor H agent.old
@@ -55,7 +63,7 @@ fn give_line(alloc: Global, agent: &mut Agent, line: &[u8]) -> Result<bool, NoMe
         return Ok(false);
     }
     let reply = write(alloc, agent, CONNECTION, CTL, line)?;
-    Ok(matches!(reply, Reply::Done))
+    Ok(is_done(&reply))
 }
 
 // Gives the lines of a keys file to an agent, in order.

@@ -1,7 +1,5 @@
 -- The least number that no conversation has.
-use Rattle.std.proofs.Common.{◌≡◌, ℕ, zero, suc, ◌+◌, ◌-◌, ◌<◌, List, [], ◌∷◌, Bool, true, false, Option, Some, None, refl, sym, ap, ◌∙◌, arith}
-use Rattle.std.specs.Prelude.{◌==◌, find, is_some}
-use Rattle.std.proofs.lemmas.Bool.{eqb-true}
+use Rattle.std.proofs.Common.{◌≡◌, ℕ, zero, suc, ◌+◌, ◌-◌, ◌<◌, List, true, false, refl, ap, arith}
 use Rattle.door_ports.specs.Settings.{holds, least_from}
 
 pub least_here : (n at : ℕ) (convs : List ℕ) → holds at convs ≡ false → least_from n at convs ≡ at

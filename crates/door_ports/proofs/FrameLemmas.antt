@@ -1,6 +1,6 @@
 -- Frames of requests are whole, and frames of replies tell their kind and their text.
 use Rattle.std.proofs.lemmas.Bool.{le-ltb}
-use Rattle.std.proofs.Common.{◌≡◌, ℕ, ◌+◌, ◌%◌, ◌/◌, ◌<◌, ◌≤◌, ◌^◌, List, [], ◌∷◌, ◌++◌, length, drop, Option, Some, None, Bool, true, false, cond, ◌||◌, ◌==◌, nat_lt, slice_index, refl, sym, ap, ◌∙◌, arith}
+use Rattle.std.proofs.Common.{◌≡◌, ℕ, ◌+◌, ◌%◌, ◌/◌, ◌<◌, ◌≤◌, ◌^◌, List, ◌++◌, length, drop, Option, Some, None, Bool, true, false, cond, ◌||◌, ◌==◌, nat_lt, slice_index, refl, sym, ap, ◌∙◌, arith}
 use Rattle.std.specs.Int.{w8, w16, w32, to_le_bytes}
 use Rattle.nine.specs.declared.message.TMsg.{TMsg}
 use Rattle.nine.specs.declared.message.TBody.{TBody}
@@ -12,8 +12,6 @@ use Rattle.nine.specs.declared.message.RBody.TheVariants as r
 use Rattle.nine.specs.declared.message.RBody.{RBody}
 use Rattle.door_ports.specs.Exchanges.{under}
 use Rattle.door_ports.specs.Replies.{text_at, told_at, told_in}
-use Rattle.door_ports.specs.declared.reply.Reply.{Reply}
-use Rattle.door_ports.specs.declared.reply.Reply.TheVariants.{Refused, Read, Done}
 use Rattle.door_ports.specs.Exchanges.{told_by}
 
 -- what is spelled as a request is a whole frame

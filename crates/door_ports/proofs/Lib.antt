@@ -1,6 +1,9 @@
+pub mod AskLemmas
 pub mod ConvLemmas
 pub mod ExchangeLemmas
 pub mod FrameLemmas
+pub mod HubLemmas
 pub mod KeepLaws
 pub mod PortLaws
+pub mod SeatLemmas
 pub mod WalkLemmas

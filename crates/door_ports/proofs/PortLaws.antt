@@ -1,85 +1,70 @@
 -- What a port stands for behind a call.
-use Rattle.std.proofs.Common.{◌≡◌, ℕ, List, [], ◌∷◌, ◌++◌, Bool, true, false, Option, Some, None, refl, sym, ap, subst, ◌∙◌, ◌⊎◌, inl, inr}
-use Rattle.std.specs.Prelude.{if◌then◌else◌}
-use Rattle.agent_history.specs.Histories.{History}
-use Rattle.doors.specs.declared.port.PortOpen.{PortOpen}
-use Rattle.doors.specs.declared.port.PortOpen.TheVariants as o
-use Rattle.doors.specs.declared.port.PortSaid.{PortSaid}
-use Rattle.doors.specs.declared.port.PortSaid.TheVariants as s
-use Rattle.doors.specs.Calls.{PortCall, Opened, Asked, Closed}
-use Rattle.door_ports.specs.declared.core_port.CorePort.{CorePort}
-use Rattle.door_ports.specs.declared.reply.Reply.{Reply}
-use Rattle.door_ports.specs.Exchanges.{lets_open}
-use Rattle.door_ports.specs.Settings.{AllAreAnswered, AreAnswered, FindsNoMemory, IsSaidSo, Setting, behind, convs_in, holds, last_reply, made_ready, next_conv, ready_in}
-use Rattle.door_ports.specs.Ports.{Keeps, OpensOne, SaysOne, Stands, StandsBy, Works, all_but, behind_ask, behind_close, let_of, reply_of}
+use Rattle.std.proofs.Common.{◌≡◌, ℕ, List, [], ◌∷◌, ◌++◌, Bool, true, false, refl, sym, subst, ◌∙◌, inl, inr, append_assoc}
+use Rattle.doors.specs.Calls.{PortCall}
+use Rattle.door_ports.specs.declared.agent_port.AgentPort.{AgentPort}
+use Rattle.door_ports.specs.Exchanges.{Exchange}
+use Rattle.door_ports.specs.Settings.{AllAreMade, AreMade, FindsNoMemory, Setting, after}
+use Rattle.door_ports.specs.Ports.{HasFailed, Makes, Stands, StandsBy, StandsWith, Stood, Works, told_word}
 
 -- calls that were all answered
-pub all_answered : (s : Setting) (calls : List PortCall) → AllAreAnswered s calls → AreAnswered s calls
-all_answered s [] answered = tt
-all_answered s (call ∷ calls) answered = inl answered
+all_made : (s : Setting) (calls : List PortCall) (more : List Exchange) → AllAreMade s calls more → AreMade s calls more
+all_made s [] more made = made
+all_made s (call ∷ calls) more made = inl made
 
-answered_by : (failed : Bool) (s : Setting) (calls : List PortCall) (port : CorePort) → StandsBy failed s calls port → AreAnswered s calls
-answered_by true s calls port stands = stands
-answered_by false s calls port stands = all_answered s calls stands.answered
+module _ {P A : Type 0} (stands : P → List Exchange → A → Type 0) where
+  -- what stands while memory doesn't run out
+  pub works_so : (s : Stood P) (calls : List PortCall) (more : List Exchange) (port : AgentPort A) → port.has_failed ≡ false → StandsWith stands s calls more port → Works stands s calls more port
+  works_so s calls more port works so = subst (λ (b : Bool). StandsBy stands b s calls more port) works so
 
--- a port's calls were answered as the agent answers them
-pub are_answered : (s : Setting) (calls : List PortCall) (port : CorePort) → Stands s calls port → AreAnswered s calls
-are_answered s calls port stands = answered_by port.has_failed s calls port stands
+  stands_so : (s : Stood P) (calls : List PortCall) (more : List Exchange) (port : AgentPort A) → Works stands s calls more port → StandsWith stands s calls more port
+  stands_so s calls more port w = subst (λ (b : Bool). StandsBy stands b s calls more port) (sym w.keeps.works) w
 
--- what stands while memory doesn't run out
-pub works_so : (s : Setting) (calls : List PortCall) (port : CorePort) → port.has_failed ≡ false → Stands s calls port → Works s calls port
-works_so s calls port works stands = subst (λ (b : Bool). StandsBy b s calls port) works stands
+  as_failed : (failed : Bool) (s : Stood P) (calls : List PortCall) (more : List Exchange) (port : AgentPort A) → StandsBy stands failed s calls more port → HasFailed stands s calls more
+  as_failed true s calls more port so = so
+  as_failed false s calls more port so = record { made = all_made s.setting calls more so.made; agent = port.agent; stood = so.agent }
 
-pub stands_so : (s : Setting) (calls : List PortCall) (port : CorePort) → Works s calls port → Stands s calls port
-stands_so s calls port works = subst (λ (b : Bool). StandsBy b s calls port) (sym works.keeps.works) works
+  -- what a port's calls came to, whether memory ran out or not
+  pub came_to : (s : Stood P) (calls : List PortCall) (more : List Exchange) (port : AgentPort A) → StandsWith stands s calls more port → HasFailed stands s calls more
+  came_to s calls more port so = as_failed port.has_failed s calls more port so
 
--- a call that finds no memory
-pub finds_none : (s : Setting) (calls : List PortCall) (call : PortCall) (old new : CorePort) → FindsNoMemory call → new.has_failed ≡ true → Stands s calls old → Stands s (call ∷ calls) new
-finds_none s calls call old new finds failed stands =
-    subst (λ (b : Bool). StandsBy b s (call ∷ calls) new) (sym failed) (inr (finds, are_answered s calls old stands))
+  -- a call that finds no memory
+  pub finds_none : (s : Stood P) (calls : List PortCall) (call : PortCall) (old : AgentPort A) → FindsNoMemory call → Stands stands s calls old → (more : List Exchange) × HasFailed stands s (call ∷ calls) more
+  finds_none s calls call old finds so =
+      let f = came_to s calls so.0 old so.1 in (so.0, record { made = inr (finds, f.made); agent = f.agent; stood = f.stood })
 
--- ---- an open
+  -- the same, of a port for which memory ran out before
+  pub found_none : (s : Stood P) (calls : List PortCall) (call : PortCall) (port : AgentPort A) → FindsNoMemory call → port.has_failed ≡ true → Stands stands s calls port → Stands stands s (call ∷ calls) port
+  found_none s calls call port finds failed so =
+      let f = finds_none s calls call port finds so in (f.0, subst (λ (b : Bool). StandsBy stands b s (call ∷ calls) f.0 port) (sym failed) f.1)
 
-pub opens_conv : (s : Setting) (calls : List PortCall) (port : CorePort) (conv : ℕ) → AllAreAnswered s calls
-    → OpensOne s (made_ready (ready_in s calls) s.conn (behind s calls)) (convs_in s calls) (Some conv) port
-    → Works s (Opened (o.Open conv) ∷ calls) port
-opens_conv s calls port conv answered opens = record {
-  keeps = opens.keeps.1;
-  answered = (rw (opens.told) (opens.keeps.0), answered);
-}
+  -- a call that was answered
+  pub makes_one : (s : Stood P) (calls : List PortCall) (more : List Exchange) (call : PortCall) (old new : AgentPort A) → Works stands s calls more old → Makes (stands s.past) (after s.setting calls) call (more ++ s.done) new → Stands stands s (call ∷ calls) new
+  makes_one s calls more call old new w m = (
+    m.did.more ++ more,
+    stands_so s (call ∷ calls) (m.did.more ++ more) new (record {
+      keeps = m.keeps;
+      made = record { earlier = more; later = m.did.more; parts = refl; before = w.made; behind = m.did.are };
+      agent = subst (λ (l : List Exchange). stands s.past l new.agent) (sym (append_assoc m.did.more more s.done)) m.did.leaves;
+    }),
+  )
 
-pub opens_none : (s : Setting) (calls : List PortCall) (port : CorePort) → AllAreAnswered s calls
-    → OpensOne s (made_ready (ready_in s calls) s.conn (behind s calls)) (convs_in s calls) None port
-    → Works s (Opened o.Refused ∷ calls) port
-opens_none s calls port answered opens = record {
-  keeps = opens.keeps;
-  answered = (rw (opens.told) tt, answered);
-}
+  -- a word is told
+  told_by : (failed : Bool) (s : Stood P) (calls : List PortCall) (more : List Exchange) (word : List ℕ) (old new : AgentPort A) → new.has_failed ≡ old.has_failed → new.conn ≡ old.conn → new.word ≡ word → new.is_ready ≡ old.is_ready
+      → new.convs.items ≡ old.convs.items → new.agent ≡ old.agent → StandsBy stands failed s calls more old → StandsBy stands failed (told_word s calls more word) [] [] new
+  told_by true s calls more word old new f c w r v a so = record { made = refl; agent = so.agent; stood = so.stood }
+  told_by false s calls more word old new f c w r v a so = record {
+    keeps = record {
+      works = f ∙ so.keeps.works;
+      conn = c ∙ so.keeps.conn;
+      word = w;
+      is_ready = r ∙ so.keeps.is_ready;
+      open_convs = v ∙ so.keeps.open_convs;
+    };
+    made = refl;
+    agent = subst (λ (x : A). stands s.past (more ++ s.done) x) (sym a) so.agent;
+  }
 
--- ---- a request
-
-asks : (s : Setting) (calls : List PortCall) (conv : ℕ) (request : List ℕ) (came : PortSaid) (answer : List ℕ) (port : CorePort) (held : Bool) → holds conv (convs_in s calls) ≡ held → AllAreAnswered s calls
-    → IsSaidSo (reply_of held s conv request (behind s calls)) came answer
-    → Keeps s (behind_ask held s conv request (behind s calls)) (ready_in s calls) (convs_in s calls) port
-    → Works s (Asked conv request came answer ∷ calls) port
-asks s calls conv request came answer port true held answered told keeps = record { keeps = rw held keeps; answered = (rw held told, answered) }
-asks s calls conv request came answer port false held answered told keeps = record { keeps = rw held keeps; answered = (rw held told, answered) }
-
-pub asks_one : (s : Setting) (calls : List PortCall) (conv : ℕ) (request : List ℕ) (came : PortSaid) (answer : List ℕ) (port : CorePort) → AllAreAnswered s calls
-    → SaysOne s (behind s calls) (ready_in s calls) (convs_in s calls) conv request came answer port
-    → Works s (Asked conv request came answer ∷ calls) port
-asks_one s calls conv request came answer port answered one =
-    asks s calls conv request came answer port (holds conv (convs_in s calls)) refl answered one.told one.keeps
-
--- ---- a close
-
-closes : (s : Setting) (calls : List PortCall) (conv : ℕ) (port : CorePort) (held : Bool) → holds conv (convs_in s calls) ≡ held → AllAreAnswered s calls
-    → Keeps s (behind_close held s conv (behind s calls)) (ready_in s calls) (all_but conv (convs_in s calls)) port
-    → Works s (Closed conv ∷ calls) port
-closes s calls conv port true held answered keeps = record { keeps = rw held keeps; answered = (tt, answered) }
-closes s calls conv port false held answered keeps = record { keeps = rw held keeps; answered = (tt, answered) }
-
-pub closes_one : (s : Setting) (calls : List PortCall) (conv : ℕ) (port : CorePort) → AllAreAnswered s calls
-    → Keeps s (behind_close (holds conv (convs_in s calls)) s conv (behind s calls)) (ready_in s calls) (all_but conv (convs_in s calls)) port
-    → Works s (Closed conv ∷ calls) port
-closes_one s calls conv port answered keeps = closes s calls conv port (holds conv (convs_in s calls)) refl answered keeps
+  pub told_so : (s : Stood P) (calls : List PortCall) (more : List Exchange) (word : List ℕ) (old new : AgentPort A) → new.has_failed ≡ old.has_failed → new.conn ≡ old.conn → new.word ≡ word → new.is_ready ≡ old.is_ready → new.convs.items ≡ old.convs.items
+      → new.agent ≡ old.agent → StandsWith stands s calls more old → StandsWith stands (told_word s calls more word) [] [] new
+  told_so s calls more word old new f c w r v a so =
+      subst (λ (b : Bool). StandsBy stands b (told_word s calls more word) [] [] new) (sym f) (told_by old.has_failed s calls more word old new f c w r v a so)

@@ -1,7 +1,7 @@
 -- The requests by which a port asks an agent, on a connection of its own, each followed by a take of its reply; and
 -- what is replied. After section 5 of the Plan 9 manual and factotum(4); which fids, tags and counts are used is this
 -- project's.
-use Rattle.std.specs.Prelude.{ℕ, List, [], ◌∷◌, ◌++◌, replicate, Bool, true, false, ◌||◌, Option, Some, None, codes, if◌then◌else◌}
+use Rattle.std.specs.Prelude.{◌≡◌, ℕ, List, [], ◌∷◌, replicate, Bool, true, false, ◌||◌, Option, Some, None, codes, if◌then◌else◌}
 use Rattle.std.specs.Str.{bytes_eq}
 use Rattle.nine.specs.declared.message.TBody.{TBody}
 use Rattle.nine.specs.declared.message.TBody.TheVariants as t
@@ -100,6 +100,31 @@ abbrev pub prepared : ℕ → History → History
 prepared conn H =
     asked conn (opens 1) (asked conn (walks 1 (codes "ctl")) (asked conn attaches (asked conn agrees H)))
 
+-- ---- exchanges
+
+-- a frame came on a connection with a word, and its reply was taken; lists of exchanges have the newest first
+pub record Exchange : Type 0 where
+  pub conn : ℕ
+  pub frame : List ℕ
+  pub word : List ℕ
+  pub reply : Reply
+
+-- such an exchange by its parts
+abbrev pub exchange : ℕ → List ℕ → List ℕ → Reply → Exchange
+exchange conn frame word reply = record { conn = conn; frame = frame; word = word; reply = reply }
+
+-- this frame came in it, on this connection and with this word
+abbrev pub Sends : ℕ → List ℕ → List ℕ → Exchange → Type 0
+Sends conn frame word e = (e.conn ≡ conn) × (e.frame ≡ frame) × (e.word ≡ word)
+
+-- ---- a connection is made ready: whatever is replied
+
+abbrev pub IsPreparing : ℕ → List Exchange → Type 0
+IsPreparing conn (fourth ∷ third ∷ second ∷ first ∷ []) =
+    Sends conn agrees no_word first × Sends conn attaches no_word second
+    × Sends conn (walks 1 (codes "ctl")) no_word third × Sends conn (opens 1) no_word fourth
+IsPreparing conn more = ⊥
+
 -- ---- a fid opens rpc
 
 -- the agent lets a request, or refuses it by one of its two limits or because it is gone; what else it may reply no
@@ -118,56 +143,37 @@ lets (Refused text) = limited (is_limit text)
 lets (Read content) = None
 lets Silent = None
 
-abbrev pub walk_reply : ℕ → ℕ → History → Reply
-walk_reply conn fid H = reply conn (walks fid (codes "rpc")) H
+-- a request came, and the agent let it or didn't
+abbrev pub IsLet : ℕ → List ℕ → Bool → Exchange → Type 0
+IsLet conn frame let_it e = Sends conn frame no_word e × (lets e.reply ≡ Some let_it)
 
-abbrev pub walked : ℕ → ℕ → History → History
-walked conn fid H = asked conn (walks fid (codes "rpc")) H
-
-abbrev pub open_reply : ℕ → ℕ → History → Reply
-open_reply conn fid H = reply conn (opens fid) (walked conn fid H)
-
-abbrev pub opened : ℕ → ℕ → History → History
-opened conn fid H = asked conn (opens fid) (walked conn fid H)
-
--- both requests are let
-abbrev pub both_let : Option Bool → Option Bool → Option Bool
-both_let (Some true) second = second
-both_let first second = first
-
-abbrev pub lets_open : ℕ → ℕ → History → Option Bool
-lets_open conn fid H = both_let (lets (walk_reply conn fid H)) (lets (open_reply conn fid H))
-
--- a fid that came to rpc and wasn't let to open it is given up again
-abbrev pub given_up : Option Bool → ℕ → ℕ → History → History
-given_up (Some true) conn fid H = asked conn (clunks fid) (opened conn fid H)
-given_up walk conn fid H = walked conn fid H
-
-abbrev pub not_opened : ℕ → ℕ → History → History
-not_opened conn fid H = given_up (lets (walk_reply conn fid H)) conn fid H
+-- both requests are let; or the first isn't; or the second isn't, and the fid is given up again
+abbrev pub IsTry : ℕ → ℕ → Bool → List Exchange → Type 0
+IsTry conn fid true (second ∷ first ∷ []) =
+    IsLet conn (walks fid (codes "rpc")) true first × IsLet conn (opens fid) true second
+IsTry conn fid false (first ∷ []) = IsLet conn (walks fid (codes "rpc")) false first
+IsTry conn fid false (third ∷ second ∷ first ∷ []) =
+    IsLet conn (walks fid (codes "rpc")) true first × IsLet conn (opens fid) false second
+    × Sends conn (clunks fid) no_word third
+IsTry conn fid let_it more = ⊥
 
 -- ---- a fid that has rpc open is asked
-
--- a request is written, and where that is done it is read with the word
-abbrev pub write_reply : ℕ → ℕ → List ℕ → History → Reply
-write_reply conn fid request H = reply conn (writes fid request) H
-
-abbrev pub written : ℕ → ℕ → List ℕ → History → History
-written conn fid request H = asked conn (writes fid request) H
 
 abbrev pub is_done : Reply → Bool
 is_done Done = true
 is_done reply = false
 
--- what is replied last
-abbrev pub answer_to : ℕ → ℕ → List ℕ → List ℕ → History → Reply
-answer_to conn fid request word H =
-    if is_done (write_reply conn fid request H)
-    then reply_to conn (reads fid) word (written conn fid request H)
-    else write_reply conn fid request H
+-- a request is written, and where that is done it is read with the word; this is what is replied last
+abbrev pub IsTold : ℕ → ℕ → List ℕ → List ℕ → Reply → List Exchange → Type 0
+IsTold conn fid request word reply (first ∷ []) =
+    Sends conn (writes fid request) no_word first × (is_done first.reply ≡ false) × (first.reply ≡ reply)
+IsTold conn fid request word reply (second ∷ first ∷ []) =
+    Sends conn (writes fid request) no_word first × (is_done first.reply ≡ true)
+    × Sends conn (reads fid) word second × (second.reply ≡ reply)
+IsTold conn fid request word reply more = ⊥
 
-abbrev pub answered : ℕ → ℕ → List ℕ → List ℕ → History → History
-answered conn fid request word H =
-    if is_done (write_reply conn fid request H)
-    then exchanged conn (reads fid) word (written conn fid request H)
-    else written conn fid request H
+-- ---- a fid is given up
+
+abbrev pub IsClunk : ℕ → ℕ → List Exchange → Type 0
+IsClunk conn fid (one ∷ []) = Sends conn (clunks fid) no_word one
+IsClunk conn fid more = ⊥

@@ -4,3 +4,6 @@ pub mod Files
 pub mod Asks
 pub mod Settings
 pub mod Ports
+pub mod Agents
+pub mod Hubs
+pub mod Seated

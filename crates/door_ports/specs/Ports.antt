@@ -1,77 +1,95 @@
--- When a port stands for the calls that were made of it: each was answered as the agent answers, and the agent stands
--- for the history behind them.
-use Rattle.std.specs.Prelude.{◌≡◌, ℕ, List, [], ◌∷◌, ◌++◌, Bool, true, false, Option, Some, None, filter, not, ◌==◌, if◌then◌else◌}
-use Rattle.agent_history.specs.Histories.{History}
-use Rattle.agent_core.specs.Agents.{StandsFor}
-use Rattle.doors.specs.declared.port.PortSaid.{PortSaid}
+-- When a port stands for the calls that were made of it: each was answered by what was exchanged with the agent for it,
+-- and the agent stands so that these exchanges were made with it.
+use Rattle.std.specs.Prelude.{◌≡◌, ℕ, List, [], ◌++◌, Bool, true, false, Option, Some, None}
+use Rattle.doors.specs.declared.port.PortOpen.{PortOpen}
+use Rattle.doors.specs.declared.port.PortOpen.TheVariants as o
 use Rattle.doors.specs.Calls.{PortCall}
-use Rattle.door_ports.specs.declared.core_port.CorePort.{CorePort}
+use Rattle.door_ports.specs.declared.agent_port.AgentPort.{AgentPort}
 use Rattle.door_ports.specs.declared.reply.Reply.{Reply}
-use Rattle.door_ports.specs.declared.reply.Reply.TheVariants.{Refused}
-use Rattle.door_ports.specs.Exchanges.{answer_to, answered, asked, clunks, lets_open, not_opened, opened}
-use Rattle.door_ports.specs.Settings.{AllAreAnswered, AreAnswered, IsSaidSo, Setting, behind, convs_in, holds, made_ready, next_conv, ready_in, unknown_fid, word_for}
+use Rattle.door_ports.specs.Exchanges.{Exchange, IsTold}
+use Rattle.door_ports.specs.Settings.{AllAreMade, AreMade, IsCall, Setting, after, after_call, holds, unasked, unknown_fid, with_word, word_for}
 
--- a port that keeps these conversations, whose agent stands for this history, and for which memory never ran out
-pub record Keeps (s : Setting) (H : History) (ready : Bool) (convs : List ℕ) (port : CorePort) : Type 0 where
+-- what stood before some calls: what had been of the agent, what was exchanged with it since, and the port's setting
+pub record Stood (P : Type 0) : Type 0 where
+  pub past : P
+  pub done : List Exchange
+  pub setting : Setting
+
+module _ {P : Type 0} where
+  -- where nothing was asked yet
+  abbrev pub fresh : P → ℕ → Stood P
+  fresh past conn = record { past = past; done = []; setting = unasked conn }
+
+  -- where a word is told behind some calls, for which this was exchanged
+  abbrev pub told_word : Stood P → List PortCall → List Exchange → List ℕ → Stood P
+  told_word s calls more word = record {
+    past = s.past;
+    done = more ++ s.done;
+    setting = with_word word (after s.setting calls);
+  }
+
+-- a port in this setting, for which memory never ran out
+pub record Keeps {A : Type 0} (s : Setting) (port : AgentPort A) : Type 0 where
   pub works : port.has_failed ≡ false
   pub conn : port.conn ≡ s.conn
   pub word : port.word ≡ s.word
-  pub is_ready : port.is_ready ≡ ready
-  pub open_convs : port.convs.items ≡ convs
-  pub agent : StandsFor H port.agent
+  pub is_ready : port.is_ready ≡ s.ready
+  pub open_convs : port.convs.items ≡ s.convs
 
--- the calls were answered by its agent
-pub record Works (s : Setting) (calls : List PortCall) (port : CorePort) : Type 0 where
-  pub keeps : Keeps s (behind s calls) (ready_in s calls) (convs_in s calls) port
-  pub answered : AllAreAnswered s calls
+module _ {P A : Type 0} (stands : P → List Exchange → A → Type 0) where
+  -- the calls were answered by these exchanges with its agent
+  pub record Works (s : Stood P) (calls : List PortCall) (more : List Exchange) (port : AgentPort A) : Type 0 where
+    pub keeps : Keeps (after s.setting calls) port
+    pub made : AllAreMade s.setting calls more
+    pub agent : stands s.past (more ++ s.done) port.agent
 
--- once memory ran out, nothing is said of the agent any more
-abbrev pub StandsBy : Bool → Setting → List PortCall → CorePort → Type 0
-StandsBy true s calls port = AreAnswered s calls
-StandsBy false s calls port = Works s calls port
+  -- once memory ran out, nothing is said of its agent any more: an agent stood for what was exchanged up to then
+  pub record HasFailed (s : Stood P) (calls : List PortCall) (more : List Exchange) : Type 0 where
+    pub made : AreMade s.setting calls more
+    pub agent : A
+    pub stood : stands s.past (more ++ s.done) agent
 
-abbrev pub Stands : Setting → List PortCall → CorePort → Type 0
-Stands s calls port = StandsBy port.has_failed s calls port
+  abbrev pub StandsBy : Bool → Stood P → List PortCall → List Exchange → AgentPort A → Type 0
+  StandsBy true s calls more port = HasFailed s calls more
+  StandsBy false s calls more port = Works s calls more port
+
+  abbrev pub StandsWith : Stood P → List PortCall → List Exchange → AgentPort A → Type 0
+  StandsWith s calls more port = StandsBy port.has_failed s calls more port
+
+  abbrev pub Stands : Stood P → List PortCall → AgentPort A → Type 0
+  Stands s calls port = (more : List Exchange) × StandsWith s calls more port
 
 -- ---- what one call leaves
 
--- a conversation was opened, or wasn't
-abbrev pub KeepsOpened : Option ℕ → Setting → History → List ℕ → CorePort → Type 0
-KeepsOpened (Some conv) s H convs port =
-    (conv ≡ next_conv convs) × Keeps s (opened s.conn (next_conv convs) H) true (convs ++ conv ∷ []) port
-KeepsOpened None s H convs port = Keeps s (not_opened s.conn (next_conv convs) H) true convs port
+-- what is asked for a request, which is replied so at last
+abbrev pub IsRepliedSo : Bool → ℕ → ℕ → List ℕ → List ℕ → Reply → List Exchange → Type 0
+IsRepliedSo true conn conv request word reply more = IsTold conn conv request word reply more
+IsRepliedSo false conn conv request word reply more = (more ≡ []) × (reply ≡ unknown_fid)
 
-abbrev pub let_of : Option ℕ → Bool
-let_of (Some conv) = true
-let_of None = false
+module _ {A : Type 0} (stands : List Exchange → A → Type 0) where
+  -- this was exchanged with an agent
+  pub record Did (is : List Exchange → Type 0) (done : List Exchange) (agent : A) : Type 0 where
+    pub more : List Exchange
+    pub are : is more
+    pub leaves : stands (more ++ done) agent
 
-pub record OpensOne (s : Setting) (H : History) (convs : List ℕ) (conv : Option ℕ) (port : CorePort) : Type 0 where
-  pub told : lets_open s.conn (next_conv convs) H ≡ Some (let_of conv)
-  pub keeps : KeepsOpened conv s H convs port
+  -- a port is in this setting, and this was exchanged with its agent
+  pub record Went (is : List Exchange → Type 0) (done : List Exchange) (s : Setting) (port : AgentPort A)
+      : Type 0 where
+    pub keeps : Keeps s port
+    pub did : Did is done port.agent
 
--- a conversation was asked
-abbrev pub reply_of : Bool → Setting → ℕ → List ℕ → History → Reply
-reply_of true s conv request H = answer_to s.conn conv request (word_for s request) H
-reply_of false s conv request H = unknown_fid
+  -- a call was made
+  abbrev pub Makes : Setting → PortCall → List Exchange → AgentPort A → Type 0
+  Makes s call done port = Went (IsCall s call) done (after_call call s) port
 
-abbrev pub behind_ask : Bool → Setting → ℕ → List ℕ → History → History
-behind_ask true s conv request H = answered s.conn conv request (word_for s request) H
-behind_ask false s conv request H = H
+  -- a conversation was asked, and this is what was replied last
+  pub record AsksOne (s : Setting) (conv : ℕ) (request : List ℕ) (reply : Reply) (done : List Exchange)
+      (port : AgentPort A) : Type 0 where
+    pub keeps : Keeps s port
+    pub did : Did (IsRepliedSo (holds conv s.convs) s.conn conv request (word_for s request) reply) done port.agent
 
-pub record AsksOne (s : Setting) (H : History) (ready : Bool) (convs : List ℕ) (conv : ℕ) (request : List ℕ)
-    (reply : Reply) (port : CorePort) : Type 0 where
-  pub told : reply ≡ reply_of (holds conv convs) s conv request H
-  pub keeps : Keeps s (behind_ask (holds conv convs) s conv request H) ready convs port
-
-pub record SaysOne (s : Setting) (H : History) (ready : Bool) (convs : List ℕ) (conv : ℕ) (request : List ℕ)
-    (said : PortSaid) (answer : List ℕ) (port : CorePort) : Type 0 where
-  pub told : IsSaidSo (reply_of (holds conv convs) s conv request H) said answer
-  pub keeps : Keeps s (behind_ask (holds conv convs) s conv request H) ready convs port
-
--- a conversation was closed
-abbrev pub behind_close : Bool → Setting → ℕ → History → History
-behind_close true s conv H = asked s.conn (clunks conv) H
-behind_close false s conv H = H
-
-abbrev pub all_but : ℕ → List ℕ → List ℕ
-all_but conv convs = filter (λ c. not (c == conv)) convs
+-- the answer to an open
+abbrev pub opened_as : Option ℕ → PortOpen
+opened_as (Some conv) = o.Open conv
+opened_as None = o.Refused

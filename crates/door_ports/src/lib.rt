@@ -1,12 +1,16 @@
 //! The ports through which a file server asks an agent who its users are: what each call of a port asks the agent for, on a
-//! connection of its own, and what it is answered by what the agent replies.
+//! connection of its own, and what it is answered by what the agent replies. The agent is the port's own, or one behind a hub.
 #![tactic(auto)]
 
-mod core_port;
+mod agent_port;
+mod agents;
 mod exchange;
 mod frames;
+mod hub_caller;
 mod reply;
 
-pub use core_port::CorePort;
+pub use agent_port::{AgentPort, CorePort};
+pub use agents::AskedAgent;
 pub use exchange::{prepare, write};
+pub use hub_caller::{HubCaller, HubPort};
 pub use reply::Reply;

@@ -4,6 +4,7 @@ ghost use Rattle.nine.specs.Decoding.{IsFrame};
 ghost use Rattle.agent_core.specs.Events.{IsEvent};
 ghost use Rattle.agent_hub.specs.Submits.{IsSeatOf};
 
+mod attaches;
 mod lines;
 mod sessions;
 

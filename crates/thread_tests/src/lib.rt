@@ -1,6 +1,6 @@
-//! Tests of what needs threads, real sockets or jobs: the turn lock and its bells, the hub and its loops, the jobs of an
-//! agent that serves, an authentication server that holds its answer or notes what it answers, the dialer and the listener
-//! over sockets.
+//! Tests of what needs threads, real sockets or jobs: the turn lock and its bells, the hub and its loops, a file server that
+//! asks its agent, the jobs of an agent that serves, an authentication server that holds its answer or notes what it answers,
+//! the dialer and the listener over sockets.
 #![tactic(auto)]
 
 #[cfg(test)]

@@ -12,10 +12,10 @@ answer_input-requires g c = record { ready = begun_ready _ c.in_ok-framer.ensure
 
 pub returns-clause-ok : goal.returns-clause-ok
 returns-clause-ok g c = on_ok_weaker c.answer_input.result (λ f keys stands.
-    f keys _ _ (begun keys _ _ _ _ (record { door = c.new.ensures; port = c.new-2.ensures keys stands; is = tt }) c.in_ok-framer.ensures.value c.in_ok-framer.ensures.fresh))
+    f keys _ _ (begun keys _ _ _ _ (record { door = c.new.ensures; port = c.new-2.ensures keys (record { stands = stands; replied = tt }); is = tt }) c.in_ok-framer.ensures.value c.in_ok-framer.ensures.fresh))
     c.answer_input.ensures.ok
 
 pub returns-clause-err : goal.returns-clause-err
 returns-clause-err g c = IfErr-weaker c.answer_input.result _ _ (λ status f keys stands.
-    f keys _ _ (begun keys _ _ _ _ (record { door = c.new.ensures; port = c.new-2.ensures keys stands; is = tt }) c.in_ok-framer.ensures.value c.in_ok-framer.ensures.fresh))
+    f keys _ _ (begun keys _ _ _ _ (record { door = c.new.ensures; port = c.new-2.ensures keys (record { stands = stands; replied = tt }); is = tt }) c.in_ok-framer.ensures.value c.in_ok-framer.ensures.fresh))
     c.answer_input.ensures.err

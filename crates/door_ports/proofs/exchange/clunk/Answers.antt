@@ -1,9 +1,6 @@
-use Rattle.std.proofs.Common.{List, ℕ, subst}
-use Rattle.std.specs.Prelude.{OnOk}
-use Rattle.agent_history.specs.Histories.{History}
-use Rattle.agent_core.specs.Agents.{StandsFor}
-use Rattle.door_ports.specs.Exchanges.{asked}
+use Rattle.std.proofs.lemmas.Result.{on_ok_weaker}
+use Rattle.door_ports.proofs.AskLemmas.{clunked_did}
 use Rattle.door_ports.proofs.exchange.clunk.Goals as goal
 
 pub returns : goal.returns
-returns c = subst (λ (f : List ℕ). OnOk c.ask.result ((H : History) → StandsFor H c.args.agent.now → StandsFor (asked c.args.conn f H) c.ask.new.agent)) c.in_ok-clunks.ensures.is c.ask.ensures
+returns g c = on_ok_weaker c.send.result (λ sent past done stands. clunked_did (g.A.AskedAgent.stands past) c.args.conn c.args.fid done _ _ c.in_ok-clunks.ensures.is (sent past done stands)) c.send.ensures
