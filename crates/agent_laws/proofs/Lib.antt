@@ -50,3 +50,7 @@ mod ResumeLaws
 mod GoesLaws
 mod FrameLaws
 mod RedactLaws
+mod TagLaws
+mod ViewLaws
+mod StepLaws
+mod EventLaws
