@@ -53,4 +53,6 @@ mod RedactLaws
 mod TagLaws
 mod ViewLaws
 mod StepLaws
+mod GoodLaws
+mod LeaveLaws
 mod EventLaws
