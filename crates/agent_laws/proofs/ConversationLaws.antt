@@ -21,7 +21,7 @@ use Rattle.agent_laws.proofs.GrowLaws.{history_grows}
 
 -- ---- small steps
 
-any_append : {X : Type 0} (p : X → Bool) (xs : List X) (x : X) → list_any p (xs ++ x ∷ []) ≡ (list_any p xs || p x)
+pub any_append : {X : Type 0} (p : X → Bool) (xs : List X) (x : X) → list_any p (xs ++ x ∷ []) ≡ (list_any p xs || p x)
 any_append p [] x = last (p x)
   where
     last : (b : Bool) → (b || false) ≡ b
@@ -50,11 +50,11 @@ kept_step p x kept rest false true e h more = rw e more
 kept_step p x kept rest true false e h more = absurd (let no_way : false ≡ true = h refl in cc)
 kept_step p x kept rest false false e h more = more
 
-any_kept : {X : Type 0} (p q : X → Bool) (xs : List X) → ((x : X) → p x ≡ true → q x ≡ true) → list_any p (filter q xs) ≡ list_any p xs
+pub any_kept : {X : Type 0} (p q : X → Bool) (xs : List X) → ((x : X) → p x ≡ true → q x ≡ true) → list_any p (filter q xs) ≡ list_any p xs
 any_kept p q [] h = refl
 any_kept p q (x ∷ xs) h = kept_step p x (filter q xs) (list_any p xs) (p x) (q x) refl (h x) (any_kept p q xs h)
 
-both_same : (a b c d : ℕ) → (eqb a b && eqb c d) ≡ true → (a ≡ b) × (c ≡ d)
+pub both_same : (a b c d : ℕ) → (eqb a b && eqb c d) ≡ true → (a ≡ b) × (c ≡ d)
 both_same a b c d e = let parts = and_parts (eqb a b) (eqb c d) e in (eqb-true a b parts.0, eqb-true c d parts.1)
 
 -- ---- each fid that has rpc open has a conversation, and no other has
@@ -281,7 +281,7 @@ rpc_named Needkey e = absurd cc
 rpc_named Proto e = absurd cc
 rpc_named Log e = absurd cc
 
-rpc_there : (o : Option FidState) → names Rpc o ≡ true → is_rpc (node_of o) ≡ true
+pub rpc_there : (o : Option FidState) → names Rpc o ≡ true → is_rpc (node_of o) ≡ true
 rpc_there None e = absurd cc
 rpc_there (Some state) e = rpc_named state.node e
 
@@ -348,10 +348,10 @@ rise_parts top n ns h = by_cases (ltb n top) (list_all (ltb n) ns) (rise_below t
     by_cases true false c e f g h = absurd cc
     by_cases false b c e f g h = absurd cc
 
-rise_from : (top n : ℕ) (ns : List ℕ) → Rises top n ns → Rise top (n ∷ ns)
+pub rise_from : (top n : ℕ) (ns : List ℕ) → Rises top n ns → Rise top (n ∷ ns)
 rise_from top n ns r = rw (r.below, r.above, r.rest) refl
 
-rise_kept : {X : Type 0} (f : X → ℕ) (top : ℕ) (keep : X → Bool) (xs : List X) → Rise top (map f xs) → Rise top (map f (filter keep xs))
+pub rise_kept : {X : Type 0} (f : X → ℕ) (top : ℕ) (keep : X → Bool) (xs : List X) → Rise top (map f xs) → Rise top (map f (filter keep xs))
 rise_kept f top keep [] h = refl
 rise_kept f top keep (x ∷ xs) h =
     let parts = rise_parts top (f x) (map f xs) h in
@@ -366,7 +366,7 @@ above_append f n [] x h e = rw e refl
 above_append f n (y ∷ xs) x h e = let parts = and_parts (ltb n (f y)) (list_all (ltb n) (map f xs)) h in and_from (ltb n (f y)) _ parts.0 (above_append f n xs x parts.1 e)
 
 -- the next number at the end
-rise_append : {X : Type 0} (f : X → ℕ) (top : ℕ) (xs : List X) (x : X) → f x ≡ top → Rise top (map f xs) → Rise (top + 1) (map f (xs ++ x ∷ []))
+pub rise_append : {X : Type 0} (f : X → ℕ) (top : ℕ) (xs : List X) (x : X) → f x ≡ top → Rise top (map f xs) → Rise (top + 1) (map f (xs ++ x ∷ []))
 rise_append f top [] x e h = rise_from (top + 1) (f x) [] (record { below = lt-ltb (f x) (top + 1) (omega (arith, e)); above = refl; rest = refl })
 rise_append f top (y ∷ xs) x e h =
     let parts = rise_parts top (f y) (map f xs) h in

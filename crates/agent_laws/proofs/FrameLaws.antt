@@ -117,10 +117,10 @@ given_fids deed done speak more known = record {
   known = known;
 }
 
-versioned : (at : ℕ) (msize : Option ℕ) (done : List Deed) → IsKnown done → IsGivenUp (OfFids at (Versioned msize)) done
+pub versioned : (at : ℕ) (msize : Option ℕ) (done : List Deed) → IsKnown done → IsGivenUp (OfFids at (Versioned msize)) done
 versioned at msize done known = given_fids (OfFids at (Versioned msize)) done (λ d e. ap (λ (ss : List Speaker). filter (λ (s : Speaker). not (eqb s.conn at)) ss) e) (λ d stay now. record { asked = speakers_leave d (λ q. stands (OfFids at (Versioned msize) ∷ d) q.conv) now.asked; prompted = stand_more d (OfFids at (Versioned msize)) (λ of. refl) (λ n. refl) stay now.prompted }) known
 
-clunked : (at fid : ℕ) (done : List Deed) → IsKnown done → IsGivenUp (OfFids at (Clunked fid)) done
+pub clunked : (at fid : ℕ) (done : List Deed) → IsKnown done → IsGivenUp (OfFids at (Clunked fid)) done
 clunked at fid done known = given_fids (OfFids at (Clunked fid)) done (λ d e. ap (λ (ss : List Speaker). filter (λ (s : Speaker). not (eqb s.conn at && eqb s.fid fid)) ss) e) (λ d stay now. record { asked = speakers_leave d (λ q. stands (OfFids at (Clunked fid) ∷ d) q.conv) now.asked; prompted = stand_more d (OfFids at (Clunked fid)) (λ of. refl) (λ n. refl) stay now.prompted }) known
 
 pub hung : (at : ℕ) (done : List Deed) → IsKnown done → IsGivenUp (OfConnection at Hung) done

@@ -84,7 +84,7 @@ or_first true b e = refl
 or_first false b e = absurd cc
 
 -- a file of lines is no file of conversations
-line_file_no_rpc : (node : Node) → is_line_file node ≡ true → is_rpc node ≡ false
+pub line_file_no_rpc : (node : Node) → is_line_file node ≡ true → is_rpc node ≡ false
 line_file_no_rpc Confirm e = refl
 line_file_no_rpc Needkey e = refl
 line_file_no_rpc Log e = refl

@@ -50,3 +50,9 @@ mod ResumeLaws
 mod GoesLaws
 mod FrameLaws
 mod RedactLaws
+mod TagLaws
+mod ViewLaws
+mod StepLaws
+mod GoodLaws
+mod LeaveLaws
+mod EventLaws

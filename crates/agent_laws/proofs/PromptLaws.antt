@@ -123,17 +123,17 @@ kept_within : (keep : Asker → Bool) (xs : List Asker) → Within (convs (filte
 kept_within keep [] = nil
 kept_within keep (a ∷ xs) = kept_step (keep a) a (filter keep xs) xs (kept_within keep xs)
 
-asked_more : (conv : ℕ) (line : List ℕ) (q : Questions) → askers_in (asked_by conv line q) ≡ askers_in q ++ conv ∷ []
+pub asked_more : (conv : ℕ) (line : List ℕ) (q : Questions) → askers_in (asked_by conv line q) ≡ askers_in q ++ conv ∷ []
 asked_more conv line q =
     ap (λ (ws : List Asker). convs (q.opened ++ ws)) (map-append asker q.unread (prompt (q.asked + 1) conv line ∷ []))
     ∙ ap convs (sym (append_assoc q.opened (map asker q.unread) (asker (prompt (q.asked + 1) conv line) ∷ [])))
     ∙ map-append (λ (a : Asker). a.conv) (q.opened ++ map asker q.unread) (asker (prompt (q.asked + 1) conv line) ∷ [])
 
-read_lists : (opened : List Asker) (unread : List Prompt) → (opened ++ opens unread) ++ map asker (drop 1 unread) ≡ opened ++ map asker unread
+pub read_lists : (opened : List Asker) (unread : List Prompt) → (opened ++ opens unread) ++ map asker (drop 1 unread) ≡ opened ++ map asker unread
 read_lists opened [] = append-nil (opened ++ [])
 read_lists opened (p ∷ unread) = append_assoc opened (asker p ∷ []) (map asker unread)
 
-read_same : (q : Questions) → askers_in (read q) ≡ askers_in q
+pub read_same : (q : Questions) → askers_in (read q) ≡ askers_in q
 read_same q = ap convs (read_lists q.opened q.unread)
 
 replied_within : (tag : ℕ) (q : Questions) → Within (askers_in (replied tag q)) (askers_in q)

@@ -198,7 +198,7 @@ fid_open opens fid body (w ∷ ws) h = (step (eqb w.fid fid) refl, fid_open open
     step true e = settled_open (λ n. not (eqb n fid) && opens n) body w
     step false e = λ un. rw e (h.0 un)
 
-fid_same : (f : Wait → ℕ) → ((body : RBody) (w : Wait) → f (settled_by body w) ≡ f w) → (fid : ℕ) (body : RBody) (ws : List Wait) → map f (map (settle_fid fid body) ws) ≡ map f ws
+pub fid_same : (f : Wait → ℕ) → ((body : RBody) (w : Wait) → f (settled_by body w) ≡ f w) → (fid : ℕ) (body : RBody) (ws : List Wait) → map f (map (settle_fid fid body) ws) ≡ map f ws
 fid_same f same fid body [] = refl
 fid_same f same fid body (w ∷ ws) = elim (cases_Bool (eqb w.fid fid)) [
   | inl e ↦ rw (e, fid_same f same fid body ws) (ap (λ (n : ℕ). n ∷ map f ws) (same body w))
@@ -500,7 +500,7 @@ counted_all fid (w ∷ ws) h =
 
 -- ---- what is settled is told an answer
 
-found_number : (P : ℕ → Type 0) (test : Wait → Bool) (wait : Wait) (ws : List Wait) → find test ws ≡ Some wait → AllByRecursion P (map (λ (w : Wait). w.tag) ws) → P wait.tag
+pub found_number : (P : ℕ → Type 0) (test : Wait → Bool) (wait : Wait) (ws : List Wait) → find test ws ≡ Some wait → AllByRecursion P (map (λ (w : Wait). w.tag) ws) → P wait.tag
 found_number P test wait [] e h = absurd cc
 found_number P test wait (v ∷ ws) e h = step (test v) e (λ f. found_number P test wait ws f h.1)
   where

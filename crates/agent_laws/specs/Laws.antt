@@ -29,7 +29,7 @@ use Rattle.side_files.specs.declared.line.PromptKind.{PromptKind}
 use Rattle.side_files.specs.Calls as side
 use Rattle.side_files.specs.Lines.{First, TooLong, found}
 use Rattle.side_files.specs.declared.line.PromptKind.TheVariants as k
-use Rattle.talks.specs.Standings.{Phase, Standing, Kept, OnConfirm, OnNeedkey, OnServer, finds, outcome_of, template_of}
+use Rattle.talks.specs.Standings.{Phase, Standing, Kept, OnConfirm, OnNeedkey, OnServer, Seeking, finds, outcome_of, template_of}
 use Rattle.talks.specs.Lines.{end_line, start_line, start_template}
 use Rattle.roles.specs.Templates.{shown_text}
 use Rattle.agent_history.specs.Deeds.{Deed, OfFids, OfKeys, OfConnection, OfTalk, OfPrompts, OfLog, Raised, HandedOut, DropTaken, Taken, Halted, Versioned, Attached, Walked, Opened, Listed, Clunked, Edited, Hung, fid_of, held_by, holder_of, is_debug, keys_of, msize_of, names, OfReplies, Awaited, Settled, Answered}
@@ -200,6 +200,10 @@ asks_server done conv = is_on_server (standing_of done conv).phase
 abbrev pub all_asked : List Deed → Bool
 all_asked done = list_all (λ q. stands done q.conv && asks_server done q.conv) (questions done)
 
+-- a question of it to the authentication server stands: it is there to be taken, or was taken
+abbrev pub has_question : List Deed → ℕ → Bool
+has_question done conv = list_any (λ q. q.conv == conv) (questions done)
+
 -- it waits for a reply to a question of a kind
 abbrev pub waits_on : PromptKind → Phase → Bool
 waits_on k.Confirm (OnConfirm serial) = true
@@ -210,6 +214,15 @@ waits_on k.Needkey phase = false
 -- a conversation has a question of a kind to its user
 abbrev pub asks_user : List Deed → PromptKind → ℕ → Bool
 asks_user done kind conv = list_any (nat_eq conv) (askers done kind)
+
+-- what a conversation waits for is asked for: the authentication server by a question that stands, and its user by one
+-- that stands in confirm or in needkey. At a search it waits for nobody, and else for nothing
+abbrev pub is_asked_for : List Deed → ℕ → Phase → Bool
+is_asked_for done conv OnServer = has_question done conv
+is_asked_for done conv (OnConfirm serial) = asks_user done k.Confirm conv
+is_asked_for done conv OnNeedkey = asks_user done k.Needkey conv
+is_asked_for done conv Seeking = true
+is_asked_for done conv phase = false
 
 -- no number stands twice
 abbrev pub each_once : List ℕ → Bool

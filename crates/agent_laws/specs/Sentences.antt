@@ -27,11 +27,11 @@ use Rattle.agent_history.specs.declared.event.StepAnswer.TheVariants.{Ask, DropC
 use Rattle.wire_base.specs.declared.shape.Shape.{Shape}
 use Rattle.wire_base.specs.declared.shape.Shape.TheVariants.{Challenge}
 use Rattle.agent_history.specs.Deeds.{Deed, KeyDeed, OfFids, OfKeys, Listed, edits_of, fid_of, held_by, holder_of, keys_of, msize_of, next_of, text_of, OfTalk}
-use Rattle.agent_history.specs.Replies.{has_settled, replies, taken, untaken, waits}
+use Rattle.agent_history.specs.Replies.{has_settled, replies, taken, untaken, waits, waits_for}
 use Rattle.agent_history.specs.Conversations.{given_up_by, chosen_at, conv_of, opened_talks, questions, raised, speakers, asking, standing_of, Question, Drop, NoneDue, DropDue, QuestionDue, due}
 use Rattle.agent_history.specs.Requests.{Call, after_frame, body_to, effective, granted, least_msize, lines_done, most_msize, most_talks, piece, reply_of, is_rpc}
 use Rattle.agent_history.specs.Histories.{History, answer, deeds, does, has_stopped}
-use Rattle.agent_laws.specs.Laws.{AddAlike, Adds, AllFollow, AllLogged, AllSearched, AreHeld, AreWaiting, HasFirstRefused, IsBehind, IsFirstRefused, SameButSecrets, StoodOnce, all_asked, all_open, given, gives, gives_content, has_connection, has_conversed, has_open, hidden_deed, is_of, is_of_talks, is_on, lines_told, longest_reply, may_err_and_act, may_wait, none_concerns, none_sets_text, put_out, reply_to, rise_below, AllTold, is_same_place, is_edit, is_talk, last_asked, is_request, all_prompted, in_public, unsized}
+use Rattle.agent_laws.specs.Laws.{AddAlike, Adds, AllFollow, AllLogged, AllSearched, AreHeld, AreWaiting, HasFirstRefused, IsBehind, IsFirstRefused, SameButSecrets, StoodOnce, all_asked, all_open, given, gives, gives_content, has_connection, has_conversed, has_open, hidden_deed, is_asked_for, is_of, is_of_talks, is_on, lines_told, longest_reply, may_err_and_act, may_wait, none_concerns, none_sets_text, put_out, reply_to, rise_below, AllTold, is_same_place, is_edit, is_talk, last_asked, is_request, all_prompted, in_public, unsized}
 use Rattle.agent_history.specs.SideFiles.{askers, file_of}
 use Rattle.agent_laws.specs.Redaction.{redact}
 use Rattle.nine.specs.declared.message.TMsg.{TMsg}
@@ -237,6 +237,11 @@ WaitsBehind = (done : List Deed) (call : Call) (frame : List ℕ) → body_to do
     → (fid : ℕ) × (count : ℕ)
     × IsBehind (waits done call.conn) (waits (after_frame done call frame) call.conn)
     (record { tag = call.tag; fid = fid; count = count; reply = None })
+
+abbrev pub WaitingReadsAreAsked : Type 0
+WaitingReadsAreAsked = (history : History) (conn fid conv : ℕ) → waits_for (deeds history) conn fid ≡ true
+    → conv_of (deeds history) conn fid ≡ Some conv
+    → is_asked_for (deeds history) conv (standing_of (deeds history) conv).phase ≡ true
 
 -- ---- conversations
 

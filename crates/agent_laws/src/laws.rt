@@ -1,5 +1,5 @@
 // Laws of the definitions, each the contract of a function that does nothing.
-ghost use Rattle.agent_laws.specs.Sentences.{ActsOnItsConnection, AgreedBetween, ChangesItsOwn, ChosenStays, ChosenStaysWhileItStands, CountsHide, DeedsHide, DropsArePut, DropsComeOnce, DropsFollowChallenges, EditsOrTalks, ErrorChangesNothing, EventLeavesFid, FidStays, FidsHeldAreCounted, FidsHide, FirstIsFound, FirstIsTold, FramesFit, FramesPutOut, FrontStands, GivenAndLeft, GivenInOrder, HolderOpened, HoldersHide, IsOpenOnce, KeysAreTheLines, LeftAfterTake, ListHides, ListedStays, NextsHide, NoAnswerTells, NoneDeletesBySecret, NothingIsPut, OnlyReadsWait, OpenerHolds, OpenersSpeak, OpenersSpeakOnce, OthersChangeNone, OthersFit, OthersLeaveCounts, OthersLeaveFids, OthersLeaveNexts, OthersLeaveSizes, OthersLeaveTexts, OthersRaiseNone, QuestionsAreAsked, QuestionsArePut, QuestionsRise, ReadsArePublic, ReadsStood, ReadsWait, RefusedChangesNothing, RefusedIsTold, RepliesHide, ReplyFits, ReplyIsRead, ReplyIsValid, RequestsRaiseOne, SearchesAreOfTheMoment, SearchesArePublic, SearchesKeysBefore, SettledAreSwept, SettledAreTold, SizesHide, SpeakersAreFew, SpeakersRise, TextsHide, TextsStood, ToldIsAgreed, UsersAreAsked, WaitsArePublic, WaitsBehind, WriteMakesKeys, WritesAlike, WritesToldAlike, RedactionsArePublic, ReadsAreRedacted, WaitsAreRedacted, LinesAreRedacted, ClosedAsksNobody, NoneAsksConsent, NoneAsksKey, QuestionsFollowSearches, LinesTell};
+ghost use Rattle.agent_laws.specs.Sentences.{ActsOnItsConnection, AgreedBetween, ChangesItsOwn, ChosenStays, ChosenStaysWhileItStands, CountsHide, DeedsHide, DropsArePut, DropsComeOnce, DropsFollowChallenges, EditsOrTalks, ErrorChangesNothing, EventLeavesFid, FidStays, FidsHeldAreCounted, FidsHide, FirstIsFound, FirstIsTold, FramesFit, FramesPutOut, FrontStands, GivenAndLeft, GivenInOrder, HolderOpened, HoldersHide, IsOpenOnce, KeysAreTheLines, LeftAfterTake, ListHides, ListedStays, NextsHide, NoAnswerTells, NoneDeletesBySecret, NothingIsPut, OnlyReadsWait, OpenerHolds, OpenersSpeak, OpenersSpeakOnce, OthersChangeNone, OthersFit, OthersLeaveCounts, OthersLeaveFids, OthersLeaveNexts, OthersLeaveSizes, OthersLeaveTexts, OthersRaiseNone, QuestionsAreAsked, QuestionsArePut, QuestionsRise, ReadsArePublic, ReadsStood, ReadsWait, RefusedChangesNothing, RefusedIsTold, RepliesHide, ReplyFits, ReplyIsRead, ReplyIsValid, RequestsRaiseOne, SearchesAreOfTheMoment, SearchesArePublic, SearchesKeysBefore, SettledAreSwept, SettledAreTold, SizesHide, SpeakersAreFew, SpeakersRise, TextsHide, TextsStood, ToldIsAgreed, UsersAreAsked, WaitingReadsAreAsked, WaitsArePublic, WaitsBehind, WriteMakesKeys, WritesAlike, WritesToldAlike, RedactionsArePublic, ReadsAreRedacted, WaitsAreRedacted, LinesAreRedacted, ClosedAsksNobody, NoneAsksConsent, NoneAsksKey, QuestionsFollowSearches, LinesTell};
 
 /// The keys are those of the accepted lines of ctl, in order: of lines that are the same in public the last one alone
 /// stands, at its own place, and none that a later line deleted.
@@ -116,6 +116,13 @@ pub fn a_read_waits_for_an_answer_or_a_line()
     ensures told { SettledAreTold }
     ensures reads { OnlyReadsWait }
     ensures behind { WaitsBehind }
+{}
+
+/// Where a read waits for a fid that has a conversation open, what this conversation waits for is asked for: the authentication
+/// server by a question of this conversation that stands, whether it was taken or is there to be taken, or its user by one in
+/// confirm or in needkey. Else it is at a search of the keys, and none is left open between two events.
+pub fn a_waiting_read_has_its_question()
+    ensures { WaitingReadsAreAsked }
 {}
 
 /// A conversation stands as long as a fid has rpc open: each such fid of a connection has one, and one alone, and at most
