@@ -14,7 +14,7 @@ from pathlib import Path
 from passwords import pass_to_key
 from sealing import seal
 
-ANN, BOB, SRV, OTH = (pass_to_key(password) for password in (b"annpass", b"bobpass", b"srvpass", b"othpass"))
+ANN, BOB, SRV, OTH, NEW = (pass_to_key(password) for password in (b"annpass", b"bobpass", b"srvpass", b"othpass", b"newpass8"))
 TREQ, OK, COUNTED, APOP, CRAM = 1, 4, 9, 7, 12
 TO_SERVER, TO_CLIENT, BY_SERVER, BY_CLIENT = 64, 65, 66, 67
 NO_WORD = bytes(8)
@@ -248,19 +248,21 @@ def begun(*starts: tuple[str, str]) -> Record:
     return record
 
 
-def asked(record: Record, client: str, server: str, words_of: tuple[bytes, bytes], drawn: list[bytes]) -> tuple[bytes, bytes]:
+def asked(
+    record: Record, client: str, server: str, words_of: tuple[bytes, bytes], drawn: list[bytes], ann: bytes = ANN
+) -> tuple[bytes, bytes]:
     """p9sk1 from its first message to the grant, which isn't handed to the client yet: the grant, and the shared key."""
     mine, theirs = words_of
     record.put("in", server, record.give("out", client, mine))
     record.put("in", client, record.give("out", server, request(TREQ, theirs)))
     question = record.give("ask", client, request(TREQ, theirs, b"ann", b"ann"))
     record.put("asgot", "r", question, *drawn)
-    return record.give("asgave", "r", grant_of(theirs, drawn)), drawn[0][:7]
+    return record.give("asgave", "r", grant_of(theirs, drawn, ann)), drawn[0][:7]
 
 
-def grant_of(chal: bytes, drawn: list[bytes]) -> bytes:
+def grant_of(chal: bytes, drawn: list[bytes], ann: bytes = ANN) -> bytes:
     shared = drawn[0][:7]
-    return bytes([OK]) + ticket(ANN, TO_CLIENT, chal, b"ann", shared) + ticket(SRV, TO_SERVER, chal, b"ann", shared)
+    return bytes([OK]) + ticket(ann, TO_CLIENT, chal, b"ann", shared) + ticket(SRV, TO_SERVER, chal, b"ann", shared)
 
 
 def passed_on(record: Record, client: str, chal: bytes, grant: bytes, shared: bytes) -> bytes:
@@ -352,6 +354,25 @@ def proof_given_twice() -> Record:
     return record
 
 
+def tables_read_again() -> Record:
+    record, (mine, theirs) = begun(*PAIR), words(1, 2)
+    record.login("c", "s", (mine, theirs), words(3, 3))
+    record.put("reload")
+    own, others = words(6, 2)
+    record.put("start", "d", "p9sk1", "client", own)
+    record.put("start", "t", "p9sk1", "server", others)
+    grant, _ = asked(record, "d", "t", (own, others), words(8, 3), NEW)
+    record.put("heard", "d", grant)
+    record.put("fail", "d", "badkey")
+    return record
+
+
+def restarted_node() -> Record:
+    record = tables_read_again()
+    record.put("restart", "a")
+    return record
+
+
 def proof_at_another_conversation() -> Record:
     record, (mine, theirs, others) = begun(*PAIR, ("t", "server")), words(1, 3)
     grant, shared = asked(record, "c", "s", (mine, theirs), words(4, 3))
@@ -384,6 +405,8 @@ RECORDS = {
     "turned_client": turned_client,
     "offer_taken_away": offer_taken_away,
     "guessed_password": guessed_password,
+    "tables_read_again": tables_read_again,
+    "restarted_node": restarted_node,
     "p9sk1_login": p9sk1_login,
     "apop_login": apop_login,
     "cram_login": cram_login,

@@ -189,13 +189,15 @@ turn_away (hears conv fid call bytes) H p = drive_away (events.Answer call bytes
 turn_away (misses conv fid call) H p = drive_away (NoAnswer call) H tt p
 turn_away (closes conv fid) H p = drive_away (clunks fid) H (clunks_away fid) p
 
-done_away : (o : Option Done) (node : List ℕ) (H : History) → Away H → Away (history_by o node H)
-done_away None node H p = p
-done_away (Some done) node H p = either_away (bytes_eq done.node node) (after done.turn H) H (turn_away done.turn H p) p
+done_away : (o : Option Done) (agent : List ℕ) (H : History) → Away H → Away (history_by o agent H)
+done_away None agent H p = p
+done_away (Some done) agent H p = either_away (bytes_eq done.agent agent) (after done.turn H) H (turn_away done.turn H p) p
 
 pub names_no_lines : NodesNameNoLines
 names_no_lines [] node = refl
-names_no_lines (Made name ∷ before) node = either_away (bytes_eq name node) new_node (history before node) new_away (names_no_lines before node)
+names_no_lines (Made name ∷ before) node = either_away (bytes_eq (acts.agent_of before name) node) new_node (history before node) new_away (names_no_lines before node)
+names_no_lines (acts.Restarted name ∷ before) node = either_away (bytes_eq (acts.agent_of (acts.Restarted name ∷ before) name) node) new_node (history before node) new_away (names_no_lines before node)
+names_no_lines (acts.Reloaded ∷ before) node = names_no_lines before node
 names_no_lines (Domain dom ∷ before) node = names_no_lines before node
 names_no_lines (KeyLine tuple ∷ before) node = names_no_lines before node
 names_no_lines (SpeakLine tuple ∷ before) node = names_no_lines before node

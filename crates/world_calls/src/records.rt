@@ -1,12 +1,13 @@
 // The public calls of `world_history`.
-ghost use Rattle.std.specs.Prelude.{◌≡◌, option_map, slice_get, length, IfOk, ◌<◌};
-ghost use Rattle.world_history.specs.Servers.{is_next, IsToldBy};
+ghost use Rattle.std.specs.Prelude.{◌≡◌, option_map, slice_get, length, IfOk, OnErr, OnOk, ◌<◌};
+ghost use Rattle.world_history.specs.Servers.{is_next, IsToldAgain, IsToldBy};
 ghost use Rattle.world_history.specs.Worlds.{messages_in};
 ghost use Rattle.world_scripts.specs.Scripts.{script_lines};
 
 use std::alloc::Global;
 use wire_base::NoMemory;
 use world_history::{Record, Tables};
+use world_scripts::ScriptLines;
 
 /// As `Record::message`.
 pub fn record_message<'x>(record: &'x Record, number: u64) -> Option<&'x [u8]>
@@ -42,4 +43,16 @@ pub fn read_tables(alloc: Global, script: &[u8]) -> Result<Tables, NoMemory>
     ensures { IfOk result (λ tables. IsToldBy (script_lines script.now) tables) }
 {
     world_history::read_tables(alloc, script)
+}
+
+/// As `Tables::read_again`.
+pub fn tables_read_again(
+    tables: &mut Tables,
+    alloc: Global,
+    lines: &ScriptLines<'_>,
+) -> Result<(), NoMemory>
+    ensures told { OnOk result (IsToldAgain lines.now tables.old tables.new) }
+    ensures same { OnErr result (tables.new ≡ tables.old) }
+{
+    tables.read_again(alloc, lines)
 }

@@ -1,5 +1,6 @@
 // The public calls of `world_run`.
 ghost use Rattle.std.specs.Prelude.{IfOk};
+ghost use Rattle.auth_server.specs.Answers.{posed};
 ghost use Rattle.auth_server.specs.Requests.{asked_so};
 ghost use Rattle.auth_server.specs.Standing.{knowledge};
 ghost use Rattle.world_run.specs.Sessions.{ClientsAre, ServesSo, View};
@@ -18,8 +19,8 @@ pub fn clients_serve(
     answer: &mut Bytes,
 ) -> Result<Served, NoMemory>
     ensures { IfOk result (λ served. (v : View)
-        → ClientsAre (knowledge core.now) v clients.old
-        → ServesSo (knowledge core.now) v name.now (asked_so request.now words.now)
+        → ClientsAre v clients.old
+        → ServesSo v name.now (posed (knowledge core.now) (asked_so request.now words.now))
         served answer.old answer.new clients.new) }
 {
     clients.serve(core, name, request, words, answer)

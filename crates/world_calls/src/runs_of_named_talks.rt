@@ -1,8 +1,8 @@
 // The public calls of `world_run`.
 ghost use Rattle.std.specs.Map.{lookup};
-ghost use Rattle.std.specs.Prelude.{◌≡◌, option_copied, is_some, None, ℕ, List};
+ghost use Rattle.std.specs.Prelude.{◌≡◌, option_copied, option_map, is_some, None, ℕ, List};
 ghost use Rattle.std.specs.Str.{bytes_eq};
-ghost use Rattle.world_run.specs.Names.{still_open, changed_under};
+ghost use Rattle.world_run.specs.Names.{changed_under, left_behind, still_open};
 
 use world_run::{Talk, Talks};
 
@@ -26,4 +26,12 @@ pub fn talks_close(talks: &mut Talks, name: &[u8])
         ≡ changed_under name.now (λ _. None) talks.old other }
 {
     talks.close(name)
+}
+
+/// As `Talks::leave`.
+pub fn talks_leave(talks: &mut Talks, node: &[u8])
+    ensures { (other : List ℕ) → lookup (bytes_eq other) talks.new
+        ≡ option_map (left_behind node.now) (lookup (bytes_eq other) talks.old) }
+{
+    talks.leave(node)
 }

@@ -3,3 +3,5 @@ pub mod SpellLemmas
 pub mod TextLemmas
 pub mod TellLemmas
 mod NamedLemmas
+pub mod AgentLemmas
+pub mod DomainLemmas

@@ -16,7 +16,7 @@ use Rattle.attr_tuples.specs.Matching.{value_of}
 use Rattle.attr_tuples.specs.Words.{first_word, gap_len}
 use Rattle.auth_tables.specs.Lines.{first_bad, tuple_in}
 use Rattle.auth_tables.specs.Keys.{key_in}
-use Rattle.world_scripts.specs.Lines.{ScriptLine, Dom, AsKey, AsSpeak, Node, Ctl, Open, Start, Read, Write, Answer, NoAnswer, AsGive, Close}
+use Rattle.world_scripts.specs.Lines.{ScriptLine, Dom, AsKey, AsSpeak, Reload, Node, Restart, Ctl, Open, Start, Read, Write, Answer, NoAnswer, AsGive, Close}
 use Rattle.world_scripts.specs.Reading.{line_of}
 use Rattle.world_scripts.specs.Scripts.{Numbered, script_lines}
 use Rattle.world_scripts.specs.Draws.{draws, generator_of}
@@ -107,7 +107,9 @@ line_goes : (acts : List Act) (k : Known) (line : ScriptLine) → knows k line �
 line_goes acts k (Dom dom) h a = absurd (true≢false (sym h))
 line_goes acts k (AsKey tuple) h a = absurd (true≢false (sym h))
 line_goes acts k (AsSpeak tuple) h a = absurd (true≢false (sym h))
+line_goes acts k Reload h a = absurd (true≢false (sym h))
 line_goes acts k (Node node) h a = absurd (true≢false (sym h))
+line_goes acts k (Restart node) h a = absurd (true≢false (sym h))
 line_goes acts k (Ctl node line) h a = absurd (true≢false (sym h))
 line_goes acts k (Open node conv) h a =
     let both = and_parts (is_one node k.nodes) (not (is_one conv k.given)) h in

@@ -9,7 +9,7 @@ use Rattle.auth_tables.specs.Lines.{counted, first_bad, first_bad_behind, is_bad
 use Rattle.auth_tables.specs.Keys.{KeyLine as UsersKey, fits_keys, key_of, keys_in}
 use Rattle.auth_tables.specs.Speaks.{SpeakLine as HostLine, fits_speaks, may_speak, names_in, names_of, speaks_in}
 use Rattle.auth_server.specs.Standing.{Server, knowledge}
-use Rattle.world_scripts.specs.Lines.{ScriptLine, Dom, AsKey, AsSpeak, Node, Ctl, Open, Start, Read, Write, Answer, NoAnswer, AsGive, Close}
+use Rattle.world_scripts.specs.Lines.{ScriptLine, Dom, AsKey, AsSpeak, Reload, Node, Restart, Ctl, Open, Start, Read, Write, Answer, NoAnswer, AsGive, Close}
 use Rattle.world_scripts.specs.Pieces.{Piece}
 use Rattle.world_scripts.specs.Reading.{line_of}
 use Rattle.world_scripts.specs.Scripts.{Numbered, script_lines}
@@ -17,13 +17,13 @@ use Rattle.world_scripts.proofs.LineLemmas.{line_parts}
 use Rattle.world_scripts.proofs.ReadLemmas.{map_parts, some_parts}
 use Rattle.auth_program.specs.declared.cause.ScriptCause.{ScriptCause}
 use Rattle.auth_program.specs.declared.cause.ScriptCause.TheVariants.{BadLine}
-use Rattle.world_history.specs.Acts.{Act, Domain, KeyLine, SpeakLine, Made, Told, Opened, Started, Got, Given, Answered, Unanswered, Asked, Closed, domain, key_lines, speak_lines, was_asked}
+use Rattle.world_history.specs.Acts.{Act, Domain, KeyLine, SpeakLine, Reloaded, Made, Restarted, Told, Opened, Started, Got, Given, Answered, Unanswered, Asked, Closed, domain, key_lines, speak_lines, was_asked, were_used}
 use Rattle.world_history.specs.Scripts.{act_of, call_now, fitting, is_bad_line, is_unfit, judged, misnamed, named, spelled}
 use Rattle.world_history.specs.Worlds.{known, messages}
 use Rattle.world_history.specs.declared.tables.Tables.{Tables}
-use Rattle.world_history.specs.Told.{dom_behind, key_line, speak_line, told, told_keys, told_on, told_speaks}
-use Rattle.world_history.specs.Servers.{GivesKeys, GivesSpeaks, IsToldBy, is_next}
-use Rattle.world_history.specs.Telling.{IsGood, IsTelling, Tells}
+use Rattle.world_history.specs.Told.{dom_behind, ends_domain, ends_tables, key_line, speak_line, told, told_keys, told_on, told_speaks}
+use Rattle.world_history.specs.Servers.{GivesKeys, GivesSpeaks, HasTables, IsToldAgain, IsToldBy, is_next}
+use Rattle.world_history.specs.Telling.{AreTelling, IsGood, Tells, reads_again}
 
 -- ---- the line of a table behind good ones
 
@@ -125,12 +125,13 @@ record IsAside (acts : List Act) (act : Act) : Type 0 where
   keys : key_lines (act ∷ acts) ≡ key_lines acts
   speaks : speak_lines (act ∷ acts) ≡ speak_lines acts
   asked : was_asked (act ∷ acts) ≡ was_asked acts
+  used : were_used (act ∷ acts) ≡ were_used acts
 
 given_aside : (acts : List Act) (conv : List ℕ) (o : Option (List ℕ)) (act : Act) → option_map (λ (given : List ℕ). Given conv given) o ≡ Some act → IsAside acts act
-given_aside acts conv o act h = let p = map_parts (λ (given : List ℕ). Given conv given) o act h in subst (IsAside acts) p.2 (record { dom = refl; keys = refl; speaks = refl; asked = refl })
+given_aside acts conv o act h = let p = map_parts (λ (given : List ℕ). Given conv given) o act h in subst (IsAside acts) p.2 (record { dom = refl; keys = refl; speaks = refl; asked = refl; used = refl })
 
 answered_aside : (acts : List Act) (conv : List ℕ) (call : ℕ) (o : Option (List ℕ)) (act : Act) → option_map (λ (given : List ℕ). Answered conv given call) o ≡ Some act → IsAside acts act
-answered_aside acts conv call o act h = let p = map_parts (λ (given : List ℕ). Answered conv given call) o act h in subst (IsAside acts) p.2 (record { dom = refl; keys = refl; speaks = refl; asked = refl })
+answered_aside acts conv call o act h = let p = map_parts (λ (given : List ℕ). Answered conv given call) o act h in subst (IsAside acts) p.2 (record { dom = refl; keys = refl; speaks = refl; asked = refl; used = refl })
 
 same_aside : (acts : List Act) (one act : Act) → Some one ≡ Some act → IsAside acts one → IsAside acts act
 same_aside acts one act h a = subst (IsAside acts) (some_parts one act h) a
@@ -144,10 +145,9 @@ known_same acts act a = λ i. record {
 }
 
 telling_aside : (left rest : List Numbered) (acts : List Act) (act : Act) (tables : Tables) → IsAside acts act
-    → dom_behind (domain acts) (told left) ≡ dom_behind (domain acts) (told rest) → told_keys left ≡ told_keys rest → told_speaks left ≡ told_speaks rest
-    → IsTelling left acts tables → IsTelling rest (act ∷ acts) tables
-telling_aside left rest acts act tables a dom keys speaks h = record {
-  dom = h.dom ∙ (dom ∙ ap (λ (d : List ℕ). dom_behind d (told rest)) (sym a.dom));
+    → told_keys left ≡ told_keys rest → told_speaks left ≡ told_speaks rest
+    → AreTelling left acts tables → AreTelling rest (act ∷ acts) tables
+telling_aside left rest acts act tables a keys speaks h = record {
   good_keys = subst₂ (λ (ls ms : List (List ℕ)). IsGood fits_keys ls ms tables.bad_key) (sym a.keys) keys h.good_keys;
   good_speaks = subst₂ (λ (ls ms : List (List ℕ)). IsGood fits_speaks ls ms tables.bad_speak) (sym a.speaks) speaks h.good_speaks;
   keys = subst₂ (λ (ls ms : List (List ℕ)). GivesKeys tables.bad_key (ls ++ ms) tables.core.keys) (sym a.keys) keys h.keys;
@@ -156,19 +156,40 @@ telling_aside left rest acts act tables a dom keys speaks h = record {
 
 -- lines that tell the server nothing
 record IsQuiet (line : ScriptLine) : Type 0 where
-  dom : (d : List ℕ) (more : List ScriptLine) → dom_behind d (told_on (Some line) more) ≡ dom_behind d more
-  keys : (more : List ScriptLine) → filter_map key_line (told_on (Some line) more) ≡ filter_map key_line more
-  speaks : (more : List ScriptLine) → filter_map speak_line (told_on (Some line) more) ≡ filter_map speak_line more
+  dom : (d : List ℕ) (more : List ScriptLine) → dom_behind d (told_on ends_domain (Some line) more) ≡ dom_behind d more
+  keys : (more : List ScriptLine) → filter_map key_line (told_on ends_tables (Some line) more) ≡ filter_map key_line more
+  speaks : (more : List ScriptLine) → filter_map speak_line (told_on ends_tables (Some line) more) ≡ filter_map speak_line more
+
+-- what is told of each behind a line
+dom_left : (line : Numbered) (left : List Numbered) (l : ScriptLine) (d : List ℕ) → line_of line.text ≡ Some l
+    → dom_behind d (told ends_domain (line ∷ left)) ≡ dom_behind d (told_on ends_domain (Some l) (told ends_domain left))
+dom_left line left l d is = ap (λ (o : Option ScriptLine). dom_behind d (told_on ends_domain o (told ends_domain left))) is
+
+keys_left : (line : Numbered) (left : List Numbered) (l : ScriptLine) → line_of line.text ≡ Some l
+    → told_keys (line ∷ left) ≡ filter_map key_line (told_on ends_tables (Some l) (told ends_tables left))
+keys_left line left l is = ap (λ (o : Option ScriptLine). filter_map key_line (told_on ends_tables o (told ends_tables left))) is
+
+speaks_left : (line : Numbered) (left : List Numbered) (l : ScriptLine) → line_of line.text ≡ Some l
+    → told_speaks (line ∷ left) ≡ filter_map speak_line (told_on ends_tables (Some l) (told ends_tables left))
+speaks_left line left l is = ap (λ (o : Option ScriptLine). filter_map speak_line (told_on ends_tables o (told ends_tables left))) is
+
+-- the domain behind a line that doesn't tell it
+domain_aside : (line : Numbered) (left : List Numbered) (acts : List Act) (act : Act) (dom : List ℕ) (l : ScriptLine) → line_of line.text ≡ Some l
+    → ((d : List ℕ) (more : List ScriptLine) → dom_behind d (told_on ends_domain (Some l) more) ≡ dom_behind d more) → domain (act ∷ acts) ≡ domain acts
+    → dom ≡ dom_behind (domain acts) (told ends_domain (line ∷ left)) → dom ≡ dom_behind (domain (act ∷ acts)) (told ends_domain left)
+domain_aside line left acts act dom l is quiet same h =
+    h ∙ (dom_left line left l (domain acts) is ∙ (quiet (domain acts) (told ends_domain left) ∙ ap (λ (d : List ℕ). dom_behind d (told ends_domain left)) (sym same)))
 
 aside_tells : (line : Numbered) (left : List Numbered) (acts : List Act) (act : Act) (tables : Tables) (l : ScriptLine) → line_of line.text ≡ Some l
     → IsQuiet l → IsAside acts act → Tells (line ∷ left) acts tables → Tells left (act ∷ acts) tables
 aside_tells line left acts act tables l is q a h = record {
+  domain_before = λ none. domain_aside line left acts act tables.core.dom l is q.dom a.dom (h.domain_before (sym a.asked ∙ none));
+  domain_since = λ asked. h.domain_since (sym a.asked ∙ asked) ∙ sym a.dom;
   before = λ none. telling_aside (line ∷ left) left acts act tables a
-      (ap (λ (o : Option ScriptLine). dom_behind (domain acts) (told_on o (told left))) is ∙ q.dom (domain acts) (told left))
-      (ap (λ (o : Option ScriptLine). filter_map key_line (told_on o (told left))) is ∙ q.keys (told left))
-      (ap (λ (o : Option ScriptLine). filter_map speak_line (told_on o (told left))) is ∙ q.speaks (told left))
-      (h.before (sym a.asked ∙ none));
-  since = λ asked. known_same acts act a ∙ h.since (sym a.asked ∙ asked);
+      (keys_left line left l is ∙ q.keys (told ends_tables left))
+      (speaks_left line left l is ∙ q.speaks (told ends_tables left))
+      (h.before (sym a.used ∙ none));
+  since = λ used. known_same acts act a ∙ h.since (sym a.used ∙ used);
 }
 
 -- ---- lines that tell it something
@@ -177,39 +198,60 @@ dom_fit : (acts : List Act) (dom : List ℕ) → is_unfit acts (Domain dom) ≡ 
 unfolding is_unfit
 dom_fit acts dom h = (or_parts (was_asked acts) (not (is_dom dom)) h).0
 
-key_fit : (acts : List Act) (tuple : List ℕ) → is_unfit acts (KeyLine tuple) ≡ false → (was_asked acts ≡ false) × (is_bad_line fits_keys (key_lines acts) tuple ≡ false)
+key_fit : (acts : List Act) (tuple : List ℕ) → is_unfit acts (KeyLine tuple) ≡ false → (were_used acts ≡ false) × (is_bad_line fits_keys (key_lines acts) tuple ≡ false)
 unfolding is_unfit
-key_fit acts tuple h = or_parts (was_asked acts) (is_bad_line fits_keys (key_lines acts) tuple) h
+key_fit acts tuple h = or_parts (were_used acts) (is_bad_line fits_keys (key_lines acts) tuple) h
 
-speak_fit : (acts : List Act) (tuple : List ℕ) → is_unfit acts (SpeakLine tuple) ≡ false → (was_asked acts ≡ false) × (is_bad_line fits_speaks (speak_lines acts) tuple ≡ false)
+speak_fit : (acts : List Act) (tuple : List ℕ) → is_unfit acts (SpeakLine tuple) ≡ false → (were_used acts ≡ false) × (is_bad_line fits_speaks (speak_lines acts) tuple ≡ false)
 unfolding is_unfit
-speak_fit acts tuple h = or_parts (was_asked acts) (is_bad_line fits_speaks (speak_lines acts) tuple) h
+speak_fit acts tuple h = or_parts (were_used acts) (is_bad_line fits_speaks (speak_lines acts) tuple) h
+
+-- tables that were used were so by a request
+pub unasked_unused : (acts : List Act) → was_asked acts ≡ false → were_used acts ≡ false
+unasked_unused [] h = refl
+unasked_unused (Reloaded ∷ before) h = refl
+unasked_unused (Asked session request words ∷ before) h = absurd (true≢false h)
+unasked_unused (Domain dom ∷ before) h = unasked_unused before h
+unasked_unused (KeyLine tuple ∷ before) h = unasked_unused before h
+unasked_unused (SpeakLine tuple ∷ before) h = unasked_unused before h
+unasked_unused (Made node ∷ before) h = unasked_unused before h
+unasked_unused (Restarted node ∷ before) h = unasked_unused before h
+unasked_unused (Told node line ∷ before) h = unasked_unused before h
+unasked_unused (Opened node conv ∷ before) h = unasked_unused before h
+unasked_unused (Started conv word tuple ∷ before) h = unasked_unused before h
+unasked_unused (Got conv ∷ before) h = unasked_unused before h
+unasked_unused (Given conv bytes ∷ before) h = unasked_unused before h
+unasked_unused (Answered conv bytes call ∷ before) h = unasked_unused before h
+unasked_unused (Unanswered conv call ∷ before) h = unasked_unused before h
+unasked_unused (Closed conv ∷ before) h = unasked_unused before h
 
 dom_tells : (line : Numbered) (left : List Numbered) (acts : List Act) (dom : List ℕ) (tables : Tables) → line_of line.text ≡ Some (Dom dom)
     → Tells (line ∷ left) acts tables → is_unfit acts (Domain dom) ≡ false → Tells left (Domain dom ∷ acts) tables
 dom_tells line left acts dom tables is h fit =
     let unasked = dom_fit acts dom fit in
-    let t = h.before unasked in
+    let unused = unasked_unused acts unasked in
+    let t = h.before unused in
     record {
+      domain_before = λ none. h.domain_before unasked ∙ dom_left line left (Dom dom) (domain acts) is;
+      domain_since = λ asked. absurd (true≢false (sym asked ∙ unasked));
       before = λ none. record {
-        dom = t.dom ∙ ap (λ (o : Option ScriptLine). dom_behind (domain acts) (told_on o (told left))) is;
-        good_keys = subst (λ (ls : List (List ℕ)). IsGood fits_keys (key_lines acts) ls tables.bad_key) (ap (λ (o : Option ScriptLine). filter_map key_line (told_on o (told left))) is) t.good_keys;
-        good_speaks = subst (λ (ls : List (List ℕ)). IsGood fits_speaks (speak_lines acts) ls tables.bad_speak) (ap (λ (o : Option ScriptLine). filter_map speak_line (told_on o (told left))) is) t.good_speaks;
-        keys = subst (λ (ls : List (List ℕ)). GivesKeys tables.bad_key (key_lines acts ++ ls) tables.core.keys) (ap (λ (o : Option ScriptLine). filter_map key_line (told_on o (told left))) is) t.keys;
-        speaks = subst (λ (ls : List (List ℕ)). GivesSpeaks tables.bad_speak (speak_lines acts ++ ls) tables.core.speaks) (ap (λ (o : Option ScriptLine). filter_map speak_line (told_on o (told left))) is) t.speaks;
+        good_keys = subst (λ (ls : List (List ℕ)). IsGood fits_keys (key_lines acts) ls tables.bad_key) (keys_left line left (Dom dom) is) t.good_keys;
+        good_speaks = subst (λ (ls : List (List ℕ)). IsGood fits_speaks (speak_lines acts) ls tables.bad_speak) (speaks_left line left (Dom dom) is) t.good_speaks;
+        keys = subst (λ (ls : List (List ℕ)). GivesKeys tables.bad_key (key_lines acts ++ ls) tables.core.keys) (keys_left line left (Dom dom) is) t.keys;
+        speaks = subst (λ (ls : List (List ℕ)). GivesSpeaks tables.bad_speak (speak_lines acts ++ ls) tables.core.speaks) (speaks_left line left (Dom dom) is) t.speaks;
       };
-      since = λ asked. absurd (true≢false (sym asked ∙ unasked));
+      since = λ used. absurd (true≢false (sym used ∙ unused));
     }
 
 key_good : (line : Numbered) (left : List Numbered) (acts : List Act) (tuple : List ℕ) (tables : Tables) → line_of line.text ≡ Some (AsKey tuple)
-    → IsTelling (line ∷ left) acts tables → IsGood fits_keys (key_lines acts) (tuple ∷ told_keys left) tables.bad_key
+    → AreTelling (line ∷ left) acts tables → IsGood fits_keys (key_lines acts) (tuple ∷ told_keys left) tables.bad_key
 key_good line left acts tuple tables is t =
-    subst (λ (ls : List (List ℕ)). IsGood fits_keys (key_lines acts) ls tables.bad_key) (ap (λ (o : Option ScriptLine). filter_map key_line (told_on o (told left))) is) t.good_keys
+    subst (λ (ls : List (List ℕ)). IsGood fits_keys (key_lines acts) ls tables.bad_key) (keys_left line left (AsKey tuple) is) t.good_keys
 
 speak_good : (line : Numbered) (left : List Numbered) (acts : List Act) (tuple : List ℕ) (tables : Tables) → line_of line.text ≡ Some (AsSpeak tuple)
-    → IsTelling (line ∷ left) acts tables → IsGood fits_speaks (speak_lines acts) (tuple ∷ told_speaks left) tables.bad_speak
+    → AreTelling (line ∷ left) acts tables → IsGood fits_speaks (speak_lines acts) (tuple ∷ told_speaks left) tables.bad_speak
 speak_good line left acts tuple tables is t =
-    subst (λ (ls : List (List ℕ)). IsGood fits_speaks (speak_lines acts) ls tables.bad_speak) (ap (λ (o : Option ScriptLine). filter_map speak_line (told_on o (told left))) is) t.good_speaks
+    subst (λ (ls : List (List ℕ)). IsGood fits_speaks (speak_lines acts) ls tables.bad_speak) (speaks_left line left (AsSpeak tuple) is) t.good_speaks
 
 key_tells : (line : Numbered) (left : List Numbered) (acts : List Act) (tuple : List ℕ) (tables : Tables) → line_of line.text ≡ Some (AsKey tuple)
     → Tells (line ∷ left) acts tables → is_unfit acts (KeyLine tuple) ≡ false → Tells left (KeyLine tuple ∷ acts) tables
@@ -217,14 +259,15 @@ key_tells line left acts tuple tables is h fit =
     let parts = key_fit acts tuple fit in
     let t = h.before parts.0 in
     record {
+      domain_before = λ none. domain_aside line left acts (KeyLine tuple) tables.core.dom (AsKey tuple) is (λ d more. refl) refl (h.domain_before none);
+      domain_since = λ asked. h.domain_since asked;
       before = λ none. record {
-        dom = t.dom ∙ ap (λ (o : Option ScriptLine). dom_behind (domain acts) (told_on o (told left))) is;
         good_keys = good_on fits_keys (key_lines acts) (told_keys left) tuple tables.bad_key (key_good line left acts tuple tables is t) parts.1;
-        good_speaks = subst (λ (ls : List (List ℕ)). IsGood fits_speaks (speak_lines acts) ls tables.bad_speak) (ap (λ (o : Option ScriptLine). filter_map speak_line (told_on o (told left))) is) t.good_speaks;
-        keys = subst (λ (ls : List (List ℕ)). GivesKeys tables.bad_key ls tables.core.keys) (ap (λ (o : Option ScriptLine). key_lines acts ++ filter_map key_line (told_on o (told left))) is ∙ sym (append_assoc (key_lines acts) (tuple ∷ []) (told_keys left))) t.keys;
-        speaks = subst (λ (ls : List (List ℕ)). GivesSpeaks tables.bad_speak (speak_lines acts ++ ls) tables.core.speaks) (ap (λ (o : Option ScriptLine). filter_map speak_line (told_on o (told left))) is) t.speaks;
+        good_speaks = subst (λ (ls : List (List ℕ)). IsGood fits_speaks (speak_lines acts) ls tables.bad_speak) (speaks_left line left (AsKey tuple) is) t.good_speaks;
+        keys = subst (λ (ls : List (List ℕ)). GivesKeys tables.bad_key ls tables.core.keys) (ap (λ (ls : List (List ℕ)). key_lines acts ++ ls) (keys_left line left (AsKey tuple) is) ∙ sym (append_assoc (key_lines acts) (tuple ∷ []) (told_keys left))) t.keys;
+        speaks = subst (λ (ls : List (List ℕ)). GivesSpeaks tables.bad_speak (speak_lines acts ++ ls) tables.core.speaks) (speaks_left line left (AsKey tuple) is) t.speaks;
       };
-      since = λ asked. absurd (true≢false (sym asked ∙ parts.0));
+      since = λ used. absurd (true≢false (sym used ∙ parts.0));
     }
 
 speak_tells : (line : Numbered) (left : List Numbered) (acts : List Act) (tuple : List ℕ) (tables : Tables) → line_of line.text ≡ Some (AsSpeak tuple)
@@ -233,14 +276,15 @@ speak_tells line left acts tuple tables is h fit =
     let parts = speak_fit acts tuple fit in
     let t = h.before parts.0 in
     record {
+      domain_before = λ none. domain_aside line left acts (SpeakLine tuple) tables.core.dom (AsSpeak tuple) is (λ d more. refl) refl (h.domain_before none);
+      domain_since = λ asked. h.domain_since asked;
       before = λ none. record {
-        dom = t.dom ∙ ap (λ (o : Option ScriptLine). dom_behind (domain acts) (told_on o (told left))) is;
-        good_keys = subst (λ (ls : List (List ℕ)). IsGood fits_keys (key_lines acts) ls tables.bad_key) (ap (λ (o : Option ScriptLine). filter_map key_line (told_on o (told left))) is) t.good_keys;
+        good_keys = subst (λ (ls : List (List ℕ)). IsGood fits_keys (key_lines acts) ls tables.bad_key) (keys_left line left (AsSpeak tuple) is) t.good_keys;
         good_speaks = good_on fits_speaks (speak_lines acts) (told_speaks left) tuple tables.bad_speak (speak_good line left acts tuple tables is t) parts.1;
-        keys = subst (λ (ls : List (List ℕ)). GivesKeys tables.bad_key (key_lines acts ++ ls) tables.core.keys) (ap (λ (o : Option ScriptLine). filter_map key_line (told_on o (told left))) is) t.keys;
-        speaks = subst (λ (ls : List (List ℕ)). GivesSpeaks tables.bad_speak ls tables.core.speaks) (ap (λ (o : Option ScriptLine). speak_lines acts ++ filter_map speak_line (told_on o (told left))) is ∙ sym (append_assoc (speak_lines acts) (tuple ∷ []) (told_speaks left))) t.speaks;
+        keys = subst (λ (ls : List (List ℕ)). GivesKeys tables.bad_key (key_lines acts ++ ls) tables.core.keys) (keys_left line left (AsSpeak tuple) is) t.keys;
+        speaks = subst (λ (ls : List (List ℕ)). GivesSpeaks tables.bad_speak ls tables.core.speaks) (ap (λ (ls : List (List ℕ)). speak_lines acts ++ ls) (speaks_left line left (AsSpeak tuple) is) ∙ sym (append_assoc (speak_lines acts) (tuple ∷ []) (told_speaks left))) t.speaks;
       };
-      since = λ asked. absurd (true≢false (sym asked ∙ parts.0));
+      since = λ used. absurd (true≢false (sym used ∙ parts.0));
     }
 
 -- ---- a request
@@ -270,78 +314,111 @@ known_by acts core dom keys speaks = λ i. record {
   speaks = λ host user. may_speak (speaks host i) host user;
 }
 
-telling_known : (left : List Numbered) (acts : List Act) (tables : Tables) → told left ≡ [] → IsTelling left acts tables → known acts ≡ knowledge tables.core
-telling_known left acts tables none t = known_by acts tables.core
-    (sym (t.dom ∙ ap (dom_behind (domain acts)) none))
+telling_known : (left : List Numbered) (acts : List Act) (tables : Tables) → told ends_tables left ≡ [] → tables.core.dom ≡ domain acts → AreTelling left acts tables
+    → known acts ≡ knowledge tables.core
+telling_known left acts tables none dom t = known_by acts tables.core
+    (sym dom)
     (keys_known (key_lines acts) (told_keys left) tables.bad_key tables.core.keys (ap (filter_map key_line) none) t.good_keys t.keys)
     (speaks_known (speak_lines acts) (told_speaks left) tables.bad_speak tables.core.speaks (ap (filter_map speak_line) none) t.good_speaks t.speaks)
 
-pub asked_known : (line : Numbered) (left : List Numbered) (acts : List Act) (session : List ℕ) (request : List Piece) (first second third : List ℕ) (tables : Tables)
-    → Tells (line ∷ left) acts tables → line_of line.text ≡ Some (AsGive session request first second third) → known acts ≡ knowledge tables.core
-asked_known line left acts session request first second third tables h is = elim (cases_Bool (was_asked acts)) [
-  | inl asked ↦ h.since asked
-  | inr unasked ↦ telling_known (line ∷ left) acts tables (ap (λ (o : Option ScriptLine). told_on o (told left)) is) (h.before unasked)
+-- at a request no domain is left to be told
+asked_domain : (line : Numbered) (left : List Numbered) (acts : List Act) (session : List ℕ) (request : List Piece) (first second third : List ℕ) (tables : Tables)
+    → Tells (line ∷ left) acts tables → line_of line.text ≡ Some (AsGive session request first second third) → tables.core.dom ≡ domain acts
+asked_domain line left acts session request first second third tables h is = elim (cases_Bool (was_asked acts)) [
+  | inl asked ↦ h.domain_since asked
+  | inr unasked ↦ h.domain_before unasked ∙ dom_left line left (AsGive session request first second third) (domain acts) is
 ]
 
-asked_tells : (left : List Numbered) (acts : List Act) (session request : List ℕ) (words : List (List ℕ)) (tables : Tables) → known acts ≡ knowledge tables.core
+pub asked_known : (line : Numbered) (left : List Numbered) (acts : List Act) (session : List ℕ) (request : List Piece) (first second third : List ℕ) (tables : Tables)
+    → Tells (line ∷ left) acts tables → line_of line.text ≡ Some (AsGive session request first second third) → known acts ≡ knowledge tables.core
+asked_known line left acts session request first second third tables h is = elim (cases_Bool (were_used acts)) [
+  | inl used ↦ h.since used
+  | inr unused ↦ telling_known (line ∷ left) acts tables (ap (λ (o : Option ScriptLine). told_on ends_tables o (told ends_tables left)) is)
+      (asked_domain line left acts session request first second third tables h is) (h.before unused)
+]
+
+asked_tells : (left : List Numbered) (acts : List Act) (session request : List ℕ) (words : List (List ℕ)) (tables : Tables) → tables.core.dom ≡ domain acts → known acts ≡ knowledge tables.core
     → Tells left (Asked session request words ∷ acts) tables
-asked_tells left acts session request words tables same = record {
+asked_tells left acts session request words tables dom same = record {
+  domain_before = λ none. absurd (true≢false none);
+  domain_since = λ asked. dom;
   before = λ none. absurd (true≢false none);
-  since = λ asked. same;
+  since = λ used. same;
+}
+
+-- ---- tables that are read again
+
+pub tells_again : (line : Numbered) (left : List Numbered) (acts : List Act) (old new : Tables) → Tells (line ∷ left) acts old → line_of line.text ≡ Some Reload
+    → IsToldAgain left old new → Tells left (Reloaded ∷ acts) new
+unfolding first_bad
+tells_again line left acts old new h is t = record {
+  domain_before = λ none. t.dom ∙ domain_aside line left acts Reloaded old.core.dom Reload is (λ d more. refl) refl (h.domain_before none);
+  domain_since = λ asked. t.dom ∙ h.domain_since asked;
+  before = λ none. record {
+    good_keys = record { good = refl; is_first = t.has.first_key; few = t.has.few_keys };
+    good_speaks = record { good = refl; is_first = t.has.first_speak; few = t.has.few_speaks };
+    keys = t.has.give_keys;
+    speaks = t.has.give_speaks;
+  };
+  since = λ used. absurd (true≢false (sym used));
 }
 
 -- ---- each line
 
 tells_by : (line : Numbered) (left : List Numbered) (acts : List Act) (act : Act) (tables : Tables) (l : ScriptLine) → line_of line.text ≡ Some l
-    → Tells (line ∷ left) acts tables → act_of acts (messages acts) l ≡ Some act → is_unfit acts act ≡ false → Tells left (act ∷ acts) tables
-tells_by line left acts act tables (Dom dom) is h does fit =
+    → Tells (line ∷ left) acts tables → reads_again act ≡ false → act_of acts (messages acts) l ≡ Some act → is_unfit acts act ≡ false → Tells left (act ∷ acts) tables
+tells_by line left acts act tables (Dom dom) is h kept does fit =
     let same : Domain dom ≡ act = some_parts (Domain dom) act does in
     subst (λ (a : Act). Tells left (a ∷ acts) tables) same (dom_tells line left acts dom tables is h (subst (λ (a : Act). is_unfit acts a ≡ false) (sym same) fit))
-tells_by line left acts act tables (AsKey tuple) is h does fit =
+tells_by line left acts act tables (AsKey tuple) is h kept does fit =
     let same : KeyLine tuple ≡ act = some_parts (KeyLine tuple) act does in
     subst (λ (a : Act). Tells left (a ∷ acts) tables) same (key_tells line left acts tuple tables is h (subst (λ (a : Act). is_unfit acts a ≡ false) (sym same) fit))
-tells_by line left acts act tables (AsSpeak tuple) is h does fit =
+tells_by line left acts act tables (AsSpeak tuple) is h kept does fit =
     let same : SpeakLine tuple ≡ act = some_parts (SpeakLine tuple) act does in
     subst (λ (a : Act). Tells left (a ∷ acts) tables) same (speak_tells line left acts tuple tables is h (subst (λ (a : Act). is_unfit acts a ≡ false) (sym same) fit))
-tells_by line left acts act tables (Node node) is h does fit =
-    aside_tells line left acts act tables (Node node) is (record { dom = λ d more. refl; keys = λ more. refl; speaks = λ more. refl }) (same_aside acts (Made node) act does (record { dom = refl; keys = refl; speaks = refl; asked = refl })) h
-tells_by line left acts act tables (Ctl node text) is h does fit =
-    aside_tells line left acts act tables (Ctl node text) is (record { dom = λ d more. refl; keys = λ more. refl; speaks = λ more. refl }) (same_aside acts (Told node text) act does (record { dom = refl; keys = refl; speaks = refl; asked = refl })) h
-tells_by line left acts act tables (Open node conv) is h does fit =
-    aside_tells line left acts act tables (Open node conv) is (record { dom = λ d more. refl; keys = λ more. refl; speaks = λ more. refl }) (same_aside acts (Opened node conv) act does (record { dom = refl; keys = refl; speaks = refl; asked = refl })) h
-tells_by line left acts act tables (Start conv word tuple) is h does fit =
-    aside_tells line left acts act tables (Start conv word tuple) is (record { dom = λ d more. refl; keys = λ more. refl; speaks = λ more. refl }) (same_aside acts (Started conv word tuple) act does (record { dom = refl; keys = refl; speaks = refl; asked = refl })) h
-tells_by line left acts act tables (Read conv) is h does fit =
-    aside_tells line left acts act tables (Read conv) is (record { dom = λ d more. refl; keys = λ more. refl; speaks = λ more. refl }) (same_aside acts (Got conv) act does (record { dom = refl; keys = refl; speaks = refl; asked = refl })) h
-tells_by line left acts act tables (Write conv bytes) is h does fit =
+tells_by line left acts act tables Reload is h kept does fit = absurd (true≢false (ap reads_again (some_parts Reloaded act does) ∙ kept))
+tells_by line left acts act tables (Node node) is h kept does fit =
+    aside_tells line left acts act tables (Node node) is (record { dom = λ d more. refl; keys = λ more. refl; speaks = λ more. refl }) (same_aside acts (Made node) act does (record { dom = refl; keys = refl; speaks = refl; asked = refl; used = refl })) h
+tells_by line left acts act tables (Restart node) is h kept does fit =
+    aside_tells line left acts act tables (Restart node) is (record { dom = λ d more. refl; keys = λ more. refl; speaks = λ more. refl }) (same_aside acts (Restarted node) act does (record { dom = refl; keys = refl; speaks = refl; asked = refl; used = refl })) h
+tells_by line left acts act tables (Ctl node text) is h kept does fit =
+    aside_tells line left acts act tables (Ctl node text) is (record { dom = λ d more. refl; keys = λ more. refl; speaks = λ more. refl }) (same_aside acts (Told node text) act does (record { dom = refl; keys = refl; speaks = refl; asked = refl; used = refl })) h
+tells_by line left acts act tables (Open node conv) is h kept does fit =
+    aside_tells line left acts act tables (Open node conv) is (record { dom = λ d more. refl; keys = λ more. refl; speaks = λ more. refl }) (same_aside acts (Opened node conv) act does (record { dom = refl; keys = refl; speaks = refl; asked = refl; used = refl })) h
+tells_by line left acts act tables (Start conv word tuple) is h kept does fit =
+    aside_tells line left acts act tables (Start conv word tuple) is (record { dom = λ d more. refl; keys = λ more. refl; speaks = λ more. refl }) (same_aside acts (Started conv word tuple) act does (record { dom = refl; keys = refl; speaks = refl; asked = refl; used = refl })) h
+tells_by line left acts act tables (Read conv) is h kept does fit =
+    aside_tells line left acts act tables (Read conv) is (record { dom = λ d more. refl; keys = λ more. refl; speaks = λ more. refl }) (same_aside acts (Got conv) act does (record { dom = refl; keys = refl; speaks = refl; asked = refl; used = refl })) h
+tells_by line left acts act tables (Write conv bytes) is h kept does fit =
     aside_tells line left acts act tables (Write conv bytes) is (record { dom = λ d more. refl; keys = λ more. refl; speaks = λ more. refl }) (given_aside acts conv (spelled (messages acts) bytes) act does) h
-tells_by line left acts act tables (Answer conv bytes) is h does fit =
+tells_by line left acts act tables (Answer conv bytes) is h kept does fit =
     aside_tells line left acts act tables (Answer conv bytes) is (record { dom = λ d more. refl; keys = λ more. refl; speaks = λ more. refl }) (answered_aside acts conv (call_now acts conv) (spelled (messages acts) bytes) act does) h
-tells_by line left acts act tables (NoAnswer conv) is h does fit =
-    aside_tells line left acts act tables (NoAnswer conv) is (record { dom = λ d more. refl; keys = λ more. refl; speaks = λ more. refl }) (same_aside acts (Unanswered conv (call_now acts conv)) act does (record { dom = refl; keys = refl; speaks = refl; asked = refl })) h
-tells_by line left acts act tables (AsGive session bytes first second third) is h does fit =
+tells_by line left acts act tables (NoAnswer conv) is h kept does fit =
+    aside_tells line left acts act tables (NoAnswer conv) is (record { dom = λ d more. refl; keys = λ more. refl; speaks = λ more. refl }) (same_aside acts (Unanswered conv (call_now acts conv)) act does (record { dom = refl; keys = refl; speaks = refl; asked = refl; used = refl })) h
+tells_by line left acts act tables (AsGive session bytes first second third) is h kept does fit =
     let p = map_parts (λ (given : List ℕ). Asked session given (first ∷ second ∷ third ∷ [])) (spelled (messages acts) bytes) act does in
-    subst (λ (a : Act). Tells left (a ∷ acts) tables) p.2 (asked_tells left acts session p.0 (first ∷ second ∷ third ∷ []) tables (asked_known line left acts session bytes first second third tables h is))
-tells_by line left acts act tables (Close conv) is h does fit =
-    aside_tells line left acts act tables (Close conv) is (record { dom = λ d more. refl; keys = λ more. refl; speaks = λ more. refl }) (same_aside acts (Closed conv) act does (record { dom = refl; keys = refl; speaks = refl; asked = refl })) h
+    subst (λ (a : Act). Tells left (a ∷ acts) tables) p.2 (asked_tells left acts session p.0 (first ∷ second ∷ third ∷ []) tables (asked_domain line left acts session bytes first second third tables h is) (asked_known line left acts session bytes first second third tables h is))
+tells_by line left acts act tables (Close conv) is h kept does fit =
+    aside_tells line left acts act tables (Close conv) is (record { dom = λ d more. refl; keys = λ more. refl; speaks = λ more. refl }) (same_aside acts (Closed conv) act does (record { dom = refl; keys = refl; speaks = refl; asked = refl; used = refl })) h
 
 pub tells_on : (line : Numbered) (left : List Numbered) (acts : List Act) (act : Act) (tables : Tables) → Tells (line ∷ left) acts tables
-    → judged acts (line_of line.text) ≡ Ok act → Tells left (act ∷ acts) tables
-tells_on line left acts act tables h done =
+    → reads_again act ≡ false → judged acts (line_of line.text) ≡ Ok act → Tells left (act ∷ acts) tables
+tells_on line left acts act tables h kept done =
     let p = judged_parts acts (line_of line.text) act done in
-    tells_by line left acts act tables p.line p.is h p.does p.fit
+    tells_by line left acts act tables p.line p.is h kept p.does p.fit
 
 pub tells_first : (script : List ℕ) (tables : Tables) → IsToldBy (script_lines script) tables → Tells (script_lines script) [] tables
 unfolding first_bad
 tells_first script tables h = record {
+  domain_before = λ none. h.dom;
+  domain_since = λ asked. absurd (true≢false (sym asked));
   before = λ none. record {
-    dom = h.dom;
-    good_keys = record { good = refl; is_first = h.bad_key; few = h.few_keys };
-    good_speaks = record { good = refl; is_first = h.bad_speak; few = h.few_speaks };
-    keys = h.keys;
-    speaks = h.speaks;
+    good_keys = record { good = refl; is_first = h.has.first_key; few = h.has.few_keys };
+    good_speaks = record { good = refl; is_first = h.has.first_speak; few = h.has.few_speaks };
+    keys = h.has.give_keys;
+    speaks = h.has.give_speaks;
   };
-  since = λ asked. absurd (true≢false (sym asked));
+  since = λ used. absurd (true≢false (sym used));
 }
 
 -- ---- which lines are refused
@@ -359,21 +436,21 @@ unfolding is_unfit
 dom_told line acts dom is = or_none (was_asked acts) (not (is_dom dom)) (not_from_true (is_dom dom) (and_parts (is_text dom) (is_dom dom) (line_parts line.text (Dom dom) is).formed).1)
 
 pub key_told : (line : Numbered) (left : List Numbered) (acts : List Act) (tuple : List ℕ) (tables : Tables) → Tells (line ∷ left) acts tables
-    → line_of line.text ≡ Some (AsKey tuple) → is_unfit acts (KeyLine tuple) ≡ was_asked acts || is_next tables.bad_key (length (key_lines acts))
+    → line_of line.text ≡ Some (AsKey tuple) → is_unfit acts (KeyLine tuple) ≡ were_used acts || is_next tables.bad_key (length (key_lines acts))
 unfolding is_unfit
-key_told line left acts tuple tables h is = or_same (was_asked acts) (is_bad_line fits_keys (key_lines acts) tuple) (is_next tables.bad_key (length (key_lines acts)))
-    (λ unasked. bad_is_next fits_keys (key_lines acts) (told_keys left) tuple tables.bad_key (key_good line left acts tuple tables is (h.before unasked)))
+key_told line left acts tuple tables h is = or_same (were_used acts) (is_bad_line fits_keys (key_lines acts) tuple) (is_next tables.bad_key (length (key_lines acts)))
+    (λ unused. bad_is_next fits_keys (key_lines acts) (told_keys left) tuple tables.bad_key (key_good line left acts tuple tables is (h.before unused)))
 
 pub speak_told : (line : Numbered) (left : List Numbered) (acts : List Act) (tuple : List ℕ) (tables : Tables) → Tells (line ∷ left) acts tables
-    → line_of line.text ≡ Some (AsSpeak tuple) → is_unfit acts (SpeakLine tuple) ≡ was_asked acts || is_next tables.bad_speak (length (speak_lines acts))
+    → line_of line.text ≡ Some (AsSpeak tuple) → is_unfit acts (SpeakLine tuple) ≡ were_used acts || is_next tables.bad_speak (length (speak_lines acts))
 unfolding is_unfit
-speak_told line left acts tuple tables h is = or_same (was_asked acts) (is_bad_line fits_speaks (speak_lines acts) tuple) (is_next tables.bad_speak (length (speak_lines acts)))
-    (λ unasked. bad_is_next fits_speaks (speak_lines acts) (told_speaks left) tuple tables.bad_speak (speak_good line left acts tuple tables is (h.before unasked)))
+speak_told line left acts tuple tables h is = or_same (were_used acts) (is_bad_line fits_speaks (speak_lines acts) tuple) (is_next tables.bad_speak (length (speak_lines acts)))
+    (λ unused. bad_is_next fits_speaks (speak_lines acts) (told_speaks left) tuple tables.bad_speak (speak_good line left acts tuple tables is (h.before unused)))
 
 pub keys_few : (line : Numbered) (left : List Numbered) (acts : List Act) (tuple : List ℕ) (tables : Tables) → Tells (line ∷ left) acts tables
-    → line_of line.text ≡ Some (AsKey tuple) → was_asked acts ≡ false → length (key_lines acts) + 1 < 2 ^ 32
-keys_few line left acts tuple tables h is unasked = few_on fits_keys (key_lines acts) (told_keys left) tuple tables.bad_key (key_good line left acts tuple tables is (h.before unasked))
+    → line_of line.text ≡ Some (AsKey tuple) → were_used acts ≡ false → length (key_lines acts) + 1 < 2 ^ 32
+keys_few line left acts tuple tables h is unused = few_on fits_keys (key_lines acts) (told_keys left) tuple tables.bad_key (key_good line left acts tuple tables is (h.before unused))
 
 pub speaks_few : (line : Numbered) (left : List Numbered) (acts : List Act) (tuple : List ℕ) (tables : Tables) → Tells (line ∷ left) acts tables
-    → line_of line.text ≡ Some (AsSpeak tuple) → was_asked acts ≡ false → length (speak_lines acts) + 1 < 2 ^ 32
-speaks_few line left acts tuple tables h is unasked = few_on fits_speaks (speak_lines acts) (told_speaks left) tuple tables.bad_speak (speak_good line left acts tuple tables is (h.before unasked))
+    → line_of line.text ≡ Some (AsSpeak tuple) → were_used acts ≡ false → length (speak_lines acts) + 1 < 2 ^ 32
+speaks_few line left acts tuple tables h is unused = few_on fits_speaks (speak_lines acts) (told_speaks left) tuple tables.bad_speak (speak_good line left acts tuple tables is (h.before unused))

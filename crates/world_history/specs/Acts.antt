@@ -10,8 +10,12 @@ pub data Act : Type 0 where
   Domain : (dom : List ℕ) → Act
   KeyLine : (tuple : List ℕ) → Act
   SpeakLine : (tuple : List ℕ) → Act
-  -- a node is made, which is a new agent; a line is written to its ctl; rpc is opened on it as a conversation
+  -- both tables are read again: new ones take their place, which have no line yet
+  Reloaded : Act
+  -- a node is made, which is a new agent; another new agent takes the place of its agent; a line is written to its ctl;
+  -- rpc is opened on it as a conversation
   Made : (node : List ℕ) → Act
+  Restarted : (node : List ℕ) → Act
   Told : (node line : List ℕ) → Act
   Opened : (node conv : List ℕ) → Act
   -- a conversation is asked to start by a tuple, with a random word; for a message; to take one
@@ -41,7 +45,18 @@ nodes (act ∷ before) = nodes before
 abbrev pub is_node : List Act → List ℕ → Bool
 is_node acts node = has_name node (nodes acts)
 
--- the names of conversations that were opened, closed ones too
+-- how often a node was restarted
+abbrev pub restarts : List Act → List ℕ → ℕ
+restarts [] node = 0
+restarts (Restarted name ∷ before) node =
+    if bytes_eq name node then restarts before node + 1 else restarts before node
+restarts (act ∷ before) node = restarts before node
+
+-- the agent of a node now, which is told by how often the node was restarted, in front of its name
+abbrev pub agent_of : List Act → List ℕ → List ℕ
+agent_of acts node = restarts acts node ∷ node
+
+-- the names of conversations that were opened, also those that are open no more
 abbrev pub opened_names : List Act → List (List ℕ)
 opened_names [] = []
 opened_names (Opened node conv ∷ before) = conv ∷ opened_names before
@@ -77,12 +92,13 @@ highest (fid ∷ held) = max fid (highest held)
 abbrev pub least_fid : List ℕ → ℕ
 least_fid held = least_from (highest held) 2 held
 
--- the conversations that are open, the oldest first
+-- the conversations that are open, the oldest first: a restart of its node ends one too
 abbrev pub talks : List Act → List Talk
 talks [] = []
 talks (Opened node conv ∷ before) =
     talks before ++ record { conv = conv; node = node; fid = least_fid (fids_on node (talks before)) } ∷ []
 talks (Closed conv ∷ before) = filter (λ t. not (bytes_eq t.conv conv)) (talks before)
+talks (Restarted node ∷ before) = filter (λ t. not (bytes_eq t.node node)) (talks before)
 talks (act ∷ before) = talks before
 
 -- the one of a name, if it is open
@@ -97,14 +113,16 @@ domain [] = codes "x"
 domain (Domain dom ∷ before) = dom
 domain (act ∷ before) = domain before
 
--- the lines of its tables, in order
+-- the lines of its newest tables, in order
 abbrev pub key_lines : List Act → List (List ℕ)
 key_lines [] = []
+key_lines (Reloaded ∷ before) = []
 key_lines (KeyLine tuple ∷ before) = key_lines before ++ tuple ∷ []
 key_lines (act ∷ before) = key_lines before
 
 abbrev pub speak_lines : List Act → List (List ℕ)
 speak_lines [] = []
+speak_lines (Reloaded ∷ before) = []
 speak_lines (SpeakLine tuple ∷ before) = speak_lines before ++ tuple ∷ []
 speak_lines (act ∷ before) = speak_lines before
 
@@ -113,3 +131,10 @@ abbrev pub was_asked : List Act → Bool
 was_asked [] = false
 was_asked (Asked session request words ∷ before) = true
 was_asked (act ∷ before) = was_asked before
+
+-- it was asked something by its newest tables
+abbrev pub were_used : List Act → Bool
+were_used [] = false
+were_used (Reloaded ∷ before) = false
+were_used (Asked session request words ∷ before) = true
+were_used (act ∷ before) = were_used before

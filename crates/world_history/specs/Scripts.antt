@@ -9,7 +9,7 @@ use Rattle.auth_tables.specs.Lines.{first_bad}
 use Rattle.auth_tables.specs.Keys.{fits_keys}
 use Rattle.auth_tables.specs.Speaks.{fits_speaks}
 use Rattle.auth_server.specs.Requests.{is_served, kind_of, needed}
-use Rattle.auth_server.specs.Answers.{held}
+use Rattle.auth_server.specs.Answers.{held_in}
 use Rattle.wire_histories.specs.declared.step.Step.{Step}
 use Rattle.auth_program.specs.declared.cause.ScriptCause.{ScriptCause}
 use Rattle.auth_program.specs.declared.cause.ScriptCause.TheVariants.{BadLine, UnknownNode, UnknownConv, NoSuchMessage}
@@ -19,10 +19,10 @@ use Rattle.world_scripts.specs.Lines.{ScriptLine}
 use Rattle.world_scripts.specs.Lines as l
 use Rattle.world_scripts.specs.Reading.{line_of}
 use Rattle.world_scripts.specs.Scripts.{Numbered, script_lines}
-use Rattle.world_history.specs.Acts.{Act, Domain, KeyLine, SpeakLine, Made, Told, Opened, Started, Got, Given, Answered, Unanswered, Asked, Closed, has_name, is_node, key_lines, nodes, opened_names, speak_lines, talk_of, was_asked}
+use Rattle.world_history.specs.Acts.{Act, Domain, KeyLine, SpeakLine, Reloaded, Made, Restarted, Told, Opened, Started, Got, Given, Answered, Unanswered, Asked, Closed, agent_of, has_name, is_node, key_lines, nodes, opened_names, speak_lines, talk_of, was_asked, were_used}
 use Rattle.world_history.specs.Driving.{refuses_open}
 use Rattle.world_history.specs.Talking.{gives, request_text}
-use Rattle.world_history.specs.Worlds.{fid_for, has_ended, history, known, messages, outstanding, requests, steps}
+use Rattle.world_history.specs.Worlds.{fid_for, has_ended, history, messages, outstanding, requests, steps}
 
 -- ---- bytes
 
@@ -58,6 +58,7 @@ abbrev pub on_conv : List Act → List ℕ → Option ScriptCause
 on_conv acts conv = if is_some (talk_of acts conv) then None else Some UnknownConv
 
 abbrev pub misnamed : List Act → ScriptLine → Option ScriptCause
+misnamed acts (l.Restart node) = on_node acts node
 misnamed acts (l.Ctl node line) = on_node acts node
 misnamed acts (l.Open node conv) = on_node acts node
 misnamed acts (l.Start conv word tuple) = on_conv acts conv
@@ -81,7 +82,9 @@ abbrev pub act_of : List Act → List (List ℕ) → ScriptLine → Option Act
 act_of acts recorded (l.Dom dom) = Some (Domain dom)
 act_of acts recorded (l.AsKey tuple) = Some (KeyLine tuple)
 act_of acts recorded (l.AsSpeak tuple) = Some (SpeakLine tuple)
+act_of acts recorded l.Reload = Some Reloaded
 act_of acts recorded (l.Node node) = Some (Made node)
+act_of acts recorded (l.Restart node) = Some (Restarted node)
 act_of acts recorded (l.Ctl node line) = Some (Told node line)
 act_of acts recorded (l.Open node conv) = Some (Opened node conv)
 act_of acts recorded (l.Start conv word tuple) = Some (Started conv word tuple)
@@ -117,18 +120,18 @@ has_length size (Some wanted) = size == wanted
 abbrev pub is_misshaped : List Act → List ℕ → List ℕ → Bool
 is_misshaped acts session request = length request == 0
     || (is_served (kind_of request)
-    && not (has_length (length request) (needed (held (known acts) (requests acts session)) (kind_of request))))
+    && not (has_length (length request) (needed (held_in (requests acts session)) (kind_of request))))
 
 -- an act can't be done: its name is taken; too many nodes; no question is outstanding; the session ended; the bytes
--- are too many, or have not their length; the table or the agent refuses it; a table is told of once the server was
--- asked
+-- are too many, or have not their length; the table or the agent refuses it; the domain is told once the server was
+-- asked, or a table once it was asked by this
 unfoldable pub is_unfit : List Act → Act → Bool
 is_unfit acts (Domain dom) = was_asked acts || not (is_dom dom)
-is_unfit acts (KeyLine tuple) = was_asked acts || is_bad_line fits_keys (key_lines acts) tuple
-is_unfit acts (SpeakLine tuple) = was_asked acts || is_bad_line fits_speaks (speak_lines acts) tuple
+is_unfit acts (KeyLine tuple) = were_used acts || is_bad_line fits_keys (key_lines acts) tuple
+is_unfit acts (SpeakLine tuple) = were_used acts || is_bad_line fits_speaks (speak_lines acts) tuple
 is_unfit acts (Made node) = is_node acts node || nat_le most_nodes (length (nodes acts))
 is_unfit acts (Opened node conv) =
-    has_name conv (opened_names acts) || refuses_open (fid_for acts node) (history acts node)
+    has_name conv (opened_names acts) || refuses_open (fid_for acts node) (history acts (agent_of acts node))
 is_unfit acts (Given conv bytes) = nat_lt most_request (length (request_text (gives bytes)))
 is_unfit acts (Answered conv bytes call) = not (is_some (outstanding acts conv)) || nat_lt most_answer (length bytes)
 is_unfit acts (Unanswered conv call) = not (is_some (outstanding acts conv))

@@ -18,15 +18,29 @@ abbrev pub GivesSpeaks : Option ℕ → List (List ℕ) → List SpeakLine → T
 GivesSpeaks None lines table = (host : List ℕ) → names_of host table ≡ names_in (speaks_in (counted lines)) host
 GivesSpeaks (Some bad) lines table = (host : List ℕ) → names_of host table ≡ []
 
--- the server that lines tell of, and the numbers of the first bad line of each table
-pub record IsToldBy (lines : List Numbered) (tables : Tables) : Type 0 where
-  pub dom : tables.core.dom ≡ told_dom lines
-  pub bad_key : tables.bad_key ≡ first_bad fits_keys (told_keys lines)
-  pub bad_speak : tables.bad_speak ≡ first_bad fits_speaks (told_speaks lines)
-  pub keys : GivesKeys tables.bad_key (told_keys lines) tables.core.keys
-  pub speaks : GivesSpeaks tables.bad_speak (told_speaks lines) tables.core.speaks
+-- both tables as lines tell of them, and the numbers of the first bad line of each
+pub record AreToldBy (lines : List Numbered) (bad_key bad_speak : Option ℕ) (keys : List KeyLine)
+    (speaks : List SpeakLine) : Type 0 where
+  pub first_key : bad_key ≡ first_bad fits_keys (told_keys lines)
+  pub first_speak : bad_speak ≡ first_bad fits_speaks (told_speaks lines)
+  pub give_keys : GivesKeys bad_key (told_keys lines) keys
+  pub give_speaks : GivesSpeaks bad_speak (told_speaks lines) speaks
   pub few_keys : length (told_keys lines) < 2 ^ 32
   pub few_speaks : length (told_speaks lines) < 2 ^ 32
+
+-- the tables of a server are such
+abbrev pub HasTables : List Numbered → Tables → Type 0
+HasTables lines tables = AreToldBy lines tables.bad_key tables.bad_speak tables.core.keys tables.core.speaks
+
+-- the server that lines tell of
+pub record IsToldBy (lines : List Numbered) (tables : Tables) : Type 0 where
+  pub dom : tables.core.dom ≡ told_dom lines
+  pub has : HasTables lines tables
+
+-- its tables were read again, of which lines tell, and its domain stays
+pub record IsToldAgain (lines : List Numbered) (old new : Tables) : Type 0 where
+  pub dom : new.core.dom ≡ old.core.dom
+  pub has : HasTables lines new
 
 -- the line behind so many of a table is its first bad one
 abbrev pub is_next : Option ℕ → ℕ → Bool

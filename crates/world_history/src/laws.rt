@@ -1,12 +1,13 @@
 // Laws of the definitions, each the contract of a function that does nothing.
 ghost use Rattle.world_history.specs.MadeNames.{MadeIsNamed};
-ghost use Rattle.world_history.specs.Telling.{AskedKnown, DomTold, KeyTold, KeysFew, SpeakTold, SpeaksFew, TellsFirst, TellsOn};
+ghost use Rattle.world_history.specs.Telling.{AskedKnown, DomTold, KeyTold, KeysFew, SpeakTold, SpeaksFew, TellsAgain, TellsFirst, TellsOn};
 
-/// What was read ahead of a run is what its acts tell: a line of a table is refused where it is the first bad one or comes
-/// too late, and at each request the server knows what was told before the first.
+/// What was read ahead of a run is what its acts tell, of the first tables and of those that were read again: a line of a table
+/// is refused where it is the first bad one or comes too late, and at each request the server knows what was told before.
 pub fn tables_are_told_in_time()
     ensures first { TellsFirst }
     ensures on { TellsOn }
+    ensures again { TellsAgain }
     ensures dom { DomTold }
     ensures keys { KeyTold }
     ensures speaks { SpeakTold }

@@ -3,6 +3,7 @@
 //! made, and the server's tables as the script's lines tell of them. The crate `world_run` runs scripts.
 #![tactic(auto)]
 
+mod domains;
 mod laws;
 mod question;
 mod record;

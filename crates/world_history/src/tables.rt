@@ -4,13 +4,15 @@ ghost use Rattle.attr_tuples.specs.Cutting.{text_lines};
 ghost use Rattle.auth_tables.specs.Keys.{bad_key_line, key_of};
 ghost use Rattle.auth_tables.specs.Speaks.{bad_speak_line, names_of};
 ghost use Rattle.world_scripts.specs.Scripts.{script_lines};
-ghost use Rattle.world_history.specs.Servers.{GivesKeys, GivesSpeaks, IsToldBy, is_next};
+ghost use Rattle.world_history.specs.Servers.{AreToldBy, GivesKeys, GivesSpeaks, IsToldBy, is_next};
 
+use crate::domains::{ToldDomain, find_domain};
 use crate::told::gather;
 use auth_server::AuthCore;
 use auth_tables::{KeyTable, SpeaksTable, TableFault, parse_keys, parse_speaks};
 use std::alloc::Global;
 use wire_base::NoMemory;
+use world_scripts::ScriptLines;
 
 /// The most bytes of a table; more are want of memory.
 const MOST_BYTES: usize = 0xffff_fffe;
@@ -24,9 +26,30 @@ pub struct Tables {
     pub bad_speak: Option<u32>,
 }
 
+// Both tables, and the first bad line of each.
+#[derive(Drop)]
+pub(crate) struct ReadTables {
+    keys: KeyTable,
+    speaks: SpeaksTable,
+    bad_key: Option<u32>,
+    bad_speak: Option<u32>,
+}
+
 impl Tables {
-    ghost use Rattle.std.specs.Prelude.{◌≡◌};
-    ghost use Rattle.world_history.specs.Servers.{is_next};
+    ghost use Rattle.std.specs.Prelude.{◌≡◌, OnErr, OnOk};
+    ghost use Rattle.world_history.specs.Servers.{IsToldAgain, is_next};
+
+    /// Other tables take their place, of which these lines tell. Where memory runs out all is as before.
+    pub fn read_again(&mut self, alloc: Global, lines: &ScriptLines<'_>) -> Result<(), NoMemory>
+        ensures told { OnOk result (IsToldAgain lines.now self.old self.new) }
+        ensures same { OnErr result (self.new ≡ self.old) }
+    {
+        let read = read_lines(alloc, lines)?;
+        self.core.reload(read.keys, read.speaks);
+        self.bad_key = read.bad_key;
+        self.bad_speak = read.bad_speak;
+        Ok(())
+    }
 
     /// Whether the key's line behind so many is the first bad one.
     pub fn refuses_key(&self, before: u32) -> bool
@@ -102,16 +125,33 @@ fn read_speaks(alloc: Global, text: &[u8]) -> Result<(SpeaksTable, Option<u32>),
     }
 }
 
-/// The server of a script, as its lines tell of it before the first request to it.
+// The tables that lines tell of.
+fn read_lines(alloc: Global, lines: &ScriptLines<'_>) -> Result<ReadTables, NoMemory>
+    ensures { IfOk result (λ read. AreToldBy lines.now read.bad_key read.bad_speak
+        read.keys read.speaks) }
+{
+    let gathering = gather(alloc, lines.rest())?;
+    let (keys, bad_key) = read_keys(alloc, gathering.keys.as_slice())?;
+    let (speaks, bad_speak) = read_speaks(alloc, gathering.speaks.as_slice())?;
+    Ok(ReadTables {
+        keys,
+        speaks,
+        bad_key,
+        bad_speak,
+    })
+}
+
+/// The server of a script: its domain as the lines before the first request to it tell it, and its first tables as those
+/// before that and before the first reading again.
 pub fn read_tables(alloc: Global, script: &[u8]) -> Result<Tables, NoMemory>
     ensures { IfOk result (λ tables. IsToldBy (script_lines script.now) tables) }
 {
-    let gathering = gather(alloc, script)?;
-    let (keys, bad_key) = read_keys(alloc, gathering.keys.as_slice())?;
-    let (speaks, bad_speak) = read_speaks(alloc, gathering.speaks.as_slice())?;
+    let lines = ScriptLines::new(script);
+    let ToldDomain { dom } = find_domain(alloc, lines.rest())?;
+    let read = read_lines(alloc, &lines)?;
     Ok(Tables {
-        core: AuthCore::new(gathering.dom, keys, speaks),
-        bad_key,
-        bad_speak,
+        core: AuthCore::new(dom, read.keys, read.speaks),
+        bad_key: read.bad_key,
+        bad_speak: read.bad_speak,
     })
 }

@@ -7,7 +7,7 @@ use Rattle.talks.specs.Standings.{Begun}
 use Rattle.agent_history.specs.Conversations.{conv_of}
 use Rattle.agent_history.specs.Histories.{deeds}
 use Rattle.agent_laws.proofs.GrowLaws.{not_false}
-use Rattle.world_history.specs.Acts.{Act, Talk, Domain, KeyLine, SpeakLine, Made, Told, Opened, Started, Got, Given, Answered, Unanswered, Asked, Closed, talk_of}
+use Rattle.world_history.specs.Acts.{Act, Talk, Domain, KeyLine, SpeakLine, Reloaded, Made, Restarted, Told, Opened, Started, Got, Given, Answered, Unanswered, Asked, Closed, agent_of, talk_of}
 use Rattle.world_history.specs.Scripts.{call_now, call_or, is_unfit}
 use Rattle.world_history.specs.Talking.{Asks, gets, gives, starts}
 use Rattle.world_history.specs.Turns.{Turn, after, asks, closes, hears, misses}
@@ -21,7 +21,7 @@ use Rattle.driven_agents.specs.Idle.{IsIdle, Runs}
 use Rattle.world_promises.specs.Requests.{IsWorded}
 use Rattle.world_promises.specs.Worlds.{AllRun}
 use Rattle.world_promises.proofs.KnownLaws.{IsSame, Known, does_nothing, not_both, same_known}
-use Rattle.world_promises.proofs.MadeLaws.{made_known, told_does, told_known}
+use Rattle.world_promises.proofs.MadeLaws.{made_known, restarted_known, told_does, told_known}
 use Rattle.world_promises.proofs.OpenedLaws.{opened_does, opened_known}
 use Rattle.world_promises.proofs.RunLemmas.{itself, ran_before, talk_node}
 use Rattle.world_promises.proofs.StepLaws.{IsOpen, OnTalk, closed_known, is_open}
@@ -38,24 +38,26 @@ pub record Goes (before : List Act) (act : Act) : Type 0 where
 
 -- where it is open, its turn is such
 abbrev IsDriven : List Act → Act → List ℕ → (ℕ → Turn) → (ℕ → ℕ → Bool) → (ℕ → ℕ → Bool) → Type 0
-IsDriven before act conv turn ends gone = (t : Talk) (place : Place) → IsOpen before conv t place → IsIdle (history before t.node) → conv_of (deeds (history before t.node)) 0 t.fid ≡ Some place.number → Runs (after (turn t.fid) (history before t.node))
-    → TurnSo conv (turn t.fid) t.fid place.number (ends place.number) (gone t.fid) (history before t.node)
+IsDriven before act conv turn ends gone = (t : Talk) (place : Place) → IsOpen before conv t place → IsIdle (history before place.agent) → conv_of (deeds (history before place.agent)) 0 t.fid ≡ Some place.number → Runs (after (turn t.fid) (history before place.agent))
+    → TurnSo conv (turn t.fid) t.fid place.number (ends place.number) (gone t.fid) (history before place.agent)
 
-runs_then : (before : List Act) (act : Act) (conv : List ℕ) (turn : ℕ → Turn) (ends gone : ℕ → ℕ → Bool) → OnTalk before act conv turn ends gone → AllRun (act ∷ before) → (t : Talk) → talk_of before conv ≡ Some t → Runs (after (turn t.fid) (history before t.node))
+runs_then : (before : List Act) (act : Act) (conv : List ℕ) (turn : ℕ → Turn) (ends gone : ℕ → ℕ → Bool) → OnTalk before act conv turn ends gone → AllRun (act ∷ before) → (t : Talk) → talk_of before conv ≡ Some t → Runs (after (turn t.fid) (history before (agent_of before t.node)))
 runs_then before act conv turn ends gone on run t is =
-    let h = history before t.node in
-    subst Runs (on.goes t.node ∙ (ap (λ o. history_by (on_talk o turn) t.node h) is ∙ ap (λ b. cond b (after (turn t.fid) h) h) (itself t.node))) (run t.node)
+    let agent = agent_of before t.node in
+    let h = history before agent in
+    subst Runs (on.goes agent ∙ (ap (λ o. history_by (on_talk before o turn) agent h) is ∙ ap (λ b. cond b (after (turn t.fid) h) h) (itself agent))) (run agent)
 
 by_talk : (before : List Act) (act : Act) (conv : List ℕ) (turn : ℕ → Turn) (ends gone : ℕ → ℕ → Bool) → OnTalk before act conv turn ends gone → AreDone before → AllRun (act ∷ before) → Known before → IsDriven before act conv turn ends gone → (o : Option Talk) → talk_of before conv ≡ o → Goes before act
 by_talk before act conv turn ends gone on done run k driven None is = record {
   known = closed_known before act conv turn ends gone on k is;
-  does = does_nothing before act k (on.does ∙ ap (λ o. on_talk o turn) is);
+  does = does_nothing before act k (on.does ∙ ap (λ o. on_talk before o turn) is);
 }
 by_talk before act conv turn ends gone on done run k driven (Some t) is =
     let o = is_open before done conv t is in
     let s = k.seated.seats conv t o.0 is o.1.at in
     let made = talk_node before done conv t is in
-    let so = driven t o.0 o.1 (k.seated.idle t.node made) s.seat (runs_then before act conv turn ends gone on run t is) in
+    let at = sym o.1.agent in
+    let so = driven t o.0 o.1 (subst (λ n. IsIdle (history before n)) at (k.seated.idle t.node made)) s.seat (subst (λ n. Runs (after (turn t.fid) (history before n))) at (runs_then before act conv turn ends gone on run t is)) in
     record {
       known = step.opened_known before act conv turn ends gone on k t o.0 o.1 so;
       does = step.opened_does before act conv turn ends gone on k t o.0 o.1 so;
@@ -78,8 +80,8 @@ worded (Some b) so = so.whole
 
 asked_driven : Driven → (before : List Act) (act : Act) (conv : List ℕ) (what : Asks) → AreDone before → AgentsDo before → IsDriven before act conv (λ fid. asks conv fid what) no_fid no_fid
 asked_driven d before act conv what done does t place o idle seat runs =
-    let begun = worded (begun_in (history before t.node) place.number) (subst (λ n. BegunWith Word (begun_in (history before n) place.number)) o.node (words_so before done does conv place o.at)) in
-    request_so d conv what t.fid place.number (history before t.node) begun idle seat runs
+    let begun = worded (begun_in (history before place.agent) place.number) (words_so before done does conv place o.at) in
+    request_so d conv what t.fid place.number (history before place.agent) begun idle seat runs
 
 -- ---- answers
 
@@ -100,11 +102,11 @@ absence_fits before conv call fits = not_false (is_some (outstanding before conv
 
 answered_driven : Driven → (before : List Act) (conv bytes : List ℕ) (call : ℕ) → AreDone (Answered conv bytes call ∷ before) → Known before → IsDriven before (Answered conv bytes call) conv (λ fid. hears conv fid call bytes) its_own no_fid
 answered_driven d before conv bytes call done k t place o idle seat runs =
-    answer_so d conv bytes call t.fid place.number (history before t.node) idle seat ((k.seated.seats conv t place o.is o.at).asks call (asks_now before conv call done.0.named (answer_fits before conv bytes call done.0.fits))) runs
+    answer_so d conv bytes call t.fid place.number (history before place.agent) idle seat ((k.seated.seats conv t place o.is o.at).asks call (asks_now before conv call done.0.named (answer_fits before conv bytes call done.0.fits))) runs
 
 absent_driven : Driven → (before : List Act) (conv : List ℕ) (call : ℕ) → AreDone (Unanswered conv call ∷ before) → Known before → IsDriven before (Unanswered conv call) conv (λ fid. misses conv fid call) its_own no_fid
 absent_driven d before conv call done k t place o idle seat runs =
-    absence_so d conv call t.fid place.number (history before t.node) idle seat ((k.seated.seats conv t place o.is o.at).asks call (asks_now before conv call done.0.named (absence_fits before conv call done.0.fits))) runs
+    absence_so d conv call t.fid place.number (history before place.agent) idle seat ((k.seated.seats conv t place o.is o.at).asks call (asks_now before conv call done.0.named (absence_fits before conv call done.0.fits))) runs
 
 -- ---- all acts
 
@@ -112,32 +114,34 @@ same_goes : (before : List Act) (act : Act) → IsSame before act → done_by be
 same_goes before act same none k = record { known = same_known before act same k; does = does_nothing before act k none }
 
 act_goes : Driven → (before : List Act) (act : Act) → AreDone (act ∷ before) → AllRun (act ∷ before) → Known before → AgentsDo before → Goes before act
-act_goes d before (Domain dom) done run k does = same_goes before (Domain dom) (record { goes = λ n. refl; calls = λ n. refl; stands = λ n. refl; nodes = λ n. refl; talks = λ n t is. is }) refl k
-act_goes d before (KeyLine tuple) done run k does = same_goes before (KeyLine tuple) (record { goes = λ n. refl; calls = λ n. refl; stands = λ n. refl; nodes = λ n. refl; talks = λ n t is. is }) refl k
-act_goes d before (SpeakLine tuple) done run k does = same_goes before (SpeakLine tuple) (record { goes = λ n. refl; calls = λ n. refl; stands = λ n. refl; nodes = λ n. refl; talks = λ n t is. is }) refl k
-act_goes d before (Asked session request words) done run k does = same_goes before (Asked session request words) (record { goes = λ n. refl; calls = λ n. refl; stands = λ n. refl; nodes = λ n. refl; talks = λ n t is. is }) refl k
+act_goes d before (Domain dom) done run k does = same_goes before (Domain dom) (record { goes = λ n. refl; calls = λ n. refl; stands = λ n. refl; nodes = λ n. refl; talks = λ n t is. is; agents = λ n. refl }) refl k
+act_goes d before (KeyLine tuple) done run k does = same_goes before (KeyLine tuple) (record { goes = λ n. refl; calls = λ n. refl; stands = λ n. refl; nodes = λ n. refl; talks = λ n t is. is; agents = λ n. refl }) refl k
+act_goes d before (SpeakLine tuple) done run k does = same_goes before (SpeakLine tuple) (record { goes = λ n. refl; calls = λ n. refl; stands = λ n. refl; nodes = λ n. refl; talks = λ n t is. is; agents = λ n. refl }) refl k
+act_goes d before (Asked session request words) done run k does = same_goes before (Asked session request words) (record { goes = λ n. refl; calls = λ n. refl; stands = λ n. refl; nodes = λ n. refl; talks = λ n t is. is; agents = λ n. refl }) refl k
+act_goes d before Reloaded done run k does = same_goes before Reloaded (record { goes = λ n. refl; calls = λ n. refl; stands = λ n. refl; nodes = λ n. refl; talks = λ n t is. is; agents = λ n. refl }) refl k
+act_goes d before (Restarted name) done run k does = record { known = restarted_known before name done run k; does = does_nothing before (Restarted name) k refl }
 act_goes d before (Made name) done run k does = record { known = made_known before name done run k; does = does_nothing before (Made name) k refl }
 act_goes d before (Told at line) done run k does = record { known = told_known before at line done run k; does = told_does before at line k }
 act_goes d before (Opened node conv) done run k does = record { known = opened_known before node conv done run k; does = opened_does before node conv k }
 act_goes d before (Started conv word tuple) done run k does =
     goes_on before (Started conv word tuple) conv (λ fid. asks conv fid (starts word tuple)) no_fid no_fid
-    (record { does = refl; goes = λ n. refl; calls = λ n. refl; stands = λ n. refl; nodes = λ n. refl; of_conv = λ f. refl; talks = λ n t is. is; stays = λ t is. refl; ends_own = λ n m apart. refl; gone_own = λ f g apart. refl })
+    (record { does = refl; goes = λ n. refl; calls = λ n. refl; stands = λ n. refl; nodes = λ n. refl; agents = λ n. refl; of_conv = λ f. refl; talks = λ n t is. is; stays = λ t is. refl; ends_own = λ n m apart. refl; gone_own = λ f g apart. refl })
     done.1 run k (asked_driven d before (Started conv word tuple) conv (starts word tuple) done.1 does)
 act_goes d before (Got conv) done run k does =
     goes_on before (Got conv) conv (λ fid. asks conv fid gets) no_fid no_fid
-    (record { does = refl; goes = λ n. refl; calls = λ n. refl; stands = λ n. refl; nodes = λ n. refl; of_conv = λ f. refl; talks = λ n t is. is; stays = λ t is. refl; ends_own = λ n m apart. refl; gone_own = λ f g apart. refl })
+    (record { does = refl; goes = λ n. refl; calls = λ n. refl; stands = λ n. refl; nodes = λ n. refl; agents = λ n. refl; of_conv = λ f. refl; talks = λ n t is. is; stays = λ t is. refl; ends_own = λ n m apart. refl; gone_own = λ f g apart. refl })
     done.1 run k (asked_driven d before (Got conv) conv gets done.1 does)
 act_goes d before (Given conv bytes) done run k does =
     goes_on before (Given conv bytes) conv (λ fid. asks conv fid (gives bytes)) no_fid no_fid
-    (record { does = refl; goes = λ n. refl; calls = λ n. refl; stands = λ n. refl; nodes = λ n. refl; of_conv = λ f. refl; talks = λ n t is. is; stays = λ t is. refl; ends_own = λ n m apart. refl; gone_own = λ f g apart. refl })
+    (record { does = refl; goes = λ n. refl; calls = λ n. refl; stands = λ n. refl; nodes = λ n. refl; agents = λ n. refl; of_conv = λ f. refl; talks = λ n t is. is; stays = λ t is. refl; ends_own = λ n m apart. refl; gone_own = λ f g apart. refl })
     done.1 run k (asked_driven d before (Given conv bytes) conv (gives bytes) done.1 does)
 act_goes d before (Answered conv bytes call) done run k does =
     goes_on before (Answered conv bytes call) conv (λ fid. hears conv fid call bytes) its_own no_fid
-    (record { does = refl; goes = λ n. refl; calls = λ n. refl; stands = λ n. refl; nodes = λ n. refl; of_conv = λ f. refl; talks = λ n t is. is; stays = λ t is. refl; ends_own = λ n m apart. apart; gone_own = λ f g apart. refl })
+    (record { does = refl; goes = λ n. refl; calls = λ n. refl; stands = λ n. refl; nodes = λ n. refl; agents = λ n. refl; of_conv = λ f. refl; talks = λ n t is. is; stays = λ t is. refl; ends_own = λ n m apart. apart; gone_own = λ f g apart. refl })
     done.1 run k (answered_driven d before conv bytes call done k)
 act_goes d before (Unanswered conv call) done run k does =
     goes_on before (Unanswered conv call) conv (λ fid. misses conv fid call) its_own no_fid
-    (record { does = refl; goes = λ n. refl; calls = λ n. refl; stands = λ n. refl; nodes = λ n. refl; of_conv = λ f. refl; talks = λ n t is. is; stays = λ t is. refl; ends_own = λ n m apart. apart; gone_own = λ f g apart. refl })
+    (record { does = refl; goes = λ n. refl; calls = λ n. refl; stands = λ n. refl; nodes = λ n. refl; agents = λ n. refl; of_conv = λ f. refl; talks = λ n t is. is; stays = λ t is. refl; ends_own = λ n m apart. apart; gone_own = λ f g apart. refl })
     done.1 run k (absent_driven d before conv call done k)
 act_goes d before (Closed conv) done run k does =
     goes_on before (Closed conv) conv (λ fid. closes conv fid) its_own its_own
@@ -147,13 +151,14 @@ act_goes d before (Closed conv) done run k does =
       calls = λ n. refl;
       stands = λ n. refl;
       nodes = λ n. refl;
+      agents = λ n. refl;
       of_conv = λ f. refl;
       talks = λ n t is. (closed_talk before conv n t is).0;
       stays = λ t is. absurd (not_both (bytes_eq conv conv) (itself conv) (closed_talk before conv conv t is).1);
       ends_own = λ n m apart. apart;
       gone_own = λ f g apart. apart;
     })
-    done.1 run k (λ t place o idle seat runs. close_so conv t.fid place.number (history before t.node) idle seat runs)
+    done.1 run k (λ t place o idle seat runs. close_so conv t.fid place.number (history before place.agent) idle seat runs)
 
 none_known : Known []
 none_known = record {

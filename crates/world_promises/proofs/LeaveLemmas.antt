@@ -3,7 +3,7 @@ use Rattle.std.proofs.Common.{◌≡◌, ℕ, List, ◌∷◌, Bool, true, false
 use Rattle.std.specs.Str.{bytes_eq}
 use Rattle.agent_history.specs.declared.event.Event.{Event}
 use Rattle.agent_history.specs.Conversations.{opened_talks}
-use Rattle.world_history.specs.Acts.{Act, Opened}
+use Rattle.world_history.specs.Acts.{Act, Opened, agent_of}
 use Rattle.world_history.specs.Worlds.{fid_for, history}
 use Rattle.agent_history.specs.declared.event.Event.TheVariants.{NoAnswer}
 use Rattle.agent_history.specs.declared.event.Event.TheVariants as events
@@ -16,7 +16,7 @@ use Rattle.driven_agents.proofs.StillLaws.{openings_change_none}
 use Rattle.driven_agents.proofs.TakeLaws.{takes_change_none}
 use Rattle.driven_agents.proofs.WriteLaws.{closings_change_none, writes_start_none}
 use Rattle.world_promises.specs.Agents.{EventsLeave, Leaves, NextIsNew, Stays, begun_in, write_of}
-use Rattle.world_promises.specs.Settings.{Place, place_of}
+use Rattle.world_promises.specs.Settings.{Place, next_place, place_of}
 
 pub behind_takes : (event : Event) (h : History) (number : ℕ) → begun_in (drive event h) number ≡ begun_in (event ∷ h) number
 behind_takes event h number = ap (λ s. s.begun) (takes_change_none event h number)
@@ -56,19 +56,19 @@ events_leave number (closes conv fid) h quiet leave = close_stays number fid h q
 
 -- ---- a conversation that is opened
 
-next_place : (b : Bool) (o : Option Place) (next place : Place) → o ≡ None → cond b (Some next) o ≡ Some place → next ≡ place
-next_place true o next place none is = cc is
-next_place false o next place none is = absurd (cc (sym none ∙ is))
+place_next : (b : Bool) (o : Option Place) (next place : Place) → o ≡ None → cond b (Some next) o ≡ Some place → next ≡ place
+place_next true o next place none is = cc is
+place_next false o next place none is = absurd (cc (sym none ∙ is))
 
 opened_by : (b : Bool) (number fid : ℕ) (h : History) → begun_in h number ≡ None → begun_in (cond b (after (lets_open fid) h) h) number ≡ None
 opened_by true number fid h new = opening_leaves number fid h ∙ new
 opened_by false number fid h new = new
 
 -- it has met nothing yet
-pub opened_new : (before : List Act) (act : Act) → NextIsNew before → (name : List ℕ) (place : Place) → place_of before name ≡ None → place_of (act ∷ before) name ≡ Some place → begun_in (history (act ∷ before) place.node) place.number ≡ None
+pub opened_new : (before : List Act) (act : Act) → NextIsNew before → (name : List ℕ) (place : Place) → place_of before name ≡ None → place_of (act ∷ before) name ≡ Some place → begun_in (history (act ∷ before) place.agent) place.number ≡ None
 opened_new before (Opened node conv) new name place none is =
-    let h = history before node in
-    let next : Place = record { node = node; number = opened_talks (deeds h) } in
-    subst (λ p. begun_in (history (Opened node conv ∷ before) p.node) p.number ≡ None) (next_place (bytes_eq conv name) (place_of before name) next place none is)
-    (opened_by (bytes_eq node node) (opened_talks (deeds h)) (fid_for before node) h (new node))
+    let agent = agent_of before node in
+    let h = history before agent in
+    subst (λ p. begun_in (history (Opened node conv ∷ before) p.agent) p.number ≡ None) (place_next (bytes_eq conv name) (place_of before name) (next_place before node) place none is)
+    (opened_by (bytes_eq agent agent) (opened_talks (deeds h)) (fid_for before node) h (new agent))
 opened_new before act new name place none is = absurd (cc (sym none ∙ is))

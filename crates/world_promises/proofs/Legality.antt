@@ -1,5 +1,5 @@
 -- The record is legal where its conversations are, and these are where each agent does as its conversations do.
-use Rattle.std.proofs.Common.{◌≡◌, ℕ, ◌+◌, List, [], ◌∷◌, append-nil, Bool, true, false, All, Option, Some, None, refl, sym, ap, subst, ◌∙◌, reverse}
+use Rattle.std.proofs.Common.{◌≡◌, ℕ, ◌+◌, List, [], ◌∷◌, length, length-append, Bool, true, false, All, Option, Some, None, refl, sym, ap, subst, ◌∙◌, reverse}
 use Rattle.std.specs.Option.{option_map}
 use Rattle.std.specs.Prelude.{if◌then◌else◌}
 use Rattle.std.proofs.lemmas.List.Elements.{All-cons, All-nil}
@@ -20,24 +20,29 @@ use Rattle.driven_agents.specs.Keys.{AreMet}
 use Rattle.driven_agents.proofs.ToldLaws.{told_ring_keys}
 use Rattle.world_promises.specs.Agents.{AgentsDo}
 use Rattle.world_promises.specs.Conditions.{AreDone}
-use Rattle.world_promises.specs.Settings.{Place, place_of, setting, spoken_at, spoken_by, standing_at}
+use Rattle.world_promises.specs.Settings.{Place, past_tables, place_of, setting, tables_of, spoken_at, spoken_by, standing_at}
 use Rattle.world_promises.specs.LegalityStatements.{ConversationsAre, KeysAreOfRings, record_of}
 use Rattle.world_promises.proofs.PlayLaws.{played}
 use Rattle.world_promises.proofs.NumberLaws.{numbered}
 use Rattle.world_promises.proofs.DomainLaws.{domain_named}
-use Rattle.world_promises.proofs.SessionLaws.{served}
-use Rattle.world_promises.proofs.StayLaws.{record_stays}
-use Rattle.world_promises.proofs.StepLemmas.{no_reload, no_restart}
-use Rattle.wire_histories.proofs.RestartLemmas.{unrestarted}
+use Rattle.world_promises.proofs.SessionLaws.{past_number, served}
+use Rattle.world_promises.proofs.StayLaws.{reloads_so}
+use Rattle.world_promises.proofs.RestartLaws.{restarts_end}
 use Rattle.world_promises.proofs.WordLaws.{Word, words_so}
 use Rattle.world_promises.proofs.ConversationLaws.{all_said, left_at}
+
+-- there is one pair of tables more than they were read again
+tables_count : (acts : List Act) → length (setting acts).tables ≡ reloads_in (record_of acts) + 1
+tables_count acts =
+    length-append (past_tables acts) (tables_of acts ∷ [])
+    ∙ ap (λ n. n + 1) (past_number acts ∙ sym (reloads_so acts))
 
 pub legal : (acts : List Act) → AreDone acts → ConversationsAre acts → IsLegal (record_of acts) (setting acts)
 legal acts done conversations = record {
   domain = domain_named acts done;
-  tables = ap (λ n. n + 1) (sym (ap reloads_in (sym (append-nil (record_of acts))) ∙ no_reload (record_of acts) [] (record_stays acts)));
+  tables = tables_count acts;
   conversations = conversations;
-  restarts = λ name. unrestarted ((setting acts).spoken name) name (record_of acts) (no_restart (record_of acts) (record_stays acts));
+  restarts = restarts_end acts done;
   sessions = served acts done;
   numbered = numbered acts;
 }
@@ -53,13 +58,13 @@ met_keys s [] are = All-nil IsMet
 met_keys s (move ∷ moves) are = one_met (meets (s.needs moves) move) move (met_by s moves) are.0 (met_keys s moves are.1)
 
 pub keys_of_rings : (acts : List Act) → KeysAreOfRings acts
-keys_of_rings acts name place b is so = met_keys (speaker b.start) b.moves (told_ring_keys (history acts place.node) place.number b so)
+keys_of_rings acts name place b is so = met_keys (speaker b.start) b.moves (told_ring_keys (history acts place.agent) place.number b so)
 
 -- ---- conversations
 
 may_be : (acts : List Act) → AreDone acts → AgentsDo acts → (name : List ℕ) (place : Place) (b : Begun) → place_of acts name ≡ Some place → (standing_at acts place).begun ≡ Some b → All IsMet (spoken_by place.node b).met → MayBe (spoken_by place.node b)
 may_be acts done does name place b is so keys =
-    let well = subst StartsWell so (starts_well (talk (deeds (history acts place.node)) place.number)) in
+    let well = subst StartsWell so (starts_well (talk (deeds (history acts place.agent)) place.number)) in
     record { tuple = well.tuple; fits = well.fits; starts = well.starts; word = subst (BegunWith Word) so (words_so acts done does name place is); keys = keys }
 
 by_begun : (acts : List Act) → AreDone acts → AgentsDo acts → (name : List ℕ) (place : Place) → place_of acts name ≡ Some place → (begun : Option Begun) → (standing_at acts place).begun ≡ begun → IsConversation (option_map (spoken_by place.node) begun) (acts_of name (record_of acts))

@@ -11,7 +11,7 @@ use Rattle.agent_history.specs.Deeds.{Deed, was_hung, was_opened}
 use Rattle.agent_history.specs.Replies.{swept}
 use Rattle.agent_history.specs.Requests.{Call, replied}
 use Rattle.agent_history.specs.Histories.{History, deeds, most_events}
-use Rattle.world_history.specs.Acts.{Act, Talk, Domain, KeyLine, SpeakLine, Made, Told, Opened, Started, Got, Given, Answered, Unanswered, Asked, Closed, is_node, talk_of}
+use Rattle.world_history.specs.Acts.{Act, Talk, Domain, KeyLine, SpeakLine, Reloaded, Made, Restarted, Told, Opened, Started, Got, Given, Answered, Unanswered, Asked, Closed, agent_of, is_node, talk_of}
 use Rattle.world_history.specs.Driving.{agrees, attaches, clunks, drive, is_refused, new_node, opens, reads, replies_to, walks, writes}
 use Rattle.world_history.specs.Talking.{gets, gives, request_text, starts, word_of}
 use Rattle.world_history.specs.Turns.{Turn, after, asks, closes, hears, lets_open, misses, tells}
@@ -137,27 +137,35 @@ done_roomy : (n : ℕ) (b : Bool) (turn : Turn) (h : History) → (b ≡ true �
 done_roomy n true turn h idle r room = turn_roomy n turn h (idle refl) r room
 done_roomy n false turn h idle r room = roomy n (n + 4096) h (omega arith) r
 
-by_done : (before : List Act) (o : Option Done) (node : List ℕ) → ((d : Done) → o ≡ Some d → is_node before d.node ≡ true) → ((node : List ℕ) → is_node before node ≡ true → IsIdle (history before node)) → AreRoomy before → 8192 * length before + 4096 < most_events → IsRoomy (8192 * suc (length before)) (history_by o node (history before node))
-by_done before None node made idle r room = roomy (8192 * length before) (8192 * suc (length before)) (history before node) (omega arith) (r node)
-by_done before (Some d) node made idle r room =
-    let h = history before node in
-    roomy (8192 * length before + 4096) (8192 * suc (length before)) (cond (bytes_eq d.node node) (after d.turn h) h) (omega arith)
-    (done_roomy (8192 * length before) (bytes_eq d.node node) d.turn h (λ same. idle node (subst (λ n. is_node before n ≡ true) (same_name d.node node same) (made d refl))) (r node) room)
+-- what is done is done to the agent of a node
+pub record IsAt (before : List Act) (d : Done) : Type 0 where
+  pub node : List ℕ
+  pub made : is_node before node ≡ true
+  pub agent : d.agent ≡ agent_of before node
 
--- what is done is done on a node
-made_talk : (before : List Act) → AreDone before → (conv : List ℕ) (turn : ℕ → Turn) (o : Option Talk) → talk_of before conv ≡ o → (d : Done) → on_talk o turn ≡ Some d → is_node before d.node ≡ true
+by_done : (before : List Act) (o : Option Done) (agent : List ℕ) → ((d : Done) → o ≡ Some d → IsAt before d) → ((node : List ℕ) → is_node before node ≡ true → IsIdle (history before (agent_of before node))) → AreRoomy before → 8192 * length before + 4096 < most_events → IsRoomy (8192 * suc (length before)) (history_by o agent (history before agent))
+by_done before None agent at idle r room = roomy (8192 * length before) (8192 * suc (length before)) (history before agent) (omega arith) (r agent)
+by_done before (Some d) agent at idle r room =
+    let h = history before agent in
+    let on = at d refl in
+    roomy (8192 * length before + 4096) (8192 * suc (length before)) (cond (bytes_eq d.agent agent) (after d.turn h) h) (omega arith)
+    (done_roomy (8192 * length before) (bytes_eq d.agent agent) d.turn h (λ same. subst (λ n. IsIdle (history before n)) (sym on.agent ∙ same_name d.agent agent same) (idle on.node on.made)) (r agent) room)
+
+made_talk : (before : List Act) → AreDone before → (conv : List ℕ) (turn : ℕ → Turn) (o : Option Talk) → talk_of before conv ≡ o → (d : Done) → on_talk before o turn ≡ Some d → IsAt before d
 made_talk before done conv turn None is d does = absurd cc
-made_talk before done conv turn (Some t) is d does = let same : record { node = t.node; turn = turn t.fid } ≡ d = cc in ap (λ (d : Done). is_node before d.node) (sym same) ∙ talk_node before done conv t is
+made_talk before done conv turn (Some t) is d does = let same : record { agent = agent_of before t.node; turn = turn t.fid } ≡ d = cc in record { node = t.node; made = talk_node before done conv t is; agent = ap (λ (d : Done). d.agent) (sym same) }
 
-made_at : (before : List Act) (node : List ℕ) (turn : Turn) → is_node before node ≡ true → (d : Done) → ◌≡◌ {A = Option Done} (Some (record { node = node; turn = turn })) (Some d) → is_node before d.node ≡ true
-made_at before node turn made d does = let same : record { node = node; turn = turn } ≡ d = cc in ap (λ (d : Done). is_node before d.node) (sym same) ∙ made
+made_at : (before : List Act) (node : List ℕ) (turn : Turn) → is_node before node ≡ true → (d : Done) → ◌≡◌ {A = Option Done} (Some (record { agent = agent_of before node; turn = turn })) (Some d) → IsAt before d
+made_at before node turn made d does = let same : record { agent = agent_of before node; turn = turn } ≡ d = cc in record { node = node; made = made; agent = ap (λ (d : Done). d.agent) (sym same) }
 
 by_name : (n : ℕ) (b : Bool) (h : History) → 8192 ≤ n → IsRoomy n h → IsRoomy n (cond b new_node h)
 by_name n true h room r = roomy 8192 n new_node room new_roomy
 by_name n false h room r = r
 
-act_roomy : (before : List Act) (act : Act) → AreDone (act ∷ before) → ((node : List ℕ) → is_node before node ≡ true → IsIdle (history before node)) → AreRoomy before → 8192 * length before + 4096 < most_events → AreRoomy (act ∷ before)
-act_roomy before (Made name) done idle r room node = by_name (8192 * suc (length before)) (bytes_eq name node) (history before node) (omega arith) (roomy (8192 * length before) (8192 * suc (length before)) (history before node) (omega arith) (r node))
+act_roomy : (before : List Act) (act : Act) → AreDone (act ∷ before) → ((node : List ℕ) → is_node before node ≡ true → IsIdle (history before (agent_of before node))) → AreRoomy before → 8192 * length before + 4096 < most_events → AreRoomy (act ∷ before)
+act_roomy before (Made name) done idle r room node = by_name (8192 * suc (length before)) (bytes_eq (agent_of before name) node) (history before node) (omega arith) (roomy (8192 * length before) (8192 * suc (length before)) (history before node) (omega arith) (r node))
+act_roomy before (Restarted name) done idle r room node = by_name (8192 * suc (length before)) (bytes_eq (agent_of (Restarted name ∷ before) name) node) (history before node) (omega arith) (roomy (8192 * length before) (8192 * suc (length before)) (history before node) (omega arith) (r node))
+act_roomy before Reloaded done idle r room node = roomy (8192 * length before) (8192 * suc (length before)) (history before node) (omega arith) (r node)
 act_roomy before (Told at line) done idle r room node = by_done before (done_by before (Told at line)) node (made_at before at (tells at line) done.0.named) idle r room
 act_roomy before (Opened at conv) done idle r room node = by_done before (done_by before (Opened at conv)) node (made_at before at (lets_open (fid_for before at)) done.0.named) idle r room
 act_roomy before (Started conv word tuple) done idle r room node = by_done before (done_by before (Started conv word tuple)) node (made_talk before done.1 conv (λ fid. asks conv fid (starts word tuple)) (talk_of before conv) refl) idle r room

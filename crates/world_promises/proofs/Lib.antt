@@ -39,6 +39,7 @@ pub mod AnsweredCalm
 pub mod AnsweredReplies
 pub mod AnsweredQuestions
 pub mod AnswerLaws
+pub mod AgentNames
 pub mod RunLemmas
 pub mod FidLemmas
 pub mod TalkLemmas
@@ -73,6 +74,8 @@ pub mod BegunLaws
 pub mod NumberLaws
 pub mod StepLemmas
 pub mod StayLaws
+pub mod SessionSame
+pub mod RestartLaws
 pub mod PlayLaws
 pub mod DomainLaws
 pub mod SessionLaws

@@ -11,20 +11,18 @@ use Rattle.roles.specs.declared.need.Outcome.TheVariants.{Running, Accepted, Fin
 use Rattle.wire_histories.specs.declared.step.Step.{Step}
 use Rattle.wire_histories.specs.declared.step.Step.TheVariants as s
 use Rattle.talks.specs.Lines.{is_end}
-use Rattle.auth_server.specs.Requests as req
-use Rattle.auth_server.specs.Requests.{asked_so, is_served, kind_of}
-use Rattle.auth_server.specs.Answers.{Knowledge, is_over}
-use Rattle.auth_server.specs.Answers as server
+use Rattle.auth_server.specs.Requests.{is_served, kind_of}
+use Rattle.auth_server.specs.Answers.{Posed, answer_in, is_over_in}
 use Rattle.agent_history.specs.declared.event.Event.TheVariants.{NoAnswer}
 use Rattle.agent_history.specs.declared.event.Event.TheVariants as events
 use Rattle.agent_history.specs.Histories.{History}
 use Rattle.wire_histories.specs.Histories.{IsNext, IsNumbered, counted, message_number, messages}
 use Rattle.world_history.specs.declared.question.Question.{Question}
-use Rattle.world_history.specs.Acts.{Act, Asked}
+use Rattle.world_history.specs.Acts.{Act, Reloaded, Restarted, Asked}
 use Rattle.world_history.specs.Driving.{clunks, drive, is_refused, reads, replies_to, writes}
 use Rattle.world_history.specs.Talking.{Asks, Came, all_reply_steps, answer_steps, ask_steps, begins, breaks, came, end_of, end_steps, following, gets, gives, is_out, is_taken, own_steps, reply_steps, request_steps, request_text, start_step, starts, word_of}
 use Rattle.world_history.specs.Turns.{Turn, asks, closes, hears, lets_open, misses, refused_by, tells, told_steps, turn_steps}
-use Rattle.world_history.specs.Worlds.{Done, done_by, history, known, message_in, messages_in, requests, session_steps, steps, steps_by, steps_to}
+use Rattle.world_history.specs.Worlds.{Done, done_by, history, message_in, messages_in, put_to, requests, session_steps, steps, steps_by, steps_to}
 
 -- the messages of some steps are numbered from this number on, and the next has that number
 abbrev pub Numbers : ℕ → List Step → ℕ → Type 0
@@ -154,23 +152,25 @@ turned_in from (closes conv fid) h = all_replied from conv false (replies_to (cl
 over_in : (from : ℕ) (session : List ℕ) (b : Bool) → Numbers from (if b then s.AsEnd session ∷ [] else []) from
 over_in from session b = one_or_none from b (s.AsEnd session) refl
 
-session_in : (from : ℕ) (knows : Knowledge) (session : List ℕ) (before : List req.Asked) (asked : req.Asked) → Goes from (session_steps knows from session before asked)
+session_in : (from : ℕ) (session : List ℕ) (before : List Posed) (p : Posed) → Goes from (session_steps from session before p)
 unfolding session_steps
-session_in from knows session before asked =
-    let got = s.AsGot session asked.request asked.words in
-    let gave = s.AsGave from session (server.answer knows before asked) in
-    let over = if is_over knows (asked ∷ before) then s.AsEnd session ∷ [] else [] in
+session_in from session before p =
+    let got = s.AsGot session p.asked.request p.asked.words in
+    let gave = s.AsGave from session (answer_in before p) in
+    let over = if is_over_in (p ∷ before) then s.AsEnd session ∷ [] else [] in
     behind_silent from (got ∷ []) _ (silent from got refl) (
-    either from (is_served (kind_of asked.request)) (gave ∷ over) (s.AsEnd session ∷ [])
-    (from + 1, (refl, over_in (from + 1) session (is_over knows (asked ∷ before))))
+    either from (is_served (kind_of p.asked.request)) (gave ∷ over) (s.AsEnd session ∷ [])
+    (from + 1, (refl, over_in (from + 1) session (is_over_in (p ∷ before))))
     (from, silent from (s.AsEnd session) refl))
 
 done_in : (from : ℕ) (before : List Act) (done : Option Done) → Goes from (steps_to from before done)
 done_in from before None = (from, refl)
-done_in from before (Some done) = turned_in from done.turn (history before done.node)
+done_in from before (Some done) = turned_in from done.turn (history before done.agent)
 
 act_in : (from : ℕ) (before : List Act) (act : Act) → Goes from (steps_by from before act)
-act_in from before (Asked session request words) = session_in from (known before) session (requests before session) (asked_so request words)
+act_in from before (Asked session request words) = session_in from session (requests before session) (put_to before request words)
+act_in from before Reloaded = (from, silent from s.Reload refl)
+act_in from before (Restarted node) = (from, silent from (s.Restart node) refl)
 act_in from before act = done_in from before (done_by before act)
 
 -- ---- as many as there are messages

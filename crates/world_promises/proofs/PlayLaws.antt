@@ -14,7 +14,7 @@ use Rattle.world_scripts.specs.Scripts.{Numbered, script_lines}
 use Rattle.world_scripts.proofs.LineLemmas.{line_parts}
 use Rattle.auth_program.specs.declared.cause.ScriptCause.{ScriptCause}
 use Rattle.auth_program.specs.declared.cause.ScriptCause.TheVariants.{BadLine, UnknownNode}
-use Rattle.world_history.specs.Acts.{Act, Domain, KeyLine, SpeakLine, Made, Told, Opened, Started, Got, Given, Answered, Unanswered, Asked, Closed, is_node}
+use Rattle.world_history.specs.Acts.{Act, Domain, KeyLine, SpeakLine, Reloaded, Made, Restarted, Told, Opened, Started, Got, Given, Answered, Unanswered, Asked, Closed, is_node}
 use Rattle.world_history.specs.Scripts.{Played, act_of, call_now, fitting, go_on, is_unfit, judged, misnamed, named, play, plays, spelled}
 use Rattle.world_history.specs.Worlds.{messages}
 use Rattle.world_promises.specs.Conditions.{AreDone, IsNamed, IsSpelled, MayFollow}
@@ -54,6 +54,8 @@ well_so acts recorded (l.Dom dom) act formed named_so is = same_act acts (Domain
 well_so acts recorded (l.AsKey tuple) act formed named_so is = same_act acts (KeyLine tuple) act is (tt, tt)
 well_so acts recorded (l.AsSpeak tuple) act formed named_so is = same_act acts (SpeakLine tuple) act is (tt, tt)
 well_so acts recorded (l.Node node) act formed named_so is = same_act acts (Made node) act is (tt, tt)
+well_so acts recorded l.Reload act formed named_so is = same_act acts Reloaded act is (tt, tt)
+well_so acts recorded (l.Restart node) act formed named_so is = same_act acts (Restarted node) act is (tt, node_named (is_node acts node) named_so)
 well_so acts recorded (l.Ctl node line) act formed named_so is = same_act acts (Told node line) act is (tt, node_named (is_node acts node) named_so)
 well_so acts recorded (l.Open node conv) act formed named_so is = same_act acts (Opened node conv) act is (tt, node_named (is_node acts node) named_so)
 well_so acts recorded (l.Start conv random tuple) act formed named_so is = same_act acts (Started conv random tuple) act is (random_block random (and_parts (is_name conv) (is_random random) formed).1, tt)

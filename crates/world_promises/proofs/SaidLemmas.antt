@@ -18,10 +18,8 @@ use Rattle.talks.specs.Lines.{is_end}
 use Rattle.talks.specs.Standings.{Phase, Resting, Waiting, Seeking, OnConfirm, OnNeedkey, OnServer, Kept, Standing, need_in, outcome_of}
 use Rattle.wire_histories.specs.Histories.{Act, acts_of, act_in, asked, gave, if_named, took}
 use Rattle.wire_histories.specs.Conversations.{asked_now, started_by}
-use Rattle.auth_server.specs.Requests as req
 use Rattle.auth_server.specs.Requests.{is_served, kind_of}
-use Rattle.auth_server.specs.Answers.{Knowledge, is_over}
-use Rattle.auth_server.specs.Answers as server
+use Rattle.auth_server.specs.Answers.{Posed, answer_in, is_over_in}
 use Rattle.world_history.specs.Turns.{refused_by, told_steps}
 use Rattle.world_history.specs.Worlds.{session_steps}
 use Rattle.world_history.specs.declared.question.Question.{Question}
@@ -258,11 +256,11 @@ told_none conv node (m ∷ more) =
 
 -- ---- sessions
 
-pub session_none : (conv : List ℕ) (knows : Knowledge) (number : ℕ) (session : List ℕ) (before : List req.Asked) (request : req.Asked) → said conv (session_steps knows number session before request) ≡ []
+pub session_none : (conv : List ℕ) (number : ℕ) (session : List ℕ) (before : List Posed) (p : Posed) → said conv (session_steps number session before p) ≡ []
 unfolding session_steps
-session_none conv knows number session before request = by_tests (is_served (kind_of request.request)) (is_over knows (request ∷ before))
+session_none conv number session before p = by_tests (is_served (kind_of p.asked.request)) (is_over_in (p ∷ before))
   where
-    by_tests : (served over : Bool) → said conv (s.AsGot session request.request request.words ∷ (if served then s.AsGave number session (server.answer knows before request) ∷ (if over then s.AsEnd session ∷ [] else []) else s.AsEnd session ∷ [])) ≡ []
+    by_tests : (served over : Bool) → said conv (s.AsGot session p.asked.request p.asked.words ∷ (if served then s.AsGave number session (answer_in before p) ∷ (if over then s.AsEnd session ∷ [] else []) else s.AsEnd session ∷ [])) ≡ []
     by_tests true true = refl
     by_tests true false = refl
     by_tests false over = refl

@@ -1,5 +1,5 @@
 -- Whom the steps of an act concern: those of what is done to an agent concern one conversation and no session.
-use Rattle.std.proofs.Common.{◌≡◌, ℕ, ◌+◌, List, [], ◌∷◌, ◌++◌, append-nil, ◌||◌, length, drop, reverse, codes, Option, Some, None, Bool, true, false, if◌then◌else◌, refl, sym, ap, subst, ◌∙◌}
+use Rattle.std.proofs.Common.{◌≡◌, ℕ, ◌+◌, List, [], ◌∷◌, ◌++◌, ◌||◌, length, drop, reverse, codes, Option, Some, None, Bool, true, false, if◌then◌else◌, refl, sym, ap, subst, ◌∙◌}
 use Rattle.std.specs.List.{list_any}
 use Rattle.std.specs.Str.{bytes_eq}
 use Rattle.std.proofs.lemmas.List.{append_assoc, reverse-append}
@@ -14,7 +14,7 @@ use Rattle.talks.specs.Lines.{is_end}
 use Rattle.agent_history.specs.declared.event.Event.TheVariants.{NoAnswer}
 use Rattle.agent_history.specs.declared.event.Event.TheVariants as events
 use Rattle.agent_history.specs.Histories.{History}
-use Rattle.wire_histories.specs.Histories.{Act as Does, Deal, act_in, acts_of, deal_in, deals_of, reloads_in}
+use Rattle.wire_histories.specs.Histories.{Act as Does, Deal, act_in, acts_of, deal_in, deals_of, is_of, reloads_in}
 use Rattle.wire_histories.proofs.RestartLemmas.{is_restart}
 use Rattle.wire_histories.specs.Histories as w
 use Rattle.world_history.specs.declared.question.Question.{Question}
@@ -101,7 +101,7 @@ refused_each : (conv node : List ℕ) (body : RBody) → Each conv (refused_by n
 refused_each conv node (r.Error text) = (tt, tt)
 refused_each conv node body = tt
 
-told_each : (conv node : List ℕ) (replies : List RMsg) → Each conv (told_steps node replies)
+pub told_each : (conv node : List ℕ) (replies : List RMsg) → Each conv (told_steps node replies)
 told_each conv node [] = tt
 told_each conv node (m ∷ more) = each_append conv (refused_by node m.body) (told_steps node more) (refused_each conv node m.body) (told_each conv node more)
 
@@ -178,43 +178,44 @@ pub no_restart : (steps : List Step) → AllStay steps → list_any is_restart s
 no_restart [] so = refl
 no_restart (step ∷ more) so = ap (λ (b : Bool). b || list_any is_restart more) (one_restart step so.0) ∙ no_restart more so.1
 
--- what a record says of a session, where the tables stay as they are
-abbrev pub first_deals : List ℕ → List Step → List Deal
-first_deals name [] = []
-first_deals name (step ∷ past) = deal_in 0 name step ++ first_deals name past
+-- what steps say of a session while the tables of a number are in force
+abbrev pub deals_at : ℕ → List ℕ → List Step → List Deal
+deals_at n name [] = []
+deals_at n name (step ∷ past) = deal_in n name step ++ deals_at n name past
 
-pub all_first : (name : List ℕ) (steps : List Step) → AllStay steps → deals_of name steps ≡ first_deals name steps
-all_first name [] so = refl
-all_first name (step ∷ past) so = ap (λ n. deal_in n name step ++ deals_of name past) (unread past so.1) ∙ ap (λ xs. deal_in 0 name step ++ xs) (all_first name past so.1)
-  where
-    unread : (past : List Step) → AllStay past → reloads_in past ≡ 0
-    unread past so = ap reloads_in (sym (append-nil past)) ∙ no_reload past [] so
+-- steps by which the tables stay as they are, behind others
+pub deals_front : (name : List ℕ) (front past : List Step) → AllStay front → deals_of name (front ++ past) ≡ deals_at (reloads_in past) name front ++ deals_of name past
+deals_front name [] past so = refl
+deals_front name (step ∷ front) past so =
+    ap (λ n. deal_in n name step ++ deals_of name (front ++ past)) (no_reload front past so.1)
+    ∙ (ap (λ xs. deal_in (reloads_in past) name step ++ xs) (deals_front name front past so.1)
+    ∙ sym (append_assoc (deal_in (reloads_in past) name step) (deals_at (reloads_in past) name front) (deals_of name past)))
 
-deals_append : (name : List ℕ) (later past : List Step) → first_deals name (later ++ past) ≡ first_deals name later ++ first_deals name past
-deals_append name [] past = refl
-deals_append name (step ∷ later) past = ap (λ xs. deal_in 0 name step ++ xs) (deals_append name later past) ∙ sym (append_assoc (deal_in 0 name step) (first_deals name later) (first_deals name past))
+deals_append : (n : ℕ) (name : List ℕ) (later past : List Step) → deals_at n name (later ++ past) ≡ deals_at n name later ++ deals_at n name past
+deals_append n name [] past = refl
+deals_append n name (step ∷ later) past = ap (λ xs. deal_in n name step ++ xs) (deals_append n name later past) ∙ sym (append_assoc (deal_in n name step) (deals_at n name later) (deals_at n name past))
 
 -- what a record says behind another
 pub acts_behind : (name : List ℕ) (front rest : List Step) → acts_of name (reverse (front ++ rest)) ≡ acts_of name (reverse rest) ++ acts_of name (reverse front)
 acts_behind name front rest = ap (acts_of name) (reverse-append front rest) ∙ acts_append name (reverse rest) (reverse front)
 
-pub deals_behind : (name : List ℕ) (front rest : List Step) → first_deals name (reverse (front ++ rest)) ≡ first_deals name (reverse rest) ++ first_deals name (reverse front)
-deals_behind name front rest = ap (first_deals name) (reverse-append front rest) ∙ deals_append name (reverse rest) (reverse front)
+pub deals_behind : (n : ℕ) (name : List ℕ) (front rest : List Step) → deals_at n name (reverse (front ++ rest)) ≡ deals_at n name (reverse rest) ++ deals_at n name (reverse front)
+deals_behind n name front rest = ap (deals_at n name) (reverse-append front rest) ∙ deals_append n name (reverse rest) (reverse front)
 
 -- ---- of others nothing is said
 
-no_deal : (conv name : List ℕ) (step : Step) → Concerns conv step → deal_in 0 name step ≡ []
-no_deal conv name (s.AsGot session bytes words) so = elim so [ ]
-no_deal conv name (s.AsGave number session bytes) so = elim so [ ]
-no_deal conv name (s.AsEnd session) so = elim so [ ]
-no_deal conv name step so = refl
+no_deal : (n : ℕ) (conv name : List ℕ) (step : Step) → Concerns conv step → deal_in n name step ≡ []
+no_deal n conv name (s.AsGot session bytes words) so = elim so [ ]
+no_deal n conv name (s.AsGave number session bytes) so = elim so [ ]
+no_deal n conv name (s.AsEnd session) so = elim so [ ]
+no_deal n conv name step so = refl
 
-pub no_deals : (conv name : List ℕ) (steps : List Step) → Each conv steps → first_deals name (reverse steps) ≡ []
-no_deals conv name [] so = refl
-no_deals conv name (step ∷ more) so =
-    deals_behind name (step ∷ []) more
-    ∙ ap (λ xs. xs ++ (deal_in 0 name step ++ [])) (no_deals conv name more so.1)
-    ∙ ap (λ xs. xs ++ []) (no_deal conv name step so.0)
+pub no_deals : (n : ℕ) (conv name : List ℕ) (steps : List Step) → Each conv steps → deals_at n name (reverse steps) ≡ []
+no_deals n conv name [] so = refl
+no_deals n conv name (step ∷ more) so =
+    deals_behind n name (step ∷ []) more
+    ∙ ap (λ xs. xs ++ (deal_in n name step ++ [])) (no_deals n conv name more so.1)
+    ∙ ap (λ xs. xs ++ []) (no_deal n conv name step so.0)
 
 -- of a conversation of another name
 other_name : (conv name other : List ℕ) (act : Does) → bytes_eq conv name ≡ false → other ≡ conv → w.if_named other name act ≡ []
@@ -237,3 +238,20 @@ no_acts conv name (step ∷ more) apart so =
     acts_behind name (step ∷ []) more
     ∙ ap (λ xs. xs ++ (act_in name step ++ [])) (no_acts conv name more apart so.1)
     ∙ ap (λ xs. xs ++ []) (no_act conv name step apart so.0)
+
+-- no step is of a conversation of another name
+not_of : (conv name : List ℕ) (step : Step) → bytes_eq conv name ≡ false → Concerns conv step → is_of name step ≡ false
+not_of conv name (s.Start other protocol role word) apart so = ap (λ n. bytes_eq n name) so ∙ apart
+not_of conv name (s.Out number other bytes) apart so = ap (λ n. bytes_eq n name) so ∙ apart
+not_of conv name (s.In other bytes) apart so = ap (λ n. bytes_eq n name) so ∙ apart
+not_of conv name (s.Ask number other bytes) apart so = ap (λ n. bytes_eq n name) so ∙ apart
+not_of conv name (s.Heard other bytes) apart so = ap (λ n. bytes_eq n name) so ∙ apart
+not_of conv name (s.Unheard other) apart so = ap (λ n. bytes_eq n name) so ∙ apart
+not_of conv name (s.Accept other cuid suid) apart so = ap (λ n. bytes_eq n name) so ∙ apart
+not_of conv name (s.Fail other cause) apart so = ap (λ n. bytes_eq n name) so ∙ apart
+not_of conv name (s.Reply other text) apart so = ap (λ n. bytes_eq n name) so ∙ apart
+not_of conv name step apart so = refl
+
+pub none_of_other : (conv name : List ℕ) (steps : List Step) → bytes_eq conv name ≡ false → Each conv steps → list_any (is_of name) steps ≡ false
+none_of_other conv name [] apart so = refl
+none_of_other conv name (step ∷ more) apart so = ap (λ b. b || list_any (is_of name) more) (not_of conv name step apart so.0) ∙ none_of_other conv name more apart so.1

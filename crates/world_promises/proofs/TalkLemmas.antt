@@ -3,34 +3,12 @@ use Rattle.std.proofs.Common.{◌≡◌, ℕ, List, [], ◌∷◌, ◌++◌, Boo
 use Rattle.std.specs.Prelude.{filter, find}
 use Rattle.std.specs.Str.{bytes_eq}
 use Rattle.std.proofs.lemmas.Bool.{cases_Bool, eqb-true, eq-eqb, or_parts}
-use Rattle.world_history.specs.Acts.{Act, Talk, Domain, KeyLine, SpeakLine, Made, Told, Opened, Started, Got, Given, Answered, Unanswered, Asked, Closed, fids_on, has_name, is_held, least_fid, opened_names, talk_of, talks}
+use Rattle.world_history.specs.Acts.{Act, Talk, Domain, KeyLine, SpeakLine, Reloaded, Made, Restarted, Told, Opened, Started, Got, Given, Answered, Unanswered, Asked, Closed, fids_on, has_name, is_held, least_fid, opened_names, talk_of, talks}
 use Rattle.world_history.specs.Scripts.{is_unfit}
 use Rattle.world_promises.specs.Conditions.{AreDone}
-use Rattle.world_promises.proofs.PlaceLemmas.{placed, was_opened}
+use Rattle.world_promises.proofs.PlaceLemmas.{AllOf, all_filter, all_more, all_push, placed, was_opened}
 use Rattle.driven_agents.proofs.FoundLemmas.{found_kept, found_last, found_stays}
 use Rattle.world_promises.proofs.RunLemmas.{itself, same_name}
-
--- ---- all of a list
-
-abbrev pub AllOf : (Talk → Type 0) → List Talk → Type 0
-AllOf P [] = Unit {0}
-AllOf P (t ∷ ts) = P t × AllOf P ts
-
-all_more : (P Q : Talk → Type 0) (ts : List Talk) → ((t : Talk) → P t → Q t) → AllOf P ts → AllOf Q ts
-all_more P Q [] so all = tt
-all_more P Q (t ∷ ts) so all = (so t all.0, all_more P Q ts so all.1)
-
-all_push : (P : Talk → Type 0) (ts : List Talk) (t : Talk) → AllOf P ts → P t → AllOf P (ts ++ t ∷ [])
-all_push P [] t all is = (is, tt)
-all_push P (x ∷ ts) t all is = (all.0, all_push P ts t all.1 is)
-
-all_filter : (P Q : Talk → Type 0) (keep : Talk → Bool) (ts : List Talk) → ((t : Talk) → keep t ≡ true → P t → Q t) → AllOf P ts → AllOf Q (filter keep ts)
-all_filter P Q keep [] so all = tt
-all_filter P Q keep (t ∷ ts) so all = by_kept (keep t) refl (all_filter P Q keep ts so all.1)
-  where
-    by_kept : (b : Bool) → keep t ≡ b → AllOf Q (filter keep ts) → AllOf Q (cond b (t ∷ filter keep ts) (filter keep ts))
-    by_kept true is more = (so t is all.0, more)
-    by_kept false is more = more
 
 -- ---- each is found by its name
 
@@ -64,6 +42,9 @@ all_found (Opened node conv ∷ before) done =
     (found_last (λ x. bytes_eq x.conv conv) (talks before) new (none_named before done.1 conv (talk_of before conv) refl (new_name before node conv done.0.fits)) (itself conv))
 all_found (Closed conv ∷ before) done =
     all_filter (IsFound before) (IsFound (Closed conv ∷ before)) (λ t. not (bytes_eq t.conv conv)) (talks before) (λ t kept is. found_stays (λ x. bytes_eq x.conv t.conv) (λ t. not (bytes_eq t.conv conv)) (talks before) t is kept) (all_found before done.1)
+all_found (Restarted node ∷ before) done =
+    all_filter (IsFound before) (IsFound (Restarted node ∷ before)) (λ t. not (bytes_eq t.node node)) (talks before) (λ t kept is. found_stays (λ x. bytes_eq x.conv t.conv) (λ t. not (bytes_eq t.node node)) (talks before) t is kept) (all_found before done.1)
+all_found (Reloaded ∷ before) done = all_found before done.1
 all_found (Domain dom ∷ before) done = all_found before done.1
 all_found (KeyLine tuple ∷ before) done = all_found before done.1
 all_found (SpeakLine tuple ∷ before) done = all_found before done.1
@@ -154,3 +135,21 @@ closed_talk before conv name t is = elim (cases_Bool (bytes_eq conv name)) [
     apart : (x : Talk) → x.conv ≡ name → (b : Bool) → bytes_eq x.conv conv ≡ b → bytes_eq conv name ≡ false → b ≡ false
     apart x named false is off = refl
     apart x named true is off = absurd (let on : bytes_eq conv name ≡ true = ap (bytes_eq conv) (sym named ∙ same_name x.conv conv is) ∙ itself conv in let no_way : true ≡ false = sym on ∙ off in cc)
+
+-- one that is open behind a restart was open before, on another node
+found_kept_of : (P : Talk → Type 0) (p keep : Talk → Bool) (ts : List Talk) (t : Talk) → AllOf P ts → find p (filter keep ts) ≡ Some t → P t × (p t ≡ true) × (keep t ≡ true)
+found_kept_of P p keep [] t all is = absurd cc
+found_kept_of P p keep (x ∷ ts) t all is = by_kept (keep x) refl is (found_kept_of P p keep ts t all.1)
+  where
+    by_first : (b : Bool) → p x ≡ b → keep x ≡ true → cond b (Some x) (find p (filter keep ts)) ≡ Some t → (find p (filter keep ts) ≡ Some t → P t × (p t ≡ true) × (keep t ≡ true)) → P t × (p t ≡ true) × (keep t ≡ true)
+    by_first true found kept is so = let same : x ≡ t = cc in subst (λ y. P y × (p y ≡ true) × (keep y ≡ true)) same (all.0, found, kept)
+    by_first false found kept is so = so is
+
+    by_kept : (b : Bool) → keep x ≡ b → find p (cond b (x ∷ filter keep ts) (filter keep ts)) ≡ Some t → (find p (filter keep ts) ≡ Some t → P t × (p t ≡ true) × (keep t ≡ true)) → P t × (p t ≡ true) × (keep t ≡ true)
+    by_kept true kept is so = by_first (p x) refl kept is so
+    by_kept false kept is so = so is
+
+pub restarted_talk : (before : List Act) (node name : List ℕ) (t : Talk) → AreDone before → talk_of (Restarted node ∷ before) name ≡ Some t → (talk_of before name ≡ Some t) × (not (bytes_eq t.node node) ≡ true)
+restarted_talk before node name t done is =
+    let f = found_kept_of (IsFound before) (λ x. bytes_eq x.conv name) (λ x. not (bytes_eq x.node node)) (talks before) t (all_found before done) is in
+    (subst (λ n. talk_of before n ≡ Some t) (same_name t.conv name f.1) f.0, f.2)

@@ -11,7 +11,7 @@ use Rattle.agent_history.specs.declared.event.Event.TheVariants.{NoAnswer}
 use Rattle.agent_history.specs.declared.event.Event.TheVariants as events
 use Rattle.agent_history.specs.Conversations.{opened_talks}
 use Rattle.agent_history.specs.Histories.{History, deeds}
-use Rattle.world_history.specs.Acts.{Act, Talk, Domain, KeyLine, SpeakLine, Made, Told, Opened, Started, Got, Given, Answered, Unanswered, Asked, Closed, talk_of}
+use Rattle.world_history.specs.Acts.{Act, Talk, Domain, KeyLine, SpeakLine, Reloaded, Made, Restarted, Told, Opened, Started, Got, Given, Answered, Unanswered, Asked, Closed, agent_of, talk_of}
 use Rattle.world_history.specs.Driving.{drive, is_refused, new_node, reads, replies_to}
 use Rattle.world_history.specs.Talking.{Asks, gets, gives, request_text, requested, starts, word_of}
 use Rattle.world_history.specs.Turns.{Turn, after, asks, closes, hears, lets_open, misses, tells}
@@ -23,9 +23,9 @@ use Rattle.world_promises.specs.Telling.{idle, on_server}
 use Rattle.world_promises.proofs.BegunLaws.{IsNew, carried_of, made_of, searched_of}
 use Rattle.world_promises.specs.Agents.{AgentDoes, AgentsDo, AnswerDoes, DoesTo, IsCarried, RequestDoes, TurnDoes, asked_as, begun_in, conv_in, is_carried, is_turned_away, isnt_read, write_of}
 use Rattle.world_promises.specs.Conditions.{AreDone}
-use Rattle.world_promises.specs.Settings.{Place, place_of}
+use Rattle.world_promises.specs.Settings.{Place, next_place, place_of}
 use Rattle.world_promises.proofs.LeaveLemmas.{behind_takes, close_stays, events_leave, opened_new, opening_leaves, stays_so, write_stays}
-use Rattle.world_promises.proofs.PlaceLemmas.{not_made, unplaced}
+use Rattle.world_promises.proofs.PlaceLemmas.{not_made, not_restarted, unplaced}
 
 abbrev pub Word : Start → Type 0
 Word start = IsBlock 8 start.word
@@ -105,22 +105,22 @@ by_node false turn h number there here = here
 
 -- what is known of a place
 abbrev At : List Act → Place → Type 0
-At acts place = BegunWith Word (begun_in (history acts place.node) place.number)
+At acts place = BegunWith Word (begun_in (history acts place.agent) place.number)
 
-by_done : (before : List Act) (act : Act) → AgentDoes before act → (done : Option Done) → done_by before act ≡ done → ((d : Done) → done ≡ Some d → TurnHasWord d.turn) → (name : List ℕ) (place : Place) → place_of before name ≡ Some place → At before place → BegunWith Word (begun_in (history_by done place.node (history before place.node)) place.number)
+by_done : (before : List Act) (act : Act) → AgentDoes before act → (done : Option Done) → done_by before act ≡ done → ((d : Done) → done ≡ Some d → TurnHasWord d.turn) → (name : List ℕ) (place : Place) → place_of before name ≡ Some place → At before place → BegunWith Word (begun_in (history_by done place.agent (history before place.agent)) place.number)
 by_done before act agent None is has name place at so = so
 by_done before act agent (Some d) is has name place at so =
-    by_node (bytes_eq d.node place.node) d.turn (history before place.node) place.number
-    (λ here. done_word (bytes_eq (conv_in d.turn) name) place.number d.turn (history before place.node) (has d refl) (names_no_lines before place.node) (agent.turns d name place is at here) so)
+    by_node (bytes_eq d.agent place.agent) d.turn (history before place.agent) place.number
+    (λ here. done_word (bytes_eq (conv_in d.turn) name) place.number d.turn (history before place.agent) (has d refl) (names_no_lines before place.agent) (agent.turns d name place is at here) so)
     so
 
 -- a conversation's turn
 same_has : (one other : Done) → Some one ≡ Some other → TurnHasWord one.turn → TurnHasWord other.turn
 same_has one other is has = let same : one ≡ other = cc is in subst (λ d. TurnHasWord d.turn) same has
 
-turn_has : (o : Option Talk) (turn : ℕ → Turn) → ((fid : ℕ) → TurnHasWord (turn fid)) → (d : Done) → on_talk o turn ≡ Some d → TurnHasWord d.turn
-turn_has None turn has d is = absurd (cc is)
-turn_has (Some t) turn has d is = same_has (record { node = t.node; turn = turn t.fid }) d is (has t.fid)
+turn_has : (before : List Act) (o : Option Talk) (turn : ℕ → Turn) → ((fid : ℕ) → TurnHasWord (turn fid)) → (d : Done) → on_talk before o turn ≡ Some d → TurnHasWord d.turn
+turn_has before None turn has d is = absurd (cc is)
+turn_has before (Some t) turn has d is = same_has (record { agent = agent_of before t.node; turn = turn t.fid }) d is (has t.fid)
 
 -- the place was there before
 each_word : (before : List Act) (act : Act) → AreDone (act ∷ before) → AgentDoes before act → (name : List ℕ) (place : Place) → place_of before name ≡ Some place → At before place → At (act ∷ before) place
@@ -128,15 +128,17 @@ each_word before (Domain dom) done agent name place at so = so
 each_word before (KeyLine tuple) done agent name place at so = so
 each_word before (SpeakLine tuple) done agent name place at so = so
 each_word before (Asked session request words) done agent name place at so = so
-each_word before (Made node) done agent name place at so = subst (λ b. BegunWith Word (begun_in (if b then new_node else history before place.node) place.number)) (sym (not_made before done.1 node name place done.0.fits at)) so
-each_word before (Told node line) done agent name place at so = by_done before (Told node line) agent (Some (record { node = node; turn = tells node line })) refl (λ d is. same_has (record { node = node; turn = tells node line }) d is tt) name place at so
-each_word before (Opened node conv) done agent name place at so = by_done before (Opened node conv) agent (Some (record { node = node; turn = lets_open (fid_for before node) })) refl (λ d is. same_has (record { node = node; turn = lets_open (fid_for before node) }) d is tt) name place at so
-each_word before (Started conv word tuple) done agent name place at so = by_done before (Started conv word tuple) agent (on_talk (talk_of before conv) (λ fid. asks conv fid (starts word tuple))) refl (turn_has (talk_of before conv) (λ fid. asks conv fid (starts word tuple)) (λ fid. done.0.spelled)) name place at so
-each_word before (Got conv) done agent name place at so = by_done before (Got conv) agent (on_talk (talk_of before conv) (λ fid. asks conv fid gets)) refl (turn_has (talk_of before conv) (λ fid. asks conv fid gets) (λ fid. tt)) name place at so
-each_word before (Given conv bytes) done agent name place at so = by_done before (Given conv bytes) agent (on_talk (talk_of before conv) (λ fid. asks conv fid (gives bytes))) refl (turn_has (talk_of before conv) (λ fid. asks conv fid (gives bytes)) (λ fid. tt)) name place at so
-each_word before (Answered conv bytes call) done agent name place at so = by_done before (Answered conv bytes call) agent (on_talk (talk_of before conv) (λ fid. hears conv fid call bytes)) refl (turn_has (talk_of before conv) (λ fid. hears conv fid call bytes) (λ fid. tt)) name place at so
-each_word before (Unanswered conv call) done agent name place at so = by_done before (Unanswered conv call) agent (on_talk (talk_of before conv) (λ fid. misses conv fid call)) refl (turn_has (talk_of before conv) (λ fid. misses conv fid call) (λ fid. tt)) name place at so
-each_word before (Closed conv) done agent name place at so = by_done before (Closed conv) agent (on_talk (talk_of before conv) (λ fid. closes conv fid)) refl (turn_has (talk_of before conv) (λ fid. closes conv fid) (λ fid. tt)) name place at so
+each_word before (Made node) done agent name place at so = subst (λ b. BegunWith Word (begun_in (if b then new_node else history before place.agent) place.number)) (sym (not_made before done.1 node name place done.0.fits at)) so
+each_word before Reloaded done agent name place at so = so
+each_word before (Restarted node) done agent name place at so = subst (λ b. BegunWith Word (begun_in (if b then new_node else history before place.agent) place.number)) (sym (not_restarted before done.1 node name place at)) so
+each_word before (Told node line) done agent name place at so = by_done before (Told node line) agent (Some (record { agent = agent_of before node; turn = tells node line })) refl (λ d is. same_has (record { agent = agent_of before node; turn = tells node line }) d is tt) name place at so
+each_word before (Opened node conv) done agent name place at so = by_done before (Opened node conv) agent (Some (record { agent = agent_of before node; turn = lets_open (fid_for before node) })) refl (λ d is. same_has (record { agent = agent_of before node; turn = lets_open (fid_for before node) }) d is tt) name place at so
+each_word before (Started conv word tuple) done agent name place at so = by_done before (Started conv word tuple) agent (on_talk before (talk_of before conv) (λ fid. asks conv fid (starts word tuple))) refl (turn_has before (talk_of before conv) (λ fid. asks conv fid (starts word tuple)) (λ fid. done.0.spelled)) name place at so
+each_word before (Got conv) done agent name place at so = by_done before (Got conv) agent (on_talk before (talk_of before conv) (λ fid. asks conv fid gets)) refl (turn_has before (talk_of before conv) (λ fid. asks conv fid gets) (λ fid. tt)) name place at so
+each_word before (Given conv bytes) done agent name place at so = by_done before (Given conv bytes) agent (on_talk before (talk_of before conv) (λ fid. asks conv fid (gives bytes))) refl (turn_has before (talk_of before conv) (λ fid. asks conv fid (gives bytes)) (λ fid. tt)) name place at so
+each_word before (Answered conv bytes call) done agent name place at so = by_done before (Answered conv bytes call) agent (on_talk before (talk_of before conv) (λ fid. hears conv fid call bytes)) refl (turn_has before (talk_of before conv) (λ fid. hears conv fid call bytes) (λ fid. tt)) name place at so
+each_word before (Unanswered conv call) done agent name place at so = by_done before (Unanswered conv call) agent (on_talk before (talk_of before conv) (λ fid. misses conv fid call)) refl (turn_has before (talk_of before conv) (λ fid. misses conv fid call) (λ fid. tt)) name place at so
+each_word before (Closed conv) done agent name place at so = by_done before (Closed conv) agent (on_talk before (talk_of before conv) (λ fid. closes conv fid)) refl (turn_has before (talk_of before conv) (λ fid. closes conv fid) (λ fid. tt)) name place at so
 
 -- ---- all acts
 
@@ -149,7 +151,7 @@ by_old before act done agent name place is (Some p) old (inr same) each = each_w
 old_place : (before : List Act) (act : Act) → AreDone (act ∷ before) → (name : List ℕ) (place : Place) → place_of (act ∷ before) name ≡ Some place → (place_of before name ≡ None) ⊎ (place_of before name ≡ Some place)
 old_place before (Opened node conv) done name place is = elim (cases_Bool (bytes_eq conv name)) [
   | inl same ↦ inl (unplaced before node conv name done.0.fits same)
-  | inr other ↦ inr (sym (ap (λ b. if b then Some (record { node = node; number = opened_talks (deeds (history before node)) }) else place_of before name) other) ∙ is)
+  | inr other ↦ inr (sym (ap (λ b. if b then Some (next_place before node) else place_of before name) other) ∙ is)
 ]
 old_place before act done name place is = inr is
 

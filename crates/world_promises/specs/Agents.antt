@@ -178,15 +178,16 @@ abbrev pub DoesTo : Bool → ℕ → Turn → History → Type 0
 DoesTo true number turn h = TurnDoes number turn h
 DoesTo false number turn h = EventsLeave number turn h
 
--- the next conversation of each node has met nothing yet
+-- the next conversation of each agent has met nothing yet
 abbrev pub NextIsNew : List Act → Type 0
-NextIsNew before = (node : List ℕ) → begun_in (history before node) (opened_talks (deeds (history before node))) ≡ None
+NextIsNew before =
+    (agent : List ℕ) → begun_in (history before agent) (opened_talks (deeds (history before agent))) ≡ None
 
--- each act does so to the conversations of its node, before which the next one is new
+-- each act does so to the conversations of its agent, before which the next one is new
 pub record AgentDoes (before : List Act) (act : Act) : Type 0 where
   pub turns : (done : Done) (name : List ℕ) (place : Place) → done_by before act ≡ Some done
-      → place_of before name ≡ Some place → bytes_eq done.node place.node ≡ true
-      → DoesTo (bytes_eq (conv_in done.turn) name) place.number done.turn (history before place.node)
+      → place_of before name ≡ Some place → bytes_eq done.agent place.agent ≡ true
+      → DoesTo (bytes_eq (conv_in done.turn) name) place.number done.turn (history before place.agent)
   pub opens : NextIsNew before
 
 abbrev pub AgentsDo : List Act → Type 0

@@ -1,7 +1,6 @@
 -- The setting of the record of a network: how each of its conversations started and what met its needs, read off the
--- history of its agent, and what the lines of the authentication server's tables say. No line has them read again, so
--- there is one pair of tables.
-use Rattle.std.specs.Prelude.{ℕ, List, [], ◌∷◌, map, Option, Some, None, option_map, if◌then◌else◌}
+-- history of its agent, and what the lines of the authentication server's tables say, of each pair that it had.
+use Rattle.std.specs.Prelude.{ℕ, ◌+◌, List, [], ◌∷◌, ◌++◌, map, take, Option, Some, None, option_map, if◌then◌else◌}
 use Rattle.std.specs.Str.{bytes_eq}
 use Rattle.auth_tables.specs.Lines.{counted}
 use Rattle.auth_tables.specs.Keys.{keys_in}
@@ -10,8 +9,10 @@ use Rattle.talks.specs.Standings.{Begun, Standing}
 use Rattle.agent_history.specs.Conversations.{opened_talks, standing_of}
 use Rattle.agent_history.specs.Histories.{deeds}
 use Rattle.wire_histories.specs.Conversations.{met_in}
+use Rattle.wire_histories.specs.Histories.{reloads_in}
+use Rattle.wire_histories.specs.Histories as wire
 use Rattle.wire_histories.specs.Legal.{Setting, Spoken, Tables}
-use Rattle.world_history.specs.Acts.{Act, Opened, domain, key_lines, speak_lines}
+use Rattle.world_history.specs.Acts.{Act, Reloaded, Opened, agent_of, domain, key_lines, speak_lines}
 use Rattle.world_history.specs.Worlds.{history}
 
 -- ---- the authentication server
@@ -20,30 +21,45 @@ use Rattle.world_history.specs.Worlds.{history}
 abbrev pub merged : List SpeakLine → List SpeakLine
 merged lines = map (λ line. (line.0, names_in lines line.0)) lines
 
+-- the newest tables
 abbrev pub tables_of : List Act → Tables
 tables_of acts = record {
   keys = keys_in (counted (key_lines acts));
   speaks = merged (speaks_in (counted (speak_lines acts)));
 }
 
+-- those before them, the first of them first
+abbrev pub past_tables : List Act → List Tables
+past_tables [] = []
+past_tables (Reloaded ∷ before) = past_tables before ++ tables_of before ∷ []
+past_tables (act ∷ before) = past_tables before
+
 -- ---- conversations
 
--- the node of a conversation, and its number there
+-- the node of a conversation, the agent that this had when it was opened, and its number there
 pub record Place : Type 0 where
   pub node : List ℕ
+  pub agent : List ℕ
   pub number : ℕ
+
+-- of one that is opened now
+abbrev pub next_place : List Act → List ℕ → Place
+next_place before node = record {
+  node = node;
+  agent = agent_of before node;
+  number = opened_talks (deeds (history before (agent_of before node)));
+}
 
 -- of a conversation of a name, closed or not
 abbrev pub place_of : List Act → List ℕ → Option Place
 place_of [] conv = None
 place_of (Opened node name ∷ before) conv =
-    if bytes_eq name conv then Some (record { node = node; number = opened_talks (deeds (history before node)) })
-    else place_of before conv
+    if bytes_eq name conv then Some (next_place before node) else place_of before conv
 place_of (act ∷ before) conv = place_of before conv
 
 -- how it stands
 abbrev pub standing_at : List Act → Place → Standing
-standing_at acts place = standing_of (deeds (history acts place.node)) place.number
+standing_at acts place = standing_of (deeds (history acts place.agent)) place.number
 
 -- what it was started with, and what met its needs
 abbrev pub spoken_by : List ℕ → Begun → Spoken
@@ -57,5 +73,9 @@ abbrev pub setting : List Act → Setting
 setting acts = record {
   spoken = λ name. spoken_at acts (place_of acts name);
   dom = domain acts;
-  tables = tables_of acts ∷ [];
+  tables = past_tables acts ++ tables_of acts ∷ [];
 }
+
+-- what it was when no more than this was recorded: of its tables those that were in force till then
+abbrev pub setting_at : Setting → wire.History → Setting
+setting_at z past = record { spoken = z.spoken; dom = z.dom; tables = take (reloads_in past + 1) z.tables }

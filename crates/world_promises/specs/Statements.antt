@@ -1,4 +1,4 @@
--- What is promised of every script: of each front of its record, the newest step first, and of its setting, under
+-- What is promised of every script: of each front of its record, the newest step first, and of its setting then, under
 -- every reading of words as terms and every labelling under which that front is clean. So it is promised of a run
 -- that was cut short, and of what was recorded before a step that isn't clean.
 use Rattle.std.specs.Prelude.{◌≡◌, ℕ, ◌≤◌, List, ◌++◌, length, reverse}
@@ -11,7 +11,7 @@ use Rattle.clean_runs.specs.Statements.{IsBridged, IsSecret}
 use Rattle.clean_runs.specs.AgreementStatements.{ClientsAreAnswered, ClientsAreHosts, ClientsMatch, EachByATicket, OneByAMatch, OneByAText, OneByATicket, OneUnderAGrant, ServersAgree, ServersNameTheUser}
 use Rattle.world_history.specs.Scripts.{play, world}
 use Rattle.world_promises.specs.Worlds.{most_script}
-use Rattle.world_promises.specs.Settings.{setting}
+use Rattle.world_promises.specs.Settings.{setting, setting_at}
 
 -- these steps, the newest first, are the front of a script's record behind which these later ones come
 abbrev pub IsFront : History → History → List ℕ → Type 0
@@ -20,13 +20,14 @@ IsFront later past script = later ++ past ≡ reverse (world script)
 -- each front of the record of a script that is no longer than one may be is one that a network can have
 abbrev pub FrontsAreLegal : List ℕ → Type 0
 FrontsAreLegal script = (later past : History) → length script ≤ most_script → IsFront later past script
-    → IsLegal past (setting (play script).acts)
+    → IsLegal past (setting_at (setting (play script).acts) past)
 
 -- this holds of each front of such a record that is clean
 abbrev pub OfCleanScript : (History → Setting → Atoms → Labelling → Type 0) → List ℕ → Type 0
 OfCleanScript P script =
     (later past : History) (atoms : Atoms) (l : Labelling) → length script ≤ most_script → IsFront later past script
-    → IsClean past (setting (play script).acts) atoms l → P past (setting (play script).acts) atoms l
+    → IsClean past (setting_at (setting (play script).acts) past) atoms l
+    → P past (setting_at (setting (play script).acts) past) atoms l
 
 abbrev pub OfEveryCleanScript : (History → Setting → Atoms → Labelling → Type 0) → Type 0
 OfEveryCleanScript P = (script : List ℕ) → OfCleanScript P script

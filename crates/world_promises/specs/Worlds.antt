@@ -3,7 +3,7 @@ use Rattle.std.specs.Prelude.{◌≡◌, ◌≤◌, ℕ, List, length, reverse, 
 use Rattle.agent_history.specs.Conversations.{asker, conv_of}
 use Rattle.agent_history.specs.Histories.{deeds}
 use Rattle.wire_histories.specs.Legal.{IsLegal}
-use Rattle.world_history.specs.Acts.{Act, Talk, is_node, talk_of}
+use Rattle.world_history.specs.Acts.{Act, Talk, agent_of, is_node, talk_of}
 use Rattle.world_history.specs.Scripts.{play, world}
 use Rattle.world_history.specs.Worlds.{history, outstanding}
 use Rattle.world_promises.specs.Agents.{AgentsDo}
@@ -13,18 +13,19 @@ use Rattle.driven_agents.specs.Idle.{IsIdle, Runs}
 
 -- no agent stopped, which each does with the event of number 2^50
 abbrev pub AllRun : List Act → Type 0
-AllRun acts = (node : List ℕ) → Runs (history acts node)
+AllRun acts = (agent : List ℕ) → Runs (history acts agent)
 
 -- the fid of a conversation has it open
 pub record IsSeated (acts : List Act) (conv : List ℕ) (t : Talk) (place : Place) : Type 0 where
   pub node : t.node ≡ place.node
-  pub seat : conv_of (deeds (history acts t.node)) 0 t.fid ≡ Some place.number
+  pub agent : agent_of acts t.node ≡ place.agent
+  pub seat : conv_of (deeds (history acts place.agent)) 0 t.fid ≡ Some place.number
   -- its question that is outstanding is one of the agent's
   pub asks : (call : ℕ) → outstanding acts conv ≡ Some call
-      → asker (deeds (history acts t.node)) call ≡ Some place.number
+      → asker (deeds (history acts place.agent)) call ≡ Some place.number
 
 pub record AreSeated (acts : List Act) : Type 0 where
-  pub idle : (node : List ℕ) → is_node acts node ≡ true → IsIdle (history acts node)
+  pub idle : (node : List ℕ) → is_node acts node ≡ true → IsIdle (history acts (agent_of acts node))
   pub seats : (conv : List ℕ) (t : Talk) (place : Place) → talk_of acts conv ≡ Some t → place_of acts conv ≡ Some place
       → IsSeated acts conv t place
 

@@ -6,7 +6,7 @@ use Rattle.world_scripts.specs.Lines as l
 use Rattle.world_scripts.specs.Lines.{ScriptLine}
 use Rattle.world_scripts.specs.Pieces.{Piece}
 use Rattle.auth_program.specs.declared.cause.ScriptCause.TheVariants.{BadLine, UnknownNode, UnknownConv, NoSuchMessage}
-use Rattle.world_history.specs.Acts.{Act, Domain, KeyLine, SpeakLine, Made, Told, Opened, Started, Got, Given, Answered, Unanswered, Asked, Closed, has_name, is_node, nodes, opened_names, talk_of, was_asked}
+use Rattle.world_history.specs.Acts.{Act, Domain, KeyLine, SpeakLine, Reloaded, Made, Restarted, Told, Opened, Started, Got, Given, Answered, Unanswered, Asked, Closed, agent_of, has_name, is_node, nodes, opened_names, talk_of, was_asked}
 use Rattle.world_history.specs.Driving.{refuses_open}
 use Rattle.world_history.specs.Scripts.{act_of, call_now, fitting, is_unfit, judged, misnamed, most_answer, most_nodes, most_request, named, spelled}
 use Rattle.world_history.specs.Talking.{gives, request_text}
@@ -27,6 +27,17 @@ unfit acts act is = rw is refl
 pub node_unknown : (acts : List Act) (node line : List ℕ) → is_node acts node ≡ false → judged acts (Some (l.Ctl node line)) ≡ Err UnknownNode
 node_unknown acts node line none = rw none refl
 
+pub restarted_unknown : (acts : List Act) (node : List ℕ) → is_node acts node ≡ false → judged acts (Some (l.Restart node)) ≡ Err UnknownNode
+restarted_unknown acts node none = rw none refl
+
+pub restarted_judged : (acts : List Act) (node : List ℕ) → is_node acts node ≡ true → judged acts (Some (l.Restart node)) ≡ Ok (Restarted node)
+unfolding is_unfit
+restarted_judged acts node is = rw is refl
+
+pub reloaded_judged : (acts : List Act) → judged acts (Some l.Reload) ≡ Ok Reloaded
+unfolding is_unfit
+reloaded_judged acts = refl
+
 pub told_judged : (acts : List Act) (node line : List ℕ) → is_node acts node ≡ true → judged acts (Some (l.Ctl node line)) ≡ Ok (Told node line)
 unfolding is_unfit
 told_judged acts node line is = rw is refl
@@ -41,11 +52,11 @@ pub name_taken : (acts : List Act) (node conv : List ℕ) → is_node acts node 
 unfolding is_unfit
 name_taken acts node conv is taken = open_judged acts node conv is ∙ rw taken refl
 
-pub open_refused : (acts : List Act) (node conv : List ℕ) → is_node acts node ≡ true → has_name conv (opened_names acts) ≡ false → refuses_open (fid_for acts node) (history acts node) ≡ true → judged acts (Some (l.Open node conv)) ≡ Err BadLine
+pub open_refused : (acts : List Act) (node conv : List ℕ) → is_node acts node ≡ true → has_name conv (opened_names acts) ≡ false → refuses_open (fid_for acts node) (history acts (agent_of acts node)) ≡ true → judged acts (Some (l.Open node conv)) ≡ Err BadLine
 unfolding is_unfit
 open_refused acts node conv is free refuses = open_judged acts node conv is ∙ rw (free, refuses) refl
 
-pub open_done : (acts : List Act) (node conv : List ℕ) → is_node acts node ≡ true → has_name conv (opened_names acts) ≡ false → refuses_open (fid_for acts node) (history acts node) ≡ false → judged acts (Some (l.Open node conv)) ≡ Ok (Opened node conv)
+pub open_done : (acts : List Act) (node conv : List ℕ) → is_node acts node ≡ true → has_name conv (opened_names acts) ≡ false → refuses_open (fid_for acts node) (history acts (agent_of acts node)) ≡ false → judged acts (Some (l.Open node conv)) ≡ Ok (Opened node conv)
 unfolding is_unfit
 open_done acts node conv is free lets = open_judged acts node conv is ∙ rw (free, lets) refl
 

@@ -1,5 +1,5 @@
 -- Lists of conversations, by name and by node.
-use Rattle.std.proofs.Common.{◌≡◌, ℕ, List, [], ◌∷◌, ◌++◌, map, filter, Bool, true, false, cond, not, ◌||◌, Option, Some, None, refl, sym, ap, subst, ◌∙◌, inl, inr}
+use Rattle.std.proofs.Common.{◌≡◌, ℕ, List, [], ◌∷◌, ◌++◌, map, filter, Bool, true, false, cond, not, ◌||◌, Option, Some, None, ◌⊎◌, refl, sym, ap, subst, ◌∙◌, inl, inr}
 use Rattle.std.specs.Prelude.{find}
 use Rattle.std.specs.List.{list_any}
 use Rattle.std.specs.Str.{bytes_eq}
@@ -129,3 +129,88 @@ left_on conv node other (t ∷ ts) alone = elim (cases_Bool (bytes_eq t.conv con
   moved : (b : Bool) → bytes_eq t.conv conv ≡ false → (t.conv, t.fid) ∷ cond b (filter (λ (o : List ℕ × ℕ). not (bytes_eq o.0 conv)) (conv_on other ts)) (conv_on other ts) ≡ cond b (filter (λ (o : List ℕ × ℕ). not (bytes_eq o.0 conv)) ((t.conv, t.fid) ∷ conv_on other ts)) ((t.conv, t.fid) ∷ conv_on other ts)
   moved true its = rw its refl
   moved false its = refl
+
+-- ---- a node that is restarted
+
+abbrev pub off : List ℕ → List Talk → List Talk
+off node ts = filter (λ t. not (bytes_eq t.node node)) ts
+
+off_kept : (node : List ℕ) (t : Talk) (ts : List Talk) → bytes_eq t.node node ≡ false → off node (t ∷ ts) ≡ t ∷ off node ts
+off_kept node t ts other = cond-true (not (bytes_eq t.node node)) (t ∷ off node ts) (off node ts) (ap not other)
+
+off_gone : (node : List ℕ) (t : Talk) (ts : List Talk) → bytes_eq t.node node ≡ true → off node (t ∷ ts) ≡ off node ts
+off_gone node t ts is = cond-false (not (bytes_eq t.node node)) (t ∷ off node ts) (off node ts) (ap not is)
+
+pub others_off : (conv node : List ℕ) (ts : List Talk) → AreOthers conv ts → AreOthers conv (off node ts)
+others_off conv node [] others = tt
+others_off conv node (t ∷ ts) others = elim (cases_Bool (bytes_eq t.node node)) [
+  | inl is ↦ subst (λ (l : List Talk). AreOthers conv l) (sym (off_gone node t ts is)) (others_off conv node ts others.1)
+  | inr is ↦ subst (λ (l : List Talk). AreOthers conv l) (sym (off_kept node t ts is)) (others.0, others_off conv node ts others.1)
+]
+
+-- those of a name that are all on it go
+pub none_off : (conv node : List ℕ) (ts : List Talk) → AreOn conv node ts → AreOthers conv (off node ts)
+none_off conv node [] alone = tt
+none_off conv node (t ∷ ts) alone = elim (cases_Bool (bytes_eq t.node node)) [
+  | inl is ↦ subst (λ (l : List Talk). AreOthers conv l) (sym (off_gone node t ts is)) (none_off conv node ts alone.1)
+  | inr is ↦ subst (λ (l : List Talk). AreOthers conv l) (sym (off_kept node t ts is)) (elsewhere (cases_Bool (bytes_eq t.conv conv)) is, none_off conv node ts alone.1)
+] where
+  elsewhere : (bytes_eq t.conv conv ≡ true) ⊎ (bytes_eq t.conv conv ≡ false) → bytes_eq t.node node ≡ false → bytes_eq t.conv conv ≡ false
+  elsewhere (inl its) is = absurd (false≢true (sym is ∙ names_turn node t.node (alone.0 its)))
+  elsewhere (inr its) is = its
+
+pub alone_off : (conv on node : List ℕ) (ts : List Talk) → AreOn conv on ts → AreOn conv on (off node ts)
+alone_off conv on node [] alone = tt
+alone_off conv on node (t ∷ ts) alone = elim (cases_Bool (bytes_eq t.node node)) [
+  | inl is ↦ subst (λ (l : List Talk). AreOn conv on l) (sym (off_gone node t ts is)) (alone_off conv on node ts alone.1)
+  | inr is ↦ subst (λ (l : List Talk). AreOn conv on l) (sym (off_kept node t ts is)) (alone.0, alone_off conv on node ts alone.1)
+]
+
+-- one that is on another is found
+pub found_off : (conv node : List ℕ) (ts : List Talk) (u : Talk) → bytes_eq u.node node ≡ false → find (λ t. bytes_eq t.conv conv) ts ≡ Some u → find (λ t. bytes_eq t.conv conv) (off node ts) ≡ Some u
+found_off conv node [] u other found = found
+found_off conv node (t ∷ ts) u other found = elim (cases_Bool (bytes_eq t.conv conv)) [
+  | inl its ↦
+      let s : Some t ≡ Some u = sym (cond-true (bytes_eq t.conv conv) (Some t) (find (λ x. bytes_eq x.conv conv) ts) its) ∙ found in
+      let same : t ≡ u = cc in
+      ap (find (λ x. bytes_eq x.conv conv)) (off_kept node t ts (ap (λ (x : Talk). bytes_eq x.node node) same ∙ other))
+      ∙ (cond-true (bytes_eq t.conv conv) (Some t) (find (λ x. bytes_eq x.conv conv) (off node ts)) its ∙ s)
+  | inr its ↦
+      let later = found_off conv node ts u other (sym (cond-false (bytes_eq t.conv conv) (Some t) (find (λ x. bytes_eq x.conv conv) ts) its) ∙ found) in
+      elim (cases_Bool (bytes_eq t.node node)) [
+        | inl is ↦ ap (find (λ x. bytes_eq x.conv conv)) (off_gone node t ts is) ∙ later
+        | inr is ↦ ap (find (λ x. bytes_eq x.conv conv)) (off_kept node t ts is) ∙ (cond-false (bytes_eq t.conv conv) (Some t) (find (λ x. bytes_eq x.conv conv) (off node ts)) its ∙ later)
+      ]
+]
+
+-- what a node has open then
+on_kept : (name : List ℕ) (t : Talk) (ts : List Talk) → bytes_eq t.node name ≡ true → conv_on name (t ∷ ts) ≡ (t.conv, t.fid) ∷ conv_on name ts
+on_kept name t ts is = rw is refl
+
+on_other : (name : List ℕ) (t : Talk) (ts : List Talk) → bytes_eq t.node name ≡ false → conv_on name (t ∷ ts) ≡ conv_on name ts
+on_other name t ts is = rw is refl
+
+pub off_on : (node name : List ℕ) (ts : List Talk) → conv_on name (off node ts) ≡ cond (bytes_eq node name) [] (conv_on name ts)
+off_on node name [] = elim (cases_Bool (bytes_eq node name)) [
+  | inl is ↦ rw is refl
+  | inr is ↦ rw is refl
+]
+off_on node name (t ∷ ts) = elim (cases_Bool (bytes_eq t.node node)) [
+  | inl its ↦ ap (conv_on name) (off_gone node t ts its) ∙ (off_on node name ts ∙ gone its (cases_Bool (bytes_eq node name)))
+  | inr its ↦ ap (conv_on name) (off_kept node t ts its) ∙ kept its (cases_Bool (bytes_eq t.node name))
+] where
+  gone : bytes_eq t.node node ≡ true → (bytes_eq node name ≡ true) ⊎ (bytes_eq node name ≡ false) → cond (bytes_eq node name) [] (conv_on name ts) ≡ cond (bytes_eq node name) [] (conv_on name (t ∷ ts))
+  gone its (inl is) = cond-true _ _ _ is ∙ sym (cond-true _ _ _ is)
+  gone its (inr is) = cond-false _ _ _ is ∙ (sym (on_other name t ts (ap (λ (x : List ℕ). bytes_eq x name) ((bytes_decides t.node node).0 its) ∙ is)) ∙ sym (cond-false _ _ _ is))
+
+  apart : bytes_eq t.node node ≡ false → bytes_eq t.node name ≡ true → bytes_eq node name ≡ false
+  apart its is = ap (λ (x : List ℕ). bytes_eq node x) (sym ((bytes_decides t.node name).0 is)) ∙ turned (bytes_eq node t.node) refl where
+    turned : (b : Bool) → bytes_eq node t.node ≡ b → bytes_eq node t.node ≡ false
+    turned true e = absurd (false≢true (sym its ∙ names_turn node t.node e))
+    turned false e = e
+
+  kept : bytes_eq t.node node ≡ false → (bytes_eq t.node name ≡ true) ⊎ (bytes_eq t.node name ≡ false) → conv_on name (t ∷ off node ts) ≡ cond (bytes_eq node name) [] (conv_on name (t ∷ ts))
+  kept its (inl is) = on_kept name t (off node ts) is
+      ∙ (ap (λ (os : List (List ℕ × ℕ)). (t.conv, t.fid) ∷ os) (off_on node name ts ∙ cond-false _ _ _ (apart its is))
+      ∙ (sym (on_kept name t ts is) ∙ sym (cond-false _ _ _ (apart its is))))
+  kept its (inr is) = on_other name t (off node ts) is ∙ (off_on node name ts ∙ ap (cond (bytes_eq node name) []) (sym (on_other name t ts is)))

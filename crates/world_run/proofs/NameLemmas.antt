@@ -6,9 +6,7 @@ use Rattle.std.specs.Map.{lookup}
 use Rattle.std.specs.Str.{bytes_eq}
 use Rattle.std.specs.Cmp.Lexicographic.{bytes_decides}
 use Rattle.std.proofs.lemmas.Bool.{cases_Bool, cond-true, cond-false, false≢true, le-leb, lt-leb}
-use Rattle.auth_server.specs.Answers.{Knowledge, is_over}
-use Rattle.auth_server.specs.Answers as server
-use Rattle.auth_server.specs.Requests as req
+use Rattle.auth_server.specs.Answers.{Knowledge, Posed, answer_in, is_over_in, posed}
 use Rattle.auth_server.specs.Requests.{asked_so, is_served, kind_of}
 use Rattle.auth_server.specs.Standing.{knowledge}
 use Rattle.agent_history.specs.Histories.{History}
@@ -18,33 +16,37 @@ use Rattle.wire_histories.specs.declared.step.Step.TheVariants as s
 use Rattle.world_scripts.specs.Reading.{line_of}
 use Rattle.world_scripts.specs.Scripts.{Numbered}
 use Rattle.world_history.specs.Acts as acts
-use Rattle.world_history.specs.Acts.{Act, Domain, KeyLine, SpeakLine, Made, Opened, Asked, Closed, has_name, is_node, key_lines, nodes, opened_names, speak_lines, talk_of, was_asked}
+use Rattle.world_history.specs.Acts.{Act, Domain, KeyLine, SpeakLine, Reloaded, Made, Restarted, Opened, Asked, Closed, agent_of, has_name, is_node, key_lines, nodes, opened_names, speak_lines, talk_of, was_asked}
 use Rattle.world_scripts.specs.Lines as l
 use Rattle.world_scripts.specs.Pieces.{Piece}
 use Rattle.auth_program.specs.declared.cause.ScriptCause.TheVariants.{NoSuchMessage}
 use Rattle.world_history.specs.Scripts.{fitting, is_unfit, judged, spelled}
 use Rattle.world_history.specs.Turns.{Turn, closes, lets_open, turn_steps}
-use Rattle.world_history.specs.Worlds.{Done, done_to, fid_for, history, history_by, known, messages, messages_in, on_talk, requests, session_steps, steps, steps_by, steps_to, was_misasked}
-use Rattle.world_run.specs.PlayStanding.{IsFree, IsOpen, conv_on}
-use Rattle.world_run.proofs.ListLemmas.{fids_named, left_on, one_more}
+use Rattle.world_history.specs.Worlds.{Done, done_to, fid_for, history, history_by, known, messages, messages_in, on_talk, put_to, requests, session_steps, steps, steps_by, steps_to, was_misasked}
+use Rattle.world_run.specs.PlayStanding.{IsClosed, IsFree, IsOpen, conv_on}
+use Rattle.world_run.proofs.ListLemmas.{alone_off, fids_named, found_off, left_on, none_off, off_on, one_more, others_off}
 use Rattle.world_run.proofs.TalkLemmas.{SameNames, now_open, free_beside, closed_beside, open_beside, now_closed, free_left, closed_left, open_left, done_on_open}
 use Rattle.world_run.proofs.LineLemmas.{fits}
 use Rattle.world_run.specs.declared.clients.Served.{Served}
 use Rattle.world_run.specs.declared.clients.Served.TheVariants as served
 use Rattle.world_run.specs.declared.live.Client.{Client}
 use Rattle.world_run.specs.declared.named_talks.Talk.{Talk as Kept}
-use Rattle.world_run.specs.Names.{changed_under, put_under}
+use Rattle.world_run.specs.Names.{changed_under, left_behind, put_under}
 use Rattle.world_run.specs.Sessions.{ClientsAre, ServesSo}
 use Rattle.world_run.specs.Sessions as sessions
 use Rattle.world_run.specs.declared.node.Node.{Node}
 use Rattle.world_run.specs.declared.nodes.Nodes.{Nodes}
 use Rattle.world_run.specs.Nodes.{NodeIs, NodesAre, TurnsTo, View, done_on, next_fid, node_at}
 use Rattle.world_run.specs.Nodes as n
-use Rattle.world_history.proofs.TellLemmas.{tells_on}
+use Rattle.world_history.specs.Driving.{new_node}
+use Rattle.world_history.specs.Servers.{IsToldAgain}
+use Rattle.world_history.specs.declared.tables.Tables.{Tables}
+use Rattle.world_history.proofs.AgentLemmas.{agents_apart}
+use Rattle.world_history.proofs.TellLemmas.{tells_again, tells_on}
 use Rattle.world_run.specs.declared.run.Run.{Run}
 use Rattle.world_run.specs.Serving.{served_steps}
 use Rattle.world_run.specs.Standing.{IsDone, Stands, TalkIs, TalksAre, nodes_by, sessions_by}
-use Rattle.world_run.proofs.RunLemmas.{client_moves, node_moves, talks_stay, with_both}
+use Rattle.world_run.proofs.RunLemmas.{client_moves, node_moves, talks_stay, turned_by, with_both}
 
 or_true : (b c : Bool) → c ≡ true → b || c ≡ true
 or_true true c is = refl
@@ -79,6 +81,7 @@ with_node r nodes = record {
   keys = r.keys;
   speaks = r.speaks;
   asked = r.asked;
+  used = r.used;
 }
 
 same_made : (before : List Act) (node : List ℕ) → SameNames before (Made node ∷ before)
@@ -96,15 +99,16 @@ made_done line left before node old table is h t = record {
   fits = is;
   made = refl;
   stands = record {
-    nodes = λ name. node_moves _ (is_node (Made node ∷ before) name) _ (history (Made node ∷ before) name) _ (conv_on name (acts.talks before)) (node_at table name) (or_cond (bytes_eq node name) (is_node before name)) refl refl (t name);
+    nodes = λ name. node_moves _ (is_node (Made node ∷ before) name) _ (history (Made node ∷ before) (agent_of before name)) _ (conv_on name (acts.talks before)) (node_at table name) (or_cond (bytes_eq node name) (is_node before name)) (ap (λ (b : Bool). cond b new_node (history before (agent_of before name))) (agents_apart before node name)) refl (t name);
     talks = talks_stay before (Made node ∷ before) old.talks (same_made before node) (λ _. refl) h.talks;
     clients = h.clients;
-    tables = tells_on line left before (Made node) old.tables h.tables is;
+    tables = tells_on line left before (Made node) old.tables h.tables refl is;
     recorded = h.recorded;
     made = ap (λ (k : ℕ). k + 1) h.made ∙ omega arith;
     keys = h.keys;
     speaks = h.speaks;
     asked = h.asked;
+    used = h.used;
   };
 }
 
@@ -122,6 +126,7 @@ with_counts r keys speaks = record {
   keys = keys;
   speaks = speaks;
   asked = r.asked;
+  used = r.used;
 }
 
 same_domain : (before : List Act) (dom : List ℕ) → SameNames before (Domain dom ∷ before)
@@ -143,12 +148,13 @@ domain_done line left before dom old is h = record {
     nodes = h.nodes;
     talks = talks_stay before (Domain dom ∷ before) old.talks (same_domain before dom) (λ _. refl) h.talks;
     clients = h.clients;
-    tables = tells_on line left before (Domain dom) old.tables h.tables is;
+    tables = tells_on line left before (Domain dom) old.tables h.tables refl is;
     recorded = h.recorded;
     made = h.made;
     keys = h.keys;
     speaks = h.speaks;
     asked = h.asked;
+    used = h.used;
   };
 }
 
@@ -165,12 +171,13 @@ key_done line left before tuple old more is h counts = record {
     nodes = h.nodes;
     talks = talks_stay before (KeyLine tuple ∷ before) old.talks (same_key before tuple) (λ _. refl) h.talks;
     clients = h.clients;
-    tables = tells_on line left before (KeyLine tuple) old.tables h.tables is;
+    tables = tells_on line left before (KeyLine tuple) old.tables h.tables refl is;
     recorded = h.recorded;
     made = h.made;
     keys = counts ∙ length_behind (key_lines before) tuple old.keys h.keys;
     speaks = h.speaks;
     asked = h.asked;
+    used = h.used;
   };
 }
 
@@ -184,12 +191,13 @@ speak_done line left before tuple old more is h counts = record {
     nodes = h.nodes;
     talks = talks_stay before (SpeakLine tuple ∷ before) old.talks (same_speak before tuple) (λ _. refl) h.talks;
     clients = h.clients;
-    tables = tells_on line left before (SpeakLine tuple) old.tables h.tables is;
+    tables = tells_on line left before (SpeakLine tuple) old.tables h.tables refl is;
     recorded = h.recorded;
     made = h.made;
     keys = h.keys;
     speaks = counts ∙ length_behind (speak_lines before) tuple old.speaks h.speaks;
     asked = h.asked;
+    used = h.used;
   };
 }
 
@@ -229,8 +237,8 @@ fid_known before node = ap acts.least_fid (fids_named node (acts.talks before))
 
 nodes_opened : (before : List Act) (conv node : List ℕ) (fid : ℕ) (table : Nodes) → fid ≡ fid_for before node → NodesAre (n.opened node conv fid (nodes_by before)) table → NodesAre (nodes_by (Opened node conv ∷ before)) table
 nodes_opened before conv node fid table is h = λ name.
-    node_moves (is_node before name) (is_node before name) _ (history (Opened node conv ∷ before) name) _ (conv_on name (acts.talks (Opened node conv ∷ before))) (node_at table name) refl
-    (ap (λ (f : ℕ). history_by (done_to node (lets_open f)) name (history before name)) (sym is))
+    node_moves (is_node before name) (is_node before name) _ (history (Opened node conv ∷ before) (agent_of before name)) _ (conv_on name (acts.talks (Opened node conv ∷ before))) (node_at table name) refl
+    (turned_by before node (lets_open (fid_for before node)) name (history before (agent_of before name)) ∙ ap (λ (f : ℕ). n.done_by_name node (lets_open f) name (history before (agent_of before name))) (sym is))
     (one_more name (acts.talks before) (record { conv = conv; node = node; fid = fid_for before node })
     ∙ ap (λ (f : ℕ). cond (bytes_eq node name) (conv_on name (acts.talks before) ++ (conv, f) ∷ []) (conv_on name (acts.talks before))) (sym is))
     (h name)
@@ -253,12 +261,13 @@ opened_done line left before node conv old fid table talks is h made free least 
     nodes = nodes_opened before conv node (next_fid (nodes_by before) node) table (fid_known before node) t;
     talks = talks_opened before conv node old.talks talks free made (subst (λ (f : ℕ). (name : List ℕ) → lookup (bytes_eq name) talks ≡ put_under conv (Some (record { node = node; fid = f; call = None })) old.talks name) (least ∙ fid_known before node) put) h.talks;
     clients = h.clients;
-    tables = tells_on line left before (Opened node conv) old.tables h.tables is;
+    tables = tells_on line left before (Opened node conv) old.tables h.tables refl is;
     recorded = h.recorded;
     made = h.made;
     keys = h.keys;
     speaks = h.speaks;
     asked = h.asked;
+    used = h.used;
   };
 }
 
@@ -294,32 +303,33 @@ talks_closed before conv node fid call table after was changed h = λ name. elim
 nodes_closed : (before : List Act) (conv node : List ℕ) (fid : ℕ) (call : Option ℕ) (table : Nodes) → IsOpen before conv node fid call
     → NodesAre (n.closed node conv (done_on node (closes conv fid) (nodes_by before))) table → NodesAre (nodes_by (Closed conv ∷ before)) table
 nodes_closed before conv node fid call table was h = λ name.
-    node_moves (is_node before name) (is_node before name) _ (history (Closed conv ∷ before) name) _ (conv_on name (acts.talks (Closed conv ∷ before))) (node_at table name) refl
-    (ap (λ (d : Option Done). history_by d name (history before name)) (done_on_open before conv node fid call (λ f. closes conv f) was))
+    node_moves (is_node before name) (is_node before name) _ (history (Closed conv ∷ before) (agent_of before name)) _ (conv_on name (acts.talks (Closed conv ∷ before))) (node_at table name) refl
+    (ap (λ (d : Option Done). history_by d (agent_of before name) (history before (agent_of before name))) (done_on_open before conv node fid call (λ f. closes conv f) was) ∙ turned_by before node (closes conv fid) name (history before (agent_of before name)))
     (left_on conv node name (acts.talks before) was.alone)
     (h name)
 
 pub closed_done : (line : Numbered) (left : List Numbered) (before : List Act) (conv node : List ℕ) (fid : ℕ) (call : Option ℕ) (old : Run) (turned : Turned) (table : Nodes) (talks : List (List ℕ × Option Kept))
     → judged before (line_of line.text) ≡ Ok (Closed conv) → IsOpen before conv node fid call → Stands (line ∷ left) before old
-    → turned.steps.items ≡ turn_steps (length (messages_in old.recorded)) (closes conv fid) (history before node)
+    → turned.steps.items ≡ turn_steps (length (messages_in old.recorded)) (closes conv fid) (history before (agent_of before node))
     → NodesAre (n.closed node conv (done_on node (closes conv fid) (nodes_by before))) table
     → ((name : List ℕ) → lookup (bytes_eq name) talks ≡ changed_under conv (λ _. None) old.talks name)
     → IsDone left before (line_of line.text) turned.steps.items (with_both old table talks)
 closed_done line left before conv node fid call old turned table talks is was h its t changed = record {
   act = Closed conv;
   fits = is;
-  made = its ∙ (ap (λ (recorded : List Step). turn_steps (length (messages_in recorded)) (closes conv fid) (history before node)) h.recorded
+  made = its ∙ (ap (λ (recorded : List Step). turn_steps (length (messages_in recorded)) (closes conv fid) (history before (agent_of before node))) h.recorded
       ∙ sym (ap (steps_to (length (messages before)) before) (done_on_open before conv node fid call (λ f. closes conv f) was)));
   stands = record {
     nodes = nodes_closed before conv node fid call table was t;
     talks = talks_closed before conv node fid call old.talks talks was changed h.talks;
     clients = h.clients;
-    tables = tells_on line left before (Closed conv) old.tables h.tables is;
+    tables = tells_on line left before (Closed conv) old.tables h.tables refl is;
     recorded = h.recorded;
     made = h.made;
     keys = h.keys;
     speaks = h.speaks;
     asked = h.asked;
+    used = h.used;
   };
 }
 
@@ -337,6 +347,7 @@ with_clients r clients = record {
   keys = r.keys;
   speaks = r.speaks;
   asked = true;
+  used = true;
 }
 
 same_asked : (before : List Act) (session request : List ℕ) (words : List (List ℕ)) → SameNames before (Asked session request words ∷ before)
@@ -344,8 +355,8 @@ same_asked before session request words = record { names = refl; talks = refl; n
 
 pub asked_done : (line : Numbered) (left : List Numbered) (before : List Act) (session request : List ℕ) (words : List (List ℕ)) (old : Run) (made : List Step) (clients : List (List ℕ × Client))
     → judged before (line_of line.text) ≡ Ok (Asked session request words) → Stands (line ∷ left) before old
-    → made ≡ session_steps (known before) (length (messages before)) session (requests before session) (asked_so request words)
-    → ClientsAre (knowledge old.tables.core) (sessions_by (Asked session request words ∷ before)) clients
+    → made ≡ session_steps (length (messages before)) session (requests before session) (put_to before request words)
+    → ClientsAre (sessions_by (Asked session request words ∷ before)) clients
     → IsDone left before (line_of line.text) made (with_clients old clients)
 asked_done line left before session request words old made clients is h its t = record {
   act = Asked session request words;
@@ -355,12 +366,13 @@ asked_done line left before session request words old made clients is h its t = 
     nodes = h.nodes;
     talks = talks_stay before (Asked session request words ∷ before) old.talks (same_asked before session request words) (λ _. refl) h.talks;
     clients = t;
-    tables = tells_on line left before (Asked session request words) old.tables h.tables is;
+    tables = tells_on line left before (Asked session request words) old.tables h.tables refl is;
     recorded = h.recorded;
     made = h.made;
     keys = h.keys;
     speaks = h.speaks;
     asked = refl;
+    used = refl;
   };
 }
 
@@ -369,74 +381,91 @@ same_both true x = refl
 same_both false x = refl
 
 -- one that is answered, and one of a kind that isn't served
-pub clients_answered : (before : List Act) (session request : List ℕ) (words : List (List ℕ)) (k : Knowledge) (clients : List (List ℕ × Client)) → is_served (kind_of request) ≡ true
-    → ClientsAre k (sessions.answered session (asked_so request words) (sessions_by before)) clients → ClientsAre k (sessions_by (Asked session request words ∷ before)) clients
-clients_answered before session request words k clients served h = λ name.
-    client_moves k _ (requests (Asked session request words ∷ before) name) _ (was_misasked (Asked session request words ∷ before) name) (lookup (bytes_eq name) clients)
-    (ap (λ (b : Bool). cond (bytes_eq session name) (cond b (asked_so request words ∷ requests before name) (requests before name)) (requests before name)) served)
+pub clients_answered : (before : List Act) (session request : List ℕ) (words : List (List ℕ)) (clients : List (List ℕ × Client)) → is_served (kind_of request) ≡ true
+    → ClientsAre (sessions.answered session (put_to before request words) (sessions_by before)) clients → ClientsAre (sessions_by (Asked session request words ∷ before)) clients
+clients_answered before session request words clients served h = λ name.
+    client_moves _ (requests (Asked session request words ∷ before) name) _ (was_misasked (Asked session request words ∷ before) name) (lookup (bytes_eq name) clients)
+    (ap (λ (b : Bool). cond (bytes_eq session name) (cond b (put_to before request words ∷ requests before name) (requests before name)) (requests before name)) served)
     (ap (λ (b : Bool). cond (bytes_eq session name) (cond b (was_misasked before name) true) (was_misasked before name)) served ∙ same_both (bytes_eq session name) (was_misasked before name))
     (h name)
 
-pub clients_misasked : (before : List Act) (session request : List ℕ) (words : List (List ℕ)) (k : Knowledge) (clients : List (List ℕ × Client)) → is_served (kind_of request) ≡ false
-    → ClientsAre k (sessions.misasked session (sessions_by before)) clients → ClientsAre k (sessions_by (Asked session request words ∷ before)) clients
-clients_misasked before session request words k clients unserved h = λ name.
-    client_moves k _ (requests (Asked session request words ∷ before) name) _ (was_misasked (Asked session request words ∷ before) name) (lookup (bytes_eq name) clients)
-    (ap (λ (b : Bool). cond (bytes_eq session name) (cond b (asked_so request words ∷ requests before name) (requests before name)) (requests before name)) unserved ∙ same_both (bytes_eq session name) (requests before name))
+pub clients_misasked : (before : List Act) (session request : List ℕ) (words : List (List ℕ)) (clients : List (List ℕ × Client)) → is_served (kind_of request) ≡ false
+    → ClientsAre (sessions.misasked session (sessions_by before)) clients → ClientsAre (sessions_by (Asked session request words ∷ before)) clients
+clients_misasked before session request words clients unserved h = λ name.
+    client_moves _ (requests (Asked session request words ∷ before) name) _ (was_misasked (Asked session request words ∷ before) name) (lookup (bytes_eq name) clients)
+    (ap (λ (b : Bool). cond (bytes_eq session name) (cond b (put_to before request words ∷ requests before name) (requests before name)) (requests before name)) unserved ∙ same_both (bytes_eq session name) (requests before name))
     (ap (λ (b : Bool). cond (bytes_eq session name) (cond b (was_misasked before name) true) (was_misasked before name)) unserved)
     (h name)
 
 -- the steps of both
-pub answered_steps : (knows : Knowledge) (number : ℕ) (session request : List ℕ) (words : List (List ℕ)) (before : List req.Asked) → is_served (kind_of request) ≡ true
-    → session_steps knows number session before (asked_so request words)
-    ≡ s.AsGot session request words ∷ s.AsGave number session (server.answer knows before (asked_so request words)) ∷ (cond (is_over knows (asked_so request words ∷ before)) (s.AsEnd session ∷ []) [])
+pub answered_steps : (number : ℕ) (session : List ℕ) (before : List Posed) (p : Posed) → is_served (kind_of p.asked.request) ≡ true
+    → session_steps number session before p
+    ≡ s.AsGot session p.asked.request p.asked.words ∷ s.AsGave number session (answer_in before p) ∷ (cond (is_over_in (p ∷ before)) (s.AsEnd session ∷ []) [])
 unfolding session_steps
-answered_steps knows number session request words before served = rw served refl
+answered_steps number session before p served = rw served refl
 
-pub misasked_steps : (knows : Knowledge) (number : ℕ) (session request : List ℕ) (words : List (List ℕ)) (before : List req.Asked) → is_served (kind_of request) ≡ false
-    → session_steps knows number session before (asked_so request words) ≡ s.AsGot session request words ∷ s.AsEnd session ∷ []
+pub misasked_steps : (number : ℕ) (session : List ℕ) (before : List Posed) (p : Posed) → is_served (kind_of p.asked.request) ≡ false
+    → session_steps number session before p ≡ s.AsGot session p.asked.request p.asked.words ∷ s.AsEnd session ∷ []
 unfolding session_steps
-misasked_steps knows number session request words before unserved = rw unserved refl
+misasked_steps number session before p unserved = rw unserved refl
 
 -- what a session refuses is what no line may ask of it
-pub asked_unfit : (before : List Act) (session request : List ℕ) (words : List (List ℕ)) → is_unfit before (Asked session request words) ≡ sessions.is_refused (known before) (requests before session) (was_misasked before session) request
+pub asked_unfit : (before : List Act) (session request : List ℕ) (words : List (List ℕ)) → is_unfit before (Asked session request words) ≡ sessions.is_refused (requests before session) (was_misasked before session) request
 unfolding is_unfit
 asked_unfit before session request words = refl
 
 -- its steps, in other words
-answered_known : (session request : List ℕ) (words : List (List ℕ)) (number : ℕ) (answer : List ℕ) (over : Bool) (before : List req.Asked) (k j : Knowledge) (count : ℕ)
-    → k ≡ j → answer ≡ server.answer j before (asked_so request words) → over ≡ is_over j (asked_so request words ∷ before) → number ≡ count
-    → s.AsGot session request words ∷ s.AsGave number session answer ∷ (cond over (s.AsEnd session ∷ []) [])
-    ≡ s.AsGot session request words ∷ s.AsGave count session (server.answer k before (asked_so request words)) ∷ (cond (is_over k (asked_so request words ∷ before)) (s.AsEnd session ∷ []) [])
-answered_known session request words number answer over before k j count same puts ends numbered =
-    ap (λ (b : Bool). s.AsGot session request words ∷ s.AsGave number session answer ∷ (cond b (s.AsEnd session ∷ []) [])) (ends ∙ ap (λ (x : Knowledge). is_over x (asked_so request words ∷ before)) (sym same))
-    ∙ (ap (λ (n : ℕ). s.AsGot session request words ∷ s.AsGave n session answer ∷ (cond (is_over k (asked_so request words ∷ before)) (s.AsEnd session ∷ []) [])) numbered
-    ∙ ap (λ (text : List ℕ). s.AsGot session request words ∷ s.AsGave count session text ∷ (cond (is_over k (asked_so request words ∷ before)) (s.AsEnd session ∷ []) [])) (puts ∙ ap (λ (x : Knowledge). server.answer x before (asked_so request words)) (sym same)))
+answered_known : (session : List ℕ) (number : ℕ) (answer : List ℕ) (over : Bool) (before : List Posed) (p : Posed) (count : ℕ)
+    → answer ≡ answer_in before p → over ≡ is_over_in (p ∷ before) → number ≡ count
+    → s.AsGot session p.asked.request p.asked.words ∷ s.AsGave number session answer ∷ (cond over (s.AsEnd session ∷ []) [])
+    ≡ s.AsGot session p.asked.request p.asked.words ∷ s.AsGave count session (answer_in before p) ∷ (cond (is_over_in (p ∷ before)) (s.AsEnd session ∷ []) [])
+answered_known session number answer over before p count puts ends numbered =
+    ap (λ (b : Bool). s.AsGot session p.asked.request p.asked.words ∷ s.AsGave number session answer ∷ (cond b (s.AsEnd session ∷ []) [])) ends
+    ∙ (ap (λ (n : ℕ). s.AsGot session p.asked.request p.asked.words ∷ s.AsGave n session answer ∷ (cond (is_over_in (p ∷ before)) (s.AsEnd session ∷ []) [])) numbered
+    ∙ ap (λ (text : List ℕ). s.AsGot session p.asked.request p.asked.words ∷ s.AsGave count session text ∷ (cond (is_over_in (p ∷ before)) (s.AsEnd session ∷ []) [])) puts)
 
--- a request that isn't refused
-pub served_done : (line : Numbered) (left : List Numbered) (before : List Act) (session request : List ℕ) (words : List (List ℕ)) (number : ℕ) (answer : List ℕ) (what : Served) (old : Run) (made : List Step) (clients : List (List ℕ × Client))
-    → Stands (line ∷ left) before old → known before ≡ knowledge old.tables.core
+-- a request that isn't refused, by what the server knows then
+served_known : (line : Numbered) (left : List Numbered) (before : List Act) (session request : List ℕ) (words : List (List ℕ)) (number : ℕ) (answer : List ℕ) (what : Served) (old : Run) (made : List Step) (clients : List (List ℕ × Client))
+    → Stands (line ∷ left) before old
     → judged before (line_of line.text) ≡ fitting before (Some (Asked session request words))
-    → ServesSo (knowledge old.tables.core) (sessions_by before) session (asked_so request words) what [] answer clients
+    → ServesSo (sessions_by before) session (put_to before request words) what [] answer clients
     → (what ≡ served.Refused → ⊥) → number ≡ length (messages before)
     → made ≡ served_steps number session request words what answer
     → IsDone left before (line_of line.text) made (with_clients old clients)
-served_done line left before session request words number answer served.Refused old made clients h knows is so goes numbered its = absurd (goes refl)
-served_done line left before session request words number answer (served.Answered over) old made clients h knows is so goes numbered its =
-    let fit = asked_unfit before session request words ∙ (ap (λ (k : Knowledge). sessions.is_refused k (requests before session) (was_misasked before session) request) knows ∙ so.fits) in
+served_known line left before session request words number answer served.Refused old made clients h is so goes numbered its = absurd (goes refl)
+served_known line left before session request words number answer (served.Answered over) old made clients h is so goes numbered its =
+    let fit = asked_unfit before session request words ∙ so.fits in
     asked_done line left before session request words old made clients (is ∙ fits before (Asked session request words) fit) h
-    (its ∙ (answered_known session request words number answer over (requests before session) (known before) (knowledge old.tables.core) (length (messages before)) knows so.put so.ends numbered
-    ∙ sym (answered_steps (known before) (length (messages before)) session request words (requests before session) so.served)))
-    (clients_answered before session request words (knowledge old.tables.core) clients so.served so.clients)
-served_done line left before session request words number answer served.Ended old made clients h knows is so goes numbered its =
-    let fit = asked_unfit before session request words ∙ (ap (λ (k : Knowledge). sessions.is_refused k (requests before session) (was_misasked before session) request) knows ∙ so.fits) in
+    (its ∙ (answered_known session number answer over (requests before session) (put_to before request words) (length (messages before)) so.put so.ends numbered
+    ∙ sym (answered_steps (length (messages before)) session (requests before session) (put_to before request words) so.served)))
+    (clients_answered before session request words clients so.served so.clients)
+served_known line left before session request words number answer served.Ended old made clients h is so goes numbered its =
+    let fit = asked_unfit before session request words ∙ so.fits in
     asked_done line left before session request words old made clients (is ∙ fits before (Asked session request words) fit) h
-    (its ∙ sym (misasked_steps (known before) (length (messages before)) session request words (requests before session) so.served))
-    (clients_misasked before session request words (knowledge old.tables.core) clients so.served so.clients)
+    (its ∙ sym (misasked_steps (length (messages before)) session (requests before session) (put_to before request words) so.served))
+    (clients_misasked before session request words clients so.served so.clients)
+
+-- the server knows what the acts told
+by_knowledge : (before : List Act) (session request : List ℕ) (words : List (List ℕ)) (k : Knowledge) (what : Served) (answer : List ℕ) (clients : List (List ℕ × Client)) → known before ≡ k
+    → ServesSo (sessions_by before) session (posed k (asked_so request words)) what [] answer clients → ServesSo (sessions_by before) session (put_to before request words) what [] answer clients
+by_knowledge before session request words k what answer clients knows so =
+    subst (λ (x : Knowledge). ServesSo (sessions_by before) session (posed x (asked_so request words)) what [] answer clients) (sym knows) so
+
+pub served_done : (line : Numbered) (left : List Numbered) (before : List Act) (session request : List ℕ) (words : List (List ℕ)) (number : ℕ) (answer : List ℕ) (what : Served) (old : Run) (made : List Step) (clients : List (List ℕ × Client))
+    → Stands (line ∷ left) before old → known before ≡ knowledge old.tables.core
+    → judged before (line_of line.text) ≡ fitting before (Some (Asked session request words))
+    → ServesSo (sessions_by before) session (posed (knowledge old.tables.core) (asked_so request words)) what [] answer clients
+    → (what ≡ served.Refused → ⊥) → number ≡ length (messages before)
+    → made ≡ served_steps number session request words what answer
+    → IsDone left before (line_of line.text) made (with_clients old clients)
+served_done line left before session request words number answer what old made clients h knows is so goes numbered its =
+    served_known line left before session request words number answer what old made clients h is
+    (by_knowledge before session request words (knowledge old.tables.core) what answer clients knows so) goes numbered its
 
 -- one that is
 pub served_refused : (before : List Act) (session request : List ℕ) (words : List (List ℕ)) (k : Knowledge) (answer : List ℕ) (clients : List (List ℕ × Client))
-    → known before ≡ k → ServesSo k (sessions_by before) session (asked_so request words) served.Refused [] answer clients → is_unfit before (Asked session request words) ≡ true
-served_refused before session request words k answer clients knows so = asked_unfit before session request words ∙ (ap (λ (k : Knowledge). sessions.is_refused k (requests before session) (was_misasked before session) request) knows ∙ so)
+    → ServesSo (sessions_by before) session (posed k (asked_so request words)) served.Refused [] answer clients → is_unfit before (Asked session request words) ≡ true
+served_refused before session request words k answer clients so = asked_unfit before session request words ∙ so
 
 -- the line of a request
 pub ask_judged : (before : List Act) (session request first second third : List ℕ) (pieces : List Piece) → spelled (messages before) pieces ≡ Some request
@@ -446,3 +475,108 @@ ask_judged before session request first second third pieces some = ap (λ (o : O
 pub ask_unspelled : (before : List Act) (session first second third : List ℕ) (pieces : List Piece) → spelled (messages before) pieces ≡ None
     → judged before (Some (l.AsGive session pieces first second third)) ≡ Err NoSuchMessage
 ask_unspelled before session first second third pieces none = ap (λ (o : Option (List ℕ)). fitting before (option_map (λ given. Asked session given (first ∷ second ∷ third ∷ [])) o)) none
+
+-- ---- a node is restarted
+
+-- what its agents' histories are then
+restarted_history : (before : List Act) (node name : List ℕ) → history (Restarted node ∷ before) (agent_of (Restarted node ∷ before) name) ≡ cond (bytes_eq node name) new_node (history before (agent_of before name))
+restarted_history before node name = elim (cases_Bool (bytes_eq node name)) [
+  | inl is ↦ cond-true _ _ _ (agents_apart (Restarted node ∷ before) node name ∙ is) ∙ sym (cond-true _ _ _ is)
+  | inr is ↦ cond-false _ _ _ (agents_apart (Restarted node ∷ before) node name ∙ is)
+      ∙ (ap (λ (n : ℕ). history before (n ∷ name)) (cond-false _ _ _ is) ∙ sym (cond-false _ _ _ is))
+]
+
+free_off : (before : List Act) (node conv : List ℕ) → IsFree before conv → IsFree (Restarted node ∷ before) conv
+free_off before node conv f = record { free = f.free; asks = f.asks; others = others_off conv node (acts.talks before) f.others }
+
+closed_off : (before : List Act) (node conv : List ℕ) → IsClosed before conv → IsClosed (Restarted node ∷ before) conv
+closed_off before node conv k = record { taken = k.taken; others = others_off conv node (acts.talks before) k.others }
+
+gone_off : (before : List Act) (node conv : List ℕ) (fid : ℕ) (call : Option ℕ) → IsOpen before conv node fid call → IsClosed (Restarted node ∷ before) conv
+gone_off before node conv fid call o = record { taken = o.taken; others = none_off conv node (acts.talks before) o.alone }
+
+open_off : (before : List Act) (node conv on : List ℕ) (fid : ℕ) (call : Option ℕ) → bytes_eq on node ≡ false → IsOpen before conv on fid call → IsOpen (Restarted node ∷ before) conv on fid call
+open_off before node conv on fid call other o = record {
+  taken = o.taken;
+  found = found_off conv node (acts.talks before) (record { conv = conv; node = on; fid = fid }) other o.found;
+  asks = o.asks;
+  made = o.made;
+  alone = alone_off conv on node (acts.talks before) o.alone;
+}
+
+talk_off : (before : List Act) (node conv : List ℕ) (o : Option (Option Kept)) → TalkIs before conv o → TalkIs (Restarted node ∷ before) conv (option_map (left_behind node) o)
+talk_off before node conv None h = free_off before node conv h
+talk_off before node conv (Some None) h = closed_off before node conv h
+talk_off before node conv (Some (Some t)) h = elim (cases_Bool (bytes_eq t.node node)) [
+  | inl is ↦ subst (λ (x : Option Kept). TalkIs (Restarted node ∷ before) conv (Some x)) (sym (cond-true _ _ _ is))
+      (gone_off before node conv t.fid t.call (subst (λ (x : List ℕ). IsOpen before conv x t.fid t.call) ((bytes_decides t.node node).0 is) h))
+  | inr is ↦ subst (λ (x : Option Kept). TalkIs (Restarted node ∷ before) conv (Some x)) (sym (cond-false _ _ _ is)) (open_off before node conv t.node t.fid t.call is h)
+]
+
+talks_off : (before : List Act) (node : List ℕ) (table after : List (List ℕ × Option Kept)) → ((name : List ℕ) → lookup (bytes_eq name) after ≡ option_map (left_behind node) (lookup (bytes_eq name) table))
+    → TalksAre before table → TalksAre (Restarted node ∷ before) after
+talks_off before node table after left h = λ name. subst (λ (o : Option (Option Kept)). TalkIs (Restarted node ∷ before) name o) (sym (left name)) (talk_off before node name (lookup (bytes_eq name) table) (h name))
+
+pub restarted_done : (line : Numbered) (left : List Numbered) (before : List Act) (node : List ℕ) (old : Run) (table : Nodes) (talks : List (List ℕ × Option Kept)) (made : List Step)
+    → judged before (line_of line.text) ≡ Ok (Restarted node) → Stands (line ∷ left) before old → made ≡ s.Restart node ∷ [] → NodesAre (n.restarted node (nodes_by before)) table
+    → ((name : List ℕ) → lookup (bytes_eq name) talks ≡ option_map (left_behind node) (lookup (bytes_eq name) old.talks))
+    → IsDone left before (line_of line.text) made (with_both old table talks)
+restarted_done line left before node old table talks made is h its t off = record {
+  act = Restarted node;
+  fits = is;
+  made = its;
+  stands = record {
+    nodes = λ name. node_moves _ (is_node before name) _ (history (Restarted node ∷ before) (agent_of (Restarted node ∷ before) name)) _ (conv_on name (acts.talks (Restarted node ∷ before))) (node_at table name) refl
+        (restarted_history before node name) (off_on node name (acts.talks before)) (t name);
+    talks = talks_off before node old.talks talks off h.talks;
+    clients = h.clients;
+    tables = tells_on line left before (Restarted node) old.tables h.tables refl is;
+    recorded = h.recorded;
+    made = h.made;
+    keys = h.keys;
+    speaks = h.speaks;
+    asked = h.asked;
+    used = h.used;
+  };
+}
+
+-- ---- the tables are read again
+
+abbrev pub with_tables : Run → Tables → Run
+with_tables r tables = record {
+  alloc = r.alloc;
+  nodes = r.nodes;
+  talks = r.talks;
+  clients = r.clients;
+  tables = tables;
+  recorded = r.recorded;
+  made = r.made;
+  keys = 0;
+  speaks = 0;
+  asked = r.asked;
+  used = false;
+}
+
+same_reloaded : (before : List Act) → SameNames before (Reloaded ∷ before)
+same_reloaded before = record { names = refl; talks = refl; nodes = λ _ is. is }
+
+pub reloaded_done : (line : Numbered) (left : List Numbered) (before : List Act) (old : Run) (tables : Tables) (made : List Step)
+    → line_of line.text ≡ Some l.Reload → judged before (line_of line.text) ≡ Ok Reloaded → Stands (line ∷ left) before old → made ≡ s.Reload ∷ [] → IsToldAgain left old.tables tables
+    → IsDone left before (line_of line.text) made (with_tables old tables)
+reloaded_done line left before old tables made read is h its t = record {
+  act = Reloaded;
+  fits = is;
+  made = its;
+  stands = record {
+    nodes = h.nodes;
+    talks = talks_stay before (Reloaded ∷ before) old.talks (same_reloaded before) (λ _. refl) h.talks;
+    clients = h.clients;
+    tables = tells_again line left before old.tables tables h.tables read t;
+    recorded = h.recorded;
+    made = h.made;
+    keys = refl;
+    speaks = refl;
+    asked = h.asked;
+    used = refl;
+  };
+}

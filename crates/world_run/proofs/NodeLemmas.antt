@@ -12,11 +12,10 @@ use Rattle.agent_turns.specs.Turning.{Turns}
 use Rattle.world_history.specs.Acts.{least_fid}
 use Rattle.world_history.specs.Driving.{new_node, refuses_open}
 use Rattle.world_history.specs.Turns.{Turn, after, lets_open}
-use Rattle.world_history.specs.Worlds.{history_by}
 use Rattle.world_run.specs.declared.node.Node.{Node}
 use Rattle.world_run.specs.declared.nodes.Nodes.{Nodes}
 use Rattle.world_run.specs.Fids.{fids, named}
-use Rattle.world_run.specs.Nodes.{IsFree, IsNode, NodeIs, NodesAre, OpensSo, TurnsSo, View, closed, done_on, held_on, made, next_fid, node_at, opened}
+use Rattle.world_run.specs.Nodes.{IsFree, IsNode, NodeIs, NodesAre, OpensSo, TurnsSo, View, closed, done_on, held_on, made, next_fid, node_at, opened, restarted}
 use Rattle.world_run.specs.Opening.{OpensOne, its_fid}
 use Rattle.world_run.proofs.FidLemmas.{fids_named, named_left}
 
@@ -72,6 +71,21 @@ made_so v name node old new others free stands none h = changed v (made name v) 
       named = ap named none ∙ sym (free_there (v.is name) (v.history name) (v.held name) (node_at old name) free (h name));
     })
     (λ other is. cond-false _ _ _ is) (λ other is. cond-false _ _ _ is) (λ other is. refl) h
+
+-- ---- another agent takes the place of one's
+
+pub restarted_so : (v : View) (name : List ℕ) (node now : Node) (old new : Nodes)
+    → node_at old name ≡ Some node → ((other : List ℕ) → node_at new other ≡ cond (bytes_eq name other) (Some now) (node_at old other))
+    → StandsFor new_node now.agent → now.held.items ≡ [] → NodesAre v old → NodesAre (restarted name v) new
+restarted_so v name node now old new found others stands none h =
+    let n = node_there v old name node found h in
+    changed v (restarted name v) name now old new others
+    (record {
+      made = n.made;
+      stands = subst (λ (k : History). StandsFor k now.agent) (sym (cond-true _ _ _ (its name))) stands;
+      named = ap named none ∙ sym (cond-true _ _ _ (its name));
+    })
+    (λ other is. refl) (λ other is. cond-false _ _ _ is) (λ other is. cond-false _ _ _ is) h
 
 -- ---- something is done to one
 

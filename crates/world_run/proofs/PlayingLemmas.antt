@@ -45,7 +45,9 @@ short_parts text (l.Start conv word tuple) w short =
 short_parts text (l.Dom dom) w short = tt
 short_parts text (l.AsKey tuple) w short = tt
 short_parts text (l.AsSpeak tuple) w short = tt
+short_parts text l.Reload w short = tt
 short_parts text (l.Node node) w short = tt
+short_parts text (l.Restart node) w short = tt
 short_parts text (l.Open node conv) w short = tt
 short_parts text (l.Read conv) w short = tt
 short_parts text (l.Write conv pieces) w short = tt
@@ -69,6 +71,7 @@ with_recorded r recorded = record {
   keys = r.keys;
   speaks = r.speaks;
   asked = r.asked;
+  used = r.used;
 }
 
 -- a line was carried out, and all of its steps were recorded
@@ -88,6 +91,7 @@ goes_on line left acts old run made recorded before now h d is written = record 
     keys = d.stands.keys;
     speaks = d.stands.speaks;
     asked = d.stands.asked;
+    used = d.stands.used;
   };
   more = made;
   recorded = is ∙ ap (λ (r : List Step). r ++ made) (d.stands.recorded ∙ sym h.recorded);

@@ -6,9 +6,7 @@ use Rattle.std.specs.Map.{lookup}
 use Rattle.std.specs.Str.{bytes_eq}
 use Rattle.std.specs.Cmp.Lexicographic.{bytes_decides}
 use Rattle.std.proofs.lemmas.Bool.{cases_Bool, cond-true, cond-false, false≢true, le-leb, lt-leb}
-use Rattle.auth_server.specs.Answers.{Knowledge}
-use Rattle.auth_server.specs.Requests as server
-use Rattle.auth_server.specs.Standing.{knowledge}
+use Rattle.auth_server.specs.Answers.{Posed}
 use Rattle.agent_history.specs.Histories.{History}
 use Rattle.agent_turns.specs.declared.turns.Turned.{Turned}
 use Rattle.wire_histories.specs.declared.step.Step.{Step}
@@ -17,11 +15,11 @@ use Rattle.world_scripts.specs.Lines.{ScriptLine}
 use Rattle.world_scripts.specs.Reading.{line_of}
 use Rattle.world_scripts.specs.Scripts.{Numbered}
 use Rattle.world_history.specs.Acts as acts
-use Rattle.world_history.specs.Acts.{Act, Talk, Domain, KeyLine, SpeakLine, Made, Told, Opened, Started, Got, Given, Answered, Unanswered, Asked, Closed, has_name, is_node, nodes, opened_names, key_lines, speak_lines, talk_of, talks, was_asked}
+use Rattle.world_history.specs.Acts.{Act, Talk, Domain, KeyLine, SpeakLine, Made, Told, Opened, Started, Got, Given, Answered, Unanswered, Asked, Closed, agent_of, has_name, is_node, nodes, opened_names, key_lines, speak_lines, talk_of, talks, was_asked, were_used}
 use Rattle.world_history.specs.declared.question.Question.{Question}
 use Rattle.world_history.specs.Scripts.{judged, most_request, spelled}
 use Rattle.world_history.specs.Talking as talk
-use Rattle.world_history.specs.Turns.{Turn, tells, asks, hears, misses, closes, turn_questions, turn_steps}
+use Rattle.world_history.specs.Turns.{Turn, after, tells, asks, hears, misses, closes, turn_questions, turn_steps}
 use Rattle.world_history.specs.Worlds.{Done, call_by, done_by, done_to, fid_for, history, history_by, last_call, messages, messages_in, on_talk, outstanding, requests, steps, steps_by, steps_to, was_misasked}
 use Rattle.world_run.specs.PlayStanding.{IsClosed, IsFree, IsOpen, conv_on, or_else}
 use Rattle.world_run.proofs.ListLemmas.{fids_named, left_on, none_of, one_more, same_name}
@@ -34,6 +32,8 @@ use Rattle.world_run.specs.declared.node.Node.{Node}
 use Rattle.world_run.specs.declared.nodes.Nodes.{Nodes}
 use Rattle.world_run.specs.Nodes.{NodeIs, NodesAre, TurnsTo, View, done_on, node_at}
 use Rattle.world_run.specs.Nodes as n
+use Rattle.world_history.specs.Telling.{reads_again}
+use Rattle.world_history.proofs.AgentLemmas.{agents_apart}
 use Rattle.world_history.proofs.TellLemmas.{tells_on}
 use Rattle.world_scripts.specs.Pieces.{Piece}
 use Rattle.auth_program.specs.declared.cause.ScriptCause.{ScriptCause}
@@ -66,6 +66,7 @@ with_both r nodes talks = record {
   keys = r.keys;
   speaks = r.speaks;
   asked = r.asked;
+  used = r.used;
 }
 
 -- ---- conversations
@@ -122,57 +123,75 @@ pub record Plain (before : List Act) (act : Act) : Type 0 where
   pub keys_are : key_lines (act ∷ before) ≡ key_lines before
   pub speaks_are : speak_lines (act ∷ before) ≡ speak_lines before
   pub asked_is : was_asked (act ∷ before) ≡ was_asked before
+  pub used_is : were_used (act ∷ before) ≡ were_used before
+  pub agents_are : (name : List ℕ) → agent_of (act ∷ before) name ≡ agent_of before name
+  pub kept : reads_again act ≡ false
 
 pub told_plain : (before : List Act) (node text : List ℕ) → Plain before (Told node text)
-told_plain before node text = record { same = record { names = refl; talks = refl; nodes = λ _ is. is }; nodes_are = refl; history_is = λ _. refl; asks_are = λ _. refl; steps_are = λ _. refl; requests_are = λ _. refl; misasked_is = λ _. refl; keys_are = refl; speaks_are = refl; asked_is = refl }
+told_plain before node text = record { same = record { names = refl; talks = refl; nodes = λ _ is. is }; nodes_are = refl; history_is = λ _. refl; asks_are = λ _. refl; steps_are = λ _. refl; requests_are = λ _. refl; misasked_is = λ _. refl; keys_are = refl; speaks_are = refl; asked_is = refl; used_is = refl; agents_are = λ _. refl; kept = refl }
 
 pub started_plain : (before : List Act) (conv word tuple : List ℕ) → Plain before (Started conv word tuple)
-started_plain before conv word tuple = record { same = record { names = refl; talks = refl; nodes = λ _ is. is }; nodes_are = refl; history_is = λ _. refl; asks_are = λ _. refl; steps_are = λ _. refl; requests_are = λ _. refl; misasked_is = λ _. refl; keys_are = refl; speaks_are = refl; asked_is = refl }
+started_plain before conv word tuple = record { same = record { names = refl; talks = refl; nodes = λ _ is. is }; nodes_are = refl; history_is = λ _. refl; asks_are = λ _. refl; steps_are = λ _. refl; requests_are = λ _. refl; misasked_is = λ _. refl; keys_are = refl; speaks_are = refl; asked_is = refl; used_is = refl; agents_are = λ _. refl; kept = refl }
 
 pub got_plain : (before : List Act) (conv : List ℕ) → Plain before (Got conv)
-got_plain before conv = record { same = record { names = refl; talks = refl; nodes = λ _ is. is }; nodes_are = refl; history_is = λ _. refl; asks_are = λ _. refl; steps_are = λ _. refl; requests_are = λ _. refl; misasked_is = λ _. refl; keys_are = refl; speaks_are = refl; asked_is = refl }
+got_plain before conv = record { same = record { names = refl; talks = refl; nodes = λ _ is. is }; nodes_are = refl; history_is = λ _. refl; asks_are = λ _. refl; steps_are = λ _. refl; requests_are = λ _. refl; misasked_is = λ _. refl; keys_are = refl; speaks_are = refl; asked_is = refl; used_is = refl; agents_are = λ _. refl; kept = refl }
 
 pub given_plain : (before : List Act) (conv bytes : List ℕ) → Plain before (Given conv bytes)
-given_plain before conv bytes = record { same = record { names = refl; talks = refl; nodes = λ _ is. is }; nodes_are = refl; history_is = λ _. refl; asks_are = λ _. refl; steps_are = λ _. refl; requests_are = λ _. refl; misasked_is = λ _. refl; keys_are = refl; speaks_are = refl; asked_is = refl }
+given_plain before conv bytes = record { same = record { names = refl; talks = refl; nodes = λ _ is. is }; nodes_are = refl; history_is = λ _. refl; asks_are = λ _. refl; steps_are = λ _. refl; requests_are = λ _. refl; misasked_is = λ _. refl; keys_are = refl; speaks_are = refl; asked_is = refl; used_is = refl; agents_are = λ _. refl; kept = refl }
 
 pub answered_plain : (before : List Act) (conv bytes : List ℕ) (call : ℕ) → Plain before (Answered conv bytes call)
-answered_plain before conv bytes call = record { same = record { names = refl; talks = refl; nodes = λ _ is. is }; nodes_are = refl; history_is = λ _. refl; asks_are = λ _. refl; steps_are = λ _. refl; requests_are = λ _. refl; misasked_is = λ _. refl; keys_are = refl; speaks_are = refl; asked_is = refl }
+answered_plain before conv bytes call = record { same = record { names = refl; talks = refl; nodes = λ _ is. is }; nodes_are = refl; history_is = λ _. refl; asks_are = λ _. refl; steps_are = λ _. refl; requests_are = λ _. refl; misasked_is = λ _. refl; keys_are = refl; speaks_are = refl; asked_is = refl; used_is = refl; agents_are = λ _. refl; kept = refl }
 
 pub unanswered_plain : (before : List Act) (conv : List ℕ) (call : ℕ) → Plain before (Unanswered conv call)
-unanswered_plain before conv call = record { same = record { names = refl; talks = refl; nodes = λ _ is. is }; nodes_are = refl; history_is = λ _. refl; asks_are = λ _. refl; steps_are = λ _. refl; requests_are = λ _. refl; misasked_is = λ _. refl; keys_are = refl; speaks_are = refl; asked_is = refl }
+unanswered_plain before conv call = record { same = record { names = refl; talks = refl; nodes = λ _ is. is }; nodes_are = refl; history_is = λ _. refl; asks_are = λ _. refl; steps_are = λ _. refl; requests_are = λ _. refl; misasked_is = λ _. refl; keys_are = refl; speaks_are = refl; asked_is = refl; used_is = refl; agents_are = λ _. refl; kept = refl }
+
+-- a turn of the agent of a node is one of those of its name
+pub turned_by : (before : List Act) (node : List ℕ) (turn : Turn) (name : List ℕ) (h : History) → history_by (done_to before node turn) (agent_of before name) h ≡ n.done_by_name node turn name h
+turned_by before node turn name h = ap (λ (b : Bool). cond b (after turn h) h) (agents_apart before node name)
 
 -- what is known of a name, in other words
 pub node_moves : (is now : Bool) (h k : History) (held holds : List (List ℕ × ℕ)) (o : Option Node) → now ≡ is → k ≡ h → holds ≡ held → NodeIs is h held o → NodeIs now k holds o
 node_moves is now h k held holds o same_is same_h same_held it =
     subst (λ (b : Bool). NodeIs b k holds o) (sym same_is) (subst (λ (x : History). NodeIs is x holds o) (sym same_h) (subst (λ (x : List (List ℕ × ℕ)). NodeIs is h x o) (sym same_held) it))
 
-pub client_moves : (known : Knowledge) (rs qs : List server.Asked) (misasked now : Bool) (o : Option Client) → qs ≡ rs → now ≡ misasked → ClientIs known rs misasked o → ClientIs known qs now o
-client_moves known rs qs misasked now o same_rs same it =
-    subst (λ (x : List server.Asked). ClientIs known x now o) (sym same_rs) (subst (λ (b : Bool). ClientIs known rs b o) (sym same) it)
+pub client_moves : (rs qs : List Posed) (misasked now : Bool) (o : Option Client) → qs ≡ rs → now ≡ misasked → ClientIs rs misasked o → ClientIs qs now o
+client_moves rs qs misasked now o same_rs same it =
+    subst (λ (x : List Posed). ClientIs x now o) (sym same_rs) (subst (λ (b : Bool). ClientIs rs b o) (sym same) it)
+
+-- the agent of a node, behind what was done to that of a node
+agent_moved : (before : List Act) (act : Act) (node : List ℕ) (turn : Turn) (name : List ℕ) → agent_of (act ∷ before) name ≡ agent_of before name
+    → history (act ∷ before) (agent_of before name) ≡ history_by (done_by before act) (agent_of before name) (history before (agent_of before name)) → done_by before act ≡ done_to before node turn
+    → history (act ∷ before) (agent_of (act ∷ before) name) ≡ n.done_by_name node turn name (history before (agent_of before name))
+agent_moved before act node turn name same moves done =
+    ap (history (act ∷ before)) same
+    ∙ (moves
+    ∙ (ap (λ (d : Option Done). history_by d (agent_of before name) (history before (agent_of before name))) done
+    ∙ turned_by before node turn name (history before (agent_of before name))))
 
 pub plain_done : (line : Numbered) (left : List Numbered) (before : List Act) (act : Act) (node : List ℕ) (turn : Turn) (old : Run) (turned : Turned) (nodes : Nodes) (talks : List (List ℕ × Option Kept))
-    → Plain before act → judged before (line_of line.text) ≡ Ok act → done_by before act ≡ done_to node turn → Stands (line ∷ left) before old
+    → Plain before act → judged before (line_of line.text) ≡ Ok act → done_by before act ≡ done_to before node turn → Stands (line ∷ left) before old
     → TurnsTo (length (messages_in old.recorded)) node turn (nodes_by before) turned nodes → TalksAre (act ∷ before) talks
     → IsDone left before (line_of line.text) turned.steps.items (with_both old nodes talks)
 plain_done line left before act node turn old turned nodes talks p is done h t k = record {
   act = act;
   fits = is;
-  made = t.steps ∙ (ap (λ (recorded : List Step). turn_steps (length (messages_in recorded)) turn (history before node)) h.recorded
+  made = t.steps ∙ (ap (λ (recorded : List Step). turn_steps (length (messages_in recorded)) turn (history before (agent_of before node))) h.recorded
       ∙ sym (p.steps_are (length (messages before)) ∙ ap (steps_to (length (messages before)) before) done));
   stands = record {
-    nodes = λ name. node_moves (is_node before name) (is_node (act ∷ before) name) _ (history (act ∷ before) name) (conv_on name (acts.talks before)) (conv_on name (acts.talks (act ∷ before))) (node_at nodes name)
+    nodes = λ name. node_moves (is_node before name) (is_node (act ∷ before) name) _ (history (act ∷ before) (agent_of (act ∷ before) name)) (conv_on name (acts.talks before)) (conv_on name (acts.talks (act ∷ before))) (node_at nodes name)
         (ap (has_name name) p.nodes_are)
-        (p.history_is name ∙ ap (λ (d : Option Done). history_by d name (history before name)) done)
+        (agent_moved before act node turn name (p.agents_are name) (p.history_is (agent_of before name)) done)
         (ap (conv_on name) p.same.talks)
         (t.nodes name);
     talks = k;
-    clients = λ name. client_moves (knowledge old.tables.core) (requests before name) (requests (act ∷ before) name) (was_misasked before name) (was_misasked (act ∷ before) name) (lookup (bytes_eq name) old.clients) (p.requests_are name) (p.misasked_is name) (h.clients name);
-    tables = tells_on line left before act old.tables h.tables is;
+    clients = λ name. client_moves (requests before name) (requests (act ∷ before) name) (was_misasked before name) (was_misasked (act ∷ before) name) (lookup (bytes_eq name) old.clients) (p.requests_are name) (p.misasked_is name) (h.clients name);
+    tables = tells_on line left before act old.tables h.tables p.kept is;
     recorded = h.recorded;
     made = h.made ∙ ap length (sym p.nodes_are);
     keys = h.keys ∙ ap length (sym p.keys_are);
     speaks = h.speaks ∙ ap length (sym p.speaks_are);
     asked = h.asked ∙ sym p.asked_is;
+    used = h.used ∙ sym p.used_is;
   };
 }
 
@@ -193,7 +212,7 @@ abbrev Leaves : List Act → Act → List ℕ → Option ℕ → Type 0
 Leaves before act conv call = (name : List ℕ) → outstanding (act ∷ before) name ≡ cond (bytes_eq conv name) call (outstanding before name)
 
 pub conv_done : (line : Numbered) (left : List Numbered) (before : List Act) (act : Act) (conv node : List ℕ) (fid : ℕ) (asked call : Option ℕ) (turn : Turn) (old : Run) (turned : Turned) (nodes : Nodes) (talks : List (List ℕ × Option Kept))
-    → Plain before act → judged before (line_of line.text) ≡ Ok act → done_by before act ≡ done_to node turn → IsOpen before conv node fid asked → Stands (line ∷ left) before old
+    → Plain before act → judged before (line_of line.text) ≡ Ok act → done_by before act ≡ done_to before node turn → IsOpen before conv node fid asked → Stands (line ∷ left) before old
     → TurnsTo (length (messages_in old.recorded)) node turn (nodes_by before) turned nodes → Leaves before act conv call
     → ((name : List ℕ) → lookup (bytes_eq name) talks ≡ changed_under conv (option_map (with_call call)) old.talks name)
     → IsDone left before (line_of line.text) turned.steps.items (with_both old nodes talks)
@@ -203,30 +222,30 @@ conv_done line left before act conv node fid asked call turn old turned nodes ta
 
 -- a request may raise a question, which then is the one outstanding
 pub asked_leaves : (before : List Act) (act : Act) (conv node : List ℕ) (fid : ℕ) (asked : Option ℕ) (what : talk.Asks) (turned : Turned)
-    → Plain before act → done_by before act ≡ done_to node (asks conv fid what) → IsOpen before conv node fid asked
-    → turned.call ≡ last_call (turn_questions (asks conv fid what) (history before node)) None
+    → Plain before act → done_by before act ≡ done_to before node (asks conv fid what) → IsOpen before conv node fid asked
+    → turned.call ≡ last_call (turn_questions (asks conv fid what) (history before (agent_of before node))) None
     → Leaves before act conv (or_else turned.call asked)
 asked_leaves before act conv node fid asked what turned p done o called = λ name.
     p.asks_are name ∙ (ap (λ (d : Option Done). call_by before name d (outstanding before name)) done ∙ by_name name (cases_Bool (bytes_eq conv name))) where
       raised : List Question
-      raised = turn_questions (asks conv fid what) (history before node)
+      raised = turn_questions (asks conv fid what) (history before (agent_of before node))
 
-      by_name : (name : List ℕ) → (bytes_eq conv name ≡ true) ⊎ (bytes_eq conv name ≡ false) → call_by before name (done_to node (asks conv fid what)) (outstanding before name) ≡ cond (bytes_eq conv name) (or_else turned.call asked) (outstanding before name)
+      by_name : (name : List ℕ) → (bytes_eq conv name ≡ true) ⊎ (bytes_eq conv name ≡ false) → call_by before name (done_to before node (asks conv fid what)) (outstanding before name) ≡ cond (bytes_eq conv name) (or_else turned.call asked) (outstanding before name)
       by_name name (inl is) = cond-true _ _ _ is ∙ (ap (last_call raised) (subst (λ (x : List ℕ). outstanding before x ≡ asked) ((bytes_decides conv name).0 is) o.asks)
           ∙ (last_or raised asked ∙ (ap (λ (c : Option ℕ). or_else c asked) (sym called) ∙ sym (cond-true _ _ _ is))))
       by_name name (inr is) = cond-false _ _ _ is ∙ sym (cond-false _ _ _ is)
 
 -- an answer, and that there is none, end the one that was
 pub heard_leaves : (before : List Act) (act : Act) (conv node : List ℕ) (fid call : ℕ) (bytes : List ℕ) (asked : Option ℕ) (turned : Turned)
-    → Plain before act → done_by before act ≡ done_to node (hears conv fid call bytes) → IsOpen before conv node fid asked
-    → turned.call ≡ last_call (turn_questions (hears conv fid call bytes) (history before node)) None
+    → Plain before act → done_by before act ≡ done_to before node (hears conv fid call bytes) → IsOpen before conv node fid asked
+    → turned.call ≡ last_call (turn_questions (hears conv fid call bytes) (history before (agent_of before node))) None
     → Leaves before act conv turned.call
 heard_leaves before act conv node fid call bytes asked turned p done o called = λ name.
     p.asks_are name ∙ (ap (λ (d : Option Done). call_by before name d (outstanding before name)) done ∙ ap (λ (c : Option ℕ). cond (bytes_eq conv name) c (outstanding before name)) (sym called))
 
 pub missed_leaves : (before : List Act) (act : Act) (conv node : List ℕ) (fid call : ℕ) (asked : Option ℕ) (turned : Turned)
-    → Plain before act → done_by before act ≡ done_to node (misses conv fid call) → IsOpen before conv node fid asked
-    → turned.call ≡ last_call (turn_questions (misses conv fid call) (history before node)) None
+    → Plain before act → done_by before act ≡ done_to before node (misses conv fid call) → IsOpen before conv node fid asked
+    → turned.call ≡ last_call (turn_questions (misses conv fid call) (history before (agent_of before node))) None
     → Leaves before act conv turned.call
 missed_leaves before act conv node fid call asked turned p done o called = λ name.
     p.asks_are name ∙ (ap (λ (d : Option Done). call_by before name d (outstanding before name)) done ∙ ap (λ (c : Option ℕ). cond (bytes_eq conv name) c (outstanding before name)) (sym called))
@@ -275,7 +294,7 @@ asked_plain before conv (talk.starts word tuple) = started_plain before conv wor
 asked_plain before conv talk.gets = got_plain before conv
 asked_plain before conv (talk.gives bytes) = given_plain before conv bytes
 
-asked_on : (before : List Act) (conv : List ℕ) (what : talk.Asks) → done_by before (act_for conv what) ≡ on_talk (talk_of before conv) (λ fid. asks conv fid what)
+asked_on : (before : List Act) (conv : List ℕ) (what : talk.Asks) → done_by before (act_for conv what) ≡ on_talk before (talk_of before conv) (λ fid. asks conv fid what)
 asked_on before conv (talk.starts word tuple) = refl
 asked_on before conv talk.gets = refl
 asked_on before conv (talk.gives bytes) = refl
@@ -320,7 +339,7 @@ pub asked_line : (conv : List ℕ) (what : talk.Asks) (line : ScriptLine) (old :
     → ((before : List Act) → is_some (talk_of before conv) ≡ true → judged before (Some line) ≡ Ok (act_for conv what))
     → ((before : List Act) → is_some (talk_of before conv) ≡ false → judged before (Some line) ≡ Err UnknownConv)
     → AskedSo conv what old result new → Carries line old result new
-asked_line conv what line old result new opened closed asked = λ at left before is h.
+asked_line conv what line old result new opened closed asked = λ left at before is h.
     subst (λ (o : Option ScriptLine). Comes left before o result new) is
     (asked at left before (record { opened = λ some. ap (judged before) is ∙ opened before some; closed = λ none. ap (judged before) is ∙ closed before none }) h)
 

@@ -76,8 +76,8 @@ open_beside acts conv node name on fid call other o = record {
 -- ---- one is closed
 
 -- nothing is asked by that
-asks_left : (acts : List Act) (conv name node : List ℕ) (fid : ℕ) (call : Option ℕ) → talk_of acts conv ≡ Some (record { conv = conv; node = node; fid = fid }) → call_by acts name (on_talk (talk_of acts conv) (λ f. closes conv f)) call ≡ call
-asks_left acts conv name node fid call found = ap (λ (o : Option Talk). call_by acts name (on_talk o (λ f. closes conv f)) call) found
+asks_left : (acts : List Act) (conv name node : List ℕ) (fid : ℕ) (call : Option ℕ) → talk_of acts conv ≡ Some (record { conv = conv; node = node; fid = fid }) → call_by acts name (on_talk acts (talk_of acts conv) (λ f. closes conv f)) call ≡ call
+asks_left acts conv name node fid call found = ap (λ (o : Option Talk). call_by acts name (on_talk acts o (λ f. closes conv f)) call) found
 
 pub now_closed : (acts : List Act) (conv node : List ℕ) (fid : ℕ) (call : Option ℕ) → IsOpen acts conv node fid call → IsClosed (Closed conv ∷ acts) conv
 now_closed acts conv node fid call o = record { taken = o.taken; others = none_left conv (talks acts) }
@@ -111,5 +111,5 @@ last_or (q ∷ raised) call = some_last raised q.call call where
   some_last [] number call = refl
   some_last (q ∷ raised) number call = some_last raised q.call call
 
-pub done_on_open : (acts : List Act) (conv node : List ℕ) (fid : ℕ) (call : Option ℕ) (turn : ℕ → Turn) → IsOpen acts conv node fid call → on_talk (talk_of acts conv) turn ≡ done_to node (turn fid)
-done_on_open acts conv node fid call turn o = ap (λ (t : Option Talk). on_talk t turn) o.found
+pub done_on_open : (acts : List Act) (conv node : List ℕ) (fid : ℕ) (call : Option ℕ) (turn : ℕ → Turn) → IsOpen acts conv node fid call → on_talk acts (talk_of acts conv) turn ≡ done_to acts node (turn fid)
+done_on_open acts conv node fid call turn o = ap (λ (t : Option Talk). on_talk acts t turn) o.found

@@ -22,3 +22,8 @@ changed_under name change entries other =
 -- a conversation with a question outstanding, or none
 abbrev pub with_call : Option ℕ → Talk → Talk
 with_call call talk = record { node = talk.node; fid = talk.fid; call = call }
+
+-- a conversation is open no more where it is of this node
+abbrev pub left_behind : List ℕ → Option Talk → Option Talk
+left_behind node None = None
+left_behind node (Some talk) = if bytes_eq talk.node node then None else Some talk

@@ -7,8 +7,8 @@ use Rattle.agent_turns.specs.Agents.{StandsFor}
 use Rattle.agent_turns.specs.declared.turns.Turned.{Turned}
 use Rattle.world_history.specs.Acts.{least_fid}
 use Rattle.world_history.specs.Driving.{new_node, refuses_open}
-use Rattle.world_history.specs.Turns.{Turn, lets_open, turn_questions, turn_steps}
-use Rattle.world_history.specs.Worlds.{history_by, last_call}
+use Rattle.world_history.specs.Turns.{Turn, after, lets_open, turn_questions, turn_steps}
+use Rattle.world_history.specs.Worlds.{last_call}
 use Rattle.world_run.specs.declared.node.Node.{Node}
 use Rattle.world_run.specs.declared.nodes.Nodes.{Nodes}
 use Rattle.world_run.specs.Fids.{named}
@@ -63,11 +63,23 @@ made name v = record {
   held = v.held;
 }
 
+-- the history of a node behind a turn of the one of a name
+abbrev pub done_by_name : List ℕ → Turn → List ℕ → History → History
+done_by_name name turn other h = if bytes_eq name other then after turn h else h
+
+-- the agent of one is another
+abbrev pub restarted : List ℕ → View → View
+restarted name v = record {
+  is = v.is;
+  history = λ other. if bytes_eq name other then new_node else v.history other;
+  held = λ other. if bytes_eq name other then [] else v.held other;
+}
+
 -- something is done to one
 abbrev pub done_on : List ℕ → Turn → View → View
 done_on name turn v = record {
   is = v.is;
-  history = λ other. history_by (Some (record { node = name; turn = turn })) other (v.history other);
+  history = λ other. done_by_name name turn other (v.history other);
   held = v.held;
 }
 
@@ -75,7 +87,7 @@ done_on name turn v = record {
 abbrev pub opened : List ℕ → List ℕ → ℕ → View → View
 opened name conv fid v = record {
   is = v.is;
-  history = λ other. history_by (Some (record { node = name; turn = lets_open fid })) other (v.history other);
+  history = λ other. done_by_name name (lets_open fid) other (v.history other);
   held = λ other. if bytes_eq name other then v.held other ++ (conv, fid) ∷ [] else v.held other;
 }
 

@@ -32,10 +32,11 @@ pub record Goes (line : Numbered) (left : List Numbered) (acts : List Act) (new 
 abbrev pub EndsBy : WorldEnd → Played → List Step → List Step → Option (List ℕ) → Option (List ℕ) → Type 0
 EndsBy end played old new before now = RunsFrom end played old new before now
 
-abbrev pub PlaysOne : Numbered → Run → Option WorldEnd → Run → Option (List ℕ) → Option (List ℕ) → Type 0
-PlaysOne line old None new before now = (left : List Numbered) (acts : List Act) → Stands (line ∷ left) acts old
+abbrev pub PlaysOne : Numbered → List Numbered → Run → Option WorldEnd → Run → Option (List ℕ) → Option (List ℕ)
+    → Type 0
+PlaysOne line left old None new before now = (acts : List Act) → Stands (line ∷ left) acts old
     → Goes line left acts new old.recorded before now
-PlaysOne line old (Some end) new before now = (left : List Numbered) (acts : List Act) → Stands (line ∷ left) acts old
+PlaysOne line left old (Some end) new before now = (acts : List Act) → Stands (line ∷ left) acts old
     → EndsBy end (plays acts (line ∷ left)) old.recorded new.recorded before now
 
 abbrev pub PlaysAll : List Numbered → Run → WorldEnd → Run → Option (List ℕ) → Option (List ℕ) → Type 0

@@ -3,13 +3,12 @@ use Rattle.std.specs.Prelude.{◌≡◌, ℕ, ◌<◌, ◌^◌, List, ◌∷◌,
 use Rattle.std.specs.Global.{Vec}
 use Rattle.std.specs.Map.{lookup}
 use Rattle.std.specs.Str.{bytes_eq}
-use Rattle.auth_server.specs.Standing.{knowledge}
 use Rattle.wire_histories.specs.declared.step.Step.{Step}
 use Rattle.world_scripts.specs.Lines.{ScriptLine}
 use Rattle.world_scripts.specs.Lines as l
 use Rattle.world_scripts.specs.Reading.{line_of}
 use Rattle.world_scripts.specs.Scripts.{Numbered}
-use Rattle.world_history.specs.Acts.{Act, Started, Got, Given, is_node, key_lines, speak_lines, talk_of, talks, was_asked}
+use Rattle.world_history.specs.Acts.{Act, Started, Got, Given, agent_of, is_node, key_lines, speak_lines, talk_of, talks, was_asked, were_used}
 use Rattle.world_history.specs.Acts as a
 use Rattle.world_history.specs.Scripts.{judged}
 use Rattle.auth_program.specs.declared.cause.ScriptCause.TheVariants.{UnknownConv}
@@ -32,7 +31,7 @@ use Rattle.world_run.specs.declared.stops.Stop.TheVariants as stop
 abbrev pub nodes_by : List Act → n.View
 nodes_by acts = record {
   is = λ name. is_node acts name;
-  history = λ name. history acts name;
+  history = λ name. history acts (agent_of acts name);
   held = λ name. conv_on name (talks acts);
 }
 
@@ -53,13 +52,14 @@ TalksAre acts talks = (conv : List ℕ) → TalkIs acts conv (lookup (bytes_eq c
 pub record StandsWith (left : List Numbered) (acts : List Act) (kept : List Step) (run : Run) : Type 0 where
   pub nodes : NodesAre (nodes_by acts) run.nodes
   pub talks : TalksAre acts run.talks
-  pub clients : ClientsAre (knowledge run.tables.core) (sessions_by acts) run.clients
+  pub clients : ClientsAre (sessions_by acts) run.clients
   pub tables : Tells left acts run.tables
   pub recorded : run.recorded ≡ kept
   pub made : run.made ≡ length (a.nodes acts)
   pub keys : run.keys ≡ length (key_lines acts)
   pub speaks : run.speaks ≡ length (speak_lines acts)
   pub asked : run.asked ≡ was_asked acts
+  pub used : run.used ≡ were_used acts
 
 abbrev pub Stands : List Numbered → List Act → Run → Type 0
 Stands left acts run = StandsWith left acts (steps acts) run
@@ -79,15 +79,19 @@ Comes left acts line (Ok made) run = IsDone left acts line made.items run
 Comes left acts line (Err (stop.Refused cause)) run = judged acts line ≡ Err cause
 Comes left acts line (Err stop.NoMemory) run = Unit {0}
 
--- what a run comes to by a text
-abbrev pub CarriesText : List ℕ → Run → Result (Vec Step) Stop → Run → Type 0
-CarriesText text old result new = (number : ℕ) (left : List Numbered) (acts : List Act)
+-- what a run comes to by a text, before the lines that are left
+abbrev pub CarriesText : List ℕ → List Numbered → Run → Result (Vec Step) Stop → Run → Type 0
+CarriesText text left old result new = (number : ℕ) (acts : List Act)
     → Stands (record { number = number; text = text } ∷ left) acts old → Comes left acts (line_of text) result new
 
 -- and by a line, whatever text it is read off
-abbrev pub Carries : ScriptLine → Run → Result (Vec Step) Stop → Run → Type 0
-Carries line old result new = (before : Numbered) (left : List Numbered) (acts : List Act)
+abbrev pub CarriesBefore : List Numbered → ScriptLine → Run → Result (Vec Step) Stop → Run → Type 0
+CarriesBefore left line old result new = (before : Numbered) (acts : List Act)
     → line_of before.text ≡ Some line → Stands (before ∷ left) acts old → Comes left acts (Some line) result new
+
+-- the same whatever lines are left
+abbrev pub Carries : ScriptLine → Run → Result (Vec Step) Stop → Run → Type 0
+Carries line old result new = (left : List Numbered) → CarriesBefore left line old result new
 
 -- what its parts that are written to an agent are bounded by
 abbrev pub IsShort : ScriptLine → Type 0

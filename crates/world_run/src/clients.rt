@@ -1,8 +1,8 @@
 // Sessions of the authentication server by their names.
 ghost use Rattle.std.specs.Prelude.{◌≡◌, List, Some, length};
-ghost use Rattle.auth_server.specs.Answers.{Knowledge};
-ghost use Rattle.auth_server.specs.Requests.{Asked, kind_of, needed};
-ghost use Rattle.auth_server.specs.Standing.{StandsFor, knowledge};
+ghost use Rattle.auth_server.specs.Answers.{Posed};
+ghost use Rattle.auth_server.specs.Requests.{kind_of, needed};
+ghost use Rattle.auth_server.specs.Standing.{Stands};
 ghost use Rattle.world_run.specs.Sessions.{FitsSo};
 
 use crate::live::{Client, Live};
@@ -35,8 +35,8 @@ enum Fit {
 fn judge(core: &AuthCore, session: &Session, request: &[u8]) -> Fit
     ensures whole { result ≡ Fit.Served
         → needed session.now.held (kind_of request.now) ≡ Some (length request.now) }
-    ensures fits { (requests : List Asked) → StandsFor (knowledge core.now) requests session.now
-        → FitsSo (knowledge core.now) requests request.now result }
+    ensures fits { (requests : List Posed) → Stands requests session.now
+        → FitsSo requests request.now result }
 {
     let Some(kind) = request.first() else {
         return Fit::Unfit;
@@ -55,15 +55,15 @@ fn judge(core: &AuthCore, session: &Session, request: &[u8]) -> Fit
 
 impl Client {
     ghost use Rattle.std.specs.Prelude.{◌≡◌, List, Bool, IfOk, OnErr};
-    ghost use Rattle.auth_server.specs.Requests.{Asked, asked_so};
+    ghost use Rattle.auth_server.specs.Requests.{asked_so};
     ghost use Rattle.auth_server.specs.Standing.{knowledge};
-    ghost use Rattle.auth_server.specs.Answers.{Knowledge};
+    ghost use Rattle.auth_server.specs.Answers.{Posed, posed};
     ghost use Rattle.world_run.specs.Sessions.{IsClient, IsNew, OneServes};
 
     // A session without requests.
     fn new() -> Client
-        ensures { (known : Knowledge) (requests : List Asked) (misasked : Bool)
-            → IsNew requests misasked → IsClient known requests misasked result }
+        ensures { (requests : List Posed) (misasked : Bool)
+            → IsNew requests misasked → IsClient requests misasked result }
     {
         let session = Session::new();
         Client::Goes(Live { session })
@@ -77,10 +77,11 @@ impl Client {
         words: &[[u8; 8]; 3],
         answer: &mut Bytes,
     ) -> Result<Served, NoMemory>
-        ensures { IfOk result (λ served. (requests : List Asked) (misasked : Bool)
-            → IsClient (knowledge core.now) requests misasked self.old
-            → OneServes (knowledge core.now) requests misasked
-            (asked_so request.now words.now) served answer.old answer.new self.new) }
+        ensures { IfOk result (λ served. (requests : List Posed) (misasked : Bool)
+            → IsClient requests misasked self.old
+            → OneServes requests misasked
+            (posed (knowledge core.now) (asked_so request.now words.now))
+            served answer.old answer.new self.new) }
     {
         let Client::Goes(live) = replace(self, Client::Ended) else {
             return Ok(Served::Refused);
@@ -123,7 +124,7 @@ impl Clients {
     ghost use Rattle.std.specs.Prelude.{◌≡◌, [], true, false, is_some, option_copied, IfOk, OnOk};
     ghost use Rattle.std.specs.Map.{lookup};
     ghost use Rattle.std.specs.Str.{bytes_eq};
-    ghost use Rattle.auth_server.specs.Answers.{Knowledge};
+    ghost use Rattle.auth_server.specs.Answers.{posed};
     ghost use Rattle.auth_server.specs.Requests.{asked_so};
     ghost use Rattle.auth_server.specs.Standing.{knowledge};
     ghost use Rattle.world_run.specs.Sessions.{ClientsAre, ServesSo, View};
@@ -149,8 +150,8 @@ impl Clients {
     fn add(&mut self, name: &[u8]) -> Result<(), NoMemory>
         requires { is_some (lookup (bytes_eq name.now) self.old) ≡ false }
         ensures added { OnOk result (is_some (lookup (bytes_eq name.now) self.new) ≡ true) }
-        ensures clients { OnOk result ((known : Knowledge) (v : View)
-            → ClientsAre known v self.old → ClientsAre known v self.new) }
+        ensures clients { OnOk result ((v : View)
+            → ClientsAre v self.old → ClientsAre v self.new) }
     {
         let client = Client::new();
         self.table
@@ -161,8 +162,8 @@ impl Clients {
     // A session of this name, which its first use makes.
     fn enter(&mut self, name: &[u8]) -> Result<(), NoMemory>
         ensures entered { OnOk result (is_some (lookup (bytes_eq name.now) self.new) ≡ true) }
-        ensures clients { OnOk result ((known : Knowledge) (v : View)
-            → ClientsAre known v self.old → ClientsAre known v self.new) }
+        ensures clients { OnOk result ((v : View)
+            → ClientsAre v self.old → ClientsAre v self.new) }
     {
         if self.look(name).is_some() {
             return Ok(());
@@ -181,8 +182,8 @@ impl Clients {
         answer: &mut Bytes,
     ) -> Result<Served, NoMemory>
         ensures { IfOk result (λ served. (v : View)
-            → ClientsAre (knowledge core.now) v self.old
-            → ServesSo (knowledge core.now) v name.now (asked_so request.now words.now)
+            → ClientsAre v self.old
+            → ServesSo v name.now (posed (knowledge core.now) (asked_so request.now words.now))
             served answer.old answer.new self.new) }
     {
         self.enter(name)?;

@@ -1,6 +1,6 @@
 // Conversations by their names.
 ghost use Rattle.std.specs.Prelude.{◌≡◌, None, option_map};
-ghost use Rattle.world_run.specs.Names.{with_call};
+ghost use Rattle.world_run.specs.Names.{left_behind, with_call};
 
 use std::alloc::Global;
 use std::collections::BTreeMap;
@@ -31,6 +31,17 @@ fn shut(talk: &mut Option<Talk>)
     *talk = None;
 }
 
+// It is open no more where it is of this node.
+fn leave(talk: &mut Option<Talk>, node: &[u8])
+    ensures { talk.new ≡ left_behind node.now talk.old }
+{
+    if let Some(open) = talk {
+        if open.node.as_slice() == node {
+            *talk = None;
+        }
+    }
+}
+
 /// The conversations of a network. One that was closed keeps its name.
 #[derive(Drop)]
 pub struct Talks {
@@ -51,7 +62,7 @@ impl Talks {
     ghost use Rattle.std.specs.Prelude.{◌≡◌, ℕ, List, [], is_some, Some, None, OnOk, option_copied, option_map};
     ghost use Rattle.std.specs.Map.{lookup};
     ghost use Rattle.std.specs.Str.{bytes_eq};
-    ghost use Rattle.world_run.specs.Names.{changed_under, put_under, still_open, with_call};
+    ghost use Rattle.world_run.specs.Names.{changed_under, left_behind, put_under, still_open, with_call};
 
     /// No conversations.
     pub fn new(alloc: Global) -> Talks
@@ -124,5 +135,16 @@ impl Talks {
             return;
         };
         shut(talk);
+    }
+
+    /// The agent of a node is another: none of its conversations is open any more.
+    pub fn leave(&mut self, node: &[u8])
+        ensures { (other : List ℕ) → lookup (bytes_eq other) self.new
+            ≡ option_map (left_behind node.now) (lookup (bytes_eq other) self.old) }
+    {
+        self.table.retain(|_, talk| {
+            leave(talk, node);
+            true
+        });
     }
 }

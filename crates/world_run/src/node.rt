@@ -30,6 +30,15 @@ impl Node {
         }
     }
 
+    /// Another agent takes the place of its own; no conversation is open any more.
+    pub(crate) fn restart(&mut self, agent: Agent)
+        ensures agent { self.new.agent ≡ agent }
+        ensures held { self.new.held.items ≡ [] }
+    {
+        self.agent = agent;
+        self.held.clear();
+    }
+
     /// Something is done to its agent, from a message on.
     pub(crate) fn turn(
         &mut self,

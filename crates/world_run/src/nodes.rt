@@ -17,7 +17,7 @@ impl Nodes {
     ghost use Rattle.agent_turns.specs.Agents.{StandsFor};
     ghost use Rattle.agent_turns.specs.Turning.{IsTurn, said_turn};
     ghost use Rattle.world_history.specs.Driving.{new_node};
-    ghost use Rattle.world_run.specs.Nodes.{NodesAre, OpensSo, TurnsSo, View, closed, made, node_at, nobody};
+    ghost use Rattle.world_run.specs.Nodes.{NodesAre, OpensSo, TurnsSo, View, closed, made, node_at, nobody, restarted};
 
     /// No nodes.
     pub fn new(alloc: Global) -> Nodes
@@ -51,6 +51,17 @@ impl Nodes {
         let node = Node::new(self.alloc, agent);
         self.table.insert(Vec::from_slice(self.alloc, name)?, node)?;
         Ok(())
+    }
+
+    /// Another agent takes the place of a node's.
+    pub fn restart(&mut self, name: &[u8], agent: Agent)
+        ensures { (v : View) → NodesAre v self.old → v.is name.now ≡ true
+            → StandsFor new_node agent → NodesAre (restarted name.now v) self.new }
+    {
+        let Some(node) = self.table.get_mut(name) else {
+            return;
+        };
+        node.restart(agent);
     }
 
     /// Something is done to the agent of a node, from a message on; None where there is no such node. Where memory runs out,

@@ -34,20 +34,22 @@ impl Run {
     ghost use Rattle.world_scripts.specs.Given.{said_number};
     ghost use Rattle.world_scripts.specs.Lines.{is_formed};
     ghost use Rattle.world_scripts.specs.Said.{said_line};
-    ghost use Rattle.world_run.specs.Standing.{Carries, CarriesText, IsShort};
+    ghost use Rattle.world_run.specs.Standing.{CarriesBefore, CarriesText, IsShort};
     ghost use Rattle.world_run.specs.Playing.{PlaysAll, PlaysOne, write_failed};
 
-    // A line is carried out; its steps.
-    fn do_line(&mut self, line: Line<'_>) -> Done
+    // A line is carried out, before those that are left; its steps.
+    fn do_line(&mut self, line: Line<'_>, left: &ScriptLines<'_>) -> Done
         requires { IsShort (said_line line) }
-        ensures carried { Carries (said_line line.entry) self.old result self.new }
+        ensures carried { CarriesBefore left.now (said_line line.entry) self.old result self.new }
         ensures recorded { self.new.recorded ≡ self.old.recorded }
     {
         match line {
             Line::Dom { dom } => self.tell_domain(dom),
             Line::AsKey { tuple } => self.tell_key(tuple),
             Line::AsSpeak { tuple } => self.tell_speak(tuple),
+            Line::Reload => self.reload(left),
             Line::Node { node } => self.make(node),
+            Line::Restart { node } => self.restart(node),
             Line::Ctl { node, line } => self.tell(node, line),
             Line::Open { node, conv } => self.open(node, conv),
             Line::Start {
@@ -71,28 +73,33 @@ impl Run {
     }
 
     // The same of a text, which may be no line. One that is longer than a script is want of memory.
-    fn do_text(&mut self, text: &[u8]) -> Done
-        ensures carried { CarriesText text.now self.old result self.new }
+    fn do_text(&mut self, text: &[u8], left: &ScriptLines<'_>) -> Done
+        ensures carried { CarriesText text.now left.now self.old result self.new }
         ensures recorded { self.new.recorded ≡ self.old.recorded }
     {
         if text.len() > MOST_SCRIPT {
             return Err(Stop::NoMemory);
         }
         match parse_line(text) {
-            Ok(line) => self.do_line(line),
+            Ok(line) => self.do_line(line, left),
             Err(BadForm) => Err(BAD_LINE),
         }
     }
 
-    // A line is carried out and recorded. The end that it comes to, if it does.
-    fn play<W: Sink>(&mut self, line: NumberedLine<'_>, sink: &mut W) -> Option<WorldEnd>
-        ensures played { PlaysOne (said_number line.entry) self.old result self.new
+    // A line is carried out and recorded, before those that are left. The end that it comes to, if it does.
+    fn play<W: Sink>(
+        &mut self,
+        line: NumberedLine<'_>,
+        left: &ScriptLines<'_>,
+        sink: &mut W,
+    ) -> Option<WorldEnd>
+        ensures played { PlaysOne (said_number line.entry) left.now self.old result self.new
             (W.holds sink.old) (W.holds sink.new) }
         ensures counted { W.faults sink.old ≤ W.faults sink.new }
         ensures exact { CountsOutcome (W.faults sink.old) (W.faults sink.new)
             (write_failed result) }
     {
-        match self.do_text(line.text) {
+        match self.do_text(line.text, left) {
             Ok(steps) => match self.recorded.put_all(steps, sink) {
                 Ok(()) => None,
                 Err(Cut::WriteFault) => Some(WorldEnd::WriteFault),
@@ -114,7 +121,7 @@ impl Run {
         ensures exact { CountsOutcome (W.faults sink.old) (W.faults sink.new) (is_fault result) }
     {
         while let Some(line) = lines.next() {
-            if let Some(end) = self.play(line, sink) {
+            if let Some(end) = self.play(line, &lines, sink) {
                 return end;
             }
         }

@@ -10,7 +10,8 @@ use std::alloc::Global;
 use world_history::{Record, Tables};
 
 /// The network: the nodes, the conversations, the sessions of the authentication server, that server, what was recorded, and how
-/// much was told of: how many nodes, how many lines of each table, and whether the server was asked since.
+/// much was told of: how many nodes, how many lines of each of its newest tables, whether the server was asked, and whether it
+/// was since these were begun.
 #[derive(Drop)]
 pub(crate) struct Run {
     pub(crate) alloc: Global,
@@ -23,6 +24,7 @@ pub(crate) struct Run {
     pub(crate) keys: u32,
     pub(crate) speaks: u32,
     pub(crate) asked: bool,
+    pub(crate) used: bool,
 }
 
 impl Run {
@@ -46,6 +48,7 @@ impl Run {
             keys: 0,
             speaks: 0,
             asked: false,
+            used: false,
         }
     }
 }

@@ -125,6 +125,7 @@ impl Run {
             return Err(BAD_LINE);
         }
         self.asked = true;
+        self.used = true;
         let steps = steps_of(self.alloc, number, session, request, words, served, answer)?;
         Ok(steps)
     }

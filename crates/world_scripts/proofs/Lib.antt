@@ -10,3 +10,4 @@ pub mod ScriptLemmas
 pub mod LengthLemmas
 pub mod MadeLemmas
 pub mod NameLemmas
+pub mod WholeLemmas

@@ -1,13 +1,13 @@
 -- Lines are read back as they are written, and nothing else is read as them.
-use Rattle.std.proofs.Common.{◌≡◌, ℕ, List, [], ◌∷◌, ◌++◌, Bool, true, ◌&&◌, leb, length, Some, option_map, refl, sym, ap, subst, ◌∙◌, inl, inr}
+use Rattle.std.proofs.Common.{◌≡◌, ℕ, List, [], ◌∷◌, ◌++◌, Bool, true, ◌&&◌, leb, length, codes, Option, Some, None, option_map, refl, sym, ap, subst, ◌∙◌, inl, inr}
 use Rattle.std.specs.List.{find, list_all}
 use Rattle.std.specs.Str.{bytes_eq}
 use Rattle.std.proofs.lemmas.Bool.{cases_Bool, and_parts, and_from}
 use Rattle.std.proofs.lemmas.Slice.Eq.{bytes_eq-Decides}
 use Rattle.hex.specs.Hex.{encode_lower}
 use Rattle.world_scripts.specs.Pieces.{are_pieces, pieces_text}
-use Rattle.world_scripts.specs.Lines.{ScriptLine, IsWritten, Dom, AsKey, AsSpeak, Node, Ctl, Open, Start, Read, Write, Answer, NoAnswer, AsGive, Close, is_domain, is_formed, is_name, is_name_byte, is_random, line_text, word}
-use Rattle.world_scripts.specs.Reading.{asgive_of, ctl_of, cut_at, line_behind, line_of, name_before, name_of, open_of, pieces_of, random_before, random_of, start_of, verb_name, verb_of, verbs, with_pieces}
+use Rattle.world_scripts.specs.Lines.{ScriptLine, IsWritten, Dom, AsKey, AsSpeak, Reload, Node, Restart, Ctl, Open, Start, Read, Write, Answer, NoAnswer, AsGive, Close, is_domain, is_formed, is_name, is_name_byte, is_random, line_text, word}
+use Rattle.world_scripts.specs.Reading.{asgive_of, ctl_of, cut_at, line_behind, line_in, line_of, name_before, name_of, open_of, pieces_of, random_before, random_of, start_of, verb_name, verb_of, verbs, with_pieces}
 use Rattle.world_scripts.specs.declared.line.Verb.{Verb}
 use Rattle.world_scripts.specs.declared.line.Verb.TheVariants as v
 use Rattle.world_scripts.proofs.CutLemmas.{lacks, lacks_by, cut_again, cut_parts}
@@ -61,6 +61,12 @@ node_parts rest line h =
     let found = map_parts Node (name_of rest) line h in
     let name = name_parts rest found.0 found.1 in
     subst (Reads v.Node rest) found.2 (ap (λ (t : List ℕ). verb_name v.Node ++ word t) name.0, name.1)
+
+restart_parts : (rest : List ℕ) (line : ScriptLine) → option_map Restart (name_of rest) ≡ Some line → Reads v.Restart rest line
+restart_parts rest line h =
+    let found = map_parts Restart (name_of rest) line h in
+    let name = name_parts rest found.0 found.1 in
+    subst (Reads v.Restart rest) found.2 (ap (λ (t : List ℕ). verb_name v.Restart ++ word t) name.0, name.1)
 
 read_parts : (rest : List ℕ) (line : ScriptLine) → option_map Read (name_of rest) ≡ Some line → Reads v.Read rest line
 read_parts rest line h =
@@ -152,6 +158,7 @@ behind_parts v.Dom rest line h =
 behind_parts v.AsKey rest line h = subst (Reads v.AsKey rest) (some_parts (AsKey rest) line h) (refl, refl)
 behind_parts v.AsSpeak rest line h = subst (Reads v.AsSpeak rest) (some_parts (AsSpeak rest) line h) (refl, refl)
 behind_parts v.Node rest line h = node_parts rest line h
+behind_parts v.Restart rest line h = restart_parts rest line h
 behind_parts v.Ctl rest line h = ctl_parts rest line h
 behind_parts v.Open rest line h = open_parts rest line h
 behind_parts v.Start rest line h = start_parts rest line h
@@ -162,13 +169,19 @@ behind_parts v.NoAnswer rest line h = noanswer_parts rest line h
 behind_parts v.AsGive rest line h = asgive_parts rest line h
 behind_parts v.Close rest line h = close_parts rest line h
 
+-- by how it was cut, if it has a blank
+in_parts : (text : List ℕ) (o : Option (List ℕ × List ℕ)) (line : ScriptLine) → ((cut : List ℕ × List ℕ) → o ≡ Some cut → text ≡ cut.0 ++ word cut.1) → line_in text o ≡ Some line → IsWritten text line
+in_parts text None line so h =
+    let found = if_parts (bytes_eq text (codes "reload")) Reload line h in
+    subst (IsWritten text) found.1 (record { same = (bytes_eq-Decides text (codes "reload")).0 found.0; formed = refl })
+in_parts text (Some cut) line so h =
+    let verb = bind_parts (verb_of cut.0) _ line h in
+    let parts = behind_parts verb.0 cut.1 line verb.2 in
+    record { same = so cut refl ∙ ap (λ (t : List ℕ). t ++ word cut.1) (verb_parts cut.0 verb.0 verb.1) ∙ parts.0; formed = parts.1 }
+
 pub line_parts : (text : List ℕ) (line : ScriptLine) → line_of text ≡ Some line → IsWritten text line
 unfolding line_of
-line_parts text line h =
-    let cut = bind_parts (cut_at 32 text) _ line h in
-    let verb = bind_parts (verb_of cut.0.0) _ line cut.2 in
-    let parts = behind_parts verb.0 cut.0.1 line verb.2 in
-    record { same = cut_parts 32 text cut.0 cut.1 ∙ ap (λ (t : List ℕ). t ++ word cut.0.1) (verb_parts cut.0.0 verb.0 verb.1) ∙ parts.0; formed = parts.1 }
+line_parts text line h = in_parts text (cut_at 32 text) line (cut_parts 32 text) h
 
 -- ---- a line that is written
 
@@ -191,10 +204,15 @@ behind_again : (verb : Verb) (rest : List ℕ) (line : ScriptLine) → lacks 32 
 unfolding line_of
 behind_again verb rest line unbroken known read = rw (cut_again 32 (verb_name verb) rest unbroken, known, read) refl
 
+reload_again : line_of (codes "reload") ≡ Some Reload
+unfolding line_of
+reload_again = refl
+
 pub line_again : (line : ScriptLine) → is_formed line ≡ true → line_of (line_text line) ≡ Some line
 line_again (Dom dom) h = behind_again v.Dom dom (Dom dom) refl refl (rw h refl)
 line_again (AsKey tuple) h = behind_again v.AsKey tuple (AsKey tuple) refl refl refl
 line_again (AsSpeak tuple) h = behind_again v.AsSpeak tuple (AsSpeak tuple) refl refl refl
+line_again Reload h = reload_again
 line_again (Ctl node line) h = behind_again v.Ctl (node ++ word line) (Ctl node line) refl refl (rw (name_before_again node line h) refl)
 line_again (Open node conv) h =
     let both = and_parts (is_name node) (is_name conv) h in
@@ -220,6 +238,7 @@ line_again (AsGive session pieces first second third) h =
       random_again third two.1,
     ) refl)
 line_again (Node name) h = behind_again v.Node name (Node name) refl refl (rw (name_again name h) refl)
+line_again (Restart name) h = behind_again v.Restart name (Restart name) refl refl (rw (name_again name h) refl)
 line_again (Read name) h = behind_again v.Read name (Read name) refl refl (rw (name_again name h) refl)
 line_again (NoAnswer name) h = behind_again v.NoAnswer name (NoAnswer name) refl refl (rw (name_again name h) refl)
 line_again (Close name) h = behind_again v.Close name (Close name) refl refl (rw (name_again name h) refl)

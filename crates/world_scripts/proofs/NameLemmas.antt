@@ -5,7 +5,7 @@ use Rattle.std.specs.List.{list_any}
 use Rattle.std.specs.Str.{bytes_eq}
 use Rattle.std.proofs.lemmas.Bool.{and_from, and_parts, cases_Bool, eq-eqb, eqb-true, not_from_false, or_from}
 use Rattle.world_scripts.specs.Pieces.{number_in}
-use Rattle.world_scripts.specs.Lines.{ScriptLine, Dom, AsKey, AsSpeak, Node, Ctl, Open, Start, Read, Write, Answer, NoAnswer, AsGive, Close}
+use Rattle.world_scripts.specs.Lines.{ScriptLine, Dom, AsKey, AsSpeak, Reload, Node, Restart, Ctl, Open, Start, Read, Write, Answer, NoAnswer, AsGive, Close}
 use Rattle.world_scripts.specs.declared.round.Drawn.{Drawn}
 use Rattle.world_scripts.specs.declared.round.Kind.{Kind}
 use Rattle.world_scripts.specs.declared.round.Kind.TheVariants.{Honest, Replayed, Unanswered, Blank}
@@ -29,7 +29,9 @@ abbrev pub knows : Known → ScriptLine → Bool
 knows k (Dom dom) = false
 knows k (AsKey tuple) = false
 knows k (AsSpeak tuple) = false
+knows k Reload = false
 knows k (Node node) = false
+knows k (Restart node) = false
 knows k (Ctl node line) = false
 knows k (Open node conv) = is_one node k.nodes && not (is_one conv k.given)
 knows k (Start conv random tuple) = is_one conv k.talking

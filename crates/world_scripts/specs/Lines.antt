@@ -12,8 +12,11 @@ pub data ScriptLine : Type 0 where
   Dom : (dom : List ℕ) → ScriptLine
   AsKey : (tuple : List ℕ) → ScriptLine
   AsSpeak : (tuple : List ℕ) → ScriptLine
-  -- a new agent, and a line of its ctl
+  -- its tables are read again: new ones, of which the lines behind tell
+  Reload : ScriptLine
+  -- a new agent, the same anew, and a line of its ctl
   Node : (node : List ℕ) → ScriptLine
+  Restart : (node : List ℕ) → ScriptLine
   Ctl : (node line : List ℕ) → ScriptLine
   -- a new conversation on an agent, and its start, with the random bytes that it draws
   Open : (node conv : List ℕ) → ScriptLine
@@ -38,7 +41,9 @@ abbrev pub line_text : ScriptLine → List ℕ
 line_text (Dom dom) = codes "dom" ++ word dom
 line_text (AsKey tuple) = codes "askey" ++ word tuple
 line_text (AsSpeak tuple) = codes "asspeak" ++ word tuple
+line_text Reload = codes "reload"
 line_text (Node node) = codes "node" ++ word node
+line_text (Restart node) = codes "restart" ++ word node
 line_text (Ctl node line) = codes "ctl" ++ word (node ++ word line)
 line_text (Open node conv) = codes "open" ++ word (node ++ word conv)
 line_text (Start conv random tuple) = codes "start" ++ word (conv ++ word (encode_lower random ++ word tuple))
@@ -74,7 +79,9 @@ abbrev pub is_formed : ScriptLine → Bool
 is_formed (Dom dom) = is_domain dom
 is_formed (AsKey tuple) = true
 is_formed (AsSpeak tuple) = true
+is_formed Reload = true
 is_formed (Node node) = is_name node
+is_formed (Restart node) = is_name node
 is_formed (Ctl node line) = is_name node
 is_formed (Open node conv) = is_name node && is_name conv
 is_formed (Start conv random tuple) = is_name conv && is_random random

@@ -6,7 +6,7 @@ use Rattle.std.specs.Result.{result_unwrap_or}
 use Rattle.std.specs.Str.{bytes_eq}
 use Rattle.hex.specs.Hex.{decode_of}
 use Rattle.world_scripts.specs.Pieces.{Piece, Spelled, Whole, Part, are_pairs, is_number}
-use Rattle.world_scripts.specs.Lines.{ScriptLine, Dom, AsKey, AsSpeak, Node, Ctl, Open, Start, Read, Write, Answer, NoAnswer, AsGive, Close, is_name, is_domain}
+use Rattle.world_scripts.specs.Lines.{ScriptLine, Dom, AsKey, AsSpeak, Reload, Node, Restart, Ctl, Open, Start, Read, Write, Answer, NoAnswer, AsGive, Close, is_name, is_domain}
 use Rattle.world_scripts.specs.declared.line.Verb.{Verb}
 use Rattle.world_scripts.specs.declared.line.Verb.TheVariants as v
 
@@ -97,12 +97,13 @@ pieces_of text = each_piece (slice_split (λ b. b == 43) text)
 
 -- ---- lines
 
--- the first word of a line
+-- the first word of a line that has more than one
 abbrev pub verb_name : Verb → List ℕ
 verb_name v.Dom = codes "dom"
 verb_name v.AsKey = codes "askey"
 verb_name v.AsSpeak = codes "asspeak"
 verb_name v.Node = codes "node"
+verb_name v.Restart = codes "restart"
 verb_name v.Ctl = codes "ctl"
 verb_name v.Open = codes "open"
 verb_name v.Start = codes "start"
@@ -114,8 +115,8 @@ verb_name v.AsGive = codes "asgive"
 verb_name v.Close = codes "close"
 
 abbrev pub verbs : List Verb
-verbs = v.Dom ∷ v.AsKey ∷ v.AsSpeak ∷ v.Node ∷ v.Ctl ∷ v.Open ∷ v.Start ∷ v.Read ∷ v.Write ∷ v.Answer ∷ v.NoAnswer
-    ∷ v.AsGive ∷ v.Close ∷ []
+verbs = v.Dom ∷ v.AsKey ∷ v.AsSpeak ∷ v.Node ∷ v.Restart ∷ v.Ctl ∷ v.Open ∷ v.Start ∷ v.Read ∷ v.Write ∷ v.Answer
+    ∷ v.NoAnswer ∷ v.AsGive ∷ v.Close ∷ []
 
 -- the verb whose name a text is
 abbrev pub verb_of : List ℕ → Option Verb
@@ -164,6 +165,7 @@ line_behind v.Dom text = dom_of text
 line_behind v.AsKey text = Some (AsKey text)
 line_behind v.AsSpeak text = Some (AsSpeak text)
 line_behind v.Node text = option_map Node (name_of text)
+line_behind v.Restart text = option_map Restart (name_of text)
 line_behind v.Ctl text = ctl_of text
 line_behind v.Open text = open_of text
 line_behind v.Start text = start_of text
@@ -174,9 +176,17 @@ line_behind v.NoAnswer text = option_map NoAnswer (name_of text)
 line_behind v.AsGive text = asgive_of text
 line_behind v.Close text = option_map Close (name_of text)
 
--- the line that a text is
-unfoldable pub line_of : List ℕ → Option ScriptLine
-line_of text = do
-  cut ← cut_at 32 text
+-- the line that is one word
+abbrev pub word_alone : List ℕ → Option ScriptLine
+word_alone text = if bytes_eq text (codes "reload") then Some Reload else None
+
+-- the line of a text, by what stands before its first blank and behind it
+abbrev pub line_in : List ℕ → Option (List ℕ × List ℕ) → Option ScriptLine
+line_in text None = word_alone text
+line_in text (Some cut) = do
   verb ← verb_of cut.0
   line_behind verb cut.1
+
+-- the line that a text is
+unfoldable pub line_of : List ℕ → Option ScriptLine
+line_of text = line_in text (cut_at 32 text)

@@ -1,5 +1,6 @@
 -- A script is lines, which newlines part. Empty ones and those that begin with `#` are skipped, but counted.
-use Rattle.std.specs.Prelude.{ℕ, ◌+◌, List, [], ◌∷◌, Bool, true, ◌==◌, if◌then◌else◌}
+use Rattle.std.specs.Prelude.{ℕ, ◌+◌, List, [], ◌∷◌, Bool, true, not, ◌==◌, if◌then◌else◌}
+use Rattle.std.specs.List.{list_all}
 use Rattle.attr_tuples.specs.Cutting.{text_lines}
 
 -- a line of a script with its number
@@ -22,3 +23,10 @@ numbered n (line ∷ lines) =
 -- the lines of a script, numbered from 1 on
 abbrev pub script_lines : List ℕ → List Numbered
 script_lines text = numbered 1 (text_lines text)
+
+-- a text has no newline, and none of some lines has one
+abbrev pub is_whole : List ℕ → Bool
+is_whole text = list_all (λ b. not (b == 10)) text
+
+abbrev pub are_whole : List Numbered → Bool
+are_whole lines = list_all (λ line. is_whole line.text) lines

@@ -1,7 +1,7 @@
 // One line of a script.
 ghost use Rattle.std.specs.Prelude.{◌≡◌, option_map, IfOk};
-ghost use Rattle.world_scripts.specs.Lines.{IsWritten, Node, Read, Write, Answer, NoAnswer, Close};
-ghost use Rattle.world_scripts.specs.Reading.{asgive_of, ctl_of, dom_of, line_behind, line_of, name_of, open_of, start_of, verb_of, with_pieces};
+ghost use Rattle.world_scripts.specs.Lines.{IsWritten, Node, Restart, Read, Write, Answer, NoAnswer, Close};
+ghost use Rattle.world_scripts.specs.Reading.{asgive_of, ctl_of, dom_of, line_behind, line_of, name_of, open_of, start_of, verb_of, with_pieces, word_alone};
 ghost use Rattle.world_scripts.specs.Said.{read_as, said_line};
 
 use crate::pieces::Pieces;
@@ -26,8 +26,14 @@ pub enum Line<'a> {
     AsSpeak {
         tuple: &'a [u8],
     },
+    /// Its tables are read again: new ones, of which the lines behind tell.
+    Reload,
     /// A new agent.
     Node {
+        node: &'a [u8],
+    },
+    /// The agent of a node is made anew.
+    Restart {
         node: &'a [u8],
     },
     /// A line of an agent's ctl.
@@ -78,13 +84,14 @@ pub enum Line<'a> {
     },
 }
 
-/// The first word of a line.
+/// The first word of a line that has more than one.
 #[derive(Clone, Copy)]
 enum Verb {
     Dom,
     AsKey,
     AsSpeak,
     Node,
+    Restart,
     Ctl,
     Open,
     Start,
@@ -111,8 +118,19 @@ pub fn parse_line(text: &[u8]) -> Result<Line<'_>, BadForm>
 fn read_line(text: &[u8]) -> Option<Line<'_>>
     ensures { option_map said_line result ≡ line_of text.now }
 {
-    let (verb, rest) = cut_at(b' ', text)?;
-    read_behind(read_verb(verb)?, rest)
+    match cut_at(b' ', text) {
+        Some((verb, rest)) => read_behind(read_verb(verb)?, rest),
+        None => read_word(text),
+    }
+}
+
+fn read_word(text: &[u8]) -> Option<Line<'_>>
+    ensures { option_map said_line result ≡ word_alone text.now }
+{
+    if text == b"reload".as_slice() {
+        return Some(Line::Reload);
+    }
+    None
 }
 
 fn read_verb(text: &[u8]) -> Option<Verb>
@@ -129,6 +147,9 @@ fn read_verb(text: &[u8]) -> Option<Verb>
     }
     if text == b"node".as_slice() {
         return Some(Verb::Node);
+    }
+    if text == b"restart".as_slice() {
+        return Some(Verb::Restart);
     }
     if text == b"ctl".as_slice() {
         return Some(Verb::Ctl);
@@ -168,6 +189,7 @@ fn read_behind(verb: Verb, text: &[u8]) -> Option<Line<'_>>
         Verb::AsKey => Some(Line::AsKey { tuple: text }),
         Verb::AsSpeak => Some(Line::AsSpeak { tuple: text }),
         Verb::Node => read_node(text),
+        Verb::Restart => read_restart(text),
         Verb::Ctl => read_ctl(text),
         Verb::Open => read_open(text),
         Verb::Start => read_start(text),
@@ -195,6 +217,13 @@ fn read_node(text: &[u8]) -> Option<Line<'_>>
 {
     let node = read_name(text)?;
     Some(Line::Node { node })
+}
+
+fn read_restart(text: &[u8]) -> Option<Line<'_>>
+    ensures { option_map said_line result ≡ option_map Restart (name_of text.now) }
+{
+    let node = read_name(text)?;
+    Some(Line::Restart { node })
 }
 
 fn read_ctl(text: &[u8]) -> Option<Line<'_>>

@@ -1,6 +1,6 @@
 // A script, cut into its numbered lines.
-ghost use Rattle.std.specs.Prelude.{◌≡◌};
-ghost use Rattle.world_scripts.specs.Scripts.{is_skipped, script_lines};
+ghost use Rattle.std.specs.Prelude.{◌≡◌, true};
+ghost use Rattle.world_scripts.specs.Scripts.{are_whole, is_skipped, script_lines};
 
 use attr_tuples::cut_line;
 use std::marker::Model;
@@ -39,6 +39,17 @@ impl<'a> ScriptLines<'a> {
         ScriptLines {
             next: 1,
             left: Some(script),
+        }
+    }
+
+    /// The lines that are left, which stay where they are.
+    pub fn rest(&self) -> ScriptLines<'a>
+        ensures same { result ≡ self.now }
+        ensures whole { are_whole self.now ≡ true }
+    {
+        ScriptLines {
+            next: self.next,
+            left: self.left,
         }
     }
 }

@@ -1,4 +1,4 @@
-use Rattle.world_history.proofs.TellLemmas.{asked_known, dom_told, key_told, keys_few, speak_told, speaks_few, tells_first, tells_on}
+use Rattle.world_history.proofs.TellLemmas.{asked_known, dom_told, key_told, keys_few, speak_told, speaks_few, tells_again, tells_first, tells_on}
 use Rattle.world_history.proofs.laws.tables_are_told_in_time.Goals as goal
 
 pub returns-clause-first : goal.returns-clause-first
@@ -24,3 +24,6 @@ returns-clause-few_speaks c = speaks_few
 
 pub returns-clause-asked : goal.returns-clause-asked
 returns-clause-asked c = asked_known
+
+pub returns-clause-again : goal.returns-clause-again
+returns-clause-again c = tells_again

@@ -15,39 +15,39 @@ use Rattle.world_run.proofs.RunLemmas.{answer_done, answer_long, answer_short, d
 use Rattle.world_run.proofs.run.Run.answer.Goals as goal
 
 pub returns-in_err-found-clause-carried : goal.returns-in_err-found-clause-carried
-returns-in_err-found-clause-carried c = λ before left acts is h.
+returns-in_err-found-clause-carried c = λ left before acts is h.
     let p = err_from_is_err_and c.from_residual.result c.from_residual.ensures.1 in
     rw (p.1, p.2) (find_stops c.args.conv.now c.args.self.now.talks c.in_err-found.field-0.0 left acts (Some (l.Answer c.args.conv.now c.args.pieces)) c.args.self.now c.in_err-found.ensures h.talks (conv_unknown acts (l.Answer c.args.conv.now c.args.pieces) c.args.conv.now refl))
 
 pub returns-in_err-given-clause-carried : goal.returns-in_err-given-clause-carried
-returns-in_err-given-clause-carried c = λ before left acts is h.
+returns-in_err-given-clause-carried c = λ left before acts is h.
     let p = err_from_is_err_and c.from_residual-in_err-given.result c.from_residual-in_err-given.ensures.1 in
     let o = find_gives c.args.conv.now c.args.self.now.talks c.in_ok-found.found acts c.in_ok-found.ensures h.talks in
     let there = open_found acts c.args.conv.now c.in_ok-found.found.node c.in_ok-found.found.fid c.in_ok-found.found.call o in
     rw (p.1, p.2) (spell_stops c.args.self.now.recorded c.args.pieces c.in_err-given.field-0.0 left acts (Some (l.Answer c.args.conv.now c.args.pieces)) c.args.self.now c.in_err-given.ensures h.recorded (answer_unspelled acts c.args.conv.now c.args.pieces there))
 
 pub returns-in_default-clause-carried : goal.returns-in_default-clause-carried
-returns-in_default-clause-carried c = λ before left acts is h.
+returns-in_default-clause-carried c = λ left before acts is h.
     let o = find_gives c.args.conv.now c.args.self.now.talks c.in_ok-found.found acts c.in_ok-found.ensures h.talks in
     let there = open_found acts c.args.conv.now c.in_ok-found.found.node c.in_ok-found.found.fid c.in_ok-found.found.call o in
     answer_judged acts c.args.conv.now c.in_ok-given.given c.args.pieces there (spelled_now c.args.self.now.recorded c.args.pieces _ acts h.recorded c.in_ok-given.ensures)
     ∙ unfit acts _ (unasked_unfit acts c.args.conv.now c.in_ok-given.given (call_now acts c.args.conv.now) (o.asks ∙ search (rules, c.in_default)))
 
 pub returns-then-len-gt-MOST_ANSWER-clause-carried : goal.returns-then-len-gt-MOST_ANSWER-clause-carried
-returns-then-len-gt-MOST_ANSWER-clause-carried c = λ before left acts is h.
+returns-then-len-gt-MOST_ANSWER-clause-carried c = λ left before acts is h.
     let o = find_gives c.args.conv.now c.args.self.now.talks c.in_ok-found.found acts c.in_ok-found.ensures h.talks in
     let there = open_found acts c.args.conv.now c.in_ok-found.found.node c.in_ok-found.found.fid c.in_ok-found.found.call o in
     answer_judged acts c.args.conv.now c.in_ok-given.given c.args.pieces there (spelled_now c.args.self.now.recorded c.args.pieces _ acts h.recorded c.in_ok-given.ensures)
     ∙ unfit acts _ (answer_unfit acts c.args.conv.now c.in_ok-given.given (call_now acts c.args.conv.now) (answer_long (length c.in_ok-given.given) (rw c.len.ensures at c.if-len-gt-MOST_ANSWER.true)))
 
 pub returns-in_err-turned-clause-carried : goal.returns-in_err-turned-clause-carried
-returns-in_err-turned-clause-carried c = λ before left acts is h.
+returns-in_err-turned-clause-carried c = λ left before acts is h.
     let p = err_from_is_err_and c.from_residual-in_err-turned.result c.from_residual-in_err-turned.ensures.1 in
     let o = find_gives c.args.conv.now c.args.self.now.talks c.in_ok-found.found acts c.in_ok-found.ensures h.talks in
     rw (p.1, p.2) (take_stops c.as_slice-node.result.now (does.hears c.args.conv.now c.in_ok-found.found.fid c.in-Some.call c.as_slice-bytes.result.now) c.args.self.now.nodes c.args.self.now.recorded c.in_err-turned.field-0.0 c.take.new.nodes (nodes_by acts) left acts (Some (l.Answer c.args.conv.now c.args.pieces)) (with_both c.args.self.now c.take.new.nodes c.args.self.now.talks) c.in_err-turned.ensures h.nodes (ap (a.is_node acts) c.as_slice-node.ensures ∙ o.made))
 
 pub returns-clause-carried : goal.returns-clause-carried
-returns-clause-carried c = λ before left acts is h.
+returns-clause-carried c = λ left before acts is h.
     let o = find_gives c.args.conv.now c.args.self.now.talks c.in_ok-found.found acts c.in_ok-found.ensures h.talks in
     let there = open_found acts c.args.conv.now c.in_ok-found.found.node c.in_ok-found.found.fid c.in_ok-found.found.call o in
     let call = o.asks ∙ c.in-Some.is in

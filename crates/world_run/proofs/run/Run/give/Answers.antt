@@ -16,19 +16,19 @@ use Rattle.world_run.proofs.RunLemmas.{find_gives, find_stops, given_long, given
 use Rattle.world_run.proofs.run.Run.give.Goals as goal
 
 pub returns-in_err-found-clause-carried : goal.returns-in_err-found-clause-carried
-returns-in_err-found-clause-carried c = λ before left acts is h.
+returns-in_err-found-clause-carried c = λ left before acts is h.
     let p = err_from_is_err_and c.from_residual.result c.from_residual.ensures.1 in
     rw (p.1, p.2) (find_stops c.args.conv.now c.args.self.now.talks c.in_err-found.field-0.0 left acts (Some (l.Write c.args.conv.now c.args.pieces)) c.args.self.now c.in_err-found.ensures h.talks (conv_unknown acts (l.Write c.args.conv.now c.args.pieces) c.args.conv.now refl))
 
 pub returns-in_err-given-clause-carried : goal.returns-in_err-given-clause-carried
-returns-in_err-given-clause-carried c = λ before left acts is h.
+returns-in_err-given-clause-carried c = λ left before acts is h.
     let p = err_from_is_err_and c.from_residual-in_err-given.result c.from_residual-in_err-given.ensures.1 in
     let o = find_gives c.args.conv.now c.args.self.now.talks c.in_ok-found.found acts c.in_ok-found.ensures h.talks in
     let there = open_found acts c.args.conv.now c.in_ok-found.found.node c.in_ok-found.found.fid c.in_ok-found.found.call o in
     rw (p.1, p.2) (spell_stops c.args.self.now.recorded c.args.pieces c.in_err-given.field-0.0 left acts (Some (l.Write c.args.conv.now c.args.pieces)) c.args.self.now c.in_err-given.ensures h.recorded (write_unspelled acts c.args.conv.now c.args.pieces there))
 
 pub returns-then-len-gt-MOST_GIVEN-clause-carried : goal.returns-then-len-gt-MOST_GIVEN-clause-carried
-returns-then-len-gt-MOST_GIVEN-clause-carried c = λ before left acts is h.
+returns-then-len-gt-MOST_GIVEN-clause-carried c = λ left before acts is h.
     let o = find_gives c.args.conv.now c.args.self.now.talks c.in_ok-found.found acts c.in_ok-found.ensures h.talks in
     let there = open_found acts c.args.conv.now c.in_ok-found.found.node c.in_ok-found.found.fid c.in_ok-found.found.call o in
     write_judged acts c.args.conv.now c.in_ok-given.given c.args.pieces there (spelled_now c.args.self.now.recorded c.args.pieces _ acts h.recorded c.in_ok-given.ensures)
@@ -38,7 +38,7 @@ pub ask_it-requires : goal.ask_it-requires
 ask_it-requires c = omega (arith, ap length c.as_slice-bytes.ensures, c.if-len-gt-MOST_GIVEN.false, c.len.ensures)
 
 pub returns-clause-carried : goal.returns-clause-carried
-returns-clause-carried c = λ before left acts is h.
+returns-clause-carried c = λ left before acts is h.
     let o = find_gives c.args.conv.now c.args.self.now.talks c.in_ok-found.found acts c.in_ok-found.ensures h.talks in
     let there = open_found acts c.args.conv.now c.in_ok-found.found.node c.in_ok-found.found.fid c.in_ok-found.found.call o in
     let fit = write_judged acts c.args.conv.now c.in_ok-given.given c.args.pieces there (spelled_now c.args.self.now.recorded c.args.pieces _ acts h.recorded c.in_ok-given.ensures)

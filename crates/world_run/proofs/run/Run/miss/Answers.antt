@@ -15,25 +15,25 @@ use Rattle.world_run.proofs.RunLemmas.{done_as, find_gives, find_stops, line_jud
 use Rattle.world_run.proofs.run.Run.miss.Goals as goal
 
 pub returns-in_err-found-clause-carried : goal.returns-in_err-found-clause-carried
-returns-in_err-found-clause-carried c = λ before left acts is h.
+returns-in_err-found-clause-carried c = λ left before acts is h.
     let p = err_from_is_err_and c.from_residual.result c.from_residual.ensures.1 in
     rw (p.1, p.2) (find_stops c.args.conv.now c.args.self.now.talks c.in_err-found.field-0.0 left acts (Some (l.NoAnswer c.args.conv.now)) c.args.self.now c.in_err-found.ensures h.talks (conv_unknown acts (l.NoAnswer c.args.conv.now) c.args.conv.now refl))
 
 pub returns-in_default-clause-carried : goal.returns-in_default-clause-carried
-returns-in_default-clause-carried c = λ before left acts is h.
+returns-in_default-clause-carried c = λ left before acts is h.
     let o = find_gives c.args.conv.now c.args.self.now.talks c.in_ok-found.found acts c.in_ok-found.ensures h.talks in
     let there = open_found acts c.args.conv.now c.in_ok-found.found.node c.in_ok-found.found.fid c.in_ok-found.found.call o in
     conv_known acts (l.NoAnswer c.args.conv.now) c.args.conv.now refl there
     ∙ unfit acts (a.Unanswered c.args.conv.now (call_now acts c.args.conv.now)) (miss_unfit acts c.args.conv.now (call_now acts c.args.conv.now) (o.asks ∙ search (rules, c.in_default)))
 
 pub returns-in_err-turned-clause-carried : goal.returns-in_err-turned-clause-carried
-returns-in_err-turned-clause-carried c = λ before left acts is h.
+returns-in_err-turned-clause-carried c = λ left before acts is h.
     let p = err_from_is_err_and c.from_residual-in_err-turned.result c.from_residual-in_err-turned.ensures.1 in
     let o = find_gives c.args.conv.now c.args.self.now.talks c.in_ok-found.found acts c.in_ok-found.ensures h.talks in
     rw (p.1, p.2) (take_stops c.as_slice-node.result.now (does.misses c.args.conv.now c.in_ok-found.found.fid c.in-Some.call) c.args.self.now.nodes c.args.self.now.recorded c.in_err-turned.field-0.0 c.take.new.nodes (nodes_by acts) left acts (Some (l.NoAnswer c.args.conv.now)) (with_both c.args.self.now c.take.new.nodes c.args.self.now.talks) c.in_err-turned.ensures h.nodes (ap (a.is_node acts) c.as_slice-node.ensures ∙ o.made))
 
 pub returns-clause-carried : goal.returns-clause-carried
-returns-clause-carried c = λ before left acts is h.
+returns-clause-carried c = λ left before acts is h.
     let o = find_gives c.args.conv.now c.args.self.now.talks c.in_ok-found.found acts c.in_ok-found.ensures h.talks in
     let there = open_found acts c.args.conv.now c.in_ok-found.found.node c.in_ok-found.found.fid c.in_ok-found.found.call o in
     let call = o.asks ∙ c.in-Some.is in

@@ -4,24 +4,24 @@ use Rattle.world_run.proofs.PlayingLemmas.{ends_bad, ends_cut, ends_part}
 use Rattle.world_run.proofs.run.Run.play.Goals as goal
 
 pub returns-in-Err-WriteFault-clause-played : goal.returns-in-Err-WriteFault-clause-played
-returns-in-Err-WriteFault-clause-played g c = λ left acts h.
-    ends_cut (record { number = c.args.line.number; text = c.args.line.text.now }) left acts _ c.args.self.now c.do_text.new.self c.in-Ok.steps.items c.put_all.new.self (g.W.Sink.holds c.args.sink.now) (g.W.Sink.holds c.put_all.new.sink) h
-    (c.in-Ok.ensures.carried c.args.line.number left acts h) (rw c.in-Err-WriteFault.field-0-is at c.in-Err-WriteFault.ensures.err)
+returns-in-Err-WriteFault-clause-played g c = λ acts h.
+    ends_cut (record { number = c.args.line.number; text = c.args.line.text.now }) c.args.left.now acts _ c.args.self.now c.do_text.new.self c.in-Ok.steps.items c.put_all.new.self (g.W.Sink.holds c.args.sink.now) (g.W.Sink.holds c.put_all.new.sink) h
+    (c.in-Ok.ensures.carried c.args.line.number acts h) (rw c.in-Err-WriteFault.field-0-is at c.in-Err-WriteFault.ensures.err)
 
 pub returns-in-Err-NoMemory-put_all-clause-played : goal.returns-in-Err-NoMemory-put_all-clause-played
-returns-in-Err-NoMemory-put_all-clause-played g c = λ left acts h.
-    ends_cut (record { number = c.args.line.number; text = c.args.line.text.now }) left acts _ c.args.self.now c.do_text.new.self c.in-Ok.steps.items c.put_all.new.self (g.W.Sink.holds c.args.sink.now) (g.W.Sink.holds c.put_all.new.sink) h
-    (c.in-Ok.ensures.carried c.args.line.number left acts h) (rw c.in-Err-NoMemory-put_all.field-0-is at c.in-Err-NoMemory-put_all.ensures.err)
+returns-in-Err-NoMemory-put_all-clause-played g c = λ acts h.
+    ends_cut (record { number = c.args.line.number; text = c.args.line.text.now }) c.args.left.now acts _ c.args.self.now c.do_text.new.self c.in-Ok.steps.items c.put_all.new.self (g.W.Sink.holds c.args.sink.now) (g.W.Sink.holds c.put_all.new.sink) h
+    (c.in-Ok.ensures.carried c.args.line.number acts h) (rw c.in-Err-NoMemory-put_all.field-0-is at c.in-Err-NoMemory-put_all.ensures.err)
 
 pub returns-in-Ok-try_from-clause-played : goal.returns-in-Ok-try_from-clause-played
-returns-in-Ok-try_from-clause-played g c = λ left acts h.
-    rw c.in-Ok-try_from.ensures.1 (ends_bad (record { number = c.args.line.number; text = c.args.line.text.now }) left acts c.in-Err-Refused.cause c.args.self.now c.do_text.new.self (g.W.Sink.holds c.args.sink.now) h
-    ((rw c.in-Err-Refused.field-0-is at c.in-Err-Refused.ensures.carried) c.args.line.number left acts h) c.do_text.ensures.recorded)
+returns-in-Ok-try_from-clause-played g c = λ acts h.
+    rw c.in-Ok-try_from.ensures.1 (ends_bad (record { number = c.args.line.number; text = c.args.line.text.now }) c.args.left.now acts c.in-Err-Refused.cause c.args.self.now c.do_text.new.self (g.W.Sink.holds c.args.sink.now) h
+    ((rw c.in-Err-Refused.field-0-is at c.in-Err-Refused.ensures.carried) c.args.line.number acts h) c.do_text.ensures.recorded)
 
 pub returns-in-Err-clause-played : goal.returns-in-Err-clause-played
-returns-in-Err-clause-played g c = λ left acts h.
-    ends_part ((record { number = c.args.line.number; text = c.args.line.text.now }) ∷ left) acts c.args.self.now c.do_text.new.self (g.W.Sink.holds c.args.sink.now) h.recorded c.do_text.ensures.recorded
+returns-in-Err-clause-played g c = λ acts h.
+    ends_part ((record { number = c.args.line.number; text = c.args.line.text.now }) ∷ c.args.left.now) acts c.args.self.now c.do_text.new.self (g.W.Sink.holds c.args.sink.now) h.recorded c.do_text.ensures.recorded
 
 pub returns-in-Err-NoMemory-clause-played : goal.returns-in-Err-NoMemory-clause-played
-returns-in-Err-NoMemory-clause-played g c = λ left acts h.
-    ends_part ((record { number = c.args.line.number; text = c.args.line.text.now }) ∷ left) acts c.args.self.now c.do_text.new.self (g.W.Sink.holds c.args.sink.now) h.recorded c.do_text.ensures.recorded
+returns-in-Err-NoMemory-clause-played g c = λ acts h.
+    ends_part ((record { number = c.args.line.number; text = c.args.line.text.now }) ∷ c.args.left.now) acts c.args.self.now c.do_text.new.self (g.W.Sink.holds c.args.sink.now) h.recorded c.do_text.ensures.recorded

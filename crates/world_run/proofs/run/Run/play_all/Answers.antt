@@ -8,7 +8,7 @@ returns-in-Some-play-clause-played g c = λ first h.
     let more : c.loop-line.lines ≡ said_number c.in-Some.line ∷ c.next.new.self = search rules in
     going_ends c.args.lines (said_number c.in-Some.line) c.next.new.self first c.in-Some-play.end c.args.self.now c.loop-line.self c.play.new.self (g.W.Sink.holds c.args.sink.now) (g.W.Sink.holds c.loop-line.sink) (g.W.Sink.holds c.play.new.sink)
     (subst (λ ls. Going c.args.lines ls first c.args.self.now c.loop-line.self (g.W.Sink.holds c.args.sink.now) (g.W.Sink.holds c.loop-line.sink)) more (c.loop-line.invariant.going first h))
-    (λ acts s. c.in-Some-play.ensures.played c.next.new.self acts s)
+    (λ acts s. c.in-Some-play.ensures.played acts s)
 
 pub loop-line-preserved : goal.loop-line-preserved
 loop-line-preserved g c =
@@ -16,6 +16,6 @@ loop-line-preserved g c =
     record {
       going = λ first h. going_on c.args.lines (said_number c.in-Some.line) c.next.new.self first c.args.self.now c.loop-line.self c.play.new.self (g.W.Sink.holds c.args.sink.now) (g.W.Sink.holds c.loop-line.sink) (g.W.Sink.holds c.play.new.sink)
           (subst (λ ls. Going c.args.lines ls first c.args.self.now c.loop-line.self (g.W.Sink.holds c.args.sink.now) (g.W.Sink.holds c.loop-line.sink)) more (c.loop-line.invariant.going first h))
-          (λ acts s. c.in_default-play.ensures.played c.next.new.self acts s);
+          (λ acts s. c.in_default-play.ensures.played acts s);
       steady = search rules;
     }

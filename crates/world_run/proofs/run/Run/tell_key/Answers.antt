@@ -1,6 +1,6 @@
 use Rattle.std.proofs.Common.{◌≡◌, ◌∷◌, ◌++◌, [], ℕ, List, true, false, Some, None, Ok, Err, refl, sym, ap, subst, ◌∙◌, rules}
 use Rattle.std.specs.Prelude.{◌||◌}
-use Rattle.world_history.specs.Acts.{KeyLine, key_lines, was_asked}
+use Rattle.world_history.specs.Acts.{KeyLine, key_lines, were_used}
 use Rattle.world_scripts.specs.Lines as l
 use Rattle.world_run.proofs.LineLemmas.{fits, unfit}
 use Rattle.world_history.specs.Servers.{is_next}
@@ -10,16 +10,16 @@ use Rattle.world_run.proofs.NameLemmas.{key_done, or_known, or_neither}
 use Rattle.world_run.proofs.run.Run.tell_key.Goals as goal
 
 pub returns-then-self-clause-carried : goal.returns-then-self-clause-carried
-returns-then-self-clause-carried c = λ before left acts is h. unfit acts (KeyLine c.args.tuple.now) (key_told before left acts c.args.tuple.now c.args.self.now.tables h.tables is ∙ or_known _ _ (sym h.asked ∙ c.if-self.true))
+returns-then-self-clause-carried c = λ left before acts is h. unfit acts (KeyLine c.args.tuple.now) (key_told before left acts c.args.tuple.now c.args.self.now.tables h.tables is ∙ or_known _ _ (sym h.used ∙ c.if-self.true))
 
 pub returns-then-refuses_key-clause-carried : goal.returns-then-refuses_key-clause-carried
-returns-then-refuses_key-clause-carried c = λ before left acts is h.
+returns-then-refuses_key-clause-carried c = λ left before acts is h.
     unfit acts (KeyLine c.args.tuple.now) (key_told before left acts c.args.tuple.now c.args.self.now.tables h.tables is
-    ∙ or_neither _ _ _ (sym h.asked ∙ c.if-self.false) (ap (is_next c.args.self.now.tables.bad_key) (sym h.keys) ∙ (sym c.refuses_key.ensures ∙ c.if-refuses_key.true)))
+    ∙ or_neither _ _ _ (sym h.used ∙ c.if-self.false) (ap (is_next c.args.self.now.tables.bad_key) (sym h.keys) ∙ (sym c.refuses_key.ensures ∙ c.if-refuses_key.true)))
 
 pub returns-clause-carried : goal.returns-clause-carried
-returns-clause-carried c = λ before left acts is h.
+returns-clause-carried c = λ left before acts is h.
     let fit = fits acts (KeyLine c.args.tuple.now) (key_told before left acts c.args.tuple.now c.args.self.now.tables h.tables is
-    ∙ or_neither _ _ _ (sym h.asked ∙ c.if-self.false) (ap (is_next c.args.self.now.tables.bad_key) (sym h.keys) ∙ (sym c.refuses_key.ensures ∙ c.if-refuses_key.false))) in
+    ∙ or_neither _ _ _ (sym h.used ∙ c.if-self.false) (ap (is_next c.args.self.now.tables.bad_key) (sym h.keys) ∙ (sym c.refuses_key.ensures ∙ c.if-refuses_key.false))) in
     rw c.new.ensures.items (done_as left acts _ _ [] _ is (key_done before left acts c.args.tuple.now c.args.self.now c.in-Some.more
     (line_judged acts _ (l.AsKey c.args.tuple.now) (KeyLine c.args.tuple.now) is fit) h (search rules)))

@@ -3,7 +3,7 @@ use Rattle.std.specs.Str.{is_utf8, chars}
 use lib.Utf8.{encode}
 use Rattle.wire_base.specs.Texts.{is_text}
 use Rattle.world_scripts.specs.Lines.{is_domain}
-use Rattle.world_history.proofs.told.Gathering.new.Goals as goal
+use Rattle.world_history.proofs.domains.ToldDomain.new.Goals as goal
 
 x_is_domain : is_domain (120 ∷ []) ≡ true
 unfolding is_text is_utf8 chars encode
