@@ -1,0 +1,136 @@
+//! label_rows: cases of lines and texts of labels, which stand in a file of rows. It tells how many cases the file has, and each
+//! that isn't as wanted, and ends with status 1 where there is one.
+#![tactic(auto)]
+
+use anyhow::{Context, bail};
+use row_files::{Report, Row, read_rows};
+use std::alloc::Global;
+use std::fs::File;
+use std::process::ExitCode;
+use trace_labels::{LabelLine, LabelsFault, Unread, parse_label_line, read_labels};
+use wire_base::Bytes;
+use wire_streams::{ReadSource, SteadySource, WriteSink, read_whole, write_all};
+
+/// The file of the cases.
+const FILE: &str = "labels.rows";
+
+/// How many bytes it may have.
+const MOST_ROWS: usize = 1048576;
+
+// The first word of a line.
+fn word_of(line: &LabelLine) -> &'static [u8] {
+    match line {
+        LabelLine::Compromised { .. } => b"compromised".as_slice(),
+        LabelLine::Holder { .. } => b"holder".as_slice(),
+        LabelLine::Reading { .. } => b"reading".as_slice(),
+        LabelLine::Label { .. } => b"label".as_slice(),
+        LabelLine::Proof { .. } => b"proof".as_slice(),
+    }
+}
+
+// What a line is.
+fn tell_line(alloc: Global, text: &[u8]) -> anyhow::Result<Bytes> {
+    match parse_label_line(alloc, text) {
+        Ok(line) => Ok(Bytes::from_slice(alloc, word_of(&line))?),
+        Err(Unread::BadForm) => Ok(Bytes::from_slice(alloc, b"no")?),
+        Err(Unread::NoMemory) => bail!("out of memory"),
+    }
+}
+
+// What a text of labels is.
+fn tell_text(alloc: Global, text: &[u8]) -> anyhow::Result<Bytes> {
+    let mut source = SteadySource::new(text.to_vec(alloc)?);
+    let told = match read_labels(alloc, &mut source) {
+        Ok(labels) => format!(in alloc; "{}", labels.len())?,
+        Err(LabelsFault::BadLabels { line }) => format!(in alloc; "bad {line}")?,
+        Err(LabelsFault::Flood) => format!(in alloc; "flood")?,
+        Err(LabelsFault::ReadFault) => bail!("a read failed"),
+        Err(LabelsFault::NoMemory) => bail!("out of memory"),
+    };
+    Ok(Bytes::from_slice(alloc, told.as_bytes())?)
+}
+
+// A row's fields behind its word, with a newline behind each.
+fn lines_of(alloc: Global, row: &Row) -> anyhow::Result<Bytes> {
+    let mut text = Bytes::new(alloc);
+    for field in row.given.iter().skip(1) {
+        text.append(field.as_slice())?;
+        text.push(b'\n')?;
+    }
+    Ok(text)
+}
+
+// A label that is so deep.
+fn deep_label(alloc: Global, deep: u32) -> anyhow::Result<Bytes> {
+    let mut text = Bytes::from_slice(alloc, b"label 1 ")?;
+    for _ in 1..deep {
+        text.append(b"cat 1 ")?;
+    }
+    text.append(b"nonce 0")?;
+    Ok(text)
+}
+
+fn field_of(row: &Row) -> &[u8] {
+    match row.field(1) {
+        Some(field) => field,
+        None => b"",
+    }
+}
+
+// What comes of a row.
+fn play(alloc: Global, row: &Row) -> anyhow::Result<Bytes> {
+    match row.word() {
+        b"line" => tell_line(alloc, field_of(row)),
+        b"raw" => tell_text(alloc, field_of(row)),
+        b"text" => tell_text(alloc, lines_of(alloc, row)?.as_slice()),
+        b"deep" => {
+            let deep = std::str::from_utf8(field_of(row))?.parse::<u32>()?;
+            tell_line(alloc, deep_label(alloc, deep)?.as_slice())
+        }
+        _ => bail!("no such row"),
+    }
+}
+
+fn put(rt: &HostRuntime, text: &[u8]) -> anyhow::Result<()> {
+    match write_all(text, &mut WriteSink::new(rt.stdout())) {
+        Ok(()) => Ok(()),
+        Err(_) => bail!("standard output takes no more"),
+    }
+}
+
+fn compare(alloc: Global, row: &Row, came: Bytes, report: &mut Report) -> anyhow::Result<()> {
+    let mut fields = Vec::new(alloc);
+    fields.push(came)?;
+    Ok(report.compare(alloc, FILE, row, &fields)?)
+}
+
+fn play_all(rt: &HostRuntime, rows: &[Row], report: &mut Report) -> anyhow::Result<()> {
+    for row in rows {
+        let came = play(rt.alloc(), row)?;
+        compare(rt.alloc(), row, came, report)?;
+    }
+    Ok(())
+}
+
+fn read_file(rt: &HostRuntime) -> anyhow::Result<Vec<u8>> {
+    let file = File::open(rt, FILE).context(FILE)?;
+    match read_whole(rt.alloc(), MOST_ROWS, &mut ReadSource::new(file)) {
+        Ok(text) => Ok(text),
+        Err(_) => bail!("the file isn't read"),
+    }
+}
+
+fn main(rt: HostRuntime) -> anyhow::Result<ExitCode> {
+    let text = read_file(&rt)?;
+    let rows = read_rows(rt.alloc(), &text).context(FILE)?;
+    let mut report = Report::new(rt.alloc());
+    play_all(&rt, &rows, &mut report)?;
+    put(&rt, report.told())?;
+    let (cases, unlike) = (report.cases(), report.unlike());
+    let line = format!(in rt.alloc(); "{cases} cases, {unlike} not as wanted\n")?;
+    put(&rt, line.as_bytes())?;
+    if unlike > 0 {
+        return Ok(ExitCode::from(1));
+    }
+    Ok(ExitCode::SUCCESS)
+}

@@ -1,0 +1,9 @@
+pub mod Splits
+pub mod Numbers
+pub mod Parts
+pub mod Said
+pub mod TermLaws
+pub mod StepLaws
+pub mod LineLaws
+pub mod Judging
+pub mod ReadLaws

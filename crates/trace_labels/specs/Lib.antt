@@ -1,0 +1,10 @@
+pub mod Words
+pub mod Terms
+pub mod Steps
+pub mod Lines
+pub mod Reading
+pub mod Left
+pub mod Said
+pub mod Labels
+pub mod Reads
+pub mod Judged
