@@ -1,6 +1,6 @@
-//! script_rows: cases of scripts of a network, of the nodes and records that they come to, and of the terms of messages, which
-//! stand in files of rows. It tells how many cases each file has, and each that isn't as wanted, and ends with status 1 where
-//! there is one.
+//! script_rows: cases of scripts of a network, of the nodes and records that they come to, of the terms of messages, and of
+//! texts of labels, which stand in files of rows. It tells how many cases each file has, and each that isn't as wanted, and
+//! ends with status 1 where there is one.
 #![tactic(auto)]
 
 use anyhow::{Context, bail};
@@ -10,6 +10,7 @@ use wire_streams::{WriteSink, write_all};
 
 mod came;
 mod driven;
+mod label_rows;
 mod records;
 mod script_lines;
 mod spelled_terms;
@@ -28,6 +29,7 @@ enum Subject {
     Driven,
     TakenTurns,
     Terms,
+    Labels,
 }
 
 /// A file of rows.
@@ -36,7 +38,7 @@ struct Listed {
     subject: Subject,
 }
 
-static FILES: [Listed; 6] = [
+static FILES: [Listed; 7] = [
     Listed {
         file: "lines.rows",
         subject: Subject::ScriptLines,
@@ -60,6 +62,10 @@ static FILES: [Listed; 6] = [
     Listed {
         file: "terms.rows",
         subject: Subject::Terms,
+    },
+    Listed {
+        file: "labels.rows",
+        subject: Subject::Labels,
     },
 ];
 
@@ -86,6 +92,7 @@ fn play_rows(
         Subject::Driven => driven::play(rt, file, rows, report),
         Subject::TakenTurns => taken_turns::play(rt, file, rows, report),
         Subject::Terms => term_rows::play(rt, file, rows, report),
+        Subject::Labels => label_rows::play(rt.alloc(), file, rows, report),
     }
 }
 

@@ -1,21 +1,10 @@
-//! label_rows: cases of lines and texts of labels, which stand in a file of rows. It tells how many cases the file has, and each
-//! that isn't as wanted, and ends with status 1 where there is one.
-#![tactic(auto)]
-
-use anyhow::{Context, bail};
-use row_files::{Report, Row, read_rows};
+// Rows of lines of labels and of texts of them: what each is, and the first line that is bad.
+use anyhow::bail;
+use row_files::{Report, Row};
 use std::alloc::Global;
-use std::fs::File;
-use std::process::ExitCode;
 use trace_labels::{LabelLine, LabelsFault, Unread, parse_label_line, read_labels};
 use wire_base::Bytes;
-use wire_streams::{ReadSource, SteadySource, WriteSink, read_whole, write_all};
-
-/// The file of the cases.
-const FILE: &str = "labels.rows";
-
-/// How many bytes it may have.
-const MOST_ROWS: usize = 1048576;
+use wire_streams::SteadySource;
 
 // The first word of a line.
 fn word_of(line: &LabelLine) -> &'static [u8] {
@@ -78,7 +67,7 @@ fn field_of(row: &Row) -> &[u8] {
 }
 
 // What comes of a row.
-fn play(alloc: Global, row: &Row) -> anyhow::Result<Bytes> {
+fn tell(alloc: Global, row: &Row) -> anyhow::Result<Bytes> {
     match row.word() {
         b"line" => tell_line(alloc, field_of(row)),
         b"raw" => tell_text(alloc, field_of(row)),
@@ -91,46 +80,17 @@ fn play(alloc: Global, row: &Row) -> anyhow::Result<Bytes> {
     }
 }
 
-fn put(rt: &HostRuntime, text: &[u8]) -> anyhow::Result<()> {
-    match write_all(text, &mut WriteSink::new(rt.stdout())) {
-        Ok(()) => Ok(()),
-        Err(_) => bail!("standard output takes no more"),
-    }
-}
-
-fn compare(alloc: Global, row: &Row, came: Bytes, report: &mut Report) -> anyhow::Result<()> {
-    let mut fields = Vec::new(alloc);
-    fields.push(came)?;
-    Ok(report.compare(alloc, FILE, row, &fields)?)
-}
-
-fn play_all(rt: &HostRuntime, rows: &[Row], report: &mut Report) -> anyhow::Result<()> {
+/// Plays the rows of a file.
+pub fn play(
+    alloc: Global,
+    file: &'static str,
+    rows: &[Row],
+    report: &mut Report,
+) -> anyhow::Result<()> {
     for row in rows {
-        let came = play(rt.alloc(), row)?;
-        compare(rt.alloc(), row, came, report)?;
+        let mut fields = Vec::new(alloc);
+        fields.push(tell(alloc, row)?)?;
+        report.compare(alloc, file, row, &fields)?;
     }
     Ok(())
-}
-
-fn read_file(rt: &HostRuntime) -> anyhow::Result<Vec<u8>> {
-    let file = File::open(rt, FILE).context(FILE)?;
-    match read_whole(rt.alloc(), MOST_ROWS, &mut ReadSource::new(file)) {
-        Ok(text) => Ok(text),
-        Err(_) => bail!("the file isn't read"),
-    }
-}
-
-fn main(rt: HostRuntime) -> anyhow::Result<ExitCode> {
-    let text = read_file(&rt)?;
-    let rows = read_rows(rt.alloc(), &text).context(FILE)?;
-    let mut report = Report::new(rt.alloc());
-    play_all(&rt, &rows, &mut report)?;
-    put(&rt, report.told())?;
-    let (cases, unlike) = (report.cases(), report.unlike());
-    let line = format!(in rt.alloc(); "{cases} cases, {unlike} not as wanted\n")?;
-    put(&rt, line.as_bytes())?;
-    if unlike > 0 {
-        return Ok(ExitCode::from(1));
-    }
-    Ok(ExitCode::SUCCESS)
 }
