@@ -197,7 +197,7 @@ off_on node name [] = elim (cases_Bool (bytes_eq node name)) [
 ]
 off_on node name (t ∷ ts) = elim (cases_Bool (bytes_eq t.node node)) [
   | inl its ↦ ap (conv_on name) (off_gone node t ts its) ∙ (off_on node name ts ∙ gone its (cases_Bool (bytes_eq node name)))
-  | inr its ↦ ap (conv_on name) (off_kept node t ts its) ∙ kept its (cases_Bool (bytes_eq t.node name))
+  | inr its ↦ ap (conv_on name) (off_kept node t ts its) ∙ kept its (off_on node name ts) (cases_Bool (bytes_eq t.node name))
 ] where
   gone : bytes_eq t.node node ≡ true → (bytes_eq node name ≡ true) ⊎ (bytes_eq node name ≡ false) → cond (bytes_eq node name) [] (conv_on name ts) ≡ cond (bytes_eq node name) [] (conv_on name (t ∷ ts))
   gone its (inl is) = cond-true _ _ _ is ∙ sym (cond-true _ _ _ is)
@@ -209,8 +209,8 @@ off_on node name (t ∷ ts) = elim (cases_Bool (bytes_eq t.node node)) [
     turned true e = absurd (false≢true (sym its ∙ names_turn node t.node e))
     turned false e = e
 
-  kept : bytes_eq t.node node ≡ false → (bytes_eq t.node name ≡ true) ⊎ (bytes_eq t.node name ≡ false) → conv_on name (t ∷ off node ts) ≡ cond (bytes_eq node name) [] (conv_on name (t ∷ ts))
-  kept its (inl is) = on_kept name t (off node ts) is
-      ∙ (ap (λ (os : List (List ℕ × ℕ)). (t.conv, t.fid) ∷ os) (off_on node name ts ∙ cond-false _ _ _ (apart its is))
+  kept : bytes_eq t.node node ≡ false → conv_on name (off node ts) ≡ cond (bytes_eq node name) [] (conv_on name ts) → (bytes_eq t.node name ≡ true) ⊎ (bytes_eq t.node name ≡ false) → conv_on name (t ∷ off node ts) ≡ cond (bytes_eq node name) [] (conv_on name (t ∷ ts))
+  kept its rest (inl is) = on_kept name t (off node ts) is
+      ∙ (ap (λ (os : List (List ℕ × ℕ)). (t.conv, t.fid) ∷ os) (rest ∙ cond-false _ _ _ (apart its is))
       ∙ (sym (on_kept name t ts is) ∙ sym (cond-false _ _ _ (apart its is))))
-  kept its (inr is) = on_other name t (off node ts) is ∙ (off_on node name ts ∙ ap (cond (bytes_eq node name) []) (sym (on_other name t ts is)))
+  kept its rest (inr is) = on_other name t (off node ts) is ∙ (rest ∙ ap (cond (bytes_eq node name) []) (sym (on_other name t ts is)))

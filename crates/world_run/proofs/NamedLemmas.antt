@@ -1,5 +1,5 @@
 -- What a name finds once what stands under a name was changed.
-use Rattle.std.proofs.Common.{◌≡◌, ℕ, List, Bool, true, false, cond, Option, Some, None, refl, sym, ap, subst, ◌∙◌, inl, inr}
+use Rattle.std.proofs.Common.{◌≡◌, ℕ, List, [], ◌∷◌, map, Bool, true, false, cond, Option, Some, None, refl, sym, ap, subst, ◌∙◌, inl, inr}
 use Rattle.std.specs.Prelude.{is_some, option_map}
 use Rattle.std.specs.Map.{lookup}
 use Rattle.std.specs.Str.{bytes_eq}
@@ -32,3 +32,14 @@ changed_none {X} name change old none other = elim (cases_Bool (bytes_eq name ot
 pub put_found : {X : Type 0} (name : List ℕ) (value : X) (old new : List (List ℕ × X))
     → ((other : List ℕ) → lookup (bytes_eq other) new ≡ cond (bytes_eq name other) (Some value) (lookup (bytes_eq other) old)) → is_some (lookup (bytes_eq name) new) ≡ true
 put_found {X} name value old new others = ap is_some (others name ∙ cond-true _ _ _ ((bytes_decides name name).1 refl))
+
+-- what a name finds once all values were changed, whatever the keys are kept as
+pub changed_each : {K X : Type 0} (items : K → List ℕ) (change : X → X) (test : List ℕ → Bool) (es : List (K × X))
+    → lookup test (map (λ (e : K × X). (items e.0, e.1)) (map (λ (e : K × X). (e.0, change e.1)) es)) ≡ option_map change (lookup test (map (λ (e : K × X). (items e.0, e.1)) es))
+changed_each items change test [] = refl
+changed_each {K} {X} items change test (e ∷ es) = by (test (items e.0)) (changed_each items change test es)
+  where
+    by : (b : Bool) → lookup test (map (λ (x : K × X). (items x.0, x.1)) (map (λ (x : K × X). (x.0, change x.1)) es)) ≡ option_map change (lookup test (map (λ (x : K × X). (items x.0, x.1)) es))
+        → cond b (Some (change e.1)) (lookup test (map (λ (x : K × X). (items x.0, x.1)) (map (λ (x : K × X). (x.0, change x.1)) es))) ≡ option_map change (cond b (Some e.1) (lookup test (map (λ (x : K × X). (items x.0, x.1)) es)))
+    by true rest = refl
+    by false rest = rest
