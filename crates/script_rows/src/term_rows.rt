@@ -1,4 +1,4 @@
-// Rows of terms: the bytes that they stand for, and what follows from what is known.
+// Rows of terms: the bytes that they stand for, what follows from what is known, and labels of what was taken.
 use crate::came::Came;
 use crate::spelled_terms::term_of;
 use crate::texts::{Texts, argument, number_at};
@@ -9,6 +9,7 @@ use symbolic_runs::{
     MacKind, Places, Proof, ProofStep, Reading, SpellFault, Term, Terms, check_derivation,
     conclude, spell,
 };
+use trace_labels::{label_holds, spells};
 use wire_base::Bytes;
 
 /// What the rows that follow are over: the bytes of atoms, what is known, a derivation, and what its steps come to.
@@ -122,6 +123,17 @@ impl Known {
         }
     }
 
+    // `spells BYTES TERM`: whether the term is spelled so; `label BYTES TERM`: whether the steps conclude it besides.
+    fn judge(&self, alloc: Global, row: &Row, came: &mut Came) -> anyhow::Result<()> {
+        let bytes = argument(row, 1)?;
+        let term = term_of(alloc, row, 2)?;
+        let holds = match row.word() {
+            b"spells" => spells(&self.reading, &term, bytes)?,
+            _ => label_holds(&self.reading, &self.known, &self.proof, &term, bytes)?,
+        };
+        came.put_yes(holds)
+    }
+
     // Rows of derivations.
     fn derive(&mut self, alloc: Global, row: &Row, came: &mut Came) -> anyhow::Result<()> {
         match row.word() {
@@ -150,6 +162,7 @@ impl Known {
             b"set" => self.set(rt.alloc(), row, came),
             b"bytes" => self.put_atom(rt.alloc(), row, came),
             b"spell" => self.spell(rt, row, came),
+            b"spells" | b"label" => self.judge(rt.alloc(), row, came),
             _ => self.derive(rt.alloc(), row, came),
         }
     }
