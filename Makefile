@@ -30,8 +30,9 @@ build:
 demo:
 	@scripts/need rt python3
 	@echo 'The programs are built without their proofs for this demonstration, each once; make build proves them.'
-	@scripts/build_unproved factotum authd auth_attach pass_change nine_show
+	@scripts/build_unproved factotum authd
 	@scripts/login bin/unproved
+	@scripts/build_unproved auth_attach pass_change nine_show
 	@scripts/demo bin/unproved
 
 attacks:
