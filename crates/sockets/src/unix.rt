@@ -150,14 +150,15 @@ fn make_folder<R: Files>(rt: &R, alloc: Global, parent: &str) -> Result<String, 
     Err(OpenFault::Refused(ErrorKind::AlreadyExists))
 }
 
-// Removes the folders of lower numbers that the user of the one made has. What others made, a symbolic link too, is left
-// alone, and nobody else can move a folder of this user's in one that all may write to, as /tmp.
+// Removes all other folders that the user of the one made has. What others made, a symbolic link too, is left alone, and
+// nobody else can move a folder of this user's in one that all may write to, as /tmp.
 fn remove_left<R: Files>(rt: &R, alloc: Global, parent: &str, number: u32, made: &str) {
     let Ok(mine) = fs::symlink_metadata(rt, made) else {
         return;
     };
-    for lower in 0..number {
-        if let Ok(folder) = folder_of(alloc, parent, lower)
+    for other in 0..MOST_LEFT {
+        if other != number
+            && let Ok(folder) = folder_of(alloc, parent, other)
             && let Ok(inner) = inner_of(alloc, &folder)
             && let Ok(found) = fs::symlink_metadata(rt, folder.as_str())
             && found.is_dir()
