@@ -9,12 +9,10 @@ ghost use Rattle.factotum_program.specs.Sights.{sight};
 ghost use Rattle.factotum_program.specs.Words.{IsUnread, draws_words, is_command, is_pipe, reads_input, IsTask};
 ghost use Rattle.nine.specs.Streams.{IsFrames};
 ghost use Rattle.wire_streams.specs.Causes.{Rose};
-ghost use Rattle.world_history.specs.Scripts.{play};
 ghost use Rattle.world_program.specs.Playing.{IsPlayable, WorldSo};
 ghost use Rattle.world_program.specs.Summing.{GenSo};
 ghost use Rattle.world_program.specs.Words.{gen_given, is_world};
 ghost use Rattle.world_program.specs.declared.words.GenWords.{GenWords};
-ghost use Rattle.world_scripts.specs.Generated.{gen_text};
 
 use auth_program::Status;
 use factotum_program::Task;
@@ -99,7 +97,6 @@ pub fn run_command<R: Source, F: Source, W: Sink, D: Dialer, G: Words>(
         → (Rose (W.faults output.old) (W.faults output.new) → ⊥)
         → (result ≡ Status.Fine) ⊎ (result ≡ Status.NoMemory) }
     ensures gen_complete { (given : GenWords) → gen_given words.now ≡ Some given
-        → (play (gen_text given.number given.rounds)).refused ≡ None
         → (Rose (W.faults output.old) (W.faults output.new) → ⊥)
         → (result ≡ Status.Fine) ⊎ (result ≡ Status.NoMemory) }
 {

@@ -10,18 +10,18 @@ use world_history::{Record, Tables};
 use world_scripts::ScriptLines;
 
 /// As `Record::message`.
-pub fn record_message<'x>(record: &'x Record, number: u64) -> Option<&'x [u8]>
+pub fn record_message<'x>(kept: &'x Record, number: u64) -> Option<&'x [u8]>
     ensures { option_map (λ bytes. bytes.now) result
-        ≡ slice_get (messages_in record.now) number }
+        ≡ slice_get (messages_in kept.now) number }
 {
-    record.message(number)
+    kept.message(number)
 }
 
 /// As `Record::next_message`.
-pub fn record_next_message(record: &Record) -> Result<u32, NoMemory>
-    ensures { IfOk result (λ number. number ≡ length (messages_in record.now)) }
+pub fn record_next_message(kept: &Record) -> Result<u32, NoMemory>
+    ensures { IfOk result (λ number. number ≡ length (messages_in kept.now)) }
 {
-    record.next_message()
+    kept.next_message()
 }
 
 /// As `Tables::refuses_key`.
