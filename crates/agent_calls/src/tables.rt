@@ -1,11 +1,12 @@
 // The public calls of `auth_tables`.
-ghost use Rattle.std.specs.Prelude.{◌≡◌, ◌<◌, option_copied, ◌+◌, ◌^◌, ℕ, List, None, Some, length, IfErr, IfOk, OnOk};
-ghost use Rattle.auth_tables.specs.Keys.{key_of, bad_key_line, table_keys};
+ghost use Rattle.std.specs.Prelude.{◌≡◌, ◌<◌, option_copied, option_map, ◌+◌, ◌^◌, ℕ, List, None, Some, length, IfErr, IfOk, OnOk};
+ghost use Rattle.auth_tables.specs.Keys.{key_of, bad_key_line, table_keys, user_at};
 ghost use Rattle.auth_tables.specs.Speaks.{names_of, may_speak, bad_speak_line, names_in, table_speaks};
 ghost use Rattle.auth_tables.specs.declared.lines.TableFault.TheVariants.{Line};
 
 use auth_tables::{AsKey, KeyTable, SpeaksTable, TableFault};
 use std::alloc::Global;
+use wire_base::Text;
 
 /// As `KeyTable::find`.
 pub fn key_table_find<'x>(key_table: &'x KeyTable, user: &[u8]) -> Option<&'x AsKey>
@@ -14,11 +15,19 @@ pub fn key_table_find<'x>(key_table: &'x KeyTable, user: &[u8]) -> Option<&'x As
     key_table.find(user)
 }
 
+/// As `KeyTable::user_at`.
+pub fn key_table_user_at(key_table: &KeyTable, place: usize) -> Option<&Text>
+    ensures { option_map (λ user. user.now) result ≡ user_at place key_table.now }
+{
+    key_table.user_at(place)
+}
+
 /// As `parse_keys`.
 pub fn parse_keys(alloc: Global, file: &[u8]) -> Result<KeyTable, TableFault>
     requires { length file.now + 1 < 2 ^ 32 }
     ensures keys { IfOk result (λ table. (user : List ℕ)
         → key_of user table ≡ key_of user (table_keys file.now)) }
+    ensures order { IfOk result (λ table. table ≡ table_keys file.now) }
     ensures good { OnOk result (bad_key_line file.now ≡ None) }
     ensures bad { IfErr result (λ fault. (line : ℕ) → fault ≡ Line line
         → bad_key_line file.now ≡ Some line) }

@@ -117,6 +117,13 @@ unfolding value_of
 given_value name test [] h = absurd cc
 given_value name test (a ∷ attrs) h = given_step (is_named name a) a.value (texts_of name attrs) test (gives name test attrs) h (given_value name test attrs)
 
+-- a user's key names a user
+pub user_named : (t : List Attr) (name : List ℕ) → is_user_key t ≡ true → name ≡ codes "user" → None ≡ value_of name t → ⊥
+user_named t name h is none =
+    let once = (and_parts (gives_once (codes "user") is_user t) _ h).0 in
+    let some : false ≡ true = ap is_some (none ∙ ap (λ (name : List ℕ). value_of name t) is) ∙ given_value (codes "user") is_user t (and_parts (is_named_once (codes "user") t) _ once).1 in
+    cc
+
 -- what a tuple gives is a line of a table
 pub given_line : (t : List Attr) → is_tuple t ≡ true → is_user_key t ≡ true → length (key_given t).1.des ≡ 7 → IsBytes (key_given t).1.des → IsKeyLine (key_given t)
 given_line t valid h seven bytes = by_user (value_of (codes "user") t) refl

@@ -1,4 +1,5 @@
 pub mod MapLemmas
+pub mod PlaceLemmas
 pub mod KeyLemmas
 pub mod LineLemmas
 pub mod FoundLemmas

@@ -73,20 +73,6 @@ password_put old two three asked text password is same b c =
 
 -- ---- a password that is set
 
-set_step : {K X : Type 0} (read : K → List ℕ) (e : K × X) (value : X) (rest some : List (K × X)) (all : List (List ℕ × X)) (a b : Bool) → a ≡ b → read_by read some ≡ all
-    → read_by read (cond a ((e.0, value) ∷ rest) (e ∷ some)) ≡ cond b ((read e.0, value) ∷ read_by read rest) ((read e.0, e.1) ∷ all)
-set_step read e value rest some all true true h g = refl
-set_step read e value rest some all true false h g = absurd cc
-set_step read e value rest some all false true h g = absurd cc
-set_step {K} {X} read e value rest some all false false h g = ap (λ (es : List (List ℕ × X)). (read e.0, e.1) ∷ es) g
-
--- what is written at a query is written where the bytes are
-pub set_by_bytes : {K X : Type 0} (read : K → List ℕ) (bytes : List ℕ) (entries : List (K × X)) (value : X) → read_by read (set_value (is_at (by_bytes read bytes)) entries value) ≡ set_value (bytes_eq bytes) (read_by read entries) value
-set_by_bytes read bytes [] value = refl
-set_by_bytes read bytes (e ∷ entries) value =
-    set_step read e value entries (set_value (is_at (by_bytes read bytes)) entries value) (set_value (bytes_eq bytes) (read_by read entries) value) (is_at (by_bytes read bytes) e.0) (bytes_eq bytes (read e.0)) (is_eq-slice_cmp bytes (read e.0))
-    (set_by_bytes read bytes entries value)
-
 nothing_step : {X : Type 0} (e : List ℕ × X) (value : X) (rest some : List (List ℕ × X)) (found : Option X) (b : Bool) → cond b (Some e.1) found ≡ None → (found ≡ None → some ≡ rest) → cond b ((e.0, value) ∷ rest) (e ∷ some) ≡ e ∷ rest
 nothing_step e value rest some found true h g = absurd cc
 nothing_step {X} e value rest some found false h g = ap (λ (es : List (List ℕ × X)). e ∷ es) (g h)
@@ -95,38 +81,6 @@ nothing_step {X} e value rest some found false h g = ap (λ (es : List (List ℕ
 pub set_nothing : {X : Type 0} (test : List ℕ → Bool) (entries : List (List ℕ × X)) (value : X) → lookup test entries ≡ None → set_value test entries value ≡ entries
 set_nothing test [] value h = refl
 set_nothing test (e ∷ entries) value h = nothing_step e value entries (set_value test entries value) (lookup test entries) (test e.0) h (set_nothing test entries value)
-
--- ---- a key that is put in
-
-put_step : {K : Type 0} (read : K → List ℕ) (e : K × UserKey) (k : K) (v : UserKey) (rest some : List (K × UserKey)) (o : Ordering) → IsKeyLine (read k, v) → IsKeyLine (read e.0, e.1) → AllByRecursion IsKeyLine (read_by read rest) → AllByRecursion IsKeyLine (read_by read some)
-    → AllByRecursion IsKeyLine (read_by read (match_ordering o ((k, v) ∷ e ∷ rest) ((e.0, v) ∷ rest) (e ∷ some)))
-put_step read e k v rest some Less h g more later = (h, (g, more))
-put_step read e k v rest some Equal h g more later = (record { user = g.user; user_text = g.user_text; seven = h.seven; bytes = h.bytes; password = h.password }, more)
-put_step read e k v rest some Greater h g more later = (g, later)
-
--- where a line can be given, and the others can, all can behind it
-pub put_good : {K : Type 0} (read : K → List ℕ) (cmp : K → K → Ordering) (entries : List (K × UserKey)) (k : K) (v : UserKey) → IsKeyLine (read k, v) → AllByRecursion IsKeyLine (read_by read entries) → AllByRecursion IsKeyLine (read_by read (insert_entry cmp entries k v))
-put_good read cmp [] k v h g = (h, tt)
-put_good read cmp (e ∷ entries) k v h g = put_step read e k v entries (insert_entry cmp entries k v) (cmp k e.0) h g.0 g.1 (put_good read cmp entries k v h g.1)
-
--- keys in order are apart
-less_differs : (one other : List ℕ) → slice_cmp nat_cmp one other ≡ Less → one ≢ other
-less_differs one other less same = let s : false ≡ true = ap is_eq (sym less) ∙ (is_eq-slice_cmp one other ∙ (bytes_decides one other).1 same) in absurd cc
-
-all_differ : {K X : Type 0} (read : K → List ℕ) (k : K) (es : List (K × X)) → AllByRecursion (λ (other : K). slice_cmp nat_cmp (read k) (read other) ≡ Less) (keys_of es) → AllByRecursion (λ (other : List ℕ × X). read k ≢ other.0) (read_by read es)
-all_differ read k [] h = tt
-all_differ read k (e ∷ es) h = (less_differs (read k) (read e.0) h.0, all_differ read k es h.1)
-
-pairs_more : {X : Type 0} (R : X → X → Type 0) (x : X) (xs : List X) → AllByRecursion (R x) xs → AllPairs R xs → AllPairs R (x ∷ xs)
-pairs_more R x xs h g zero zero d lt le = absurd (omega (arith, lt))
-pairs_more R x xs h g zero (suc j) d lt le = All-from_recursion (R x) xs h j d (omega (arith, le))
-pairs_more R x xs h g (suc i) zero d lt le = absurd (omega (arith, lt))
-pairs_more R x xs h g (suc i) (suc j) d lt le = g i j d (omega (arith, lt)) (omega (arith, le))
-
-pub sorted_apart : {K X : Type 0} (read : K → List ℕ) (es : List (K × X)) → IsStrictlySortedBy (λ (x : K) (y : K). slice_cmp nat_cmp (read x) (read y)) (keys_of es) → AllPairs (λ (line : List ℕ × X) (other : List ℕ × X). line.0 ≢ other.0) (read_by read es)
-unfolding IsStrictlySortedBy
-sorted_apart read [] h = λ i j d lt le. absurd (omega (arith, le))
-sorted_apart {K} {X} read (e ∷ es) h = pairs_more (λ (line : List ℕ × X) (other : List ℕ × X). line.0 ≢ other.0) (read e.0, e.1) (read_by read es) (all_differ read e.0 es h.0) (sorted_apart read es h.1)
 
 -- ---- a table in which a password is set
 

@@ -1,7 +1,7 @@
 -- The keys of users, as the authentication server knows them. After keyfs(4) and authsrv(6) of the Plan 9 manual; the
 -- form of a line, a tuple as factotum(4) has it, is this project's.
-use Rattle.std.specs.Prelude.{ℕ, List, [], Bool, false, not, ◌&&◌, ◌||◌, is_none, codes, Option, Some, None, unwrap_or, if◌then◌else◌}
-use Rattle.std.specs.List.{list_all, filter_map}
+use Rattle.std.specs.Prelude.{ℕ, List, [], Bool, false, not, ◌&&◌, ◌||◌, is_none, codes, Option, Some, None, option_map, unwrap_or, if◌then◌else◌}
+use Rattle.std.specs.List.{list_all, filter_map, slice_get}
 use Rattle.std.specs.Map.{lookup}
 use Rattle.std.specs.Str.{bytes_eq}
 use Rattle.attr_tuples.specs.Cutting.{text_lines}
@@ -25,6 +25,10 @@ KeyLine = List ℕ × UserKey
 -- the key of a user, if there is one
 abbrev pub key_of : List ℕ → List KeyLine → Option UserKey
 key_of user keys = lookup (bytes_eq user) keys
+
+-- the user of the entry at a place, counted from 0 in the order of lines, if an entry has that place
+abbrev pub user_at : ℕ → List KeyLine → Option (List ℕ)
+user_at place keys = option_map (λ line. line.0) (slice_get keys place)
 
 -- ---- a line
 

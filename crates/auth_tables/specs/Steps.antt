@@ -1,21 +1,31 @@
 -- Words for the steps of reading a table. No public contract cites them.
-use Rattle.std.specs.Prelude.{◌≡◌, ℕ, ◌≤◌, All, List, [], ◌++◌, Bool, Option, Some, None, length, codes, if◌then◌else◌}
+use Rattle.std.specs.Prelude.{◌≡◌, ℕ, ◌+◌, ◌≤◌, All, List, [], ◌∷◌, ◌++◌, Bool, Option, Some, None, option_map, length, codes, if◌then◌else◌}
 use Rattle.std.specs.Borrow.{Bor}
+use Rattle.std.specs.Map.{lookup}
+use Rattle.std.specs.Str.{bytes_eq}
 use Rattle.attr_tuples.specs.Cutting.{lines_left}
 use Rattle.auth_tables.specs.Lines.{counted, first_bad_behind}
 use Rattle.hex.specs.Hex.{encode_lower}
 use Rattle.attr_tuples.specs.Words.{value_text}
-use Rattle.auth_tables.specs.Keys.{KeyLine, UserKey, key_of, keys_in}
+use Rattle.auth_tables.specs.Keys.{KeyLine, UserKey, keys_in}
 use Rattle.auth_tables.specs.Printing.{AreApart, IsKeyLine, is_of_password}
 use Rattle.auth_tables.specs.Speaks.{SpeakLine, names_in, names_of, speaks_in}
 
--- a table of keys tells of each user what lines give him
-abbrev pub TellsKeys : List (List ℕ) → List KeyLine → Type 0
-TellsKeys lines table = (user : List ℕ) → key_of user table ≡ key_of user (keys_in lines)
+-- the place of a user's line, counted from 0, if he has one
+abbrev pub place_of : List ℕ → List KeyLine → Option ℕ
+place_of user [] = None
+place_of user (line ∷ lines) =
+    if bytes_eq user line.0 then Some 0
+    else option_map (λ place. place + 1) (place_of user lines)
 
--- and its lines can be given, no user has two, and each stands for one that was read
+-- a map finds the place of each user's line
+abbrev pub FindPlaces : List KeyLine → List (List ℕ × ℕ) → Type 0
+FindPlaces lines places = (user : List ℕ) → lookup (bytes_eq user) places ≡ place_of user lines
+
+-- a table of keys is what lines give, in order; its lines can be given, no user has two, and each stands for one that
+-- was read
 pub record Keeps (lines : List (List ℕ)) (table : List KeyLine) : Type 0 where
-  pub tells : TellsKeys lines table
+  pub same : table ≡ keys_in lines
   pub good : All IsKeyLine table
   pub apart : AreApart table
   pub few : length table ≤ length lines

@@ -5,7 +5,7 @@ ghost use Rattle.attr_tuples.specs.Forms.{is_hex_key};
 ghost use Rattle.attr_tuples.specs.Giving.{gives, is_any};
 ghost use Rattle.hex.specs.Hex.{encode_lower};
 ghost use Rattle.auth_tables.specs.Printing.{IsKeyLine, IsTable, key_line};
-ghost use Rattle.auth_tables.specs.Keys.{KeyLine, bad_key_line, gives_only, is_user_key, key_given, key_in, key_of, key_said, table_keys};
+ghost use Rattle.auth_tables.specs.Keys.{bad_key_line, gives_only, is_user_key, key_given, key_in, key_of, key_said, table_keys};
 ghost use Rattle.auth_tables.specs.declared.lines.TableFault.TheVariants.{Line};
 
 use crate::lines::{Table, TableFault, read_table, read_tuple};
@@ -149,27 +149,39 @@ fn digits_of(key: &Key7) -> [u8; 14]
     digits
 }
 
-/// The keys of users. It has no Debug, which would print secrets.
+// A user and what the server knows of him.
+#[derive(Drop)]
+struct UserLine {
+    user: Text,
+    key: AsKey,
+}
+
+/// The keys of users, in the order of their lines. It has no Debug, which would print secrets.
 #[derive(Drop)]
 pub struct KeyTable {
     alloc: Global,
-    keys: BTreeMap<Vec<u8>, AsKey>,
+    lines: Vec<UserLine>,
+    // The place of each user's line.
+    places: BTreeMap<Vec<u8>, usize>,
 }
 
 impl Model for KeyTable {
     ghost use Rattle.std.specs.Prelude.{List, map};
     ghost use Rattle.auth_tables.specs.Keys.{KeyLine};
+    ghost use Rattle.auth_tables.specs.Steps.{FindPlaces};
 
     ghost Value = { List KeyLine };
 
-    ghost view = { λ t. map (λ entry. (entry.0.items, entry.1)) t.keys.entries };
+    ghost view = { λ t. map (λ line. (line.user, line.key)) t.lines.items };
+
+    ghost invariant = { λ t. FindPlaces (map (λ line. (line.user, line.key)) t.lines.items)
+        (map (λ entry. (entry.0.items, entry.1)) t.places.entries) };
 }
 
 impl KeyTable {
-    ghost use Rattle.std.specs.Prelude.{◌≡◌, ◌+◌, ◌≤◌, ℕ, List, [], Some, All, OnOk, is_some, length, option_copied, if◌then◌else◌};
-    ghost use Rattle.std.specs.Str.{bytes_eq};
-    ghost use Rattle.auth_tables.specs.Keys.{key_of};
-    ghost use Rattle.auth_tables.specs.Printing.{AreApart, IsKeyLine};
+    ghost use Rattle.std.specs.Prelude.{◌≡◌, [], ◌∷◌, ◌++◌, None, OnOk, OnErr, is_some, option_copied, option_map};
+    ghost use Rattle.auth_tables.specs.Keys.{key_of, user_at};
+    ghost use Rattle.auth_tables.specs.Steps.{place_of};
 
     // No keys.
     fn new(alloc: Global) -> KeyTable
@@ -177,7 +189,8 @@ impl KeyTable {
     {
         KeyTable {
             alloc,
-            keys: BTreeMap::new(alloc),
+            lines: Vec::new(alloc),
+            places: BTreeMap::new(alloc),
         }
     }
 
@@ -185,7 +198,28 @@ impl KeyTable {
     pub fn find(&self, user: &[u8]) -> Option<&AsKey>
         ensures { option_copied result ≡ key_of user.now self.now }
     {
-        self.keys.get(user)
+        let Some(place) = self.place_of(user) else {
+            return None;
+        };
+        Some(&self.lines[place].key)
+    }
+
+    /// The user of the entry at a place, counted from 0 in the order of the file's lines; None exactly where no entry has
+    /// that place. It takes no memory.
+    pub fn user_at(&self, place: usize) -> Option<&Text>
+        ensures { option_map (λ user. user.now) result ≡ user_at place self.now }
+    {
+        match self.lines.get(place) {
+            Some(line) => Some(&line.user),
+            None => None,
+        }
+    }
+
+    // The place of a user's line, if there is one.
+    fn place_of(&self, user: &[u8]) -> Option<usize>
+        ensures { result ≡ place_of user.now self.now }
+    {
+        self.places.get(user).copied()
     }
 
     fn has_user(&self, user: &[u8]) -> bool
@@ -194,16 +228,18 @@ impl KeyTable {
         self.find(user).is_some()
     }
 
-    // Puts the key of a user in.
-    fn put(&mut self, user: Vec<u8>, key: AsKey) -> Result<(), NoMemory>
-        ensures told { OnOk result ((other : List ℕ) → key_of other self.new
-            ≡ (if bytes_eq user.items other then Some key else key_of other self.old)) }
-        ensures good { OnOk result (IsKeyLine (user.items, key) → All IsKeyLine self.old
-            → All IsKeyLine self.new) }
-        ensures apart { OnOk result (AreApart self.new) }
-        ensures few { OnOk result (length self.new ≤ length self.old + 1) }
+    // Puts the line of a user who has none last. Memory is taken first, so that an error leaves the table as it was.
+    fn put(&mut self, line: UserLine) -> Result<(), NoMemory>
+        requires { key_of line.user self.old ≡ None }
+        ensures ok { OnOk result (self.new ≡ self.old ++ (line.user, line.key) ∷ []) }
+        ensures err { OnErr result (self.new ≡ self.old) }
     {
-        self.keys.insert(user, key)?;
+        let user = Vec::from_slice(self.alloc, line.user.as_slice())?;
+        self.lines.reserve(1)?;
+        self.places.insert(user, self.lines.len())?;
+        if self.lines.push(line).is_err() {
+            unreachable!();
+        }
         Ok(())
     }
 }
@@ -246,15 +282,15 @@ impl KeyTable {
         ensures found { result ≡ is_some (key_of user.now self.old) }
         ensures set { self.new ≡ set_value (bytes_eq user.now) self.old key }
     {
-        let Some(slot) = self.keys.get_mut(user) else {
+        let Some(place) = self.place_of(user) else {
             return false;
         };
-        *slot = key;
+        self.lines[place].key = key;
         true
     }
 
-    /// Appends the table as text, a line for each user, in the order of their bytes: his name, his password where there is
-    /// one, and the digits of his DES key where the password doesn't stand for it.
+    /// Appends the table as text, a line for each user, in their order: his name, his password where there is one, and the
+    /// digits of his DES key where the password doesn't stand for it.
     pub fn print_keys(&self, out: &mut Bytes) -> Result<(), NoMemory>
         ensures ok { OnOk result (out.new ≡ out.old ++ table_text self.now) }
         ensures err { OnErr result (out.new ≡ out.old) }
@@ -270,8 +306,8 @@ impl KeyTable {
         ensures ok { OnOk result (out.new ≡ out.old ++ table_text self.now) }
         ensures err { OnErr result (take (length out.old) out.new ≡ out.old) }
     {
-        for (user, key) in self.keys.iter() {
-            append_line(user.as_slice(), key, out)?;
+        for line in &self.lines {
+            append_line(line.user.as_slice(), &line.key, out)?;
         }
         Ok(())
     }
@@ -286,33 +322,33 @@ impl Table for KeyTable {
     ghost tells = { Keeps };
 
     fn take(&mut self, alloc: Global, line: &[u8]) -> Result<bool, NoMemory> {
-        let Some((user, key)) = read_key(alloc, line)? else {
+        let Some(line) = read_key(alloc, line)? else {
             return Ok(false);
         };
-        if self.has_user(user.as_slice()) {
+        if self.has_user(line.user.as_slice()) {
             return Ok(false);
         }
-        self.put(user, key)?;
+        self.put(line)?;
         Ok(true)
     }
 }
 
 // The user and the key that a line gives, if it gives one.
 #[tactic(auto, unfolding(crate::specs::Keys::key_in))]
-fn read_key(alloc: Global, line: &[u8]) -> Result<Option<(Vec<u8>, AsKey)>, NoMemory>
-    ensures said { IfOk result (λ found. option_map (λ key. (key.0.items, key.1)) found
+fn read_key(alloc: Global, line: &[u8]) -> Result<Option<UserLine>, NoMemory>
+    ensures said { IfOk result (λ found. option_map (λ line. (line.user, line.key)) found
         ≡ key_in line.now) }
-    ensures good { IfOk result (λ found. IfSome found (λ key. IsKeyLine (key.0.items, key.1))) }
+    ensures good { IfOk result (λ found. IfSome found (λ line. IsKeyLine (line.user, line.key))) }
 {
     let tuple = read_tuple(alloc, line)?;
-    make_key(alloc, tuple)
+    make_key(tuple)
 }
 
 // The user and the key of a tuple, if there is one and it is a user's key.
-fn make_key(alloc: Global, tuple: Option<Tuple>) -> Result<Option<(Vec<u8>, AsKey)>, NoMemory>
-    ensures said { IfOk result (λ found. option_map (λ key. (key.0.items, key.1)) found
+fn make_key(tuple: Option<Tuple>) -> Result<Option<UserLine>, NoMemory>
+    ensures said { IfOk result (λ found. option_map (λ line. (line.user, line.key)) found
         ≡ key_said tuple) }
-    ensures good { IfOk result (λ found. IfSome found (λ key. IsKeyLine (key.0.items, key.1))) }
+    ensures good { IfOk result (λ found. IfSome found (λ line. IsKeyLine (line.user, line.key))) }
 {
     let Some(line) = tuple else {
         return Ok(None);
@@ -320,17 +356,20 @@ fn make_key(alloc: Global, tuple: Option<Tuple>) -> Result<Option<(Vec<u8>, AsKe
     if !is_user_key(line.attrs()) {
         return Ok(None);
     }
-    let user = copy_user(alloc, &line)?;
+    let user = copy_user(&line)?;
     let key = AsKey::new(&line)?;
-    Ok(Some((user, key)))
+    Ok(Some(UserLine { user, key }))
 }
 
-// The user of a line.
-fn copy_user(alloc: Global, line: &Tuple) -> Result<Vec<u8>, NoMemory>
-    ensures { IfOk result (λ user. user.items ≡ (key_given line.now).0) }
+// The user of a line that gives a key.
+fn copy_user(line: &Tuple) -> Result<Text, NoMemory>
+    requires { is_user_key line.now ≡ true }
+    ensures { IfOk result (λ user. user ≡ (key_given line.now).0) }
 {
-    let user = value_of(line, b"user".as_slice());
-    Ok(Vec::from_slice(alloc, user.map_or(&[], Text::as_slice))?)
+    let Some(user) = value_of(line, b"user".as_slice()) else {
+        unreachable!();
+    };
+    user.copy()
 }
 
 // Whether a tuple is a user's key.
@@ -373,6 +412,7 @@ pub fn parse_keys(alloc: Global, file: &[u8]) -> Result<KeyTable, TableFault>
     requires { length file.now + 1 < 2 ^ 32 }
     ensures keys { IfOk result (λ table. (user : List ℕ)
         → key_of user table ≡ key_of user (table_keys file.now)) }
+    ensures order { IfOk result (λ table. table ≡ table_keys file.now) }
     ensures table { IfOk result IsTable }
     ensures good { OnOk result (bad_key_line file.now ≡ None) }
     ensures bad { IfErr result (λ fault. (line : ℕ) → fault ≡ Line line

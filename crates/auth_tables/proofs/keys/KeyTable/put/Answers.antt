@@ -1,14 +1,14 @@
-use Rattle.std.proofs.lemmas.List.Elements.{All-from_recursion, recursion_from_All}
-use Rattle.auth_tables.specs.Printing.{IsKeyLine}
+use Rattle.std.proofs.Common.{◌≡◌, ◌++◌, ◌∷◌, [], arith, length, rules, sym, ap, ◌∙◌}
 use Rattle.auth_tables.proofs.MapLemmas.{put_by_bytes}
-use Rattle.auth_tables.proofs.PrintLemmas.{put_good, sorted_apart}
+use Rattle.auth_tables.proofs.PlaceLemmas.{put_line}
 use Rattle.auth_tables.proofs.keys.KeyTable.put.Goals as goal
 
-pub returns-clause-told : goal.returns-clause-told
-returns-clause-told c = let changed = c.in_ok-insert.ensures.updates in rw (← c.self.view_is) (put_by_bytes (λ key. key.items) c.args.user.items _ _ _ changed.1 changed.3)
-
-pub returns-clause-good : goal.returns-clause-good
-returns-clause-good c = λ line others. rw c.in_ok-insert.ensures.entries (All-from_recursion IsKeyLine _ (put_good (λ key. key.items) _ c.self.inside.keys.entries c.args.user c.args.key line (recursion_from_All IsKeyLine _ (rw c.self.view_is others))))
-
-pub returns-clause-apart : goal.returns-clause-apart
-returns-clause-apart c = sorted_apart (λ key. key.items) c.insert.new.self.entries c.in_ok-insert.ensures.ordered
+pub invariant_of-self-2 : goal.invariant_of-self-2
+invariant_of-self-2 c =
+    let changed = c.in_ok-insert.ensures.updates in
+    let items : c.push.new.self.items ≡ c.self.inside.lines.items ++ c.args.line ∷ [] = search rules in
+    let held = c.self.inside.lines.ok in
+    let room = c.in_ok-reserve.ensures.len in
+    let at : c.len.result ≡ length c.self.inside.lines.items = omega (arith, c.len.ensures, room, held) in
+    put_line _ c.args.line c.self.inside.lines.items c.push.new.self.items c.in_ok-user.user.items _ _ c.len.result c.args.self.now c.self.view_is c.requires items (c.in_ok-user.ensures.items ∙ c.as_slice.ensures.same) at c.self.invariant
+    (put_by_bytes (λ key. key.items) c.in_ok-user.user.items _ _ _ changed.1 changed.3)
