@@ -213,7 +213,8 @@ fn first_words(words: &[[u8; 8]]) -> Option<[[u8; 8]; 3]> {
     Some([*words.first()?, *words.get(1)?, *words.get(2)?])
 }
 
-fn keys_of(alloc: Global, text: &[u8]) -> Result<KeyTable, PlayFault> {
+/// The table of keys that a text is.
+pub(crate) fn keys_of(alloc: Global, text: &[u8]) -> Result<KeyTable, PlayFault> {
     if text.len() > MOST_BYTES {
         return Err(PlayFault::Row("a long table"));
     }
@@ -223,7 +224,8 @@ fn keys_of(alloc: Global, text: &[u8]) -> Result<KeyTable, PlayFault> {
     }
 }
 
-fn speaks_of(alloc: Global, text: &[u8]) -> Result<SpeaksTable, PlayFault> {
+/// The table of who speaks for whom that a text is.
+pub(crate) fn speaks_of(alloc: Global, text: &[u8]) -> Result<SpeaksTable, PlayFault> {
     if text.len() > MOST_BYTES {
         return Err(PlayFault::Row("a long table"));
     }

@@ -1,4 +1,5 @@
-//! role_rows: cases of conversations by moves, of starts, and of the authentication server, which stand in files of rows.
+//! role_rows: cases of conversations by moves, of starts, of the authentication server, and of what is noted of a record's
+//! setting, which stand in files of rows.
 //! It writes each case that isn't as wanted, with its file and line, and how many cases each file has; its status is 1
 //! where one wasn't as wanted.
 #![tactic(auto)]
@@ -11,6 +12,7 @@ mod messages;
 mod moves;
 mod play_fault;
 mod probe;
+mod settings;
 mod shown;
 mod tables;
 mod templates;
@@ -26,7 +28,7 @@ use talks::Conv;
 use wire_streams::{WriteSink, write_all};
 
 /// The files, in the order in which they are played.
-const FILES: [&str; 8] = [
+const FILES: [&str; 9] = [
     "choices.rows",
     "templates.rows",
     "p9sk1.rows",
@@ -35,6 +37,7 @@ const FILES: [&str; 8] = [
     "tables.rows",
     "tickets.rows",
     "mail_requests.rows",
+    "settings.rows",
 ];
 
 // Plays the rows of a file.
@@ -42,6 +45,7 @@ fn play(rt: &HostRuntime, file: &str, rows: &[Row], report: &mut Report) -> anyh
     match file {
         "templates.rows" => templates::play(rt.alloc(), file, rows, report),
         "tables.rows" => tables::play(rt.alloc(), file, rows, report),
+        "settings.rows" => settings::play(rt.alloc(), file, rows, report),
         "tickets.rows" | "mail_requests.rows" => clients::play(rt, file, rows, report),
         "choices.rows" => moves::play::<AnyConv<Probe>>(rt, file, rows, report),
         "p9sk1.rows" => moves::play::<SkConv>(rt, file, rows, report),

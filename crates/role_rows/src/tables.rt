@@ -50,6 +50,7 @@ impl Player {
             b"numbered-keys" => self.read_numbered_keys(row.number(1), came),
             b"numbered-speaks" => self.read_numbered_speaks(row.number(1), came),
             b"find" => self.find(row.field(1), came),
+            b"user-at" => self.user_at(row.number(1), came),
             b"speaks-for" => self.speaks_for(row, came),
             _ => Err(PlayFault::Row("nothing is to be done")),
         }
@@ -95,6 +96,18 @@ impl Player {
         came.put(des.0.as_slice())?;
         if let Some(password) = key.password() {
             came.put(password.as_slice())?;
+        }
+        Ok(())
+    }
+
+    // The user of the entry at a place.
+    fn user_at(&self, place: Option<u64>, came: &mut Came) -> Result<(), PlayFault> {
+        let (Some(table), Some(place)) = (&self.table, place) else {
+            return Err(PlayFault::Row("no table or no place"));
+        };
+        match table.user_at(place as usize) {
+            Some(user) => came.put(user.as_slice())?,
+            None => came.put(b"none")?,
         }
         Ok(())
     }

@@ -1,3 +1,4 @@
 pub mod LineLemmas
 pub mod ExampleLaws
 pub mod RestartLemmas
+pub mod NotedLaws

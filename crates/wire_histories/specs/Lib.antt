@@ -3,4 +3,5 @@ pub mod Histories
 pub mod Conversations
 pub mod Sessions
 pub mod Legal
+pub mod Noted
 pub mod Examples

@@ -6,10 +6,12 @@
 mod laws;
 mod line;
 mod print;
+mod setting;
 mod step;
 mod wire;
 
-pub use laws::a_mail_client_has_a_legal_history;
+pub use laws::{a_mail_client_has_a_legal_history, what_is_noted_is_of_the_setting};
 pub use print::print_step;
+pub use setting::Setting;
 pub use step::{Protocol, Role, Step};
 pub use wire::Wire;
