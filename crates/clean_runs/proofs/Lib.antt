@@ -39,10 +39,10 @@ pub mod Apart
 pub mod Clients
 pub mod Texts
 pub mod Users
-mod Readings
+pub mod Readings
 mod LoginPlaces
-mod Taken
-mod Forms
+pub mod Taken
+pub mod Forms
 mod LoginLaw
 mod WordLaw
 mod ActLemmas

@@ -1,0 +1,13 @@
+pub mod PartLaws
+pub mod ShapeLaws
+pub mod RowSizes
+pub mod RowLaws
+pub mod FormLaws
+pub mod StageLaws
+pub mod ConversationLaws
+pub mod EndLaws
+pub mod DeedLaws
+pub mod ApartLaws
+pub mod WordLaws
+pub mod TableLaws
+pub mod KeyTexts

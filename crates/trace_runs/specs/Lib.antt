@@ -1,0 +1,12 @@
+pub mod Parts
+pub mod Views
+pub mod Shapes
+pub mod Gifts
+pub mod Rows
+pub mod Formed
+pub mod Stages
+pub mod Ends
+pub mod Deeds
+pub mod Readings
+pub mod Words
+pub mod Tables

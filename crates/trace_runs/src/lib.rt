@@ -1,0 +1,25 @@
+//! What is tested of a labelled run: what conversations and sessions of the authentication server do by a record whose
+//! messages are labelled, their moves and their deeds as trees, and whether what they go on after has its form; and what a
+//! text of labels reads its atoms as.
+#![tactic(auto)]
+
+mod conversation;
+mod deeds;
+mod forms;
+mod gifts;
+mod makers;
+mod moves;
+mod parts;
+mod readings;
+mod rows;
+mod shapes;
+mod tables;
+mod words;
+
+pub use conversation::{Act, Conversation};
+pub use deeds::{Deed, Granted, Used, is_answered};
+pub use forms::is_formed;
+pub use moves::{Move, Own, Role};
+pub use readings::{AtomKind, are_apart, gives_sevens, holder_of, reading_of};
+pub use tables::{reads_held, reads_tables};
+pub use words::{is_short, reads_words};
