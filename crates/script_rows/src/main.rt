@@ -1,6 +1,6 @@
-//! script_rows: cases of scripts of a network, of the nodes and records that they come to, of the terms of messages, and of
-//! texts of labels, which stand in files of rows. It tells how many cases each file has, and each that isn't as wanted, and
-//! ends with status 1 where there is one.
+//! script_rows: cases of scripts of a network, of the nodes and records that they come to, of the terms of messages, of texts
+//! of labels, and of what conversations do by them, which stand in files of rows. It tells how many cases each file has, and
+//! each that isn't as wanted, and ends with status 1 where there is one.
 #![tactic(auto)]
 
 use anyhow::{Context, bail};
@@ -11,6 +11,8 @@ use wire_streams::{WriteSink, write_all};
 mod came;
 mod driven;
 mod label_rows;
+mod move_rows;
+mod reading_rows;
 mod records;
 mod script_lines;
 mod spelled_terms;
@@ -30,6 +32,8 @@ enum Subject {
     TakenTurns,
     Terms,
     Labels,
+    Readings,
+    Moves,
 }
 
 /// A file of rows.
@@ -38,7 +42,7 @@ struct Listed {
     subject: Subject,
 }
 
-static FILES: [Listed; 7] = [
+static FILES: [Listed; 9] = [
     Listed {
         file: "lines.rows",
         subject: Subject::ScriptLines,
@@ -67,6 +71,14 @@ static FILES: [Listed; 7] = [
         file: "labels.rows",
         subject: Subject::Labels,
     },
+    Listed {
+        file: "readings.rows",
+        subject: Subject::Readings,
+    },
+    Listed {
+        file: "moves.rows",
+        subject: Subject::Moves,
+    },
 ];
 
 // Writes to standard output.
@@ -93,6 +105,8 @@ fn play_rows(
         Subject::TakenTurns => taken_turns::play(rt, file, rows, report),
         Subject::Terms => term_rows::play(rt, file, rows, report),
         Subject::Labels => label_rows::play(rt.alloc(), file, rows, report),
+        Subject::Readings => reading_rows::play(rt.alloc(), file, rows, report),
+        Subject::Moves => move_rows::play(rt, file, rows, report),
     }
 }
 
