@@ -74,26 +74,49 @@ told_so false move begun fit bodies e = reads_none (codes "read too small") (e �
 
 -- ---- all of it
 
-answered_so : (number fid question : ℕ) (event : Event) (call : Call) (move : Move) (h : History) → IsAnswer call move → ((done : List Deed) → does done event ≡ swept (resumed (asker done question) call done))
-    → IsIdle h → conv_of (deeds h) 0 fid ≡ Some number → asker (deeds h) question ≡ Some number → Runs (drive event h) → Answered number fid event move h
-answered_so number fid question event call move h is does_so idle opened asked runs =
+-- what is known behind it
+pub record ToldSo (number fid : ℕ) (event : Event) (call : Call) (move : Move) (h : History) : Type 0 where
+  pub before : Asked number fid call move (deeds h)
+  pub there : deeds (event ∷ h) ≡ answered_by number fid call (answer_by move before.on.begun) (deeds h)
+  pub calm : IsCalm (deeds (event ∷ h))
+  pub replies : replies_to event h ≡ record { tag = fid; body = told 8192 (answer_by move before.on.begun) } ∷ []
+  pub questions : questions_to event h ≡ []
+
+pub told_of : (number fid question : ℕ) (event : Event) (call : Call) (move : Move) (h : History) → IsAnswer call move → ((done : List Deed) → does done event ≡ swept (resumed (asker done question) call done))
+    → IsIdle h → conv_of (deeds h) 0 fid ≡ Some number → asker (deeds h) question ≡ Some number → Runs (drive event h) → ToldSo number fid event call move h
+told_of number fid question event call move h is does_so idle opened asked runs =
     let done = deeds h in
     let s = standing_of done number in
     let before = asked_so number fid question call move h is idle opened asked in
     let begun = before.on.begun in
     let answer = answer_by move begun in
-    let now = kept move begun s.starting s.said in
     let all = answered_by number fid call answer done in
     let there : deeds (event ∷ h) ≡ all =
     (going event h (event_runs event h runs)).now ∙ does_so done ∙ event_so number fid call answer done (asker done question) asked (ap (λ x. x.phase) before.stands) idle.calm.names before.speaks before.reads in
-    let stands = stands_told number fid call done move begun s.starting s.said before.stands in
-    let makes : made (on_server begun s.starting s.said) move (Some begun) ≡ now = makes_kept call move is begun s.starting s.said before.on.asked in
     let calm : IsCalm (deeds (event ∷ h)) = subst IsCalm (sym there) (answered_calm number fid call done move begun s.starting s.said before.stands idle.calm (others_apart h fid number idle.calm.alone opened)) in
     let next : next_question (deeds (event ∷ h)) ≡ None = ap next_question there ∙ none_next number fid call move is answer done idle.handed in
-    let none : questions_to event h ≡ [] = questions_so event h runs calm.entered ∙ ap (map (put_by (deeds (event ∷ h)))) (none_unhanded (questions (deeds (event ∷ h))) next) in
-    let replies : replies_to event h ≡ record { tag = fid; body = told 8192 answer } ∷ [] =
-    replies_so event h calm.there runs ∙ ap (λ d. untaken d 0) there ∙ answered_untaken number fid call answer done idle.calm before.reads idle.taken in
-    let seats = seats_behind event h runs calm.entered in
+    record {
+      before = before;
+      there = there;
+      calm = calm;
+      replies = replies_so event h calm.there runs ∙ ap (λ d. untaken d 0) there ∙ answered_untaken number fid call answer done idle.calm before.reads idle.taken;
+      questions = questions_so event h runs calm.entered ∙ ap (map (put_by (deeds (event ∷ h)))) (none_unhanded (questions (deeds (event ∷ h))) next);
+    }
+
+answered_so : (number fid question : ℕ) (event : Event) (call : Call) (move : Move) (h : History) → IsAnswer call move → ((done : List Deed) → does done event ≡ swept (resumed (asker done question) call done))
+    → IsIdle h → conv_of (deeds h) 0 fid ≡ Some number → asker (deeds h) question ≡ Some number → Runs (drive event h) → Answered number fid event move h
+answered_so number fid question event call move h is does_so idle opened asked runs =
+    let done = deeds h in
+    let s = standing_of done number in
+    let so = told_of number fid question event call move h is does_so idle opened asked runs in
+    let before = so.before in
+    let begun = before.on.begun in
+    let answer = answer_by move begun in
+    let now = kept move begun s.starting s.said in
+    let there = so.there in
+    let stands = stands_told number fid call done move begun s.starting s.said before.stands in
+    let makes : made (on_server begun s.starting s.said) move (Some begun) ≡ now = makes_kept call move is begun s.starting s.said before.on.asked in
+    let seats = seats_behind event h runs so.calm.entered in
     let speaking : speakers (deeds (drive event h)) ≡ speakers done = seats.speakers ∙ ap speakers there ∙ same_speakers number fid call answer done in
     let opened_then : opened_talks (deeds (drive event h)) ≡ opened_talks done =
     seats.opened ∙ ap opened_talks there ∙ untold_same opened_talks number call answer done (λ line d. refl) (λ c d. refl) in
@@ -108,16 +131,16 @@ answered_so number fid question event call move h is does_so idle opened asked r
         asked = before.on.asked;
         stands = ap (λ d. (standing_of d number).begun) there ∙ ap (λ x. x.begun) stands ∙ told_begun (fits 8192 answer) now;
         comes = subst (Comes (came fid event h) (on_server begun s.starting s.said)) (sym makes) (record {
-          replies = told_so (fits 8192 answer) move begun refl (map (λ m. m.body) (replies_to event h)) (ap (map (λ m. m.body)) replies);
-          questions = ap (map (λ q. q.bytes)) none;
+          replies = told_so (fits 8192 answer) move begun refl (map (λ m. m.body) (replies_to event h)) (ap (map (λ m. m.body)) so.replies);
+          questions = ap (map (λ q. q.bytes)) so.questions;
           before = ap (outcome_in done) opened ∙ ap outcome_of before.on.stands;
           now = ap (outcome_in (deeds (drive event h))) still_open ∙ ap outcome_of stands_then ∙ told_outcome (fits 8192 answer) move begun s.starting s.said;
         });
       };
-      idle = idle_behind event h calm runs;
+      idle = idle_behind event h so.calm runs;
       seats = record { speakers = speaking; opened = opened_then };
-      keeps = λ n other stood away. asker_behind event h n runs calm.entered ∙ ap (λ d. asker d n) there ∙ asker_left number fid call move is answer done n other stood away;
-      raises = subst (λ qs. AreOf number qs (drive event h)) (sym none) tt;
+      keeps = λ n other stood away. asker_behind event h n runs so.calm.entered ∙ ap (λ d. asker d n) there ∙ asker_left number fid call move is answer done n other stood away;
+      raises = subst (λ qs. AreOf number qs (drive event h)) (sym so.questions) tt;
     }
 
 pub answers_do : AnswersDo

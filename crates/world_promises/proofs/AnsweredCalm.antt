@@ -53,13 +53,13 @@ told_waits true move begun starting said e = absurd cc
 told_waits false move begun starting said e = absurd cc
 
 -- the others stand as they did
-others_stand : (number fid : ℕ) (call : Call) (answer : RpcAnswer) (done : List Deed) (other : ℕ) → eqb other number ≡ false → standing_of (answered_by number fid call answer done) other ≡ standing_of done other
+pub others_stand : (number fid : ℕ) (call : Call) (answer : RpcAnswer) (done : List Deed) (other : ℕ) → eqb other number ≡ false → standing_of (answered_by number fid call answer done) other ≡ standing_of done other
 others_stand number fid call answer done other off =
     ap standing (untold_same (λ d. talk d other) number call answer done (λ line d. refl) (λ c d. other_talk number other c d (apart other number off)))
 
 -- ---- the reads that wait
 
-left_waits : (number fid : ℕ) (call : Call) (answer : RpcAnswer) (done : List Deed) → waits (answered_by number fid call answer done) 0 ≡ left_by fid (told 8192 answer) (waits done 0)
+pub left_waits : (number fid : ℕ) (call : Call) (answer : RpcAnswer) (done : List Deed) → waits (answered_by number fid call answer done) 0 ≡ left_by fid (told 8192 answer) (waits done 0)
 left_waits number fid call answer done = ap (left_by fid (told 8192 answer)) (untold_same (λ d. waits d 0) number call answer done (λ line d. refl) (λ c d. refl))
 
 apart_fid : (a b : Bool) → a ≡ false → (a || not b) ≡ true → b ≡ false

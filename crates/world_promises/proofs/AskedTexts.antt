@@ -13,7 +13,7 @@ use Rattle.world_promises.specs.Agents.{asked_as}
 abbrev pub if_short : Bool → RpcRequest → Result RpcRequest RpcFault
 if_short long request = cond long (Err fault.TooLong) (Ok request)
 
-text_asked : (what : Asks) → rpc.request_of (request_text what) ≡ if_short (ltb MOST_REQUEST (length (request_text what))) (asked_as what)
+pub text_asked : (what : Asks) → rpc.request_of (request_text what) ≡ if_short (ltb MOST_REQUEST (length (request_text what))) (asked_as what)
 unfolding rpc.request_of
 text_asked (starts word tuple) = refl
 text_asked gets = refl

@@ -23,16 +23,16 @@ read_msg fid = record { tag = fid; body = t.Read fid 0 8192 }
 abbrev pub write_msg : ℕ → List ℕ → TMsg
 write_msg fid content = record { tag = 0; body = t.Write fid 0 content }
 
-read_fits : (fid : ℕ) → fid < 65536 → t_fits (t.Read fid 0 8192)
+pub read_fits : (fid : ℕ) → fid < 65536 → t_fits (t.Read fid 0 8192)
 read_fits fid small = ((omega (arith, small), omega arith), omega arith)
 
-write_fits : (fid : ℕ) (content : List ℕ) → fid < 65536 → length content < 2 ^ 32 → t_fits (t.Write fid 0 content)
+pub write_fits : (fid : ℕ) (content : List ℕ) → fid < 65536 → length content < 2 ^ 32 → t_fits (t.Write fid 0 content)
 write_fits fid content small short = ((omega (arith, small), omega arith), short)
 
 sucs : (n : ℕ) → suc (suc (suc (suc (suc (suc (suc (suc (suc (suc (suc (suc (suc (suc (suc (suc (suc (suc (suc (suc (suc (suc (suc n)))))))))))))))))))))) ≡ 23 + n
 sucs n = omega arith
 
-write_long : (fid : ℕ) (content : List ℕ) → length (t_frame (write_msg fid content)) ≡ 23 + length content
+pub write_long : (fid : ℕ) (content : List ℕ) → length (t_frame (write_msg fid content)) ≡ 23 + length content
 unfolding frame
 write_long fid content = sucs (length content)
 

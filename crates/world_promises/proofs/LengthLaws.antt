@@ -56,7 +56,7 @@ either_roomy n true one other p q = p
 either_roomy n false one other p q = q
 
 -- a turn adds at most 4096
-turn_roomy : (n : ℕ) (turn : Turn) (h : History) → IsIdle h → IsRoomy n h → n + 4096 < most_events → IsRoomy (n + 4096) (after turn h)
+pub turn_roomy : (n : ℕ) (turn : Turn) (h : History) → IsIdle h → IsRoomy n h → n + 4096 < most_events → IsRoomy (n + 4096) (after turn h)
 unfolding after
 turn_roomy n (tells node line) h idle r room =
     let s = grown n (writes 1 line) h refl r (omega arith) (write_little 1 line h (taken_idle h idle) idle.calm.names) in
@@ -182,7 +182,7 @@ act_roomy before (Asked session request words) done idle r room node = roomy (81
 roomy_runs : (acts : List Act) → AreRoomy acts → 8192 * length acts < most_events → AllRun acts
 roomy_runs acts r few node = runs_short (history acts node) (r node).driven (omega (arith, (r node).size))
 
-all_roomy : Driven → (acts : List Act) → AreDone acts → length acts ≤ 4194305 → AreRoomy acts
+pub all_roomy : Driven → (acts : List Act) → AreDone acts → length acts ≤ 4194305 → AreRoomy acts
 all_roomy d [] done few = λ node. record { driven = refl; size = omega arith }
 all_roomy d (act ∷ before) done few =
     let r = all_roomy d before done.1 (omega arith) in

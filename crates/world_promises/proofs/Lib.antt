@@ -87,3 +87,15 @@ pub mod PlaceLemmas
 pub mod WordLaws
 pub mod ConversationLaws
 pub mod Legality
+mod SightLaws
+mod GrantedLaws
+mod DrivenTurns
+mod DrivenAnswers
+mod DrivenSeats
+mod SkTalks
+mod MadeNodes
+mod RecordLaws
+mod MadeLines
+mod MadeRounds
+mod MadePairs
+pub mod MadeRuns

@@ -12,7 +12,7 @@ use Rattle.driven_agents.specs.Quiet.{NamesNoLines}
 use Rattle.driven_agents.proofs.QuietLaws.{holder_none}
 use Rattle.world_promises.specs.Telling.{Searches}
 use Rattle.driven_agents.proofs.CallLemmas.{nobody_served}
-use Rattle.world_promises.proofs.SearchDeeds.{IsShut, Rests, SearchedOn, searched_on, times}
+use Rattle.world_promises.proofs.SearchDeeds.{IsShut, Rests, SearchedOn, ran, ran_on, searched_on, times}
 use Rattle.world_promises.proofs.TalkSides.{Going, all_logged_on, raised_going, same_going, stands_here, talk_going}
 
 -- so many searches may follow
@@ -36,6 +36,7 @@ pub record MetSo (conv : ℕ) (word : List ℕ) (request : RpcRequest) (s : Stan
   pub going : Going conv from done
   pub searches : Searches (carried_out s word request) (standing_of done conv)
   pub asked : questions done ≡ asked_then conv (standing_of done conv).phase from
+  pub ran : standing_of done conv ≡ ran (most_searches (carried_out s word request).starting) (keys_of from) (asking from) (carried_out s word request)
 
 -- ---- a question is raised, or none
 
@@ -48,7 +49,7 @@ raised_by conv from done (OnConfirm serial) g asked risen = (g, refl, asked)
 raised_by conv from done OnNeedkey g asked risen = (g, refl, asked)
 raised_by conv from done (Kept answer) g asked risen = (g, refl, asked)
 
-shut_of : (done : List Deed) → NamesNoLines done → IsShut done
+pub shut_of : (done : List Deed) → NamesNoLines done → IsShut done
 shut_of done names = (holder_none done Confirm refl names, holder_none done Needkey refl names)
 
 same_named : {conv : ℕ} {from done : List Deed} → Going conv from done → NamesNoLines from → NamesNoLines done
@@ -82,4 +83,5 @@ met_so conv word request s done names stood waits r =
       going = far;
       searches = subst (λ x. Searches (carried_out s word request) x) (sym same) (subst (λ x. Searches x (standing_of two conv)) begins found.searches);
       asked = lines.asked ∙ (rise.2 ∙ ap (λ x. asked_then conv x.phase done) (sym same));
+      ran = same ∙ (ap (λ d. standing_of d conv) (seeking_times (standing_of one conv).starting conv one) ∙ (ran_on n conv one (shut_of done names) ∙ ap (λ x. ran (most_searches x.starting) (keys_of done) (asking done) x) begins));
     })

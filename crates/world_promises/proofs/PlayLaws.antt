@@ -25,7 +25,7 @@ all_small (b ∷ bytes) small =
     let parts = and_parts (nat_lt b 256) (list_all (λ b. nat_lt b 256) bytes) small in
     All-cons (λ b. b < 256) b bytes (ltb-true b 256 parts.0) (all_small bytes parts.1)
 
-random_block : (bytes : List ℕ) → is_random bytes ≡ true → IsBlock 8 bytes
+pub random_block : (bytes : List ℕ) → is_random bytes ≡ true → IsBlock 8 bytes
 random_block bytes random =
     let parts = and_parts (length bytes == 8) (list_all (λ b. nat_lt b 256) bytes) random in
     record { whole = eqb-true (length bytes) 8 parts.0; bytes = all_small bytes parts.1 }
@@ -86,7 +86,7 @@ named_by : (acts : List Act) (line : ScriptLine) (cause : Option ScriptCause) (a
 named_by acts line (Some cause) act formed names is = cc is
 named_by acts line None act formed names is = fits_by acts (act_of acts (messages acts) line) act (λ made so. well_so acts (messages acts) line made formed names so) is
 
-judged_by : (acts : List Act) (o : Option ScriptLine) (act : Act) → ((line : ScriptLine) → o ≡ Some line → is_formed line ≡ true) → judged acts o ≡ Ok act → MayFollow acts act
+pub judged_by : (acts : List Act) (o : Option ScriptLine) (act : Act) → ((line : ScriptLine) → o ≡ Some line → is_formed line ≡ true) → judged acts o ≡ Ok act → MayFollow acts act
 judged_by acts None act each is = cc is
 judged_by acts (Some line) act each is = named_by acts line (misnamed acts line) act (each line refl) refl is
 

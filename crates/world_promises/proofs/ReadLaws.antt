@@ -63,7 +63,7 @@ more_behind p (x ∷ qs) q n e = by_test (p x) e (more_behind p qs q n)
 abbrev calls_of : List Question → List ℕ
 calls_of qs = map (λ q. q.call) qs
 
-last_found : (top : ℕ) (qs : List Question) (q : Question) → Rise top (calls_of qs) → q.call ≡ top → option_map (λ x. x.conv) (find (λ x. eqb x.call top) (qs ++ q ∷ [])) ≡ Some q.conv
+pub last_found : (top : ℕ) (qs : List Question) (q : Question) → Rise top (calls_of qs) → q.call ≡ top → option_map (λ x. x.conv) (find (λ x. eqb x.call top) (qs ++ q ∷ [])) ≡ Some q.conv
 last_found top [] q rise e = ap (λ b. option_map (λ (x : Question). x.conv) (cond b (Some q) None)) (ap (λ n. eqb n top) e ∙ same_number top)
 last_found top (x ∷ qs) q rise e =
     let parts = rise_parts top x.call (calls_of qs) rise in

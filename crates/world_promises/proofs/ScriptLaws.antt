@@ -20,7 +20,7 @@ use Rattle.world_promises.proofs.TurnFacts.{Driven}
 
 -- ---- agents
 
-driven : Driven
+pub driven : Driven
 driven = record {
   requests = requests_do;
   others = requests_leave;

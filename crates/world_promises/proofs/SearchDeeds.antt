@@ -145,3 +145,38 @@ searched_on (suc n) conv from done shut g asked risen r = by_phase (λ d. search
         let more = again one shut (talk_going conv from done (calls.Sought came) g) asked risen (subst (Rests n (keys_of done) (asking done)) (sym now) (r on)) in
         subst (λ d. SearchedOn conv from (times n conv d) s) (sym step)
         (record { going = more.going; asked = more.asked; risen = more.risen; searches = told.finds came on is asks (subst (λ x. Searches x (standing_of (times n conv one) conv)) now more.searches) })
+
+-- ---- how it stands behind them
+
+-- a search finds what it finds, where something is searched for
+abbrev pub once : Bool → KeyList → Asking → Standing → Standing
+once true list asks s = sought s (finds s asks list)
+once false list asks s = s
+
+abbrev pub ran : ℕ → KeyList → Asking → Standing → Standing
+ran zero list asks s = s
+ran (suc n) list asks s = ran n list asks (once (is_seeking s.phase) list asks s)
+
+pub ran_on : (n conv : ℕ) (done : List Deed) → IsShut done → standing_of (times n conv done) conv ≡ ran n (keys_of done) (asking done) (standing_of done conv)
+ran_on zero conv done shut = refl
+ran_on (suc n) conv done shut = by_phase (λ d. ran_on n conv d) (is_seeking (standing_of done conv).phase) refl
+  where
+    s : Standing
+    s = standing_of done conv
+
+    came : Found
+    came = finds s (asking done) (keys_of done)
+
+    one : List Deed
+    one = OfTalk conv (calls.Sought came) ∷ done
+
+    by_phase : ((d : List Deed) → IsShut d → standing_of (times n conv d) conv ≡ ran n (keys_of d) (asking d) (standing_of d conv)) → (b : Bool) → is_seeking (standing_of done conv).phase ≡ b → standing_of (times n conv (sought_once conv done)) conv ≡ ran n (keys_of done) (asking done) (once (is_seeking (standing_of done conv).phase) (keys_of done) (asking done) (standing_of done conv))
+    by_phase again false e =
+        ap (λ d. standing_of (times n conv d) conv) (still conv done s.phase e) ∙ (again done shut ∙ ap (λ b. ran n (keys_of done) (asking done) (once b (keys_of done) (asking done) s)) (sym e))
+    by_phase again true e =
+        let on = seeks s.phase e in
+        let is = finds_for s (asking done) (keys_of done) (seeks_need (talk done conv) on) in
+        let asks = found_nobody done conv shut in
+        let step : sought_once conv done ≡ one = ap (λ p. seeking conv p done) on ∙ prompts_none conv came done asks in
+        let now : standing_of one conv ≡ sought s came = stands_here conv (calls.Sought came) done s refl ∙ ap (λ p. then_stands s p (calls.Sought came)) on ∙ ap (λ b. sought_if b s came) is in
+        ap (λ d. standing_of (times n conv d) conv) step ∙ (again one shut ∙ (ap (ran n (keys_of done) (asking done)) now ∙ ap (λ b. ran n (keys_of done) (asking done) (once b (keys_of done) (asking done) s)) (sym e)))

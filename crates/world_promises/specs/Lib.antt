@@ -1,6 +1,7 @@
 pub mod Requests
 pub mod Answers
 pub mod Worlds
+pub mod MadeRuns
 pub mod Statements
 pub mod OpenSearches
 pub mod Roles

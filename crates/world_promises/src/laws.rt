@@ -2,6 +2,7 @@
 ghost use Rattle.std.specs.Prelude.{ℕ, List};
 ghost use Rattle.clean_runs.specs.Statements.{IsBridged, IsSecret};
 ghost use Rattle.clean_runs.specs.AgreementStatements.{ClientsAreAnswered, ClientsAreHosts, ClientsMatch, EachByATicket, OneByAMatch, OneByAText, OneByATicket, OneUnderAGrant, ServersAgree, ServersNameTheUser};
+ghost use Rattle.world_promises.specs.MadeRuns.{MadeIsNotRefused};
 ghost use Rattle.world_promises.specs.Statements.{EachIsPromised, FrontsAreLegal, OfEveryCleanScript};
 
 /// Each front of the record of a script of at most 2^22 bytes is a history that a network can have, under the setting of the
@@ -45,4 +46,9 @@ pub fn tickets_serve_once()
 /// All of this is promised of each front of the record of every script of at most 2^22 bytes, whatever comes behind it.
 pub fn every_script_is_promised()
     ensures { EachIsPromised }
+{}
+
+/// No line of a script that is made of a number, of at most 1,000 rounds, is refused: all of it is carried out.
+pub fn no_made_script_is_refused()
+    ensures { MadeIsNotRefused }
 {}

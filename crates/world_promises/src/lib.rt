@@ -2,6 +2,8 @@
 //! of them: no uncompromised secret is learnt, each acceptance has its partner, and no ticket serves twice. For
 //! this, what a request and an answer do to a driven agent, and that no agent stops and all are idle between acts.
 //!
+//! No line of a script that is made of a number is refused, so that its run comes to its end.
+//!
 //! The record of a network that a script's acts make, as a history: which of the laws of legal histories it meets.
 //! For this, what is so of each role that a conversation may have, and what a request leaves in its talk and in the
 //! record.
@@ -22,8 +24,9 @@ pub use act_laws::{
 };
 pub use answer_laws::{absences_do, absences_leave, answers_do, answers_leave};
 pub use laws::{
-    every_script_is_promised, fronts_of_records_are_legal, scripts_are_symbolic_runs,
-    scripts_keep_their_secrets, servers_accept_by_grants, tickets_serve_once,
+    every_script_is_promised, fronts_of_records_are_legal, no_made_script_is_refused,
+    scripts_are_symbolic_runs, scripts_keep_their_secrets, servers_accept_by_grants,
+    tickets_serve_once,
 };
 pub use legality_laws::{
     acts_of_a_script_are_done, conversations_do_what_talks_leave, keys_are_of_rings,
