@@ -8,8 +8,6 @@ ghost use Rattle.factotum_program.specs.Sights.{sight};
 ghost use Rattle.auth_program.specs.Serving.{IsServableAll, ServesSo, outside};
 ghost use Rattle.auth_program.specs.Statuses.{is_printable};
 ghost use Rattle.auth_program.specs.Words.{authsrv_value, is_authsrv};
-ghost use Rattle.world_history.specs.Scripts.{play};
-ghost use Rattle.world_scripts.specs.Generated.{gen_text};
 ghost use Rattle.world_program.specs.declared.words.GenWords.{GenWords};
 ghost use Rattle.world_program.specs.Playing.{IsPlayable, WorldSo};
 ghost use Rattle.world_program.specs.Summing.{GenSo};
@@ -208,7 +206,6 @@ pub fn run_command<R: Source, F: Source, W: Sink, D: Dialer, G: Words>(
         → (Rose (W.faults output.old) (W.faults output.new) → ⊥)
         → (result ≡ Status.Fine) ⊎ (result ≡ Status.NoMemory) }
     ensures gen_complete { (given : GenWords) → gen_given words.now ≡ Some given
-        → (play (gen_text given.number given.rounds)).refused ≡ None
         → (Rose (W.faults output.old) (W.faults output.new) → ⊥)
         → (result ≡ Status.Fine) ⊎ (result ≡ Status.NoMemory) }
 {

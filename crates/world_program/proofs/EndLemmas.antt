@@ -2,7 +2,6 @@
 use Rattle.std.proofs.Common.{◌≡◌, ◌⊎◌, ◌∙◌, ℕ, List, true, false, Option, Some, None, is_some, refl, ap, sym, inl, inr}
 use Rattle.auth_program.specs.declared.cause.ScriptCause.{ScriptCause}
 use Rattle.world_history.specs.Scripts.{play}
-use Rattle.world_scripts.specs.Generated.{gen_text}
 use Rattle.auth_program.specs.Statuses.{is_printable}
 use Rattle.auth_program.specs.declared.status.Status.{Status}
 use Rattle.auth_program.specs.declared.status.Status.TheVariants.{Fine, Usage, ReadFault, WriteFault, WordFault, BadFrame, Torn, BadScript, BadTables, AsEnded, NoMemory, Flood}
@@ -30,20 +29,20 @@ played_to_end (AsEnded end) lo ln ho hn p v read write = absurd v
 played_to_end NoMemory lo ln ho hn p v read write = inr refl
 played_to_end (Flood limit) lo ln ho hn p v read write = absurd (no_flood p.script lo ln p.told p.few v.1)
 
-pub summed_to_end : (status : Status) (number rounds : ℕ) (old new : Option (List ℕ)) → (play (gen_text number rounds)).refused ≡ None → GenSo status number rounds old new
+pub summed_to_end : (status : Status) (number rounds : ℕ) (old new : Option (List ℕ)) → GenSo status number rounds old new
     → (status ≡ WriteFault → ⊥) → (status ≡ Fine) ⊎ (status ≡ NoMemory)
-summed_to_end Fine number rounds old new done v write = inl refl
-summed_to_end Usage number rounds old new done v write = absurd v
-summed_to_end ReadFault number rounds old new done v write = absurd v
-summed_to_end WriteFault number rounds old new done v write = absurd (write refl)
-summed_to_end WordFault number rounds old new done v write = absurd v
-summed_to_end (BadFrame at size) number rounds old new done v write = absurd v
-summed_to_end (Torn at) number rounds old new done v write = absurd v
-summed_to_end (BadScript line cause) number rounds old new done v write = absurd (no_cause (play (gen_text number rounds)).refused line cause done v.refused)
-summed_to_end (BadTables speaks line) number rounds old new done v write = absurd v
-summed_to_end (AsEnded end) number rounds old new done v write = absurd v
-summed_to_end NoMemory number rounds old new done v write = inr refl
-summed_to_end (Flood limit) number rounds old new done v write = absurd v
+summed_to_end Fine number rounds old new v write = inl refl
+summed_to_end Usage number rounds old new v write = absurd v
+summed_to_end ReadFault number rounds old new v write = absurd v
+summed_to_end WriteFault number rounds old new v write = absurd (write refl)
+summed_to_end WordFault number rounds old new v write = absurd v
+summed_to_end (BadFrame at size) number rounds old new v write = absurd v
+summed_to_end (Torn at) number rounds old new v write = absurd v
+summed_to_end (BadScript line cause) number rounds old new v write = absurd v
+summed_to_end (BadTables speaks line) number rounds old new v write = absurd v
+summed_to_end (AsEnded end) number rounds old new v write = absurd v
+summed_to_end NoMemory number rounds old new v write = inr refl
+summed_to_end (Flood limit) number rounds old new v write = absurd v
 
 -- ---- each status has a line
 
@@ -69,7 +68,7 @@ summed_printable WriteFault number rounds old new v = refl
 summed_printable WordFault number rounds old new v = refl
 summed_printable (BadFrame at size) number rounds old new v = refl
 summed_printable (Torn at) number rounds old new v = refl
-summed_printable (BadScript line cause) number rounds old new v = refl
+summed_printable (BadScript line cause) number rounds old new v = absurd v
 summed_printable (BadTables speaks line) number rounds old new v = refl
 summed_printable (AsEnded end) number rounds old new v = absurd v
 summed_printable NoMemory number rounds old new v = refl

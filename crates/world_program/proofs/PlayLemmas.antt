@@ -1,12 +1,12 @@
 -- What a run of a script comes to, and what is left where nothing stands in its way.
-use Rattle.std.proofs.Common.{◌≡◌, ◌∙◌, ℕ, suc, List, [], ◌∷◌, ◌++◌, append_assoc, length, length-append, Option, Some, None, refl, ap, sym, subst, inl, inr, arith}
+use Rattle.std.proofs.Common.{◌≡◌, ◌≤◌, ◌∙◌, ℕ, suc, List, [], ◌∷◌, ◌++◌, append_assoc, length, length-append, Option, Some, None, refl, ap, sym, subst, inl, inr, arith}
 use Rattle.std.specs.Prelude.{filter}
 use Rattle.std.proofs.lemmas.Grind.{flat_map-append}
 use Rattle.wire_streams.specs.Streams.{Gains}
 use Rattle.wire_streams.specs.Whole.{GainsFront}
 use Rattle.wire_histories.specs.declared.step.Step.{Step}
 use Rattle.wire_histories.specs.Lines.{step_line}
-use Rattle.world_history.specs.Scripts.{world}
+use Rattle.world_history.specs.Scripts.{play, world}
 use Rattle.world_history.specs.Worlds.{message_in, messages_in}
 use Rattle.world_history.specs.Writing.{lines_of}
 use Rattle.world_run.specs.declared.play.WorldEnd.{WorldEnd}
@@ -14,6 +14,8 @@ use Rattle.world_run.specs.declared.play.WorldEnd.TheVariants as ends
 use Rattle.world_run.specs.Runs.{RunsSo}
 use Rattle.world_scripts.specs.Generated.{gen_text}
 use Rattle.world_promises.proofs.EveryPromise.{promised}
+use Rattle.world_promises.proofs.MadeRuns.{made_passes}
+use Rattle.auth_program.specs.declared.cause.ScriptCause.{ScriptCause}
 use Rattle.auth_program.specs.Files.{ReadsFile, StopsSo}
 use Rattle.auth_program.specs.declared.status.Status.{Status}
 use Rattle.auth_program.specs.declared.status.Status.TheVariants.{Fine, Usage, ReadFault, WriteFault, WordFault, BadFrame, Torn, BadScript, BadTables, AsEnded, NoMemory, Flood}
@@ -112,19 +114,22 @@ pub steps_counted : (steps : List Step) → length (filter (is_sought Message) s
 steps_counted [] = refl
 steps_counted (s ∷ steps) = one_counted s steps (message_in s) refl (steps_counted steps)
 
-pub made_ends : (status : Status) (number rounds : ℕ) (holds : Option (List ℕ)) → HasNotRun (gen_text number rounds) status → GenSo status number rounds holds holds
-made_ends Fine number rounds h s = absurd s
-made_ends Usage number rounds h s = absurd s
-made_ends ReadFault number rounds h s = absurd s
-made_ends WriteFault number rounds h s = absurd s
-made_ends WordFault number rounds h s = absurd s
-made_ends (BadFrame at size) number rounds h s = absurd s
-made_ends (Torn at) number rounds h s = absurd s
-made_ends (BadScript line cause) number rounds h s = record { refused = s; untouched = refl; promised = promised (gen_text number rounds) }
-made_ends (BadTables speaks line) number rounds h s = absurd s
-made_ends (AsEnded end) number rounds h s = absurd s
-made_ends NoMemory number rounds h s = refl
-made_ends (Flood limit) number rounds h s = absurd s
+none_refused : (refused : Option (ℕ × ScriptCause)) (line : ℕ) (cause : ScriptCause) → refused ≡ None → refused ≡ Some (line, cause) → ⊥
+none_refused refused line cause none some = let no_way : None ≡ Some (line, cause) = sym none ∙ some in cc
+
+pub made_ends : (status : Status) (number rounds : ℕ) (holds : Option (List ℕ)) → rounds ≤ 1000 → HasNotRun (gen_text number rounds) status → GenSo status number rounds holds holds
+made_ends Fine number rounds h few s = absurd s
+made_ends Usage number rounds h few s = absurd s
+made_ends ReadFault number rounds h few s = absurd s
+made_ends WriteFault number rounds h few s = absurd s
+made_ends WordFault number rounds h few s = absurd s
+made_ends (BadFrame at size) number rounds h few s = absurd s
+made_ends (Torn at) number rounds h few s = absurd s
+made_ends (BadScript line cause) number rounds h few s = absurd (none_refused (play (gen_text number rounds)).refused line cause (made_passes number rounds few) s)
+made_ends (BadTables speaks line) number rounds h few s = absurd s
+made_ends (AsEnded end) number rounds h few s = absurd s
+made_ends NoMemory number rounds h few s = refl
+made_ends (Flood limit) number rounds h few s = absurd s
 
 pub made_wrote : (status : Status) (script : List ℕ) → HasNotRun script status → status ≡ WriteFault → ⊥
 made_wrote status script s e = subst (λ (it : Status). HasNotRun script it) e s

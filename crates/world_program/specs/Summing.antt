@@ -6,13 +6,12 @@ use Rattle.wire_streams.specs.Streams.{Gains}
 use Rattle.wire_streams.specs.Whole.{GainsFront}
 use Rattle.wire_histories.specs.declared.step.Step.{Step}
 use Rattle.wire_histories.specs.declared.step.Step.TheVariants.{Accept, Fail}
-use Rattle.auth_program.specs.declared.cause.ScriptCause.{ScriptCause}
 use Rattle.world_history.specs.Scripts.{play, world}
 use Rattle.world_history.specs.Worlds.{messages_in}
 use Rattle.world_scripts.specs.Generated.{gen_text}
 use Rattle.world_promises.specs.Statements.{IsPromised}
 use Rattle.auth_program.specs.declared.status.Status.{Status}
-use Rattle.auth_program.specs.declared.status.Status.TheVariants.{Fine, WriteFault, BadScript, NoMemory}
+use Rattle.auth_program.specs.declared.status.Status.TheVariants.{Fine, WriteFault, NoMemory}
 
 -- ---- the line
 
@@ -49,18 +48,10 @@ pub record SumsFront (number rounds : ℕ) (holds_old holds_new : Option (List �
   pub written : GainsFront holds_old holds_new (summary rounds (world (gen_text number rounds)))
   pub promised : IsPromised (gen_text number rounds)
 
--- this line is the first that was refused, for this cause, and nothing was written
-pub record RefusesMade (line : ℕ) (cause : ScriptCause) (number rounds : ℕ)
-    (holds_old holds_new : Option (List ℕ)) : Type 0 where
-  pub refused : (play (gen_text number rounds)).refused ≡ Some (line, cause)
-  pub untouched : holds_new ≡ holds_old
-  pub promised : IsPromised (gen_text number rounds)
-
--- what a `gen` of a number and so many rounds that ended so has written; no other status ends it
+-- what a `gen` of a number and so many rounds that ended so has written; no other status ends it, since no line of
+-- its script is refused
 abbrev pub GenSo : Status → ℕ → ℕ → Option (List ℕ) → Option (List ℕ) → Type 0
 GenSo Fine number rounds holds_old holds_new = Sums number rounds holds_old holds_new
 GenSo WriteFault number rounds holds_old holds_new = SumsFront number rounds holds_old holds_new
-GenSo (BadScript line cause) number rounds holds_old holds_new =
-    RefusesMade line cause number rounds holds_old holds_new
 GenSo NoMemory number rounds holds_old holds_new = holds_new ≡ holds_old
 GenSo status number rounds holds_old holds_new = ⊥

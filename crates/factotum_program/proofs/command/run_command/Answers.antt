@@ -25,5 +25,5 @@ returns-clause-world_complete g c = λ is_world playable read write.
     played_to_end c.run.result _ _ _ _ playable (c.run.ensures.played is_world) (λ e. read (c.run.ensures.world_fault is_world e)) (λ e. write (c.run.ensures.write_fault e))
 
 pub returns-clause-gen_complete : goal.returns-clause-gen_complete
-returns-clause-gen_complete g c = λ given is done write.
-    summed_to_end c.run.result given.number given.rounds _ _ done (c.run.ensures.summed given is) (λ e. write (c.run.ensures.write_fault e))
+returns-clause-gen_complete g c = λ given is write.
+    summed_to_end c.run.result given.number given.rounds _ _ (c.run.ensures.summed given is) (λ e. write (c.run.ensures.write_fault e))

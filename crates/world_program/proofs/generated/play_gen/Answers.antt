@@ -4,7 +4,7 @@ use Rattle.world_program.proofs.PlayLemmas.{made_ends, made_front, made_sums}
 use Rattle.world_program.proofs.generated.play_gen.Goals as goal
 
 pub returns-in-Err-clause-ends : goal.returns-in-Err-clause-ends
-returns-in-Err-clause-ends g c = made_ends c.in-Err.status c.args.given.number c.args.given.rounds _ c.in-Err.ensures.err
+returns-in-Err-clause-ends g c = made_ends c.in-Err.status c.args.given.number c.args.given.rounds _ c.requires c.in-Err.ensures.err
 
 pub returns-in-Ok-write_all-clause-ends : goal.returns-in-Ok-write_all-clause-ends
 returns-in-Ok-write_all-clause-ends g c =
