@@ -1,8 +1,9 @@
 -- A p9any client's acts are talk that anybody may know, until the choice is made, and then the moves of a symbolic client.
-use Rattle.std.proofs.Common.{◌≡◌, ℕ, List, [], ◌∷◌, ◌++◌, true, false, inl, inr, refl, sym, ap, subst, ◌∙◌}
+use Rattle.std.proofs.Common.{◌≡◌, ℕ, List, [], ◌∷◌, ◌++◌, All, append-nil, true, false, Option, inl, inr, refl, sym, ap, subst, ◌∙◌}
 use Rattle.std.specs.Prelude.{codes}
 use Rattle.symbolic_runs.specs.Spellings.{Atoms}
 use Rattle.roles.specs.declared.stage.Role.{Role as SkRole}
+use Rattle.roles.specs.declared.key.SkKey.{SkKey}
 use Rattle.roles.specs.Starts.{Start, role_of}
 use Rattle.roles.specs.Talks.{Call}
 use Rattle.conv_challenge.specs.Starts.{proto_of, side_of}
@@ -13,17 +14,18 @@ use Rattle.talks.specs.Lines.{cause_text}
 use Rattle.wire_histories.specs.declared.step.Protocol.TheVariants as protocol
 use Rattle.symbolic_runs.specs.Moves.{Role, client, fails, Own}
 use Rattle.wire_histories.specs.Histories.{Act, started, gave, took, failed}
-use Rattle.wire_histories.specs.Conversations.{acts_from, met_by, part_as, protocol_as, role_as, speaks, started_by}
-use Rattle.wire_histories.specs.Legal.{IsTalk, Spoken}
+use Rattle.wire_histories.specs.Conversations.{acts_from, kept_by, met_by, part_as, protocol_as, role_as, speaks, started_by}
+use Rattle.wire_histories.specs.Legal.{IsMet, IsTalk, Spoken}
 use Rattle.clean_runs.specs.Labels.{Labelled}
 use Rattle.clean_runs.specs.Runs.{acts_in, is_choosing, moves_by, moves_for, role_by}
-use Rattle.clean_runs.specs.Clean.{ReadsMet, ReadsWord}
+use Rattle.clean_runs.specs.Clean.{ReadsKept, ReadsWord}
 use Rattle.clean_runs.proofs.AnyClients.{Stands, at_once, begun, broken, by_consent, choice_bytes, chosen_acts, consented_acts, consenting, picking, ready, refused, stands}
 use Rattle.clean_runs.proofs.AnyLemmas.{consents_same, inner_role, still_more}
-use Rattle.clean_runs.proofs.AnyTalks.{acts, inner_start, met}
+use Rattle.clean_runs.proofs.AnyTalks.{acts, inner_start, keeps, met}
 use Rattle.clean_runs.proofs.Begun.{BeginsWith}
 use Rattle.clean_runs.proofs.Follows.{CleanActs, Follows, IsFollowed, IsLawful, IsOrderlyTalk, as_follows, chooses, fails_so, one_act, own_by, role_in, takes_none}
 use Rattle.clean_runs.proofs.Grounds.{Each, Ground, each_as, each_behind}
+use Rattle.clean_runs.proofs.Kept.{front_all, last_found, sk_keeps}
 use Rattle.clean_runs.proofs.LeftLemmas.{acts_above}
 use Rattle.clean_runs.proofs.SkClientLaw.{Reading}
 use Rattle.clean_runs.proofs.SkClientLaw as sk
@@ -69,9 +71,9 @@ data IsGround (start : Start) : List Act → Type 0 where
   on_choice : (list choice : List ℕ) → consents list ≡ false → IsGround start (choosing_acts start list choice)
   on_consent : (list choice c : List ℕ) → consents list ≡ true → IsGround start (consenting_acts start list choice c)
 
-data Next (start : Start) (met : List Call) : Act → List Act → Type 0 where
-  of_choice : {act : Act} {acts : List Act} → Before start act acts → Next start met act acts
-  of_talk : {act : Act} {acts : List Act} (ground : List Act) (text : List ℕ) → IsGround start ground → sk.Next (inner_start start text) ground met act acts → Next start met act acts
+data Next (start : Start) (met : List Call) (key : Option (SkKey × Option (List ℕ))) : Act → List Act → Type 0 where
+  of_choice : {act : Act} {acts : List Act} → Before start act acts → Next start met key act acts
+  of_talk : {act : Act} {acts : List Act} (ground : List Act) (text : List ℕ) (own more : List Call) → IsGround start ground → met ≡ own ++ more → key ≡ last_found own → sk.Next (inner_start start text) ground own act acts → Next start met key act acts
 
 taken_next : (start : Start) (P : Act → List Act → Type 0) → ((act : Act) (acts : List Act) → Before start act acts → P act acts) → (l : List ℕ) → Each P (took l ∷ first start ∷ [])
 taken_next start P so l = (so _ _ (it_takes_list l), (so _ _ it_starts, tt))
@@ -82,36 +84,39 @@ choosing_next start P so list choice = (so _ _ (it_chooses list choice), taken_n
 consenting_next : (start : Start) (P : Act → List Act → Type 0) → ((act : Act) (acts : List Act) → Before start act acts → P act acts) → (list choice c : List ℕ) → consents list ≡ true → Each P (consenting_acts start list choice c)
 consenting_next start P so list choice c asks = (so _ _ (it_takes_consent list choice c asks), choosing_next start P so list choice)
 
-as_next : (start : Start) (met : List Call) (ground : List Act) (text : List ℕ) → IsGround start ground → (act : Act) (acts : List Act) → sk.Comes (inner_start start text) ground met (Before start) act acts → Next start met act acts
-as_next start met ground text is act acts (inl next) = of_talk ground text is next
-as_next start met ground text is act acts (inr b) = of_choice b
+as_next : (start : Start) (met : List Call) (key : Option (SkKey × Option (List ℕ))) (ground : List Act) (text : List ℕ) (own more : List Call) → IsGround start ground → met ≡ own ++ more → key ≡ last_found own → (act : Act) (acts : List Act) → sk.Comes (inner_start start text) ground own (Before start) act acts → Next start met key act acts
+as_next start met key ground text own more is met_is key_is act acts (inl next) = of_talk ground text own more is met_is key_is next
+as_next start met key ground text own more is met_is key_is act acts (inr b) = of_choice b
 
-all_next : (start : Start) (talk : List Call) → IsAnyClient start → Stands start (first start) talk → Each (Next start (met start talk)) (acts start (first start) talk)
-all_next start talk is (begun here) = subst (Each (Next start (met start talk))) (sym here.left) (of_choice it_starts, tt)
-all_next start talk is (refused l cause here) = subst (Each (Next start (met start talk))) (sym here.left) (of_choice (it_refuses l (cause_text cause)), taken_next start (Next start (met start talk)) (λ act acts b. of_choice b) l)
-all_next start talk is (picking list waited here) = subst (Each (Next start (met start talk))) (sym here.left) (of_choice it_starts, tt)
-all_next start talk is (ready list place here) = subst (Each (Next start (met start talk))) (sym here.left) (taken_next start (Next start (met start talk)) (λ act acts b. of_choice b) (text_with_nul list))
-all_next start talk is (consenting list place asks here) = subst (Each (Next start (met start talk))) (sym here.left) (choosing_next start (Next start (met start talk)) (λ act acts b. of_choice b) list (choice_bytes start list place))
-all_next start talk is (broken list place c cause asks here) = subst (Each (Next start (met start talk))) (sym here.left) (of_choice (it_breaks list (choice_bytes start list place) c (cause_text cause)), consenting_next start (Next start (met start talk)) (λ act acts b. of_choice b) list (choice_bytes start list place) c asks)
+all_next : (start : Start) (talk : List Call) → IsAnyClient start → Stands start (first start) talk → Each (Next start (met start talk) (keeps start talk)) (acts start (first start) talk)
+all_next start talk is (begun here) = subst (Each (Next start (met start talk) (keeps start talk))) (sym here.left) (of_choice it_starts, tt)
+all_next start talk is (refused l cause here) = subst (Each (Next start (met start talk) (keeps start talk))) (sym here.left) (of_choice (it_refuses l (cause_text cause)), taken_next start (Next start (met start talk) (keeps start talk)) (λ act acts b. of_choice b) l)
+all_next start talk is (picking list waited here) = subst (Each (Next start (met start talk) (keeps start talk))) (sym here.left) (of_choice it_starts, tt)
+all_next start talk is (ready list place here) = subst (Each (Next start (met start talk) (keeps start talk))) (sym here.left) (taken_next start (Next start (met start talk) (keeps start talk)) (λ act acts b. of_choice b) (text_with_nul list))
+all_next start talk is (consenting list place asks here) = subst (Each (Next start (met start talk) (keeps start talk))) (sym here.left) (choosing_next start (Next start (met start talk) (keeps start talk)) (λ act acts b. of_choice b) list (choice_bytes start list place))
+all_next start talk is (broken list place c cause asks here) = subst (Each (Next start (met start talk) (keeps start talk))) (sym here.left) (of_choice (it_breaks list (choice_bytes start list place) c (cause_text cause)), consenting_next start (Next start (met start talk) (keeps start talk)) (λ act acts b. of_choice b) list (choice_bytes start list place) c asks)
 all_next start talk is (at_once list place text entry talked more asks here) =
     let ground = choosing_acts start list (choice_bytes start list place) in
-    let P = sk.Comes (inner_start start text) ground (met start talk) (Before start) in
-    subst (Each (Next start (met start talk))) (sym here.left)
-    (each_as P (Next start (met start talk)) (as_next start (met start talk) ground text (on_choice list (choice_bytes start list place) asks)) (acts_above (speaks P9sk1 (inner_start start text)) entry talked ++ ground)
-    (sk.all_next (inner_start start text) entry ground (met start talk) more (Before start) talked (choosing_next start P (λ act acts b. inr b) list (choice_bytes start list place)) here.has (inner.stands (inner_start start text) entry (inner_client start is text) talked)))
+    let own = met_by (speaks P9sk1 (inner_start start text)) talked in
+    let P = sk.Comes (inner_start start text) ground own (Before start) in
+    subst (Each (Next start (met start talk) (keeps start talk))) (sym here.left)
+    (each_as P (Next start (met start talk) (keeps start talk)) (as_next start (met start talk) (keeps start talk) ground text own more (on_choice list (choice_bytes start list place) asks) here.has (here.keeps_its ∙ sk_keeps (inner_start start text) talked)) (acts_above (speaks P9sk1 (inner_start start text)) entry talked ++ ground)
+    (sk.all_next (inner_start start text) entry ground own [] (Before start) talked (choosing_next start P (λ act acts b. inr b) list (choice_bytes start list place)) (sym (append-nil own)) (inner.stands (inner_start start text) entry (inner_client start is text) talked)))
 all_next start talk is (by_consent list place c text entry talked more asks here) =
     let ground = consenting_acts start list (choice_bytes start list place) c in
-    let P = sk.Comes (inner_start start text) ground (met start talk) (Before start) in
-    subst (Each (Next start (met start talk))) (sym here.left)
-    (each_as P (Next start (met start talk)) (as_next start (met start talk) ground text (on_consent list (choice_bytes start list place) c asks)) (acts_above (speaks P9sk1 (inner_start start text)) entry talked ++ ground)
-    (sk.all_next (inner_start start text) entry ground (met start talk) more (Before start) talked (consenting_next start P (λ act acts b. inr b) list (choice_bytes start list place) c asks) here.has (inner.stands (inner_start start text) entry (inner_client start is text) talked)))
+    let own = met_by (speaks P9sk1 (inner_start start text)) talked in
+    let P = sk.Comes (inner_start start text) ground own (Before start) in
+    subst (Each (Next start (met start talk) (keeps start talk))) (sym here.left)
+    (each_as P (Next start (met start talk) (keeps start talk)) (as_next start (met start talk) (keeps start talk) ground text own more (on_consent list (choice_bytes start list place) c asks) here.has (here.keeps_its ∙ sk_keeps (inner_start start text) talked)) (acts_above (speaks P9sk1 (inner_start start text)) entry talked ++ ground)
+    (sk.all_next (inner_start start text) entry ground own [] (Before start) talked (consenting_next start P (λ act acts b. inr b) list (choice_bytes start list place) c asks) (sym (append-nil own)) (inner.stands (inner_start start text) entry (inner_client start is text) talked)))
 
-nexts : (spoken : Spoken) → IsAnyClient spoken.start → (acts_so : List Act) → IsTalk spoken acts_so → Each (Next spoken.start spoken.met) acts_so
+nexts : (spoken : Spoken) → IsAnyClient spoken.start → (acts_so : List Act) → IsTalk spoken acts_so → Each (Next spoken.start spoken.met spoken.key) acts_so
 nexts spoken is acts_so t =
     let start = spoken.start in
     let mets : met start t.talk ≡ spoken.met = sym (ap (λ p. met_by (speaks p start) t.talk) is.any) ∙ t.met in
+    let kept : keeps start t.talk ≡ spoken.key = sym (ap (λ p. kept_by (speaks p start) t.talk) is.any) ∙ t.kept in
     let left : acts start (first start) t.talk ≡ t.later ++ acts_so = sym (ap (λ p. acts_from (speaks p start) (started_by start) t.talk) is.any ∙ ap (λ f. acts_from (speaks P9any start) f t.talk) (first_is start is)) ∙ t.left in
-    each_behind (Next start spoken.met) t.later acts_so (subst (Each (Next start spoken.met)) left (subst (λ m. Each (Next start m) (acts start (first start) t.talk)) mets (all_next start t.talk is (stands start (first start) is.client (inner_client start is) t.talk))))
+    each_behind (Next start spoken.met spoken.key) t.later acts_so (subst (Each (Next start spoken.met spoken.key)) left (subst (λ k. Each (Next start spoken.met k) (acts start (first start) t.talk)) kept (subst (λ m. Each (Next start m (keeps start t.talk)) (acts start (first start) t.talk)) mets (all_next start t.talk is (stands start (first start) is.client (inner_client start is) t.talk)))))
 
 -- ---- they begin with the start
 
@@ -141,12 +146,12 @@ its_ground : (start : Start) (ground : List Act) → IsGround start ground → G
 its_ground start ground (on_choice list choice asks) = record { begins = (refl, (refl, refl)); quiet = consents_same list ∙ asks; took_quiet = λ b. refl; gave_quiet = λ b. refl; both_quiet = λ a b. refl; still = still_choosing start list choice }
 its_ground start ground (on_consent list choice c asks) = record { begins = (refl, (refl, (refl, refl))); quiet = refl; took_quiet = λ b. refl; gave_quiet = λ b. refl; both_quiet = λ a b. refl; still = still_consenting start list choice c asks }
 
-begins_so : (start : Start) (met : List Call) (act : Act) (acts : List Act) → Next start met act acts → BeginsWith (first start) (act ∷ acts)
-begins_so start met act acts (of_choice b) = before_begins start act acts b
-begins_so start met act acts (of_talk ground text is next) = sk.begins_with (first start) (inner_start start text) ground met act acts (its_ground start ground is).begins next
+begins_so : (start : Start) (met : List Call) (key : Option (SkKey × Option (List ℕ))) (act : Act) (acts : List Act) → Next start met key act acts → BeginsWith (first start) (act ∷ acts)
+begins_so start met key act acts (of_choice b) = before_begins start act acts b
+begins_so start met key act acts (of_talk ground text own more is met_is key_is next) = sk.begins_with (first start) (inner_start start text) ground own act acts (its_ground start ground is).begins next
 
 orderly : (spoken : Spoken) → IsAnyClient spoken.start → IsOrderlyTalk spoken
-orderly spoken is act acts t = subst (λ f. BeginsWith f (act ∷ acts)) (sym (first_is spoken.start is)) (begins_so spoken.start spoken.met act acts (nexts spoken is (act ∷ acts) t).0)
+orderly spoken is act acts t = subst (λ f. BeginsWith f (act ∷ acts)) (sym (first_is spoken.start is)) (begins_so spoken.start spoken.met spoken.key act acts (nexts spoken is (act ∷ acts) t).0)
 
 -- ---- each act
 
@@ -159,10 +164,10 @@ before_follows start act acts (it_chooses list choice) atoms own before a act_is
 before_follows start act acts (it_takes_consent list choice c asks) atoms own before a act_is acts_are no_start = as_follows atoms own client before a [] true (took c) [] (still_choosing start list choice own before acts_are) (ap is_choosing acts_are ∙ (consents_same list ∙ asks)) act_is refl (takes_none c)
 before_follows start act acts (it_breaks list choice c cause) atoms own before a act_is acts_are no_start = as_follows atoms own client before a (moves_by own client before) (is_choosing (acts_in before)) (failed cause) (fails ∷ []) refl refl act_is refl (fails_so cause)
 
-follows_so : (start : Start) (met : List Call) (act : Act) (acts : List Act) → Next start met act acts → (atoms : Atoms) (number : ℕ) (holder : List ℕ) → ((text : List ℕ) → Reading atoms (inner_start start text) met number holder) → (before : List Labelled) (a : Labelled) → a.act ≡ act → acts_in before ≡ acts → CleanActs atoms (own_by number holder) client (a ∷ before) → is_start act ≡ false →
+follows_so : (start : Start) (met : List Call) (key : Option (SkKey × Option (List ℕ))) (act : Act) (acts : List Act) → Next start met key act acts → (atoms : Atoms) (number : ℕ) (holder : List ℕ) → ((text : List ℕ) (own more : List Call) → met ≡ own ++ more → key ≡ last_found own → Reading atoms (inner_start start text) own number holder) → (before : List Labelled) (a : Labelled) → a.act ≡ act → acts_in before ≡ acts → CleanActs atoms (own_by number holder) client (a ∷ before) → is_start act ≡ false →
     Follows atoms (own_by number holder) client (moves_by (own_by number holder) client before) (is_choosing (acts_in before)) a.act a.label (moves_for (own_by number holder) client (is_choosing (acts_in before)) (moves_by (own_by number holder) client before) a.act a.label)
-follows_so start met act acts (of_choice b) atoms number holder read earlier a act_is acts_are clean no_start = before_follows start act acts b atoms (own_by number holder) earlier a act_is acts_are no_start
-follows_so start met act acts (of_talk ground text is next) atoms number holder read earlier a act_is acts_are clean no_start = sk.followed_in (first start) ground (its_ground start ground is) (inner_start start text) met act acts next atoms number holder (read text) earlier a act_is acts_are clean no_start
+follows_so start met key act acts (of_choice b) atoms number holder read earlier a act_is acts_are clean no_start = before_follows start act acts b atoms (own_by number holder) earlier a act_is acts_are no_start
+follows_so start met key act acts (of_talk ground text own more is met_is key_is next) atoms number holder read earlier a act_is acts_are clean no_start = sk.followed_in (first start) ground (its_ground start ground is) (inner_start start text) own act acts next atoms number holder (read text own more met_is key_is) earlier a act_is acts_are clean no_start
 
 -- the part that a client names
 client_part : (role : SkRole) → IsClientRole role → role_by protocol.P9any (part_as role) ≡ client
@@ -178,9 +183,9 @@ followed : (spoken : Spoken) → IsAnyClient spoken.start → IsFollowed spoken
 followed spoken is atoms number holder role read earlier a t clean no_start =
     let role_so = of_this_role spoken.start role is read.of_start in
     let word = subst (λ role. ReadsWord atoms role number spoken.start.word) role_so read.word in
-    let key = subst (λ role. ReadsMet atoms role holder spoken.met) role_so read.key in
+    let key = subst (λ role. ReadsKept atoms role holder spoken.key) role_so read.key in
     subst (λ role. Follows atoms (own_by number holder) role (moves_by (own_by number holder) role earlier) (is_choosing (acts_in earlier)) a.act a.label (moves_for (own_by number holder) role (is_choosing (acts_in earlier)) (moves_by (own_by number holder) role earlier) a.act a.label)) (sym role_so)
-    (follows_so spoken.start spoken.met a.act (acts_in earlier) (nexts spoken is (a.act ∷ acts_in earlier) t).0 atoms number holder (λ text. record { bytes = read.bytes; role = inner_client spoken.start is text; word = word; keys = t.may.keys; key = key }) earlier a refl refl (subst (λ role. CleanActs atoms (own_by number holder) role (a ∷ earlier)) role_so clean) no_start)
+    (follows_so spoken.start spoken.met spoken.key a.act (acts_in earlier) (nexts spoken is (a.act ∷ acts_in earlier) t).0 atoms number holder (λ text own more met_is key_is. record { bytes = read.bytes; role = inner_client spoken.start is text; word = word; keys = front_all IsMet own more (subst (All IsMet) met_is t.may.keys); key = subst (ReadsKept atoms client holder) key_is key }) earlier a refl refl (subst (λ role. CleanActs atoms (own_by number holder) role (a ∷ earlier)) role_so clean) no_start)
 
 -- a p9any client is lawful, for itself or speaking for another
 pub any_client_is_lawful : (spoken : Spoken) → IsAnyClient spoken.start → IsLawful spoken

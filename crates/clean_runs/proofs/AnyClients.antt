@@ -1,6 +1,6 @@
 -- What a p9any client's talk may leave: its start, the list that it takes, its choice, the consent where the server gives one, and
 -- then what the talk of p9sk1 leaves.
-use Rattle.std.proofs.Common.{◌≡◌, ℕ, List, [], ◌∷◌, ◌++◌, Bool, true, false, not, ◌&&◌, length, ◌==◌, if◌then◌else◌, refl, ap, ◌∙◌}
+use Rattle.std.proofs.Common.{None, ◌≡◌, ℕ, List, [], ◌∷◌, ◌++◌, Bool, true, false, not, ◌&&◌, length, ◌==◌, if◌then◌else◌, refl, ap, ◌∙◌}
 use Rattle.std.specs.Prelude.{codes}
 use Rattle.wire_base.specs.Rules.{first_told}
 use Rattle.roles.specs.declared.answer.Cause.{Cause}
@@ -26,7 +26,7 @@ use Rattle.talks.specs.Protocols.{p9sk1}
 use Rattle.talks.specs.Lines.{cause_text}
 use Rattle.wire_histories.specs.Histories.{Act, gave, took, failed}
 use Rattle.wire_histories.specs.Conversations.{asks_by, end_by, is_given, is_taken}
-use Rattle.clean_runs.proofs.AnyTalks.{Here, Inner, Text, a_text, any_left, any_need, fallen, go_on, inner_goes, inner_offered, inner_picked, inner_start, met, no_text, stay, text_of, untaken, waits_for}
+use Rattle.clean_runs.proofs.AnyTalks.{Here, Inner, Text, a_text, any_left, any_need, fallen, go_on, inner_goes, inner_offered, inner_picked, inner_start, kept_then, met, no_text, stay, text_of, untaken, waits_for}
 use Rattle.clean_runs.proofs.LeftLemmas.{at}
 use Rattle.clean_runs.proofs.SkClients.{IsClientRole, broken_left, for_another, for_itself}
 
@@ -75,49 +75,49 @@ list_told start b (no_text given is none_taken) = unread given none_taken (ap (�
 list_told start b (a_text list is whole) = list_tested start b list (length (eligible (codes "p9sk1") start list) == 0) whole (ap (λ r. with_text r (λ list. by_test list (length (eligible (codes "p9sk1") start list) == 0))) is) refl
 
 begun_came : (start : Start) (first : Act) (before : List Call) (b : List ℕ) → Here start first before (at (choosing ClientFirst)) (first ∷ []) → ListCame start b → Stands start first (give b ∷ before)
-begun_came start first before b here (unread given none_taken is) = begun (stay start first before (give b) (at (choosing ClientFirst)) (first ∷ []) given here is (untaken b given true none_taken))
-begun_came start first before b here (bad cause is) = refused b cause (go_on start first before (give b) (at (choosing ClientFirst)) (first ∷ []) (breaks cause) (failed (cause_text cause) ∷ took b ∷ []) here is (broken_left b cause))
-begun_came start first before b here (good list whole is) = picking list (ap (λ p. if is_sought (any_need start p) then waits_for start first before else took b) here.course ∙ ap took whole) (go_on start first before (give b) (at (choosing ClientFirst)) (first ∷ []) (goes (choosing (ClientPick list)) g.Wait []) [] here is refl)
+begun_came start first before b here (unread given none_taken is) = begun (stay start first before (give b) (at (choosing ClientFirst)) (first ∷ []) given here is (untaken b given true none_taken) refl)
+begun_came start first before b here (bad cause is) = refused b cause (go_on start first before (give b) (at (choosing ClientFirst)) (first ∷ []) (breaks cause) (failed (cause_text cause) ∷ took b ∷ []) here is (broken_left b cause) refl)
+begun_came start first before b here (good list whole is) = picking list (ap (λ p. if is_sought (any_need start p) then waits_for start first before else took b) here.course ∙ ap took whole) (go_on start first before (give b) (at (choosing ClientFirst)) (first ∷ []) (goes (choosing (ClientPick list)) g.Wait []) [] here is refl refl)
 
 begun_then : (start : Start) (first : Act) (before : List Call) → Here start first before (at (choosing ClientFirst)) (first ∷ []) → (call : Call) → Stands start first (call ∷ before)
 begun_then start first before here (give b) = begun_came start first before b here (list_told start b (text_of b))
-begun_then start first before here get = begun (stay start first before get (at (choosing ClientFirst)) (first ∷ []) (g.Phase AwaitsWrite) here refl refl)
-begun_then start first before here (found key secret) = begun (stay start first before (found key secret) (at (choosing ClientFirst)) (first ∷ []) (g.Phase AwaitsWrite) here refl refl)
-begun_then start first before here (heard b) = begun (stay start first before (heard b) (at (choosing ClientFirst)) (first ∷ []) (g.Phase AwaitsWrite) here refl refl)
-begun_then start first before here unheard = begun (stay start first before unheard (at (choosing ClientFirst)) (first ∷ []) (g.Phase AwaitsWrite) here refl refl)
-begun_then start first before here roomless = begun (stay start first before roomless (at (choosing ClientFirst)) (first ∷ []) (g.Phase AwaitsWrite) here refl refl)
-begun_then start first before here undone = begun (stay start first before undone (at (choosing ClientFirst)) (first ∷ []) (g.Phase AwaitsWrite) here refl refl)
-begun_then start first before here (offered other) = begun (stay start first before (offered other) (at (choosing ClientFirst)) (first ∷ []) (g.Phase AwaitsWrite) here refl refl)
-begun_then start first before here (picked where_) = begun (stay start first before (picked where_) (at (choosing ClientFirst)) (first ∷ []) (g.Phase AwaitsWrite) here refl refl)
+begun_then start first before here get = begun (stay start first before get (at (choosing ClientFirst)) (first ∷ []) (g.Phase AwaitsWrite) here refl refl refl)
+begun_then start first before here (found key secret) = begun (stay start first before (found key secret) (at (choosing ClientFirst)) (first ∷ []) (g.Phase AwaitsWrite) here refl refl refl)
+begun_then start first before here (heard b) = begun (stay start first before (heard b) (at (choosing ClientFirst)) (first ∷ []) (g.Phase AwaitsWrite) here refl refl refl)
+begun_then start first before here unheard = begun (stay start first before unheard (at (choosing ClientFirst)) (first ∷ []) (g.Phase AwaitsWrite) here refl refl refl)
+begun_then start first before here roomless = begun (stay start first before roomless (at (choosing ClientFirst)) (first ∷ []) (g.Phase AwaitsWrite) here refl refl refl)
+begun_then start first before here undone = begun (stay start first before undone (at (choosing ClientFirst)) (first ∷ []) (g.Phase AwaitsWrite) here refl refl refl)
+begun_then start first before here (offered other) = begun (stay start first before (offered other) (at (choosing ClientFirst)) (first ∷ []) (g.Phase AwaitsWrite) here refl refl refl)
+begun_then start first before here (picked where_) = begun (stay start first before (picked where_) (at (choosing ClientFirst)) (first ∷ []) (g.Phase AwaitsWrite) here refl refl refl)
 
 -- ---- there was nothing to choose
 
 refused_then : (start : Start) (first : Act) (before : List Call) (l : List ℕ) (cause : Cause) → Here start first before (fallen (choosing ClientFirst) cause) (failed (cause_text cause) ∷ took l ∷ first ∷ []) → (call : Call) → Stands start first (call ∷ before)
-refused_then start first before l cause here (give b) = refused l cause (stay start first before (give b) (fallen (choosing ClientFirst) cause) (failed (cause_text cause) ∷ took l ∷ first ∷ []) (g.Phase IsBroken) here refl refl)
-refused_then start first before l cause here get = refused l cause (stay start first before get (fallen (choosing ClientFirst) cause) (failed (cause_text cause) ∷ took l ∷ first ∷ []) (g.Phase IsBroken) here refl refl)
-refused_then start first before l cause here (found key secret) = refused l cause (stay start first before (found key secret) (fallen (choosing ClientFirst) cause) (failed (cause_text cause) ∷ took l ∷ first ∷ []) (g.Phase IsBroken) here refl refl)
-refused_then start first before l cause here (heard b) = refused l cause (stay start first before (heard b) (fallen (choosing ClientFirst) cause) (failed (cause_text cause) ∷ took l ∷ first ∷ []) (g.Phase IsBroken) here refl refl)
-refused_then start first before l cause here unheard = refused l cause (stay start first before unheard (fallen (choosing ClientFirst) cause) (failed (cause_text cause) ∷ took l ∷ first ∷ []) (g.Phase IsBroken) here refl refl)
-refused_then start first before l cause here roomless = refused l cause (stay start first before roomless (fallen (choosing ClientFirst) cause) (failed (cause_text cause) ∷ took l ∷ first ∷ []) (g.Phase IsBroken) here refl refl)
-refused_then start first before l cause here undone = refused l cause (stay start first before undone (fallen (choosing ClientFirst) cause) (failed (cause_text cause) ∷ took l ∷ first ∷ []) (g.Phase IsBroken) here refl refl)
-refused_then start first before l cause here (offered other) = refused l cause (stay start first before (offered other) (fallen (choosing ClientFirst) cause) (failed (cause_text cause) ∷ took l ∷ first ∷ []) (g.Phase IsBroken) here refl refl)
-refused_then start first before l cause here (picked where_) = refused l cause (stay start first before (picked where_) (fallen (choosing ClientFirst) cause) (failed (cause_text cause) ∷ took l ∷ first ∷ []) (g.Phase IsBroken) here refl refl)
+refused_then start first before l cause here (give b) = refused l cause (stay start first before (give b) (fallen (choosing ClientFirst) cause) (failed (cause_text cause) ∷ took l ∷ first ∷ []) (g.Phase IsBroken) here refl refl refl)
+refused_then start first before l cause here get = refused l cause (stay start first before get (fallen (choosing ClientFirst) cause) (failed (cause_text cause) ∷ took l ∷ first ∷ []) (g.Phase IsBroken) here refl refl refl)
+refused_then start first before l cause here (found key secret) = refused l cause (stay start first before (found key secret) (fallen (choosing ClientFirst) cause) (failed (cause_text cause) ∷ took l ∷ first ∷ []) (g.Phase IsBroken) here refl refl refl)
+refused_then start first before l cause here (heard b) = refused l cause (stay start first before (heard b) (fallen (choosing ClientFirst) cause) (failed (cause_text cause) ∷ took l ∷ first ∷ []) (g.Phase IsBroken) here refl refl refl)
+refused_then start first before l cause here unheard = refused l cause (stay start first before unheard (fallen (choosing ClientFirst) cause) (failed (cause_text cause) ∷ took l ∷ first ∷ []) (g.Phase IsBroken) here refl refl refl)
+refused_then start first before l cause here roomless = refused l cause (stay start first before roomless (fallen (choosing ClientFirst) cause) (failed (cause_text cause) ∷ took l ∷ first ∷ []) (g.Phase IsBroken) here refl refl refl)
+refused_then start first before l cause here undone = refused l cause (stay start first before undone (fallen (choosing ClientFirst) cause) (failed (cause_text cause) ∷ took l ∷ first ∷ []) (g.Phase IsBroken) here refl refl refl)
+refused_then start first before l cause here (offered other) = refused l cause (stay start first before (offered other) (fallen (choosing ClientFirst) cause) (failed (cause_text cause) ∷ took l ∷ first ∷ []) (g.Phase IsBroken) here refl refl refl)
+refused_then start first before l cause here (picked where_) = refused l cause (stay start first before (picked where_) (fallen (choosing ClientFirst) cause) (failed (cause_text cause) ∷ took l ∷ first ∷ []) (g.Phase IsBroken) here refl refl refl)
 
 -- ---- it picks
 
-picking_stays : (start : Start) (first : Act) (before : List Call) (call : Call) (list : List ℕ) → waits_for start first before ≡ took (text_with_nul list) → Here start first before (at (choosing (ClientPick list))) (first ∷ []) → choice.verdict p9sk1 start (at (choosing (ClientPick list))) call ≡ stays g.Wait → any_left start (at (choosing (ClientPick list))) (stays g.Wait) (took (text_with_nul list)) call ≡ [] → (choice.course p9sk1 start before ≡ at (choosing (ClientPick list)) → waits_for start first (call ∷ before) ≡ waits_for start first before) → Stands start first (call ∷ before)
-picking_stays start first before call list waited here moves leaves waits = picking list (waits here.course ∙ waited) (stay start first before call (at (choosing (ClientPick list))) (first ∷ []) g.Wait here moves (ap (λ act. any_left start (at (choosing (ClientPick list))) (stays g.Wait) act call) waited ∙ leaves))
+picking_stays : (start : Start) (first : Act) (before : List Call) (call : Call) (list : List ℕ) → waits_for start first before ≡ took (text_with_nul list) → Here start first before (at (choosing (ClientPick list))) (first ∷ []) → choice.verdict p9sk1 start (at (choosing (ClientPick list))) call ≡ stays g.Wait → any_left start (at (choosing (ClientPick list))) (stays g.Wait) (took (text_with_nul list)) call ≡ [] → kept_then (any_need start (at (choosing (ClientPick list)))) (any_need start (at (choosing (ClientPick list)))) call ≡ None → (choice.course p9sk1 start before ≡ at (choosing (ClientPick list)) → waits_for start first (call ∷ before) ≡ waits_for start first before) → Stands start first (call ∷ before)
+picking_stays start first before call list waited here moves leaves none waits = picking list (waits here.course ∙ waited) (stay start first before call (at (choosing (ClientPick list))) (first ∷ []) g.Wait here moves (ap (λ act. any_left start (at (choosing (ClientPick list))) (stays g.Wait) act call) waited ∙ leaves) none)
 
 picking_then : (start : Start) (first : Act) (before : List Call) (list : List ℕ) → waits_for start first before ≡ took (text_with_nul list) → Here start first before (at (choosing (ClientPick list))) (first ∷ []) → (call : Call) → Stands start first (call ∷ before)
-picking_then start first before list waited here (give b) = picking_stays start first before (give b) list waited here refl refl (λ h. ap (λ p. if is_sought (any_need start p) then waits_for start first before else took b) h)
-picking_then start first before list waited here get = picking_stays start first before get list waited here refl refl (λ h. refl)
-picking_then start first before list waited here (found key secret) = picking_stays start first before (found key secret) list waited here refl refl (λ h. refl)
-picking_then start first before list waited here (heard b) = picking_stays start first before (heard b) list waited here refl refl (λ h. refl)
-picking_then start first before list waited here unheard = picking_stays start first before unheard list waited here refl refl (λ h. refl)
-picking_then start first before list waited here roomless = picking_stays start first before roomless list waited here refl refl (λ h. refl)
-picking_then start first before list waited here undone = begun (go_on start first before undone (at (choosing (ClientPick list))) (first ∷ []) (goes (choosing ClientFirst) g.Ok []) [] here refl refl)
-picking_then start first before list waited here (offered other) = picking_stays start first before (offered other) list waited here refl refl (λ h. refl)
-picking_then start first before list waited here (picked where_) = ready list where_ (go_on start first before (picked where_) (at (choosing (ClientPick list))) (first ∷ []) (goes (choosing (ClientSecond list where_)) g.Ok []) (took (text_with_nul list) ∷ []) here refl (ap (λ act. act ∷ []) waited))
+picking_then start first before list waited here (give b) = picking_stays start first before (give b) list waited here refl refl refl (λ h. ap (λ p. if is_sought (any_need start p) then waits_for start first before else took b) h)
+picking_then start first before list waited here get = picking_stays start first before get list waited here refl refl refl (λ h. refl)
+picking_then start first before list waited here (found key secret) = picking_stays start first before (found key secret) list waited here refl refl refl (λ h. refl)
+picking_then start first before list waited here (heard b) = picking_stays start first before (heard b) list waited here refl refl refl (λ h. refl)
+picking_then start first before list waited here unheard = picking_stays start first before unheard list waited here refl refl refl (λ h. refl)
+picking_then start first before list waited here roomless = picking_stays start first before roomless list waited here refl refl refl (λ h. refl)
+picking_then start first before list waited here undone = begun (go_on start first before undone (at (choosing (ClientPick list))) (first ∷ []) (goes (choosing ClientFirst) g.Ok []) [] here refl refl refl)
+picking_then start first before list waited here (offered other) = picking_stays start first before (offered other) list waited here refl refl refl (λ h. refl)
+picking_then start first before list waited here (picked where_) = ready list where_ (go_on start first before (picked where_) (at (choosing (ClientPick list))) (first ∷ []) (goes (choosing (ClientSecond list where_)) g.Ok []) (took (text_with_nul list) ∷ []) here refl (ap (λ act. act ∷ []) waited) refl)
 
 -- ---- it has picked
 
@@ -140,23 +140,23 @@ abbrev by_consents : Start → List ℕ → ℕ → Bool → Verdict Standing
 by_consents start list place asks = if asks then goes (choosing (ClientThird list place)) g.Ok (choice_bytes start list place) else choice.entered p9sk1 start (ClientSecond list place) (chosen_text start list place) (choice_bytes start list place)
 
 ready_got : (start : Start) (first : Act) (before : List Call) (list : List ℕ) (place : ℕ) (asks : Bool) → ((text : List ℕ) → IsClientRole (role_of (inner_start start text).template)) → Here start first before (at (choosing (ClientSecond list place))) (took (text_with_nul list) ∷ first ∷ []) → consents list ≡ asks → Stands start first (get ∷ before)
-ready_got start first before list place true role here is = consenting list place is (go_on start first before get (at (choosing (ClientSecond list place))) (took (text_with_nul list) ∷ first ∷ []) (goes (choosing (ClientThird list place)) g.Ok (choice_bytes start list place)) (gave (choice_bytes start list place) ∷ []) here (ap (by_consents start list place) is) refl)
+ready_got start first before list place true role here is = consenting list place is (go_on start first before get (at (choosing (ClientSecond list place))) (took (text_with_nul list) ∷ first ∷ []) (goes (choosing (ClientThird list place)) g.Ok (choice_bytes start list place)) (gave (choice_bytes start list place) ∷ []) here (ap (by_consents start list place) is) refl refl)
 ready_got start first before list place false role here is =
     let text = chosen_text start list place in
     let given = gave (choice_bytes start list place) ∷ [] in
-    let entered = go_on start first before get (at (choosing (ClientSecond list place))) (took (text_with_nul list) ∷ first ∷ []) (choice.entered p9sk1 start (ClientSecond list place) text (choice_bytes start list place)) given here (ap (by_consents start list place) is) (gives_so given (inner_start start text) (role_of (inner_start start text).template) (role text)) in
-    at_once list place text (waits_for start first (get ∷ before)) [] (met start (get ∷ before)) is (record { course = entered.course; left = entered.left; waits = refl; has = refl })
+    let entered = go_on start first before get (at (choosing (ClientSecond list place))) (took (text_with_nul list) ∷ first ∷ []) (choice.entered p9sk1 start (ClientSecond list place) text (choice_bytes start list place)) given here (ap (by_consents start list place) is) (gives_so given (inner_start start text) (role_of (inner_start start text).template) (role text)) refl in
+    at_once list place text (waits_for start first (get ∷ before)) [] (met start (get ∷ before)) is (record { course = entered.course; left = entered.left; waits = refl; has = refl; keeps_its = entered.none })
 
 ready_then : (start : Start) (first : Act) (before : List Call) (list : List ℕ) (place : ℕ) → ((text : List ℕ) → IsClientRole (role_of (inner_start start text).template)) → Here start first before (at (choosing (ClientSecond list place))) (took (text_with_nul list) ∷ first ∷ []) → (call : Call) → Stands start first (call ∷ before)
-ready_then start first before list place role here (give b) = ready list place (stay start first before (give b) (at (choosing (ClientSecond list place))) (took (text_with_nul list) ∷ first ∷ []) (g.Phase AwaitsRead) here refl refl)
+ready_then start first before list place role here (give b) = ready list place (stay start first before (give b) (at (choosing (ClientSecond list place))) (took (text_with_nul list) ∷ first ∷ []) (g.Phase AwaitsRead) here refl refl refl)
 ready_then start first before list place role here get = ready_got start first before list place (consents list) role here refl
-ready_then start first before list place role here (found key secret) = ready list place (stay start first before (found key secret) (at (choosing (ClientSecond list place))) (took (text_with_nul list) ∷ first ∷ []) (g.Phase AwaitsRead) here refl refl)
-ready_then start first before list place role here (heard b) = ready list place (stay start first before (heard b) (at (choosing (ClientSecond list place))) (took (text_with_nul list) ∷ first ∷ []) (g.Phase AwaitsRead) here refl refl)
-ready_then start first before list place role here unheard = ready list place (stay start first before unheard (at (choosing (ClientSecond list place))) (took (text_with_nul list) ∷ first ∷ []) (g.Phase AwaitsRead) here refl refl)
-ready_then start first before list place role here roomless = ready list place (stay start first before roomless (at (choosing (ClientSecond list place))) (took (text_with_nul list) ∷ first ∷ []) (g.Phase AwaitsRead) here refl refl)
-ready_then start first before list place role here undone = ready list place (stay start first before undone (at (choosing (ClientSecond list place))) (took (text_with_nul list) ∷ first ∷ []) (g.Phase AwaitsRead) here refl refl)
-ready_then start first before list place role here (offered other) = ready list place (stay start first before (offered other) (at (choosing (ClientSecond list place))) (took (text_with_nul list) ∷ first ∷ []) (g.Phase AwaitsRead) here refl refl)
-ready_then start first before list place role here (picked where_) = ready list place (stay start first before (picked where_) (at (choosing (ClientSecond list place))) (took (text_with_nul list) ∷ first ∷ []) (g.Phase AwaitsRead) here refl refl)
+ready_then start first before list place role here (found key secret) = ready list place (stay start first before (found key secret) (at (choosing (ClientSecond list place))) (took (text_with_nul list) ∷ first ∷ []) (g.Phase AwaitsRead) here refl refl refl)
+ready_then start first before list place role here (heard b) = ready list place (stay start first before (heard b) (at (choosing (ClientSecond list place))) (took (text_with_nul list) ∷ first ∷ []) (g.Phase AwaitsRead) here refl refl refl)
+ready_then start first before list place role here unheard = ready list place (stay start first before unheard (at (choosing (ClientSecond list place))) (took (text_with_nul list) ∷ first ∷ []) (g.Phase AwaitsRead) here refl refl refl)
+ready_then start first before list place role here roomless = ready list place (stay start first before roomless (at (choosing (ClientSecond list place))) (took (text_with_nul list) ∷ first ∷ []) (g.Phase AwaitsRead) here refl refl refl)
+ready_then start first before list place role here undone = ready list place (stay start first before undone (at (choosing (ClientSecond list place))) (took (text_with_nul list) ∷ first ∷ []) (g.Phase AwaitsRead) here refl refl refl)
+ready_then start first before list place role here (offered other) = ready list place (stay start first before (offered other) (at (choosing (ClientSecond list place))) (took (text_with_nul list) ∷ first ∷ []) (g.Phase AwaitsRead) here refl refl refl)
+ready_then start first before list place role here (picked where_) = ready list place (stay start first before (picked where_) (at (choosing (ClientSecond list place))) (took (text_with_nul list) ∷ first ∷ []) (g.Phase AwaitsRead) here refl refl refl)
 
 -- ---- it awaits the consent
 
@@ -177,36 +177,36 @@ consent_told start list place b (no_text given is none_taken) = unread_consent g
 consent_told start list place b (a_text text is whole) = consent_tested start list place b text (bytes_eq text (codes "OK")) (ap (λ r. with_text r (λ text. by_words start list place (bytes_eq text (codes "OK")))) is) refl
 
 consenting_came : (start : Start) (first : Act) (before : List Call) (list : List ℕ) (place : ℕ) (b : List ℕ) → consents list ≡ true → ((text : List ℕ) → IsClientRole (role_of (inner_start start text).template)) → Here start first before (at (choosing (ClientThird list place))) (chosen_acts first (text_with_nul list) (choice_bytes start list place)) → ConsentCame start list place b → Stands start first (give b ∷ before)
-consenting_came start first before list place b asks role here (unread_consent given none_taken is) = consenting list place asks (stay start first before (give b) (at (choosing (ClientThird list place))) (chosen_acts first (text_with_nul list) (choice_bytes start list place)) given here is (untaken b given true none_taken))
-consenting_came start first before list place b asks role here (no_consent cause is) = broken list place b cause asks (go_on start first before (give b) (at (choosing (ClientThird list place))) (chosen_acts first (text_with_nul list) (choice_bytes start list place)) (breaks cause) (failed (cause_text cause) ∷ took b ∷ []) here is (broken_left b cause))
+consenting_came start first before list place b asks role here (unread_consent given none_taken is) = consenting list place asks (stay start first before (give b) (at (choosing (ClientThird list place))) (chosen_acts first (text_with_nul list) (choice_bytes start list place)) given here is (untaken b given true none_taken) refl)
+consenting_came start first before list place b asks role here (no_consent cause is) = broken list place b cause asks (go_on start first before (give b) (at (choosing (ClientThird list place))) (chosen_acts first (text_with_nul list) (choice_bytes start list place)) (breaks cause) (failed (cause_text cause) ∷ took b ∷ []) here is (broken_left b cause) refl)
 consenting_came start first before list place b asks role here (a_consent is) =
     let text = chosen_text start list place in
-    let entered = go_on start first before (give b) (at (choosing (ClientThird list place))) (chosen_acts first (text_with_nul list) (choice_bytes start list place)) (choice.entered p9sk1 start (ClientThird list place) text []) (took b ∷ []) here is (takes_so (took b ∷ []) (inner_start start text) (role_of (inner_start start text).template) (role text)) in
-    by_consent list place b text (waits_for start first (give b ∷ before)) [] (met start (give b ∷ before)) asks (record { course = entered.course; left = entered.left; waits = refl; has = refl })
+    let entered = go_on start first before (give b) (at (choosing (ClientThird list place))) (chosen_acts first (text_with_nul list) (choice_bytes start list place)) (choice.entered p9sk1 start (ClientThird list place) text []) (took b ∷ []) here is (takes_so (took b ∷ []) (inner_start start text) (role_of (inner_start start text).template) (role text)) refl in
+    by_consent list place b text (waits_for start first (give b ∷ before)) [] (met start (give b ∷ before)) asks (record { course = entered.course; left = entered.left; waits = refl; has = refl; keeps_its = entered.none })
 
 consenting_then : (start : Start) (first : Act) (before : List Call) (list : List ℕ) (place : ℕ) → consents list ≡ true → ((text : List ℕ) → IsClientRole (role_of (inner_start start text).template)) → Here start first before (at (choosing (ClientThird list place))) (chosen_acts first (text_with_nul list) (choice_bytes start list place)) → (call : Call) → Stands start first (call ∷ before)
 consenting_then start first before list place asks role here (give b) = consenting_came start first before list place b asks role here (consent_told start list place b (text_of b))
-consenting_then start first before list place asks role here get = consenting list place asks (stay start first before get (at (choosing (ClientThird list place))) (chosen_acts first (text_with_nul list) (choice_bytes start list place)) (g.Phase AwaitsWrite) here refl refl)
-consenting_then start first before list place asks role here (found key secret) = consenting list place asks (stay start first before (found key secret) (at (choosing (ClientThird list place))) (chosen_acts first (text_with_nul list) (choice_bytes start list place)) (g.Phase AwaitsWrite) here refl refl)
-consenting_then start first before list place asks role here (heard b) = consenting list place asks (stay start first before (heard b) (at (choosing (ClientThird list place))) (chosen_acts first (text_with_nul list) (choice_bytes start list place)) (g.Phase AwaitsWrite) here refl refl)
-consenting_then start first before list place asks role here unheard = consenting list place asks (stay start first before unheard (at (choosing (ClientThird list place))) (chosen_acts first (text_with_nul list) (choice_bytes start list place)) (g.Phase AwaitsWrite) here refl refl)
-consenting_then start first before list place asks role here roomless = consenting list place asks (stay start first before roomless (at (choosing (ClientThird list place))) (chosen_acts first (text_with_nul list) (choice_bytes start list place)) (g.Phase AwaitsWrite) here refl refl)
-consenting_then start first before list place asks role here undone = consenting list place asks (stay start first before undone (at (choosing (ClientThird list place))) (chosen_acts first (text_with_nul list) (choice_bytes start list place)) (g.Phase AwaitsWrite) here refl refl)
-consenting_then start first before list place asks role here (offered other) = consenting list place asks (stay start first before (offered other) (at (choosing (ClientThird list place))) (chosen_acts first (text_with_nul list) (choice_bytes start list place)) (g.Phase AwaitsWrite) here refl refl)
-consenting_then start first before list place asks role here (picked where_) = consenting list place asks (stay start first before (picked where_) (at (choosing (ClientThird list place))) (chosen_acts first (text_with_nul list) (choice_bytes start list place)) (g.Phase AwaitsWrite) here refl refl)
+consenting_then start first before list place asks role here get = consenting list place asks (stay start first before get (at (choosing (ClientThird list place))) (chosen_acts first (text_with_nul list) (choice_bytes start list place)) (g.Phase AwaitsWrite) here refl refl refl)
+consenting_then start first before list place asks role here (found key secret) = consenting list place asks (stay start first before (found key secret) (at (choosing (ClientThird list place))) (chosen_acts first (text_with_nul list) (choice_bytes start list place)) (g.Phase AwaitsWrite) here refl refl refl)
+consenting_then start first before list place asks role here (heard b) = consenting list place asks (stay start first before (heard b) (at (choosing (ClientThird list place))) (chosen_acts first (text_with_nul list) (choice_bytes start list place)) (g.Phase AwaitsWrite) here refl refl refl)
+consenting_then start first before list place asks role here unheard = consenting list place asks (stay start first before unheard (at (choosing (ClientThird list place))) (chosen_acts first (text_with_nul list) (choice_bytes start list place)) (g.Phase AwaitsWrite) here refl refl refl)
+consenting_then start first before list place asks role here roomless = consenting list place asks (stay start first before roomless (at (choosing (ClientThird list place))) (chosen_acts first (text_with_nul list) (choice_bytes start list place)) (g.Phase AwaitsWrite) here refl refl refl)
+consenting_then start first before list place asks role here undone = consenting list place asks (stay start first before undone (at (choosing (ClientThird list place))) (chosen_acts first (text_with_nul list) (choice_bytes start list place)) (g.Phase AwaitsWrite) here refl refl refl)
+consenting_then start first before list place asks role here (offered other) = consenting list place asks (stay start first before (offered other) (at (choosing (ClientThird list place))) (chosen_acts first (text_with_nul list) (choice_bytes start list place)) (g.Phase AwaitsWrite) here refl refl refl)
+consenting_then start first before list place asks role here (picked where_) = consenting list place asks (stay start first before (picked where_) (at (choosing (ClientThird list place))) (chosen_acts first (text_with_nul list) (choice_bytes start list place)) (g.Phase AwaitsWrite) here refl refl refl)
 
 -- ---- there was no consent
 
 broken_then : (start : Start) (first : Act) (before : List Call) (list : List ℕ) (place : ℕ) (c : List ℕ) (cause : Cause) → consents list ≡ true → Here start first before (fallen (choosing (ClientThird list place)) cause) (failed (cause_text cause) ∷ consented_acts first (text_with_nul list) (choice_bytes start list place) c) → (call : Call) → Stands start first (call ∷ before)
-broken_then start first before list place c cause asks here (give b) = broken list place c cause asks (stay start first before (give b) (fallen (choosing (ClientThird list place)) cause) (failed (cause_text cause) ∷ consented_acts first (text_with_nul list) (choice_bytes start list place) c) (g.Phase IsBroken) here refl refl)
-broken_then start first before list place c cause asks here get = broken list place c cause asks (stay start first before get (fallen (choosing (ClientThird list place)) cause) (failed (cause_text cause) ∷ consented_acts first (text_with_nul list) (choice_bytes start list place) c) (g.Phase IsBroken) here refl refl)
-broken_then start first before list place c cause asks here (found key secret) = broken list place c cause asks (stay start first before (found key secret) (fallen (choosing (ClientThird list place)) cause) (failed (cause_text cause) ∷ consented_acts first (text_with_nul list) (choice_bytes start list place) c) (g.Phase IsBroken) here refl refl)
-broken_then start first before list place c cause asks here (heard b) = broken list place c cause asks (stay start first before (heard b) (fallen (choosing (ClientThird list place)) cause) (failed (cause_text cause) ∷ consented_acts first (text_with_nul list) (choice_bytes start list place) c) (g.Phase IsBroken) here refl refl)
-broken_then start first before list place c cause asks here unheard = broken list place c cause asks (stay start first before unheard (fallen (choosing (ClientThird list place)) cause) (failed (cause_text cause) ∷ consented_acts first (text_with_nul list) (choice_bytes start list place) c) (g.Phase IsBroken) here refl refl)
-broken_then start first before list place c cause asks here roomless = broken list place c cause asks (stay start first before roomless (fallen (choosing (ClientThird list place)) cause) (failed (cause_text cause) ∷ consented_acts first (text_with_nul list) (choice_bytes start list place) c) (g.Phase IsBroken) here refl refl)
-broken_then start first before list place c cause asks here undone = broken list place c cause asks (stay start first before undone (fallen (choosing (ClientThird list place)) cause) (failed (cause_text cause) ∷ consented_acts first (text_with_nul list) (choice_bytes start list place) c) (g.Phase IsBroken) here refl refl)
-broken_then start first before list place c cause asks here (offered other) = broken list place c cause asks (stay start first before (offered other) (fallen (choosing (ClientThird list place)) cause) (failed (cause_text cause) ∷ consented_acts first (text_with_nul list) (choice_bytes start list place) c) (g.Phase IsBroken) here refl refl)
-broken_then start first before list place c cause asks here (picked where_) = broken list place c cause asks (stay start first before (picked where_) (fallen (choosing (ClientThird list place)) cause) (failed (cause_text cause) ∷ consented_acts first (text_with_nul list) (choice_bytes start list place) c) (g.Phase IsBroken) here refl refl)
+broken_then start first before list place c cause asks here (give b) = broken list place c cause asks (stay start first before (give b) (fallen (choosing (ClientThird list place)) cause) (failed (cause_text cause) ∷ consented_acts first (text_with_nul list) (choice_bytes start list place) c) (g.Phase IsBroken) here refl refl refl)
+broken_then start first before list place c cause asks here get = broken list place c cause asks (stay start first before get (fallen (choosing (ClientThird list place)) cause) (failed (cause_text cause) ∷ consented_acts first (text_with_nul list) (choice_bytes start list place) c) (g.Phase IsBroken) here refl refl refl)
+broken_then start first before list place c cause asks here (found key secret) = broken list place c cause asks (stay start first before (found key secret) (fallen (choosing (ClientThird list place)) cause) (failed (cause_text cause) ∷ consented_acts first (text_with_nul list) (choice_bytes start list place) c) (g.Phase IsBroken) here refl refl refl)
+broken_then start first before list place c cause asks here (heard b) = broken list place c cause asks (stay start first before (heard b) (fallen (choosing (ClientThird list place)) cause) (failed (cause_text cause) ∷ consented_acts first (text_with_nul list) (choice_bytes start list place) c) (g.Phase IsBroken) here refl refl refl)
+broken_then start first before list place c cause asks here unheard = broken list place c cause asks (stay start first before unheard (fallen (choosing (ClientThird list place)) cause) (failed (cause_text cause) ∷ consented_acts first (text_with_nul list) (choice_bytes start list place) c) (g.Phase IsBroken) here refl refl refl)
+broken_then start first before list place c cause asks here roomless = broken list place c cause asks (stay start first before roomless (fallen (choosing (ClientThird list place)) cause) (failed (cause_text cause) ∷ consented_acts first (text_with_nul list) (choice_bytes start list place) c) (g.Phase IsBroken) here refl refl refl)
+broken_then start first before list place c cause asks here undone = broken list place c cause asks (stay start first before undone (fallen (choosing (ClientThird list place)) cause) (failed (cause_text cause) ∷ consented_acts first (text_with_nul list) (choice_bytes start list place) c) (g.Phase IsBroken) here refl refl refl)
+broken_then start first before list place c cause asks here (offered other) = broken list place c cause asks (stay start first before (offered other) (fallen (choosing (ClientThird list place)) cause) (failed (cause_text cause) ∷ consented_acts first (text_with_nul list) (choice_bytes start list place) c) (g.Phase IsBroken) here refl refl refl)
+broken_then start first before list place c cause asks here (picked where_) = broken list place c cause asks (stay start first before (picked where_) (fallen (choosing (ClientThird list place)) cause) (failed (cause_text cause) ∷ consented_acts first (text_with_nul list) (choice_bytes start list place) c) (g.Phase IsBroken) here refl refl refl)
 
 -- ---- the choice was made
 
@@ -258,5 +258,5 @@ begins_so role for_itself = refl
 begins_so role (for_another user name) = refl
 
 pub stands : (start : Start) (first : Act) → IsClientRole (role_of start.template) → ((text : List ℕ) → IsClientRole (role_of (inner_start start text).template)) → (talk : List Call) → Stands start first talk
-stands start first role inner [] = begun (record { course = ap (λ stage. at (choosing stage)) (begins_so (role_of start.template) role); left = ap (λ stage. if is_sought (any_need start (at (choosing stage))) then [] else first ∷ []) (begins_so (role_of start.template) role) })
+stands start first role inner [] = begun (record { course = ap (λ stage. at (choosing stage)) (begins_so (role_of start.template) role); left = ap (λ stage. if is_sought (any_need start (at (choosing stage))) then [] else first ∷ []) (begins_so (role_of start.template) role); none = refl })
 stands start first role inner (call ∷ before) = then_stands start first before call inner (stands start first role inner before)

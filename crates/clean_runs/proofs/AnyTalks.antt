@@ -29,7 +29,7 @@ use Rattle.conv_p9any.specs.Talks.{Standing, within}
 use Rattle.conv_p9any.specs.Texts.{ended_text, text_in, text_with_nul}
 use Rattle.talks.specs.Protocols.{P9any, P9sk1, p9sk1}
 use Rattle.wire_histories.specs.Histories.{Act, took}
-use Rattle.wire_histories.specs.Conversations.{acts_by, acts_from, asks_by, end_by, if_found, is_taken, meets, met_by, speaks, waiting}
+use Rattle.wire_histories.specs.Conversations.{acts_by, acts_from, asks_by, end_by, if_found, is_taken, kept_by, kept_now, meets, met_by, speaks, waiting}
 use Rattle.clean_runs.proofs.LeftLemmas.{acts_above, at, left_at}
 
 abbrev pub any_need : Start → Progress Standing → Need
@@ -49,6 +49,16 @@ acts start first talk = acts_from (speaks P9any start) first talk
 
 abbrev pub met : Start → List Call → List Call
 met start talk = met_by (speaks P9any start) talk
+
+abbrev pub keeps : Start → List Call → Option (SkKey × Option (List ℕ))
+keeps start talk = kept_by (speaks P9any start) talk
+
+abbrev pub none_kept : Option (SkKey × Option (List ℕ))
+none_kept = None
+
+-- what a call leaves of no key, by what is needed before and behind it
+abbrev pub kept_then : Need → Need → Call → Option (SkKey × Option (List ℕ))
+kept_then before now call = if meets before call then kept_now now call None else None
 
 abbrev pub waits_for : Start → Act → List Call → Act
 waits_for start first talk = waiting (speaks P9any start) first talk
@@ -78,15 +88,20 @@ goes_from start before call p v here moves = ap (λ p. then_course p (choice.ver
 pub record Here (start : Start) (first : Act) (talk : List Call) (p : Progress Standing) (xs : List Act) : Type 0 where
   pub course : choice.course p9sk1 start talk ≡ p
   pub left : acts start first talk ≡ xs
+  pub none : keeps start talk ≡ None
 
-pub go_on : (start : Start) (first : Act) (before : List Call) (call : Call) (p : Progress Standing) (xs : List Act) (v : Verdict Standing) (left : List Act) → Here start first before p xs → choice.verdict p9sk1 start p call ≡ v → any_left start p v (waits_for start first before) call ≡ left → Here start first (call ∷ before) (then_course p v) (left ++ xs)
-go_on start first before call p xs v left here moves leaves = record {
+pub go_on : (start : Start) (first : Act) (before : List Call) (call : Call) (p : Progress Standing) (xs : List Act) (v : Verdict Standing) (left : List Act) → Here start first before p xs → choice.verdict p9sk1 start p call ≡ v → any_left start p v (waits_for start first before) call ≡ left → kept_then (any_need start p) (any_need start (then_course p v)) call ≡ None → Here start first (call ∷ before) (then_course p v) (left ++ xs)
+go_on start first before call p xs v left here moves leaves none = record {
   course = goes_from start before call p v here.course moves;
   left = ap (λ more. more ++ acts start first before) (left_from start first before call p v here.course moves ∙ leaves) ∙ ap (λ more. left ++ more) here.left;
+  none = ap (λ (k : Option (SkKey × Option (List ℕ))). if meets (any_need start (choice.course p9sk1 start before)) call then kept_now (any_need start (choice.course p9sk1 start (call ∷ before))) call k else k) here.none
+      ∙ ap (λ p. kept_then (any_need start p) (any_need start (choice.course p9sk1 start (call ∷ before))) call) here.course
+      ∙ ap (λ q. kept_then (any_need start p) (any_need start q) call) (goes_from start before call p v here.course moves)
+      ∙ none;
 }
 
-pub stay : (start : Start) (first : Act) (before : List Call) (call : Call) (p : Progress Standing) (xs : List Act) (given : Gave) → Here start first before p xs → choice.verdict p9sk1 start p call ≡ stays given → any_left start p (stays given) (waits_for start first before) call ≡ [] → Here start first (call ∷ before) p xs
-stay start first before call p xs given here moves leaves = go_on start first before call p xs (stays given) [] here moves leaves
+pub stay : (start : Start) (first : Act) (before : List Call) (call : Call) (p : Progress Standing) (xs : List Act) (given : Gave) → Here start first before p xs → choice.verdict p9sk1 start p call ≡ stays given → any_left start p (stays given) (waits_for start first before) call ≡ [] → kept_then (any_need start p) (any_need start p) call ≡ None → Here start first (call ∷ before) p xs
+stay start first before call p xs given here moves leaves none = go_on start first before call p xs (stays given) [] here moves leaves none
 
 -- a text that a NUL ends, or none
 pub data Text (b : List ℕ) : Type 0 where
@@ -136,6 +151,7 @@ pub record Inner (start : Start) (first : Act) (talk : List Call) (stage : Stage
   pub left : acts start first talk ≡ acts_above (speaks P9sk1 (inner_start start text)) entry inner ++ base
   pub waits : waits_for start first talk ≡ waiting (speaks P9sk1 (inner_start start text)) entry inner
   pub has : met start talk ≡ met_by (speaks P9sk1 (inner_start start text)) inner ++ more
+  pub keeps_its : keeps start talk ≡ kept_by (speaks P9sk1 (inner_start start text)) inner
 
 leaves_inner : (start : Start) (stage : Stage) (text : List ℕ) (entry : Act) (inner : List Call) (call : Call) → any_left start (at (within stage text inner)) (choice.passed_on p9sk1 start stage text inner call) (waiting (speaks P9sk1 (inner_start start text)) entry inner) call ≡ acts_by (speaks P9sk1 (inner_start start text)) entry inner call
 leaves_inner start stage text entry inner (give b) = refl
@@ -179,6 +195,9 @@ inner_goes start first before stage text entry base inner more call here moves =
       has = ap (λ p. if meets (any_need start p) call then call ∷ met start before else met start before) here.course
           ∙ ap (λ xs. if meets (sk.need_after (inner_start start text) inner) call then call ∷ xs else xs) here.has
           ∙ met_inner (meets (sk.need_after (inner_start start text) inner) call) call (met_by s inner) more;
+      keeps_its = ap (λ p. if meets (any_need start p) call then kept_now (any_need start (choice.course p9sk1 start (call ∷ before))) call (keeps start before) else keeps start before) here.course
+          ∙ ap (λ q. if meets (sk.need_after (inner_start start text) inner) call then kept_now (any_need start q) call (keeps start before) else keeps start before) (goes_from start before call (at (within stage text inner)) v here.course moves)
+          ∙ ap (λ (k : Option (SkKey × Option (List ℕ))). if meets (sk.need_after (inner_start start text) inner) call then kept_now (sk.need_after (inner_start start text) (call ∷ inner)) call k else k) here.keeps_its;
     }
 
 -- offers and picks are no calls of it, and change nothing
@@ -233,6 +252,9 @@ inner_same start first before stage text entry base inner more call given here m
   has = ap (λ p. if meets (any_need start p) call then call ∷ met start before else met start before) here.course
       ∙ ap (λ (b : Bool). if b then call ∷ met start before else met start before) none
       ∙ here.has;
+  keeps_its = ap (λ p. if meets (any_need start p) call then kept_now (any_need start (choice.course p9sk1 start (call ∷ before))) call (keeps start before) else keeps start before) here.course
+      ∙ ap (λ (b : Bool). if b then kept_now (any_need start (choice.course p9sk1 start (call ∷ before))) call (keeps start before) else keeps start before) none
+      ∙ here.keeps_its;
 }
 
 pub inner_offered : (start : Start) (first : Act) (before : List Call) (stage : Stage) (text : List ℕ) (entry : Act) (base : List Act) (inner more : List Call) (list : List ℕ) → Inner start first before stage text entry base inner more → Inner start first (offered list ∷ before) stage text entry base inner more

@@ -22,7 +22,7 @@ use Rattle.wire_histories.specs.Legal.{IsConversation, IsLegal, IsTalk, Setting,
 use Rattle.clean_runs.specs.Labels.{Labelled, Labelling, given, labelled, started_as, starts_in, taken}
 use Rattle.clean_runs.specs.Runs.{acts_in, events_of, is_choosing, moves_by, moves_for, role_at, role_by, holder_at, run_from, setting_of}
 use Rattle.clean_runs.specs.Forms.{IsFormed}
-use Rattle.clean_runs.specs.Clean.{GoesOn, IsClean, IsLabelled, IsLabelledIf, ReadsMet, ReadsSpoken, ReadsWord}
+use Rattle.clean_runs.specs.Clean.{GoesOn, IsClean, IsLabelled, IsLabelledIf, ReadsKept, ReadsSpoken, ReadsWord}
 use Rattle.clean_runs.specs.Statements.{IsBridged, IsSpelledIf, SpellsStep}
 use Rattle.clean_runs.proofs.Begun.{Began, BeginsWith, began, begun_behind, holder_placed, idle, role_placed, start_alone}
 use Rattle.clean_runs.proofs.Follows.{CleanAct, CleanActs, Follows, IsLawful, IsRead, accepts_it, asks_it, chooses, events_with, fails_so, gives_it, hears_it, hears_none, role_in, run_on, spelled_on, takes_it, takes_none}
@@ -41,7 +41,7 @@ none_of (x ∷ xs) ys none = absurd (cc)
 
 of_front : (o : Option Spoken) (later acts : List Act) → IsConversation o (later ++ acts) → IsConversation o acts
 of_front None later acts none = none_of later acts none
-of_front (Some spoken) later acts t = record { may = t.may; talk = t.talk; met = t.met; later = t.later ++ later; left = t.left ∙ sym (append_assoc t.later later acts) }
+of_front (Some spoken) later acts t = record { may = t.may; talk = t.talk; met = t.met; kept = t.kept; later = t.later ++ later; left = t.left ∙ sym (append_assoc t.later later acts) }
 
 -- the conversation of acts
 pub record Speaks (o : Option Spoken) (act : Act) (acts : List Act) : Type 0 where
@@ -184,12 +184,12 @@ is_read c spoken conv later past p r first is place b =
     let holder_is : (setting c).holder (starts_in b.earlier) ≡ c.l.holder conv = ap (λ h. holder_at c.l h (starts_in b.earlier)) whole ∙ holder_placed c.l (later ++ b.later) conv p r spoken.start.word b.earlier in
     let word : ReadsWord c.atoms (role_by p r) (starts_in b.earlier) spoken.start.word = c.clean.words (later ++ b.later) b.earlier start whole in
     let key : ReadsSpoken c.atoms (role_by p r) (c.l.holder conv) (c.z.spoken conv) = c.clean.holders (later ++ b.later) b.earlier start whole in
-    let met : ReadsMet c.atoms (role_by p r) (c.l.holder conv) spoken.met = subst (ReadsSpoken c.atoms (role_by p r) (c.l.holder conv)) is key in
+    let kept : ReadsKept c.atoms (role_by p r) (c.l.holder conv) spoken.key = subst (ReadsSpoken c.atoms (role_by p r) (c.l.holder conv)) is key in
     record {
       bytes = c.clean.bytes;
       of_start = subst (λ act. role_in act (role_for c (starts_in b.earlier))) (sym first) role_is;
       word = subst (λ role. ReadsWord c.atoms role (starts_in b.earlier) spoken.start.word) (sym role_is) word;
-      key = subst (λ h. ReadsMet c.atoms (role_for c (starts_in b.earlier)) h spoken.met) (sym holder_is) (subst (λ role. ReadsMet c.atoms role (c.l.holder conv) spoken.met) (sym role_is) met);
+      key = subst (λ h. ReadsKept c.atoms (role_for c (starts_in b.earlier)) h spoken.key) (sym holder_is) (subst (λ role. ReadsKept c.atoms role (c.l.holder conv) spoken.key) (sym role_is) kept);
     }
 
 -- ---- an act of a conversation

@@ -14,7 +14,7 @@ use Rattle.wire_histories.specs.Legal.{IsTalk, Spoken}
 use Rattle.clean_runs.specs.Labels.{Labelled}
 use Rattle.clean_runs.specs.Runs.{acts_in, is_choosing, moves_by, moves_for, role_by, talk_events}
 use Rattle.clean_runs.specs.Forms.{IsFormed}
-use Rattle.clean_runs.specs.Clean.{GivesBytes, HoldsBytes, ReadsMet, ReadsWord}
+use Rattle.clean_runs.specs.Clean.{GivesBytes, HoldsBytes, ReadsKept, ReadsWord}
 use Rattle.clean_runs.specs.Statements.{IsSpelledIf}
 use Rattle.clean_runs.proofs.Begun.{BeginsWith}
 use Rattle.clean_runs.proofs.Steps.{given_by, goes_on, is_start, taken_by}
@@ -95,12 +95,12 @@ abbrev pub role_in : Act → Role → Type 0
 role_in (started protocol by word) role = role ≡ role_by protocol by
 role_in act role = ⊥
 
--- what the reading says of a conversation: of its word, and of the key that it found
+-- what the reading says of a conversation: of its word, and of the key that it keeps
 pub record IsRead (atoms : Atoms) (spoken : Spoken) (number : ℕ) (holder : List ℕ) (role : Role) : Type 0 where
   pub bytes : GivesBytes atoms
   pub of_start : role_in (started_by spoken.start) role
   pub word : ReadsWord atoms role number spoken.start.word
-  pub key : ReadsMet atoms role holder spoken.met
+  pub key : ReadsKept atoms role holder spoken.key
 
 -- its acts begin with its start
 abbrev pub IsOrderlyTalk : Spoken → Type 0

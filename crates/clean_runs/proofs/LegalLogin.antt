@@ -43,13 +43,14 @@ use Rattle.complete_logins.proofs.WithinLemmas.{Leads, Passes, passes_by}
 use Rattle.wire_histories.specs.Histories.{Act, started, gave, took, asked, answered, accepted, requested, replied, acts_of, deals_of}
 use Rattle.wire_histories.specs.declared.step.Protocol.TheVariants.{P9any}
 use Rattle.wire_histories.specs.declared.step.Role.TheVariants.{Client as Clients, Server as Serves}
-use Rattle.wire_histories.specs.Conversations.{Speaker, speaks, talk_acts, met_in}
+use Rattle.wire_histories.specs.Conversations.{Speaker, speaks, kept_in, talk_acts, met_in}
 use Rattle.wire_histories.specs.Sessions.{Came, MayCome, answer, ends_by, is_over, session_deals}
 use Rattle.wire_histories.specs.Legal.{IsConversation, IsLegal, IsMet, IsRingKey, IsServed, MayBe, Setting, Tables, known_at}
 use Rattle.clean_runs.specs.Login.{Secrets, Word, ann, answer_bytes, choice_bytes, conv_c, conv_s, key_bytes, key_of, login, login_setting, offer_bytes, proof_bytes, request_bytes, session_r, shown_bytes, spoken, spoken_c, spoken_s, srv, start_as, tables, word_bytes}
 use Rattle.clean_runs.specs.ExampleStatements.{AreBytes, AreFresh, LoginIsLegal}
 use Rattle.wire_histories.proofs.RestartLemmas.{unrestarted}
 use Rattle.clean_runs.proofs.ActLemmas as talk
+use Rattle.clean_runs.proofs.Kept.{kept_behind, kept_found}
 use Rattle.clean_runs.proofs.LoginLaw.{login_is_clean}
 use Rattle.clean_runs.proofs.MailOf.{block_7, block_8, fits_ann, fits_srv, fits_x}
 use Rattle.clean_runs.proofs.WithinActs.{comes}
@@ -475,11 +476,23 @@ s_met : (k : Secrets) → AreFresh k → met_in (ss k) (s_talk k) ≡ finds_srv 
 unfolding protocol_of value_of
 s_met k f = (s_8 k f).met
 
+c_kept : (k : Secrets) → AreFresh k → kept_in (cs k) (c_talk k) ≡ Some (key_of ann k.ann_key, Some k.ann_password)
+unfolding protocol_of value_of
+c_kept k f =
+    kept_behind (c_says k) (give (alone.proved (of k)) ∷ get ∷ heard (4 ∷ alone.both (of k)) ∷ []) (client_found (of k) ++ client_chosen) tt
+    ∙ kept_found (c_says k) (key_of ann k.ann_key) (Some k.ann_password) (asked_talk k) (asks_key k) (asks_tickets k) (c_5 k f).needs (c_6 k f).needs refl refl
+
+s_kept : (k : Secrets) → AreFresh k → kept_in (ss k) (s_talk k) ≡ Some (key_of srv k.srv_key, Some k.srv_password)
+unfolding protocol_of value_of
+s_kept k f =
+    kept_behind (s_says k) (get ∷ give (alone.shown (of k)) ∷ get ∷ give (word_bytes k.client) ∷ []) (server_found (of k) ++ server_chosen) tt
+    ∙ kept_found (s_says k) (key_of srv k.srv_key) (Some k.srv_password) server_chosen (own_key k) Nothing (s_3 k).needs (s_4 k f).needs refl refl
+
 c_is : (k : Secrets) → AreFresh k → IsConversation (spoken k conv_c) (acts_of conv_c (login k))
-c_is k f = record { may = c_may k f; talk = c_talk k; met = c_met k f; later = []; left = c_left k f }
+c_is k f = record { may = c_may k f; talk = c_talk k; met = c_met k f; kept = c_kept k f; later = []; left = c_left k f }
 
 s_is : (k : Secrets) → AreFresh k → IsConversation (spoken k conv_s) (acts_of conv_s (login k))
-s_is k f = record { may = s_may k f; talk = s_talk k; met = s_met k f; later = []; left = s_left k f }
+s_is k f = record { may = s_may k f; talk = s_talk k; met = s_met k f; kept = s_kept k f; later = []; left = s_left k f }
 
 pub conversations : (k : Secrets) → AreFresh k → (name : List ℕ) → IsConversation (spoken k name) (acts_of name (login k))
 conversations k f name = elim (cases_Bool (bytes_eq conv_c name)) [

@@ -39,7 +39,7 @@ use Rattle.complete_logins.proofs.DigitLemmas.{length_digits}
 use Rattle.wire_histories.specs.Histories.{Act, Deal, started, gave, took, asked, answered, accepted, requested, replied, acts_of, deals_of}
 use Rattle.wire_histories.specs.declared.step.Protocol.TheVariants.{Apop}
 use Rattle.wire_histories.specs.declared.step.Role.TheVariants.{Client as Clients, Server as Serves}
-use Rattle.wire_histories.specs.Conversations.{Speaker, speaks, talk_acts, met_in}
+use Rattle.wire_histories.specs.Conversations.{Speaker, speaks, kept_in, talk_acts, met_in}
 use Rattle.wire_histories.specs.Sessions.{Came, IsLong, MayCome, answer, ends_by, held, is_over, session_deals}
 use Rattle.wire_histories.specs.Legal.{IsConversation, IsLegal, IsMet, IsServed, MayBe, known_at}
 use Rattle.clean_runs.specs.Login.{ann, conv_c, conv_s, key_of, session_r, srv, word_bytes}
@@ -47,6 +47,7 @@ use Rattle.clean_runs.specs.MailLogin.{Secrets, challenge_bytes, checked_bytes, 
 use Rattle.clean_runs.specs.ExampleStatements.{AreFreshInMail, MailLoginIsLegal}
 use Rattle.wire_histories.proofs.RestartLemmas.{unrestarted}
 use Rattle.clean_runs.proofs.ActLemmas as talk
+use Rattle.clean_runs.proofs.Kept.{last_found, mail_keeps}
 use Rattle.clean_runs.proofs.MailClean.{mail_login_is_clean}
 use Rattle.clean_runs.proofs.MailOf.{block_7, block_8, fits_ann, fits_none, fits_srv, fits_x, may, of}
 
@@ -303,11 +304,19 @@ s_met : (k : Secrets) → AreFreshInMail k → met_in (of k).server (s_talk (of 
 unfolding protocol_of value_of
 s_met k f = (s_6 (of k) (may k f)).met
 
+c_kept : (k : Secrets) → AreFreshInMail k → kept_in (of k).client (c_talk (of k)) ≡ Some (mail_key k, Some k.ann_password)
+unfolding protocol_of value_of
+c_kept k f = mail_keeps (of k).client (c_talk (of k)) ∙ ap last_found (c_3 (of k) (may k f)).met
+
+s_kept : (k : Secrets) → AreFreshInMail k → kept_in (of k).server (s_talk (of k)) ≡ Some (key_of srv k.srv_key, Some k.srv_password)
+unfolding protocol_of value_of
+s_kept k f = mail_keeps (of k).server (s_talk (of k)) ∙ ap last_found (s_6 (of k) (may k f)).met
+
 c_is : (k : Secrets) → AreFreshInMail k → IsConversation (spoken k conv_c) (acts_of conv_c (login k))
-c_is k f = record { may = c_may k f; talk = c_talk (of k); met = c_met k f; later = []; left = c_left k f }
+c_is k f = record { may = c_may k f; talk = c_talk (of k); met = c_met k f; kept = c_kept k f; later = []; left = c_left k f }
 
 s_is : (k : Secrets) → AreFreshInMail k → IsConversation (spoken k conv_s) (acts_of conv_s (login k))
-s_is k f = record { may = s_may k f; talk = s_talk (of k); met = s_met k f; later = []; left = s_left k f }
+s_is k f = record { may = s_may k f; talk = s_talk (of k); met = s_met k f; kept = s_kept k f; later = []; left = s_left k f }
 
 conversations : (k : Secrets) → AreFreshInMail k → (name : List ℕ) → IsConversation (spoken k name) (acts_of name (login k))
 conversations k f name = elim (cases_Bool (bytes_eq conv_c name)) [

@@ -4,6 +4,7 @@ pub mod Steps
 pub mod Numbers
 pub mod Begun
 pub mod Follows
+mod Kept
 pub mod MailClientLaw
 pub mod Bridge
 pub mod Shown

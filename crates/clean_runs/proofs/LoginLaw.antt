@@ -3,18 +3,19 @@ use Rattle.std.proofs.Common.{◌≡◌, ℕ, zero, suc, ◌<◌, List, [], ◌�
 use Rattle.std.proofs.lemmas.Bool.{cases_Bool}
 use Rattle.std.proofs.lemmas.List.Elements.{All-take}
 use Rattle.std.proofs.lemmas.Slice.Eq.{bytes_eq-Decides}
+use Rattle.std.specs.Prelude.{option_map}
 use Rattle.std.specs.Str.{bytes_eq}
 use Rattle.auth_tables.specs.Keys.{UserKey}
 use Rattle.symbolic_runs.specs.Trees.{long_key}
 use Rattle.symbolic_runs.specs.Spellings.{Atoms}
-use Rattle.roles.specs.Talks.{Call, found, give, get, heard, unheard, roomless, undone, offered, picked}
+use Rattle.roles.specs.declared.key.SkKey.{SkKey}
 use Rattle.symbolic_runs.specs.Moves.{Role, client, server, mail_client, mail_server}
 use Rattle.wire_histories.specs.Legal.{Spoken}
-use Rattle.clean_runs.specs.Clean.{GivesBytes, GivesSevens, ReadsHolder, ReadsMet, ReadsPassword, ReadsSpoken, ReadsStep, ReadsTables, Reads, is_challenge, is_key, is_nonce, is_password}
+use Rattle.clean_runs.specs.Clean.{GivesBytes, GivesSevens, ReadsHolder, ReadsKept, ReadsPassword, ReadsSpoken, ReadsStep, ReadsTables, Reads, is_challenge, is_key, is_nonce, is_password}
 use Rattle.clean_runs.specs.KeyNames.{key_in}
 use Rattle.clean_runs.proofs.KeyNameLaws.{first_name, none_in}
 use Rattle.clean_runs.proofs.Bytes.{digits_small}
-use Rattle.clean_runs.specs.Login.{HasKey, Secrets, Word, ann, conv_c, conv_s, key_bytes, labelling, last_key, login, login_setting, reading, srv, tables, user_key, word_bytes}
+use Rattle.clean_runs.specs.Login.{HasKey, Secrets, Word, ann, conv_c, conv_s, key_bytes, labelling, login, login_setting, reading, srv, tables, user_key, word_bytes}
 use Rattle.clean_runs.specs.ExampleStatements.{AreBytes, AreFresh, LoginIsClean}
 use Rattle.clean_runs.proofs.Forms.{forms}
 use Rattle.clean_runs.proofs.Taken.{labels}
@@ -42,25 +43,17 @@ uses_key server = true
 uses_key (mail_client kind) = false
 uses_key (mail_server kind) = false
 
--- the key that was found last is read as that of its holder
-met_reads : (atoms : Atoms) (role : Role) (holder key : List ℕ) (met : List Call) → uses_key role ≡ true → Reads atoms (long_key holder) key → last_key met ≡ Some key → ReadsMet atoms role holder met
-met_reads atoms role holder key [] uses is last = tt
-met_reads atoms client holder key (found k secret ∷ met) uses is last = (let same : key ≡ k.des.0 = cc in subst (λ (x : List ℕ). Reads atoms (long_key holder) x) same is)
-met_reads atoms server holder key (found k secret ∷ met) uses is last = (let same : key ≡ k.des.0 = cc in subst (λ (x : List ℕ). Reads atoms (long_key holder) x) same is)
-met_reads atoms (mail_client kind) holder key (found k secret ∷ met) uses is last = absurd (cc)
-met_reads atoms (mail_server kind) holder key (found k secret ∷ met) uses is last = absurd (cc)
-met_reads atoms role holder key (give b ∷ met) uses is last = met_reads atoms role holder key met uses is last
-met_reads atoms role holder key (get ∷ met) uses is last = met_reads atoms role holder key met uses is last
-met_reads atoms role holder key (heard b ∷ met) uses is last = met_reads atoms role holder key met uses is last
-met_reads atoms role holder key (unheard ∷ met) uses is last = met_reads atoms role holder key met uses is last
-met_reads atoms role holder key (roomless ∷ met) uses is last = met_reads atoms role holder key met uses is last
-met_reads atoms role holder key (undone ∷ met) uses is last = met_reads atoms role holder key met uses is last
-met_reads atoms role holder key (offered list ∷ met) uses is last = met_reads atoms role holder key met uses is last
-met_reads atoms role holder key (picked place ∷ met) uses is last = met_reads atoms role holder key met uses is last
+-- the key that is kept is read as that of its holder
+kept_reads : (atoms : Atoms) (role : Role) (holder key : List ℕ) (kept : Option (SkKey × Option (List ℕ))) → uses_key role ≡ true → Reads atoms (long_key holder) key → option_map (λ kept. kept.0.des.0) kept ≡ Some key → ReadsKept atoms role holder kept
+kept_reads atoms role holder key None uses is same = tt
+kept_reads atoms client holder key (Some (k, secret)) uses is same = (let des : key ≡ k.des.0 = cc in subst (λ (x : List ℕ). Reads atoms (long_key holder) x) des is)
+kept_reads atoms server holder key (Some (k, secret)) uses is same = (let des : key ≡ k.des.0 = cc in subst (λ (x : List ℕ). Reads atoms (long_key holder) x) des is)
+kept_reads atoms (mail_client kind) holder key (Some (k, secret)) uses is same = absurd (cc)
+kept_reads atoms (mail_server kind) holder key (Some (k, secret)) uses is same = absurd (cc)
 
 spoken_reads : (atoms : Atoms) (role : Role) (holder : List ℕ) (key : Word) (o : Option Spoken) → uses_key role ≡ true → Reads atoms (long_key holder) (key_bytes key) → HasKey key o → ReadsSpoken atoms role holder o
 spoken_reads atoms role holder key None uses is has = tt
-spoken_reads atoms role holder key (Some spoken) uses is has = met_reads atoms role holder (key_bytes key) spoken.met uses is has
+spoken_reads atoms role holder key (Some spoken) uses is has = kept_reads atoms role holder (key_bytes key) spoken.key uses is has
 
 pub holders : (k : Secrets) (spoken : List ℕ → Option Spoken) → HasKey k.ann_key (spoken conv_c) → HasKey k.srv_key (spoken conv_s) → Everywhere (ReadsHolder (reading k) (login_setting k spoken) labelling) (login k)
 holders k spoken has_ann has_srv = (tt, (tt, (tt, (tt, (tt, (tt, (tt, (tt, (tt, (tt, (tt, (tt, (tt, (tt, (tt, (tt, (tt, (tt, (spoken_reads (reading k) server srv k.srv_key (spoken conv_s) refl refl has_srv, (spoken_reads (reading k) client ann k.ann_key (spoken conv_c) refl refl has_ann, tt))))))))))))))))))))

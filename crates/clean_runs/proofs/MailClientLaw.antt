@@ -21,9 +21,10 @@ use Rattle.wire_histories.specs.Conversations.{acts_from, mail_protocol, met_by,
 use Rattle.wire_histories.specs.Legal.{IsTalk, Spoken}
 use Rattle.clean_runs.specs.Labels.{Labelled}
 use Rattle.clean_runs.specs.Runs.{acts_in, is_choosing, moves_by, moves_for, role_by}
-use Rattle.clean_runs.specs.Clean.{ReadsMet}
+use Rattle.clean_runs.specs.Clean.{ReadsKept}
 use Rattle.clean_runs.proofs.Begun.{BeginsWith}
 use Rattle.clean_runs.proofs.Follows.{CleanActs, Follows, IsFollowed, IsLawful, IsOrderlyTalk, as_follows, gives_it, more_acts, one_act, own_by, role_in, takes_it, takes_none}
+use Rattle.clean_runs.proofs.Kept.{ReadsMet, mail_kept}
 use Rattle.clean_runs.proofs.MailClients.{Behind, Stands, at_once, begun, digits, done, keyless, ready, stands, told}
 use Rattle.clean_runs.proofs.Steps.{is_start, taken_by}
 
@@ -217,7 +218,7 @@ followed : (spoken : Spoken) → IsMailClient spoken.start → IsFollowed spoken
 followed spoken is atoms number holder role read before a t clean none =
     let role_so = of_this_role spoken.start role is read.of_start in
     subst (λ role. Follows atoms (own_by number holder) role (moves_by (own_by number holder) role before) (is_choosing (acts_in before)) a.act a.label (moves_for (own_by number holder) role (is_choosing (acts_in before)) (moves_by (own_by number holder) role before) a.act a.label)) (sym role_so)
-    (followed_in spoken.start spoken.met a.act (acts_in before) (nexts spoken is (a.act ∷ acts_in before) t).0 atoms number holder (subst (λ role. ReadsMet atoms role holder spoken.met) role_so read.key) before a refl refl (subst (λ role. CleanActs atoms (own_by number holder) role before) role_so clean.1) none)
+    (followed_in spoken.start spoken.met a.act (acts_in before) (nexts spoken is (a.act ∷ acts_in before) t).0 atoms number holder (subst (ReadsKept atoms (mail_client (kind_of (proto_of spoken.start.template))) holder) (mail_kept spoken (a.act ∷ acts_in before) is.mail t) (subst (λ role. ReadsKept atoms role holder spoken.key) role_so read.key)) before a refl refl (subst (λ role. CleanActs atoms (own_by number holder) role before) role_so clean.1) none)
 
 -- a mail client is lawful
 pub mail_client_is_lawful : (spoken : Spoken) → IsMailClient spoken.start → IsLawful spoken

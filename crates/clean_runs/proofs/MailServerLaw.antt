@@ -36,10 +36,11 @@ use Rattle.wire_histories.specs.Legal.{IsMet, IsRingKey, IsTalk, Spoken}
 use Rattle.clean_runs.specs.Labels.{Labelled}
 use Rattle.clean_runs.specs.Runs.{acts_in, if_some, is_choosing, moves_by, moves_for, names_in, role_by, takes_now}
 use Rattle.clean_runs.specs.Forms.{IsChallenge, IsFormed, IsPlain, IsVouch}
-use Rattle.clean_runs.specs.Clean.{GivesBytes, HoldsBytes, ReadsMet, ReadsWord}
+use Rattle.clean_runs.specs.Clean.{GivesBytes, HoldsBytes, ReadsKept, ReadsWord}
 use Rattle.clean_runs.proofs.Begun.{BeginsWith}
 use Rattle.clean_runs.proofs.Bytes.{opened_names, request_before_is_spelled, request_is_spelled, ticket_long, ticket_spells, ticket_with, tree_bytes}
 use Rattle.clean_runs.proofs.Follows.{CleanActs, Follows, IsFollowed, IsLawful, IsOrderlyTalk, accepts_it, as_follows, asks_it, fails_so, gives_it, hears_it, hears_none, known_act, moves_next, one_act, own_by, role_in, takes_it, takes_none}
+use Rattle.clean_runs.proofs.Kept.{ReadsMet, mail_kept}
 use Rattle.clean_runs.proofs.MailClientLaw.{kind_of}
 use Rattle.clean_runs.proofs.MailServers.{IsVouched, Stands, accepted_acts, asked_acts, asking, deceived, denied, digits_acts, done, given_acts, handing, heard_acts, named, named_acts, ready, seeking, stands, unnamed, vouch_acts, vouched_acts, vouching}
 use Rattle.clean_runs.proofs.SkClientLaw.{was_true}
@@ -638,7 +639,7 @@ followed : (spoken : Spoken) → IsMailServer spoken.start → IsFollowed spoken
 followed spoken is atoms number holder role read before x t clean no_start =
     let role_so = of_this_role spoken.start role is read.of_start in
     let word = subst (λ role. ReadsWord atoms role number spoken.start.word) role_so read.word in
-    let key = subst (λ role. ReadsMet atoms role holder spoken.met) role_so read.key in
+    let key = subst (ReadsKept atoms (mail_server (kind_of (proto_of spoken.start.template))) holder) (mail_kept spoken (x.act ∷ acts_in before) is.mail t) (subst (λ role. ReadsKept atoms role holder spoken.key) role_so read.key) in
     subst (λ role. Follows atoms (own_by number holder) role (moves_by (own_by number holder) role before) (is_choosing (acts_in before)) x.act x.label (moves_for (own_by number holder) role (is_choosing (acts_in before)) (moves_by (own_by number holder) role before) x.act x.label)) (sym role_so)
     (followed_in spoken.start spoken.met x.act (acts_in before) (nexts spoken is (x.act ∷ acts_in before) t).0 atoms number holder (record { bytes = read.bytes; word = word; eight = t.may.word.whole; keys = t.may.keys; key = key }) before x refl refl (subst (λ role. CleanActs atoms (own_by number holder) role (x ∷ before)) role_so clean) no_start)
 

@@ -40,11 +40,12 @@ use Rattle.wire_histories.specs.Legal.{IsMet, IsRingKey, IsTalk, Spoken}
 use Rattle.clean_runs.specs.Labels.{Labelled}
 use Rattle.clean_runs.specs.Runs.{acts_in, if_some, is_choosing, moves_by, moves_for, names_in, role_by}
 use Rattle.clean_runs.specs.Forms.{IsAnswer, IsFormed, IsRequest}
-use Rattle.clean_runs.specs.Clean.{GivesBytes, HoldsBytes, ReadsMet, ReadsWord}
+use Rattle.clean_runs.specs.Clean.{GivesBytes, HoldsBytes, ReadsKept, ReadsWord}
 use Rattle.clean_runs.proofs.Begun.{BeginsWith}
 use Rattle.clean_runs.proofs.Bytes.{authenticator_is, authenticator_spells, opened_key, proof_with, request_is_spelled, request_with, ticket_long, ticket_spells, ticket_with, tree_bytes}
 use Rattle.clean_runs.proofs.Follows.{CleanActs, Follows, IsFollowed, IsLawful, IsOrderlyTalk, accepts_it, as_follows, asks_it, fails_so, gives_it, hears_it, hears_none, known_act, moves_next, own_by, role_in, takes_it, takes_none}
 use Rattle.clean_runs.proofs.Grounds.{Each, Found, Ground, begins_more, each_behind, sk_ground, told_begins, told_on, told_quiet}
+use Rattle.clean_runs.proofs.Kept.{ReadsMet, sk_kept}
 use Rattle.clean_runs.proofs.LeftLemmas.{above_all, acts_above, at}
 use Rattle.clean_runs.proofs.SkClients.{Instead, IsClientRole, Stands, accepted_acts, asked_acts, asking, begun, by_answer, by_no_room, by_none, deceived, denied, done, for_another, for_itself, greeting, handed, heard_acts, instead, keyless, question, ready, refused, second, showing, shown_acts, stands}
 use Rattle.clean_runs.proofs.SkServerLaw.{ok_same}
@@ -635,7 +636,7 @@ followed : (spoken : Spoken) → IsClient spoken.start → IsFollowed spoken
 followed spoken is atoms number holder role read before a t clean no_start =
     let role_so = of_this_role spoken.start role is read.of_start in
     let word = subst (λ role. ReadsWord atoms role number spoken.start.word) role_so read.word in
-    let key = subst (λ role. ReadsMet atoms role holder spoken.met) role_so read.key in
+    let key = subst (ReadsKept atoms client holder) (sk_kept spoken (a.act ∷ acts_in before) is.p9sk1 t) (subst (λ role. ReadsKept atoms role holder spoken.key) role_so read.key) in
     subst (λ role. Follows atoms (own_by number holder) role (moves_by (own_by number holder) role before) (is_choosing (acts_in before)) a.act a.label (moves_for (own_by number holder) role (is_choosing (acts_in before)) (moves_by (own_by number holder) role before) a.act a.label)) (sym role_so)
     (follows_so spoken.start spoken.met a.act (acts_in before) (nexts spoken is (a.act ∷ acts_in before) t).0 atoms number holder (record { bytes = read.bytes; role = is.client; word = word; keys = t.may.keys; key = key }) before a refl refl (subst (λ role. CleanActs atoms (own_by number holder) role (a ∷ before)) role_so clean) no_start)
 

@@ -11,7 +11,6 @@ use Rattle.symbolic_runs.specs.Spellings.{Atoms, bytes_of, spelling}
 use Rattle.auth_tables.specs.Keys.{UserKey}
 use Rattle.auth_server.specs.Answers.{word, word_key}
 use Rattle.roles.specs.declared.key.SkKey.{SkKey}
-use Rattle.roles.specs.Talks.{Call, found}
 use Rattle.wire_histories.specs.declared.step.Step.{Step}
 use Rattle.wire_histories.specs.declared.step.Step.TheVariants.{Start, Out, In, Ask, Heard, Accept, AsGot, AsGave}
 use Rattle.symbolic_runs.specs.Moves.{Role, client, server, mail_client, mail_server}
@@ -68,22 +67,20 @@ ReadsTables atoms z = (number : ℕ) (name : List ℕ) (key : UserKey) → (know
     → Reads atoms (long_key (key_name z.tables number name)) key.des
     × ReadsPassword atoms (key_name z.tables number name) key.password
 
--- the key of a conversation, the one that it found last, is read as that of its holder, and of a mail client the
--- password
+-- the key that a conversation keeps is read as that of its holder, and of a mail client the password
 abbrev pub ReadsKey : Atoms → Role → List ℕ → SkKey → Option (List ℕ) → Type 0
 ReadsKey atoms client holder key secret = Reads atoms (long_key holder) key.des.0
 ReadsKey atoms server holder key secret = Reads atoms (long_key holder) key.des.0
 ReadsKey atoms (mail_client kind) holder key secret = Reads atoms (password holder) (unwrap_or secret [])
 ReadsKey atoms (mail_server kind) holder key secret = Reads atoms (long_key holder) key.des.0
 
-abbrev pub ReadsMet : Atoms → Role → List ℕ → List Call → Type 0
-ReadsMet atoms role holder [] = Unit {0}
-ReadsMet atoms role holder (found key secret ∷ met) = ReadsKey atoms role holder key secret
-ReadsMet atoms role holder (call ∷ met) = ReadsMet atoms role holder met
+abbrev pub ReadsKept : Atoms → Role → List ℕ → Option (SkKey × Option (List ℕ)) → Type 0
+ReadsKept atoms role holder None = Unit {0}
+ReadsKept atoms role holder (Some (key, secret)) = ReadsKey atoms role holder key secret
 
 abbrev pub ReadsSpoken : Atoms → Role → List ℕ → Option Spoken → Type 0
 ReadsSpoken atoms role holder None = Unit {0}
-ReadsSpoken atoms role holder (Some spoken) = ReadsMet atoms role holder spoken.met
+ReadsSpoken atoms role holder (Some spoken) = ReadsKept atoms role holder spoken.key
 
 abbrev pub ReadsHolder : Atoms → Setting → Labelling → History → Step → Type 0
 ReadsHolder atoms z l past (Start conv protocol role random) =

@@ -43,7 +43,7 @@ pub record AreFresh (k : Secrets) : Type 0 where
       ∷ key_bytes k.srv_key ∷ [])
   pub passwords : AreDifferent (k.ann_password ∷ k.srv_password ∷ [])
 
--- whatever the conversations were started with, where the key that each found last is that of its user
+-- whatever the conversations were started with, where the key that each keeps is that of its user
 abbrev pub LoginIsClean : Type 0
 LoginIsClean = (k : Secrets) (spoken : List ℕ → Option Spoken) → AreFresh k → HasKey k.ann_key (spoken conv_c)
     → HasKey k.srv_key (spoken conv_s) → IsClean (login k) (login_setting k spoken) (reading k) labelling

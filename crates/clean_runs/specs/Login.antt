@@ -1,7 +1,7 @@
 -- A login that p9any chooses, written out with all that it rests on: ann at srv, in the domain x, by p9sk1
 -- (authsrv(6) and factotum(4) of the Plan 9 manual). The random words, the keys and the passwords are any; what
 -- stands in the messages of them is what these are. It shows that records can be clean.
-use Rattle.std.specs.Prelude.{◌≡◌, ℕ, List, [], ◌∷◌, ◌++◌, codes, Option, Some, None, if◌then◌else◌, slice_get}
+use Rattle.std.specs.Prelude.{◌≡◌, ℕ, List, [], ◌∷◌, ◌++◌, codes, Option, Some, None, option_map, if◌then◌else◌, slice_get}
 use Rattle.std.specs.Str.{bytes_eq}
 use Rattle.hex.specs.Hex.{encode_lower}
 use Rattle.sealing.specs.Sealing.{sealed}
@@ -9,7 +9,7 @@ use Rattle.wire_base.specs.Names.{name_field}
 use Rattle.auth_tables.specs.Keys.{UserKey}
 use Rattle.roles.specs.declared.key.SkKey.{SkKey}
 use Rattle.roles.specs.Starts.{Start, start_with}
-use Rattle.roles.specs.Talks.{Call, found, offered, picked}
+use Rattle.roles.specs.Talks.{found, offered, picked}
 use Rattle.roles.specs.Templates.{given_as}
 use Rattle.symbolic_runs.specs.Trees.{Tree, plain, nonce, challenge, long_key, ticket_key, junk_key, password, seal}
 use Rattle.symbolic_runs.specs.Spellings.{Atoms}
@@ -152,6 +152,7 @@ spoken_c k = record {
   node = codes "a";
   start = start_as (codes "p9any") (codes "client") k.client;
   met = found (key_of ann k.ann_key) (Some k.ann_password) ∷ picked 0 ∷ [];
+  key = Some (key_of ann k.ann_key, Some k.ann_password);
 }
 
 abbrev pub spoken_s : Secrets → Spoken
@@ -159,6 +160,7 @@ spoken_s k = record {
   node = codes "b";
   start = start_as (codes "p9any") (codes "server") k.server;
   met = found (key_of srv k.srv_key) (Some k.srv_password) ∷ offered (codes "p9sk1@x") ∷ [];
+  key = Some (key_of srv k.srv_key, Some k.srv_password);
 }
 
 -- both by their names
@@ -168,16 +170,10 @@ spoken k name =
     else if bytes_eq conv_s name then Some (spoken_s k)
     else None
 
--- the key that a conversation found last
-abbrev pub last_key : List Call → Option (List ℕ)
-last_key [] = None
-last_key (found key secret ∷ met) = Some key.des.0
-last_key (call ∷ met) = last_key met
-
--- a conversation that was started has this one
+-- a conversation that was started keeps this key
 abbrev pub HasKey : Word → Option Spoken → Type 0
 HasKey key None = ⊥
-HasKey key (Some spoken) = last_key spoken.met ≡ Some (key_bytes key)
+HasKey key (Some spoken) = option_map (λ kept. kept.0.des.0) spoken.key ≡ Some (key_bytes key)
 
 abbrev pub login_setting : Secrets → (List ℕ → Option Spoken) → Setting
 login_setting k spoken = record { spoken = spoken; dom = codes "x"; tables = tables k ∷ [] }

@@ -120,6 +120,7 @@ spoken_c k = record {
   node = codes "a";
   start = start_as (codes "apop") (codes "client") k.client;
   met = found (mail_key k) (Some k.ann_password) ∷ [];
+  key = Some (mail_key k, Some k.ann_password);
 }
 
 abbrev pub spoken_s : Secrets → Spoken
@@ -127,6 +128,7 @@ spoken_s k = record {
   node = codes "b";
   start = start_as (codes "apop") (codes "server") k.server;
   met = found (key_of srv k.srv_key) (Some k.srv_password) ∷ [];
+  key = Some (key_of srv k.srv_key, Some k.srv_password);
 }
 
 abbrev pub spoken : Secrets → List ℕ → Option Spoken

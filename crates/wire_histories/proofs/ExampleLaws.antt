@@ -15,7 +15,7 @@ use Rattle.roles.specs.Talks.{Call, give, get, found}
 use Rattle.conv_challenge.specs.Starts.{proto_of, side_of, start_fault}
 use Rattle.talks.specs.Protocols.{protocol_of}
 use Rattle.wire_histories.specs.Histories.{Act, started, took, gave}
-use Rattle.wire_histories.specs.Conversations.{met_in, talk_acts}
+use Rattle.wire_histories.specs.Conversations.{kept_in, met_in, talk_acts}
 use Rattle.wire_histories.specs.Legal.{IsConversation, IsLegal, IsMet, IsRingKey, IsServed, IsTalk, MayBe, known_at}
 use Rattle.wire_histories.proofs.RestartLemmas.{unrestarted}
 use Rattle.wire_histories.specs.Examples.{challenge, conv, eight_zeros, mail_history, mail_key, mail_setting, mail_spoken, mail_start, password}
@@ -35,6 +35,10 @@ acts_are des = refl
 met_so : (des : List ℕ) → met_in mail_start (talk des) ≡ found (mail_key des) (Some password) ∷ []
 unfolding protocol_of proto_of side_of value_of
 met_so des = refl
+
+kept_so : (des : List ℕ) → kept_in mail_start (talk des) ≡ Some (mail_key des, Some password)
+unfolding protocol_of proto_of side_of value_of
+kept_so des = refl
 
 -- numbers that are seen to be bytes
 all_small : (text : List ℕ) → list_all (λ b. nat_lt b 256) text ≡ true → All (λ b. b < 256) text
@@ -58,7 +62,7 @@ unfolding protocol_of start_fault value_of is_text is_utf8 chars encode
 may_be des block = record { tuple = refl; fits = refl; starts = refl; word = record { whole = refl; bytes = zeros }; keys = All-cons IsMet (found (mail_key des) (Some password)) [] (key_fits des block) (All-nil IsMet) }
 
 is_talk : (des : List ℕ) → IsBlock 7 des → IsTalk (mail_spoken des) acts
-is_talk des block = record { may = may_be des block; talk = talk des; met = met_so des; later = []; left = acts_are des }
+is_talk des block = record { may = may_be des block; talk = talk des; met = met_so des; kept = kept_so des; later = []; left = acts_are des }
 
 -- the one conversation, and any other name
 by_name : (des : List ℕ) → IsBlock 7 des → (same : Bool) → IsConversation (if same then Some (mail_spoken des) else None) ((if same then gave (apop_digits challenge password) ∷ [] else []) ++ ((if same then took challenge ∷ [] else []) ++ ((if same then started Apop Client eight_zeros ∷ [] else []) ++ [])))

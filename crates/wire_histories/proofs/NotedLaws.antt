@@ -5,12 +5,12 @@ use Rattle.std.specs.Prelude.{is_some, nat_lt, option_map}
 use Rattle.std.specs.List.{slice_get}
 use Rattle.auth_tables.specs.Keys.{UserKey}
 use Rattle.wire_histories.specs.Legal.{Setting}
-use Rattle.wire_histories.specs.Noted.{IsNotedOf, Noted, found_des, found_secret, noted_des, noted_secret, noted_tables, secret_in}
+use Rattle.wire_histories.specs.Noted.{IsNotedOf, Noted, kept_des, kept_secret, noted_des, noted_secret, noted_tables, secret_in}
 
-pub noted_keys : (z : Setting) (n : Noted) → IsNotedOf z n → (conv : List ℕ) → noted_des n conv ≡ found_des z conv
+pub noted_keys : (z : Setting) (n : Noted) → IsNotedOf z n → (conv : List ℕ) → noted_des n conv ≡ kept_des z conv
 noted_keys z n h conv = ap (option_map (λ (key : UserKey). key.des)) (h.keys conv)
 
-pub noted_secrets : (z : Setting) (n : Noted) → IsNotedOf z n → (conv : List ℕ) → noted_secret n conv ≡ found_secret z conv
+pub noted_secrets : (z : Setting) (n : Noted) → IsNotedOf z n → (conv : List ℕ) → noted_secret n conv ≡ kept_secret z conv
 noted_secrets z n h conv = ap secret_in (h.keys conv)
 
 there : {X : Type 0} (xs : List X) (number : ℕ) → is_some (slice_get xs number) ≡ nat_lt number (length xs)

@@ -1,12 +1,13 @@
 -- What a conversation's talk leaves in the record. The talk is the list of all its calls; what each comes to is what
 -- its role says (factotum(4) and authsrv(6) of the Plan 9 manual). The form of the record is this project's.
-use Rattle.std.specs.Prelude.{ℕ, List, [], ◌∷◌, ◌++◌, Bool, true, false, not, ◌&&◌, if◌then◌else◌}
+use Rattle.std.specs.Prelude.{ℕ, List, [], ◌∷◌, ◌++◌, Bool, true, false, not, ◌&&◌, Option, Some, None, if◌then◌else◌}
 use Rattle.wire_histories.specs.declared.step.Protocol.{Protocol}
 use Rattle.wire_histories.specs.declared.step.Protocol.TheVariants as protocol
 use Rattle.wire_histories.specs.declared.step.Role.{Role}
 use Rattle.wire_histories.specs.declared.step.Role.TheVariants as role
 use Rattle.roles.specs.declared.answer.Gave.{Gave}
 use Rattle.roles.specs.declared.answer.Gave.TheVariants as g
+use Rattle.roles.specs.declared.key.SkKey.{SkKey}
 use Rattle.roles.specs.declared.need.Need.{Need}
 use Rattle.roles.specs.declared.need.Need.TheVariants.{Nothing, Key, Offers, Pick, Exchange}
 use Rattle.roles.specs.declared.need.Outcome.{Outcome}
@@ -190,3 +191,25 @@ met_by s (call ∷ before) = if meets (s.needs before) call then call ∷ met_by
 
 abbrev pub met_in : Start → List Call → List Call
 met_in start talk = met_by (speaker start) talk
+
+-- ---- the key of a talk
+
+-- offers are needed
+abbrev pub are_wanted : Need → Bool
+are_wanted (Offers template) = true
+are_wanted need = false
+
+-- a key with its secret, where one was found; it isn't kept where offers are needed behind it, for the sake of which it
+-- was found (a server of p9any that had none)
+abbrev pub kept_now : Need → Call → Option (SkKey × Option (List ℕ)) → Option (SkKey × Option (List ℕ))
+kept_now need (found key secret) before = if are_wanted need then None else Some (key, secret)
+kept_now need call before = before
+
+-- the key that a conversation keeps behind its talk: that which met a need last, if it is kept
+abbrev pub kept_by : Speaker → List Call → Option (SkKey × Option (List ℕ))
+kept_by s [] = None
+kept_by s (call ∷ before) =
+    if meets (s.needs before) call then kept_now (s.needs (call ∷ before)) call (kept_by s before) else kept_by s before
+
+abbrev pub kept_in : Start → List Call → Option (SkKey × Option (List ℕ))
+kept_in start talk = kept_by (speaker start) talk

@@ -42,7 +42,12 @@ abbrev pub mail_key : List ℕ → SkKey
 mail_key des = record { des = record { 0 = des }; user = codes "mrose"; dom = [] }
 
 abbrev pub mail_spoken : List ℕ → Spoken
-mail_spoken des = record { node = codes "a"; start = mail_start; met = found (mail_key des) (Some password) ∷ [] }
+mail_spoken des = record {
+  node = codes "a";
+  start = mail_start;
+  met = found (mail_key des) (Some password) ∷ [];
+  key = Some (mail_key des, Some password);
+}
 
 -- the conversation is the one of that name; the authentication server knows nobody
 abbrev pub mail_setting : List ℕ → Setting

@@ -1,8 +1,8 @@
--- Which histories a network can have. A setting says how each conversation started and what met its needs for keys,
--- offers and picks, and what the authentication server's domain is and its tables are. Each conversation does what a
--- talk of its own leaves, and nothing more once its node was restarted. Each session does what requests of its own
--- leave, each by the tables in force when it came. Nothing ties what is taken to what was given: what comes may be
--- lost, repeated, turned round, changed or made up. A history may end between the steps of one event.
+-- Which histories a network can have. A setting says how each conversation started, what met its needs for keys,
+-- offers and picks and which key it keeps, and what the authentication server's domain is and its tables are. Each
+-- conversation does what a talk of its own leaves, and nothing more once its node was restarted. Each session does what
+-- requests of its own leave, each by the tables in force when it came. Nothing ties what is taken to what was given:
+-- what comes may be lost, repeated, turned round, changed or made up. A history may end between the steps of one event.
 use Rattle.std.specs.Prelude.{◌≡◌, ℕ, ◌+◌, List, [], ◌∷◌, ◌++◌, All, length, None, Some, Option, true, false}
 use Rattle.std.specs.List.{list_any, slice_index_or}
 use Rattle.wire_base.specs.Names.{IsName}
@@ -18,14 +18,15 @@ use Rattle.roles.specs.Talks.{Call, found}
 use Rattle.talks.specs.Protocols.{refuses}
 use Rattle.wire_histories.specs.declared.step.Step.TheVariants.{Restart}
 use Rattle.wire_histories.specs.Histories.{History, Act, Deal, acts_of, deals_of, has_started, is_of, reloads_in, IsNumbered}
-use Rattle.wire_histories.specs.Conversations.{met_in, talk_acts}
+use Rattle.wire_histories.specs.Conversations.{kept_in, met_in, talk_acts}
 use Rattle.wire_histories.specs.Sessions.{Came, IsSession, session_deals}
 
--- a conversation's node, its start, and what met its needs, the newest first
+-- a conversation's node, its start, what met its needs, the newest first, and the key that it keeps, with its secret
 pub record Spoken : Type 0 where
   pub node : List ℕ
   pub start : Start
   pub met : List Call
+  pub key : Option (SkKey × Option (List ℕ))
 
 -- the two tables of an authentication server: the keys of its users, and the names that it gives to hosts
 pub record Tables : Type 0 where
@@ -73,11 +74,12 @@ pub record MayBe (spoken : Spoken) : Type 0 where
   pub word : IsBlock 8 spoken.start.word
   pub keys : All IsMet spoken.met
 
--- these acts are the first that a talk leaves whose needs were met so
+-- these acts are the first that a talk leaves whose needs were met so, and which keeps this key
 pub record IsTalk (spoken : Spoken) (acts : List Act) : Type 0 where
   pub may : MayBe spoken
   pub talk : List Call
   pub met : met_in spoken.start talk ≡ spoken.met
+  pub kept : kept_in spoken.start talk ≡ spoken.key
   pub later : List Act
   pub left : talk_acts spoken.start talk ≡ later ++ acts
 

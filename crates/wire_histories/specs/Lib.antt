@@ -1,3 +1,4 @@
+pub use Rattle.talks.specs.Answers
 pub mod Lines
 pub mod Histories
 pub mod Conversations

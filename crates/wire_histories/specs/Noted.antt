@@ -1,4 +1,4 @@
--- What a program notes of a setting: the key that each conversation found last, with its secret, and the domain and the
+-- What a program notes of a setting: the key that each conversation keeps, with its secret, and the domain and the
 -- tables of the authentication server. It is what is asked of a setting where a labelled history is tested; with what a
 -- conversation started isn't noted, nor what else it met. The form is this project's.
 use Rattle.std.specs.Prelude.{◌≡◌, ℕ, List, [], ◌∷◌, length, Option, Some, None, option_map}
@@ -6,7 +6,7 @@ use Rattle.std.specs.List.{slice_get}
 use Rattle.auth_tables.specs.Keys.{UserKey, key_of}
 use Rattle.auth_server.specs.Answers.{Knowledge}
 use Rattle.auth_server.specs.Standing.{knowledge}
-use Rattle.roles.specs.Talks.{Call, found}
+use Rattle.roles.specs.declared.key.SkKey.{SkKey}
 use Rattle.wire_histories.specs.Legal.{Setting, Spoken, Tables, known_at, tables_at}
 
 -- the keys by the names of conversations, and the tables, the first of them first
@@ -40,29 +40,27 @@ noted_known n number = knowledge (record {
 
 -- ---- what it is noted of
 
--- the key that a conversation found last, of all that met its needs, the newest first
-abbrev pub found_last : List Call → Option UserKey
-found_last [] = None
-found_last (found key secret ∷ met) = Some (record { des = key.des.0; password = secret })
-found_last (call ∷ met) = found_last met
+-- a key as it is noted
+abbrev pub noted_key : SkKey × Option (List ℕ) → UserKey
+noted_key kept = record { des = kept.0.des.0; password = kept.1 }
 
--- one that hasn't started has found none
-abbrev pub found_by : Option Spoken → Option UserKey
-found_by None = None
-found_by (Some spoken) = found_last spoken.met
+-- the key that a conversation keeps; one that hasn't started has none
+abbrev pub key_by : Option Spoken → Option UserKey
+key_by None = None
+key_by (Some spoken) = option_map noted_key spoken.key
 
-abbrev pub found_in : Setting → List ℕ → Option UserKey
-found_in z conv = found_by (z.spoken conv)
+abbrev pub kept_at : Setting → List ℕ → Option UserKey
+kept_at z conv = key_by (z.spoken conv)
 
-abbrev pub found_des : Setting → List ℕ → Option (List ℕ)
-found_des z conv = option_map (λ key. key.des) (found_in z conv)
+abbrev pub kept_des : Setting → List ℕ → Option (List ℕ)
+kept_des z conv = option_map (λ key. key.des) (kept_at z conv)
 
-abbrev pub found_secret : Setting → List ℕ → Option (List ℕ)
-found_secret z conv = secret_in (found_in z conv)
+abbrev pub kept_secret : Setting → List ℕ → Option (List ℕ)
+kept_secret z conv = secret_in (kept_at z conv)
 
 -- this was noted of a setting
 pub record IsNotedOf (z : Setting) (n : Noted) : Type 0 where
-  pub keys : (conv : List ℕ) → key_of conv n.keys ≡ found_in z conv
+  pub keys : (conv : List ℕ) → key_of conv n.keys ≡ kept_at z conv
   pub dom : n.dom ≡ z.dom
   pub as_many : length n.tables ≡ length z.tables
   pub known : (number : ℕ) → noted_known n number ≡ known_at z number

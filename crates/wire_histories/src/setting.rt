@@ -8,7 +8,7 @@ use std::collections::BTreeMap;
 use std::marker::Model;
 use wire_base::{NoMemory, Text};
 
-// A key that a conversation found, with its secret. It has no Debug, which would print both.
+// A key that a conversation keeps, with its secret. It has no Debug, which would print both.
 #[derive(Drop)]
 struct NotedKey {
     des: Key7,
@@ -46,8 +46,8 @@ struct NotedTables {
     speaks: SpeaksTable,
 }
 
-/// The setting of a record as far as a program asks for it: the key that each conversation found last, with its secret, and
-/// the authentication server's domain and all the tables that it had. It has no Debug, which would print secrets.
+/// The setting of a record as far as a program asks for it: the key that each conversation keeps, with its secret, and the
+/// authentication server's domain and all the tables that it had. It has no Debug, which would print secrets.
 #[derive(Drop)]
 pub struct Setting {
     alloc: Global,
@@ -70,7 +70,7 @@ impl Model for Setting {
 }
 
 impl Setting {
-    ghost use Rattle.std.specs.Prelude.{◌≡◌, ℕ, List, [], ◌∷◌, ◌++◌, Some, OnOk, OnErr, option_copied, option_map, if◌then◌else◌};
+    ghost use Rattle.std.specs.Prelude.{◌≡◌, ℕ, List, [], ◌∷◌, ◌++◌, None, Some, OnOk, OnErr, option_copied, option_map, if◌then◌else◌};
     ghost use Rattle.std.specs.Str.{bytes_eq};
     ghost use Rattle.auth_tables.specs.Keys.{key_of};
     ghost use Rattle.wire_histories.specs.Noted.{noted_des, noted_secret, noted_tables};
@@ -87,7 +87,7 @@ impl Setting {
         }
     }
 
-    /// A conversation has found a key, which takes the place of one that it found before.
+    /// A conversation keeps a key, which takes the place of one that it kept before.
     pub fn note_key(
         &mut self,
         conv: &[u8],
@@ -104,6 +104,15 @@ impl Setting {
         let conv = Vec::from_slice(self.alloc, conv)?;
         self.keys.insert(conv, NotedKey { des, password })?;
         Ok(())
+    }
+
+    /// A conversation keeps no key, whether it kept one before or not.
+    pub fn forget_key(&mut self, conv: &[u8])
+        ensures forgot { (other : List ℕ) → key_of other self.new.keys
+            ≡ (if bytes_eq conv.now other then None else key_of other self.old.keys) }
+        ensures rest { (self.new.dom ≡ self.old.dom) × (self.new.tables ≡ self.old.tables) }
+    {
+        self.keys.remove(conv);
     }
 
     /// The authentication server has other tables from now on.
@@ -125,7 +134,7 @@ impl Setting {
         self.keys.get(conv)
     }
 
-    /// The DES key of the key that a conversation found last; None where it found none, or isn't there.
+    /// The DES key of the key that a conversation keeps; None where it keeps none, or isn't there.
     pub fn key_of(&self, conv: &[u8]) -> Option<Key7>
         ensures { option_map (λ des. des.0) result ≡ noted_des self.now conv.now }
     {
@@ -135,8 +144,8 @@ impl Setting {
         }
     }
 
-    /// The secret of the key that a conversation found last, which of a client of the mail protocols is its password; None
-    /// where the key has none, or the conversation found no key, or isn't there.
+    /// The secret of the key that a conversation keeps, which of a client of the mail protocols is its password; None
+    /// where the key has none, or the conversation keeps no key, or isn't there.
     pub fn password_of(&self, conv: &[u8]) -> Option<&Text>
         ensures { option_map (λ password. password.now) result ≡ noted_secret self.now conv.now }
     {
