@@ -1,11 +1,6 @@
 -- A text of labels is read line by line.
-use Rattle.std.proofs.Common.{◌≡◌, ℕ, eqb, inl, inr, ◌+◌, ◌<◌, ◌≤◌, List, [], ◌∷◌, ◌++◌, true, false, length, length-append, map, Option, Result, Ok, Err, IfErr, refl, sym, ap, ◌∙◌, append_assoc, append-nil, arith, subst}
+use Rattle.std.proofs.Common.{◌≡◌, ℕ, eqb, inl, inr, ◌+◌, ◌<◌, ◌≤◌, List, [], ◌∷◌, ◌++◌, true, false, length, length-append, map, refl, sym, ap, ◌∙◌, append_assoc, append-nil, arith, subst}
 use Rattle.std.specs.List.{join_with_byte}
-use Rattle.std.specs.Io.KnownBytes.{Consumes, IsAtEnd}
-use Rattle.trace_labels.specs.declared.read.LabelsFault.{LabelsFault}
-use Rattle.trace_labels.specs.declared.read.LabelsFault.TheVariants.{BadLabels, ReadFault, Flood, NoMemory}
-use Rattle.trace_labels.specs.declared.read.TheConstants.{MOST_BYTES}
-use Rattle.trace_labels.specs.Reads.{FailsSo, is_flood, reading_failed}
 use Rattle.std.proofs.lemmas.List.{map-append}
 use Rattle.std.proofs.lemmas.List.Splits.{join_with_byte-slice_split}
 use Rattle.attr_tuples.specs.Cutting.{text_lines}
@@ -68,16 +63,15 @@ line_more all left rest text number lines new line has first less is fresh put =
       room = omega (arith, room, less);
     }
 
-pub first_bad : (all left rest text : List ℕ) (number n : ℕ) (lines : List LabelLine) → HasLines all left number lines → label_lines left ≡ text ∷ label_lines rest → n ≡ number + 1 → IsBad (map said lines) text → IsFirstBad (label_lines all) n
-first_bad all left rest text number n lines has first e bad =
+pub first_bad : (all left rest text : List ℕ) (number : ℕ) (lines : List LabelLine) → HasLines all left number lines → label_lines left ≡ text ∷ label_lines rest → IsBad (map said lines) text → IsFirstBad (label_lines all) (map said lines) (number + 1)
+first_bad all left rest text number lines has first bad =
     let counted = has.counted in
     record {
       before = has.before;
       bad = text;
       behind = label_lines rest;
       whole = has.whole ∙ ap (λ ls. has.before ++ ls) first;
-      counted = omega (arith, counted, e);
-      lines = map said lines;
+      counted = omega (arith, counted);
       good = has.are;
       is_bad = bad;
     }
@@ -95,13 +89,3 @@ no_line before text never = inl never
 
 pub repeated_line : (before : List Line) (text : List ℕ) (line : Line) → IsLine line text → is_repeated line before ≡ true → IsBad before text
 repeated_line before text line is again = inr (line, is, again)
-
-pub same_bad : {A : Type 0} (m n : ℕ) → ◌≡◌ {A = Result A LabelsFault} (Err (BadLabels m)) (Err (BadLabels n)) → n ≡ m
-same_bad m n h = let same : m ≡ n = cc in sym same
-
-pub fails_so : {A : Type 0} (before now : Option (List ℕ)) (text : List ℕ) (r : Result A LabelsFault) → Consumes before now text → IsAtEnd now → length text ≤ MOST_BYTES → ((n : ℕ) → r ≡ Err (BadLabels n) → IsFirstBad (label_lines text) n) → reading_failed r ≡ false → is_flood r ≡ false → IfErr r (λ fault. FailsSo fault before now)
-fails_so before now text (Ok labels) consumed whole small bad sound few = tt
-fails_so before now text (Err (BadLabels n)) consumed whole small bad sound few = record { text = text; read = record { consumed = consumed; whole = whole; small = small }; first = bad n refl }
-fails_so before now text (Err ReadFault) consumed whole small bad sound few = absurd cc
-fails_so before now text (Err Flood) consumed whole small bad sound few = absurd cc
-fails_so before now text (Err NoMemory) consumed whole small bad sound few = tt

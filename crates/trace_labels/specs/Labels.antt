@@ -1,7 +1,7 @@
 -- A text of labels: its lines, each of one of the forms, and none of them saying again what an earlier one says: the
 -- holder of a conversation, the reading of an atom, the label of a place or its derivation. A newline ends a line; the
 -- last may lack it. The form is this project's.
-use Rattle.std.specs.Prelude.{◌≡◌, ◌⊎◌, ℕ, ◌+◌, List, [], ◌∷◌, ◌++◌, Bool, true, false, ◌==◌, length}
+use Rattle.std.specs.Prelude.{◌≡◌, ◌⊎◌, ℕ, ◌+◌, List, [], ◌∷◌, ◌++◌, Bool, true, false, ◌==◌, length, Option, Some, None}
 use Rattle.std.specs.List.{list_any}
 use Rattle.std.specs.Str.{bytes_eq}
 use Rattle.attr_tuples.specs.Cutting.{text_lines}
@@ -49,13 +49,17 @@ abbrev pub IsBad : List Line → List ℕ → Type 0
 IsBad before text = ((line : Line) → IsLine line text → ⊥)
     ⊎ ((line : Line) × IsLine line text × (is_repeated line before ≡ true))
 
--- the line of this number, from 1 on, is the first that is bad
-pub record IsFirstBad (texts : List (List ℕ)) (number : ℕ) : Type 0 where
+-- the line of this number, from 1 on, is the first that is bad, and these are the lines before it
+pub record IsFirstBad (texts : List (List ℕ)) (lines : List Line) (number : ℕ) : Type 0 where
   pub before : List (List ℕ)
   pub bad : List ℕ
   pub behind : List (List ℕ)
   pub whole : texts ≡ before ++ bad ∷ behind
   pub counted : number ≡ length before + 1
-  pub lines : List Line
   pub good : AreLines before lines
   pub is_bad : IsBad lines bad
+
+-- these are the lines of some texts up to the first that is bad, whose number this is, if there is one
+abbrev pub AreUpTo : List (List ℕ) → List Line → Option ℕ → Type 0
+AreUpTo texts lines None = AreLines texts lines
+AreUpTo texts lines (Some number) = IsFirstBad texts lines number

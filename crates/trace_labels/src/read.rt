@@ -1,10 +1,9 @@
 // A text of labels, read from a source.
-ghost use Rattle.std.specs.Prelude.{◌≡◌, ◌≤◌, ◌<◌, ◌+◌, ◌^◌, ◌++◌, ◌∷◌, [], ℕ, List, true, false, length, map, IfOk, IfErr, OnOk};
+ghost use Rattle.std.specs.Prelude.{◌≡◌, ◌≤◌, ◌<◌, ◌^◌, ◌++◌, ◌∷◌, [], true, false, not, length, map, Ok, IfOk, IfErr};
 ghost use Rattle.wire_streams.specs.Causes.{CountsOutcome};
-ghost use Rattle.trace_labels.specs.declared.read.LabelsFault.TheVariants.{BadLabels};
 ghost use Rattle.trace_labels.specs.Lines.{IsLine, Line};
-ghost use Rattle.trace_labels.specs.Labels.{AreLines, IsBad, IsFirstBad, is_repeated, label_lines};
-ghost use Rattle.trace_labels.specs.Reads.{FailsSo, ReadsLabels, is_flood, reading_failed};
+ghost use Rattle.trace_labels.specs.Labels.{AreUpTo, IsBad, is_repeated, label_lines};
+ghost use Rattle.trace_labels.specs.Reads.{FailsSo, ReadsLabels, reading_failed};
 ghost use Rattle.trace_labels.specs.Said.{said};
 
 use crate::line::{LabelLine, parse_label_line};
@@ -17,14 +16,19 @@ use wire_streams::{Source, WholeFault, read_whole};
 /// How many bytes a text of labels may have.
 pub const MOST_BYTES: usize = 4194304;
 
-/// The lines of a text of labels, in order.
-pub type Labels = List<LabelLine>;
+/// What was read of a text of labels.
+#[derive(Drop)]
+pub struct Labels {
+    /// Its lines before the first bad one, in order.
+    pub lines: List<LabelLine>,
+    /// The number of the first line, counted from 1, that has no form that a line has, or says again what an earlier one
+    /// says; None exactly where there is none.
+    pub bad: Option<u32>,
+}
 
 /// Why no labels were read.
 #[derive(Clone, Copy, Debug, PartialEq, Eq)]
 pub enum LabelsFault {
-    /// This line, counted from 1, is the first that has no form that a line has, or says again what an earlier one says.
-    BadLabels { line: u32 },
     /// A read of the source failed.
     ReadFault,
     /// The text has more bytes than a text of labels may have.
@@ -36,14 +40,17 @@ pub enum LabelsFault {
 /// Reads the labels of a source, to its end.
 pub fn read_labels<S: Source>(alloc: Global, source: &mut S) -> Result<Labels, LabelsFault>
     ensures ok { IfOk result (λ labels.
-        ReadsLabels (S.left source.old) (S.left source.new) labels) }
+        ReadsLabels (S.left source.old) (S.left source.new) labels.lines labels.bad) }
     ensures err { IfErr result (λ fault. FailsSo fault (S.left source.old) (S.left source.new)) }
     ensures counted { S.faults source.old ≤ S.faults source.new }
     ensures exact { CountsOutcome (S.faults source.old) (S.faults source.new)
         (reading_failed result) }
 {
     match read_whole(alloc, MOST_BYTES, source) {
-        Ok(text) => read_lines(alloc, &text),
+        Ok(text) => match read_lines(alloc, &text) {
+            Ok(labels) => Ok(labels),
+            Err(NoMemory) => Err(LabelsFault::NoMemory),
+        },
         Err(WholeFault::Failed) => Err(LabelsFault::ReadFault),
         Err(WholeFault::Flood) => Err(LabelsFault::Flood),
         Err(WholeFault::NoMemory) => Err(LabelsFault::NoMemory),
@@ -63,77 +70,58 @@ fn cut_first(text: &[u8]) -> (&[u8], &[u8])
     }
 }
 
-fn read_lines(alloc: Global, text: &[u8]) -> Result<Labels, LabelsFault>
+fn read_lines(alloc: Global, text: &[u8]) -> Result<Labels, NoMemory>
     requires { length text.now < 2 ^ 32 }
-    ensures ok { IfOk result (λ labels. AreLines (label_lines text.now) (map said labels)) }
-    ensures bad { (number : ℕ) → result ≡ Err (BadLabels number)
-        → IsFirstBad (label_lines text.now) number }
-    ensures sound { reading_failed result ≡ false }
-    ensures few { is_flood result ≡ false }
+    ensures { IfOk result (λ labels.
+        AreUpTo (label_lines text.now) (map said labels.lines) labels.bad) }
 {
-    let mut labels = Labels::new(alloc);
+    let mut lines = List::new(alloc);
     let mut number = 0;
     let mut left = text;
     while !left.is_empty() {
         let (line, rest) = cut_first(left);
         number += 1;
-        take_line(alloc, line, number, &mut labels)?;
+        if !take_line(alloc, line, &mut lines)? {
+            let bad = Some(number);
+            return Ok(Labels { lines, bad });
+        }
         left = rest;
     }
-    Ok(labels)
+    Ok(Labels { lines, bad: None })
 }
 
-// Puts a line behind those that were read, where it is one and repeats none of them.
-fn take_line(
-    alloc: Global,
-    text: &[u8],
-    number: u32,
-    labels: &mut Labels,
-) -> Result<(), LabelsFault>
-    ensures ok { OnOk result ((line : Line) × IsLine line text.now
-        × (is_repeated line (map said labels.old) ≡ false)
-        × (map said labels.new ≡ map said labels.old ++ line ∷ [])) }
-    ensures bad { (n : ℕ) → result ≡ Err (BadLabels n) → (n ≡ number)
-        × IsBad (map said labels.old) text.now }
-    ensures sound { reading_failed result ≡ false }
-    ensures few { is_flood result ≡ false }
+// Puts a line behind those that were read, where it is one and repeats none of them. False exactly where it is bad.
+fn take_line(alloc: Global, text: &[u8], lines: &mut List<LabelLine>) -> Result<bool, NoMemory>
+    ensures good { result ≡ Ok true → (line : Line) × IsLine line text.now
+        × (is_repeated line (map said lines.old) ≡ false)
+        × (map said lines.new ≡ map said lines.old ++ line ∷ []) }
+    ensures bad { result ≡ Ok false → IsBad (map said lines.old) text.now
+        × (lines.new ≡ lines.old) }
 {
     match parse_label_line(alloc, text) {
-        Ok(line) => take_new(line, number, labels),
-        Err(Unread::BadForm) => Err(LabelsFault::BadLabels { line: number }),
-        Err(Unread::NoMemory) => Err(LabelsFault::NoMemory),
+        Ok(line) => take_new(line, lines),
+        Err(Unread::BadForm) => Ok(false),
+        Err(Unread::NoMemory) => Err(NoMemory),
     }
 }
 
-// Puts a line behind those that were read, where it repeats none of them.
-fn take_new(line: LabelLine, number: u32, labels: &mut Labels) -> Result<(), LabelsFault>
-    ensures ok { OnOk result ((is_repeated (said line) (map said labels.old) ≡ false)
-        × (labels.new ≡ labels.old ++ line ∷ [])) }
-    ensures bad { (n : ℕ) → result ≡ Err (BadLabels n) → (n ≡ number)
-        × (is_repeated (said line) (map said labels.old) ≡ true) }
-    ensures sound { reading_failed result ≡ false }
-    ensures few { is_flood result ≡ false }
+// Puts a line behind those that were read, unless it repeats one of them.
+fn take_new(line: LabelLine, lines: &mut List<LabelLine>) -> Result<bool, NoMemory>
+    ensures new { IfOk result (λ new. new ≡ not (is_repeated (said line) (map said lines.old))) }
+    ensures put { result ≡ Ok true → lines.new ≡ lines.old ++ line ∷ [] }
+    ensures same { result ≡ Ok false → lines.new ≡ lines.old }
 {
-    if repeats_any(&line, labels) {
-        return Err(LabelsFault::BadLabels { line: number });
+    if repeats_any(&line, lines) {
+        return Ok(false);
     }
-    match put_line(line, labels) {
-        Ok(()) => Ok(()),
-        Err(NoMemory) => Err(LabelsFault::NoMemory),
-    }
+    lines.push(line)?;
+    Ok(true)
 }
 
-fn put_line(line: LabelLine, labels: &mut Labels) -> Result<(), NoMemory>
-    ensures { OnOk result (labels.new ≡ labels.old ++ line ∷ []) }
+fn repeats_any(line: &LabelLine, lines: &List<LabelLine>) -> bool
+    ensures { result ≡ is_repeated (said line.now) (map said lines.now) }
 {
-    labels.push(line)?;
-    Ok(())
-}
-
-fn repeats_any(line: &LabelLine, labels: &Labels) -> bool
-    ensures { result ≡ is_repeated (said line.now) (map said labels.now) }
-{
-    for other in labels.as_slice() {
+    for other in lines.as_slice() {
         if line.repeats(other) {
             return true;
         }

@@ -1,10 +1,10 @@
-use Rattle.std.proofs.Common.{ap, ◌∙◌, map, Err}
+use Rattle.std.proofs.Common.{ap, ◌∙◌, map, refl, Err}
 use Rattle.trace_labels.specs.Said.{said}
-use Rattle.trace_labels.proofs.ReadLaws.{no_line, same_bad}
+use Rattle.trace_labels.proofs.ReadLaws.{no_line}
 use Rattle.trace_labels.proofs.read.take_line.Goals as goal
 
 pub returns-in-Err-BadForm-clause-bad : goal.returns-in-Err-BadForm-clause-bad
-returns-in-Err-BadForm-clause-bad c = λ n e. (
-  same_bad c.args.number n e,
-  no_line (map said c.args.labels.now) c.args.text.now (c.parse_label_line.ensures.bad (c.in-Err-BadForm.is ∙ ap Err c.in-Err-BadForm.field-0-is)),
+returns-in-Err-BadForm-clause-bad c = λ e. (
+  no_line (map said c.args.lines.now) c.args.text.now (c.parse_label_line.ensures.bad (c.in-Err-BadForm.is ∙ ap Err c.in-Err-BadForm.field-0-is)),
+  refl,
 )
