@@ -30,8 +30,10 @@ fn tell_line(alloc: Global, text: &[u8]) -> anyhow::Result<Bytes> {
 fn tell_text(alloc: Global, text: &[u8]) -> anyhow::Result<Bytes> {
     let mut source = SteadySource::new(text.to_vec(alloc)?);
     let told = match read_labels(alloc, &mut source) {
-        Ok(labels) => format!(in alloc; "{}", labels.len())?,
-        Err(LabelsFault::BadLabels { line }) => format!(in alloc; "bad {line}")?,
+        Ok(labels) => match labels.bad {
+            Some(line) => format!(in alloc; "bad {line} behind {}", labels.lines.len())?,
+            None => format!(in alloc; "{}", labels.lines.len())?,
+        },
         Err(LabelsFault::Flood) => format!(in alloc; "flood")?,
         Err(LabelsFault::ReadFault) => bail!("a read failed"),
         Err(LabelsFault::NoMemory) => bail!("out of memory"),

@@ -1,6 +1,6 @@
 //! script_rows: cases of scripts of a network, of the nodes and records that they come to, of the terms of messages, of texts
-//! of labels, and of what conversations do by them, which stand in files of rows. It tells how many cases each file has, and
-//! each that isn't as wanted, and ends with status 1 where there is one.
+//! of labels, of what conversations do by them, and of what is granted at requests, which stand in files of rows. It tells how
+//! many cases each file has, and each that isn't as wanted, and ends with status 1 where there is one.
 #![tactic(auto)]
 
 use anyhow::{Context, bail};
@@ -10,6 +10,7 @@ use wire_streams::{WriteSink, write_all};
 
 mod came;
 mod driven;
+mod grant_rows;
 mod label_rows;
 mod move_rows;
 mod reading_rows;
@@ -34,6 +35,7 @@ enum Subject {
     Labels,
     Readings,
     Moves,
+    Grants,
 }
 
 /// A file of rows.
@@ -42,7 +44,7 @@ struct Listed {
     subject: Subject,
 }
 
-static FILES: [Listed; 9] = [
+static FILES: [Listed; 10] = [
     Listed {
         file: "lines.rows",
         subject: Subject::ScriptLines,
@@ -79,6 +81,10 @@ static FILES: [Listed; 9] = [
         file: "moves.rows",
         subject: Subject::Moves,
     },
+    Listed {
+        file: "grants.rows",
+        subject: Subject::Grants,
+    },
 ];
 
 // Writes to standard output.
@@ -107,6 +113,7 @@ fn play_rows(
         Subject::Labels => label_rows::play(rt.alloc(), file, rows, report),
         Subject::Readings => reading_rows::play(rt.alloc(), file, rows, report),
         Subject::Moves => move_rows::play(rt, file, rows, report),
+        Subject::Grants => grant_rows::play(rt, file, rows, report),
     }
 }
 

@@ -1,5 +1,5 @@
-// Rows of what conversations do in labelled records: the move that each act is, whether what came last has its form, and
-// whether a request has the form of what is answered to it.
+// Rows of what conversations do in labelled records: the move that each act is, whether what came last has its form, whether
+// a request has the form of what is answered to it, and what conversations that stand by their names give.
 use crate::came::Came;
 use crate::spelled_terms::term_of;
 use crate::texts::{Texts, argument, number_at};
@@ -7,9 +7,11 @@ use anyhow::bail;
 use row_files::{Report, Row};
 use std::alloc::Global;
 use symbolic_runs::{MacKind, Reading, Term};
-use trace_runs::{Act, Conversation, Deed, Granted, Move, Own, Role, Used, is_answered, is_formed};
+use trace_runs::{
+    Act, Conversation, Conversations, Deed, Granted, Move, Own, Role, Used, is_answered, is_formed,
+};
 use wire_base::{Bytes, Text};
-use wire_histories::Protocol;
+use wire_histories::{Protocol, Role as Part};
 
 static DOMAIN: &[u8] = b"dom";
 
@@ -59,6 +61,15 @@ fn protocol_of(word: &[u8]) -> anyhow::Result<Protocol> {
         b"apop" => Ok(Protocol::Apop),
         b"cram" => Ok(Protocol::Cram),
         _ => bail!("no such protocol"),
+    }
+}
+
+fn part_of(word: &[u8]) -> anyhow::Result<Part> {
+    match word {
+        b"client" => Ok(Part::Client),
+        b"server" => Ok(Part::Server),
+        b"speakfor" => Ok(Part::Speakfor),
+        _ => bail!("no such part"),
     }
 }
 
@@ -161,6 +172,25 @@ fn find<'a>(named: &'a [Named], name: Option<&[u8]>) -> Option<&'a Term> {
     None
 }
 
+// The name of a term.
+fn name_of<'a>(named: &'a [Named], term: &Term) -> Option<&'a [u8]> {
+    for named in named.iter().rev() {
+        if named.term.same(term) {
+            return Some(named.name.as_slice());
+        }
+    }
+    None
+}
+
+// How many moves there are, and what each is.
+fn put_moves(moves: &[Move], came: &mut Came) -> anyhow::Result<()> {
+    came.put_number(moves.len() as u64)?;
+    for made in moves {
+        came.put(word_of(made))?;
+    }
+    Ok(())
+}
+
 // The last field of a row.
 fn last_field(row: &Row) -> Option<&[u8]> {
     match row.given.last() {
@@ -169,13 +199,15 @@ fn last_field(row: &Row) -> Option<&[u8]> {
     }
 }
 
-/// What the rows that follow are over: texts and terms under names, the bytes of atoms, and a conversation.
+/// What the rows that follow are over: texts and terms under names, the bytes of atoms, a conversation by itself, and those
+/// that stand by their names.
 #[derive(Drop)]
 struct Talk {
     texts: Texts,
     terms: Vec<Named>,
     reading: Reading,
     conversation: Conversation,
+    conversations: Conversations,
 }
 
 impl Talk {
@@ -185,6 +217,7 @@ impl Talk {
             terms: Vec::new(alloc),
             reading: Reading::new(alloc),
             conversation: conversation_of(alloc, Role::Client, b"", 0)?,
+            conversations: Conversations::new(alloc),
         })
     }
 
@@ -231,25 +264,52 @@ impl Talk {
         }
     }
 
-    // An act of the conversation.
-    fn act(&mut self, rt: &HostRuntime, row: &Row) -> anyhow::Result<()> {
-        let bytes = match row.field(1) {
-            Some(field) => self.texts.bytes_of(rt, field)?,
-            None => Bytes::new(rt.alloc()),
-        };
-        let label = find(&self.terms, last_field(row));
-        let act = act_of(row.word(), bytes.as_slice(), label)?;
-        Ok(self.conversation.act(&act)?)
+    // The bytes of an act, which stand at a place.
+    fn bytes_at(&self, rt: &HostRuntime, row: &Row, at: usize) -> anyhow::Result<Bytes> {
+        match row.field(at) {
+            Some(field) => self.texts.bytes_of(rt, field),
+            None => Ok(Bytes::new(rt.alloc())),
+        }
     }
 
-    // `moves`: how many moves there are, and what each is.
-    fn put_moves(&self, came: &mut Came) -> anyhow::Result<()> {
-        let moves = self.conversation.moves();
-        came.put_number(moves.len() as u64)?;
-        for made in moves {
-            came.put(word_of(made))?;
-        }
+    // An act of the conversation.
+    fn act(&mut self, rt: &HostRuntime, row: &Row) -> anyhow::Result<()> {
+        let bytes = self.bytes_at(rt, row, 1)?;
+        let label = find(&self.terms, last_field(row));
+        let act = act_of(row.word(), bytes.as_slice(), label)?;
+        self.conversation.act(&act)?;
         Ok(())
+    }
+
+    // `start CONVERSATION PROTOCOL PART HOLDER`: whether a conversation of a name starts.
+    fn start(&mut self, alloc: Global, row: &Row, came: &mut Came) -> anyhow::Result<()> {
+        let protocol = protocol_of(argument(row, 2)?)?;
+        let part = part_of(argument(row, 3)?)?;
+        let holder = text_of(alloc, argument(row, 4)?)?;
+        let conversations = &mut self.conversations;
+        came.put_yes(conversations.start(argument(row, 1)?, protocol, part, &holder)?)
+    }
+
+    // `of CONVERSATION ACT`: the name of the term that a conversation gives by an act.
+    fn put_gift(&mut self, rt: &HostRuntime, row: &Row, came: &mut Came) -> anyhow::Result<()> {
+        let bytes = self.bytes_at(rt, row, 3)?;
+        let label = find(&self.terms, last_field(row));
+        let act = act_of(argument(row, 2)?, bytes.as_slice(), label)?;
+        let Some(given) = self.conversations.act(argument(row, 1)?, &act)? else {
+            return Ok(came.put(b"-")?);
+        };
+        match name_of(&self.terms, &given) {
+            Some(name) => Ok(came.put(name)?),
+            None => bail!("a term without a name is given"),
+        }
+    }
+
+    // `talk CONVERSATION`: its moves.
+    fn put_talk(&self, row: &Row, came: &mut Came) -> anyhow::Result<()> {
+        match self.conversations.find(argument(row, 1)?) {
+            Some(talk) => put_moves(talk.moves(), came),
+            None => came.put_yes(false),
+        }
     }
 
     // `made WORD NAME`: whether the newest move is so, with the term of a name.
@@ -287,6 +347,8 @@ impl Talk {
         let granted = Granted {
             used: used_of(alloc, argument(row, 2)?)?,
             challenge: Term::Nonce(0),
+            host: Bytes::new(alloc),
+            user: Bytes::new(alloc),
         };
         came.put_yes(is_answered(alloc, DOMAIN, &granted, self.find(row)?, &deed)?)
     }
@@ -299,7 +361,10 @@ impl Talk {
             b"set" => self.set(alloc, row, came),
             b"begin" => self.begin(alloc, row, came),
             b"own" => self.put_own(row, came),
-            b"moves" => self.put_moves(came),
+            b"start" => self.start(alloc, row, came),
+            b"of" => self.put_gift(rt, row, came),
+            b"talk" => self.put_talk(row, came),
+            b"moves" => put_moves(self.conversation.moves(), came),
             b"made" => self.put_made(row, came),
             b"user" => self.put_user(came),
             b"formed" => self.put_formed(came),

@@ -21,6 +21,19 @@ newest_of all front last e = ap newest_first e ∙ one_newest front last
 pub turns_so : (turns : List ℕ) (moves : List Move) (done : ℕ) → done ≡ length moves → list_any (λ turn. eqb turn done) turns ≡ list_any (λ turn. eqb turn (length (newest_first moves))) turns
 turns_so turns moves done e = ap (λ n. list_any (λ turn. eqb turn n) turns) (e ∙ sym (as_many moves))
 
+-- a conversation is choosing where its labelled acts say so, and its moves of an act are theirs
+pub its_choice : (own : table.Own) (role : table.Role) (acts : List Labelled) (c : Conversation) → StandsFor own role acts c → chooses c.stage ≡ is_choosing (acts_in acts)
+its_choice own role acts c h = ap chooses h.stage_is ∙ sym (choosing_is (acts_in acts))
+
+pub its_moves : (own : table.Own) (role : table.Role) (acts : List Labelled) (a : Labelled) (c : Conversation) → StandsFor own role acts c
+    → moves_for (own_of c.own) (role_of c.role) (chooses c.stage) (newest_first c.moves.items) a.act a.label ≡ moves_for own role (is_choosing (acts_in acts)) (moves_by own role acts) a.act a.label
+its_moves own role acts a c h =
+    let was = newest_first c.moves.items in
+    ap (λ o. moves_for o (role_of c.role) (chooses c.stage) was a.act a.label) h.own_is
+    ∙ ap (λ r. moves_for own r (chooses c.stage) was a.act a.label) h.role_is
+    ∙ ap (λ so. moves_for own role so was a.act a.label) (its_choice own role acts c h)
+    ∙ ap (λ before. moves_for own role (is_choosing (acts_in acts)) before a.act a.label) h.moves_are
+
 -- a conversation after an act
 pub acted : (own : table.Own) (role : table.Role) (acts : List Labelled) (a : Labelled) (c after : Conversation) (made : List table.Move)
     → StandsFor own role acts c → after.own ≡ c.own → after.role ≡ c.role → after.stage ≡ stage_after c.stage a.act
@@ -29,12 +42,7 @@ pub acted : (own : table.Own) (role : table.Role) (acts : List Labelled) (a : La
     → StandsFor own role (a ∷ acts) after
 acted own role acts a c after made h e f g m by =
     let was = newest_first c.moves.items in
-    let told : made ≡ moves_for own role (is_choosing (acts_in acts)) (moves_by own role acts) a.act a.label =
-    by
-    ∙ ap (λ o. moves_for o (role_of c.role) (chooses c.stage) was a.act a.label) h.own_is
-    ∙ ap (λ r. moves_for own r (chooses c.stage) was a.act a.label) h.role_is
-    ∙ ap (λ so. moves_for own role so was a.act a.label) (ap chooses h.stage_is ∙ sym (choosing_is (acts_in acts)))
-    ∙ ap (λ before. moves_for own role (is_choosing (acts_in acts)) before a.act a.label) h.moves_are in
+    let told : made ≡ moves_for own role (is_choosing (acts_in acts)) (moves_by own role acts) a.act a.label = by ∙ its_moves own role acts a c h in
     record {
       own_is = ap own_of e ∙ h.own_is;
       role_is = ap role_of f ∙ h.role_is;

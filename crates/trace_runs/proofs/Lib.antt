@@ -5,9 +5,14 @@ pub mod RowLaws
 pub mod FormLaws
 pub mod StageLaws
 pub mod ConversationLaws
+pub mod GivenLaws
+pub mod NetworkLaws
 pub mod EndLaws
 pub mod DeedLaws
 pub mod ApartLaws
 pub mod WordLaws
 pub mod TableLaws
+pub mod HolderLaws
+pub mod GrantLaws
 pub mod KeyTexts
+pub mod ToldLaws

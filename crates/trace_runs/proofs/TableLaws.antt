@@ -1,5 +1,5 @@
 -- That the tests of tables and of conversations' keys decide.
-use Rattle.std.proofs.Common.{◌≡◌, ◌↔◌, ℕ, zero, suc, ◌<◌, ◌≤◌, List, [], ◌∷◌, length, Some, None, Option, Bool, true, false, ◌&&◌, inl, inr, sym, refl, subst, ap, ◌∙◌, arith, unwrap_or, map, take, if◌then◌else◌, get_or, Bor}
+use Rattle.std.proofs.Common.{◌≡◌, ◌↔◌, ℕ, zero, suc, ◌<◌, ◌≤◌, List, [], ◌∷◌, length, Some, None, Option, Bool, true, false, ◌&&◌, inl, inr, sym, refl, subst, ap, ◌∙◌, arith, option_map, unwrap_or, map, take, if◌then◌else◌, get_or, Bor}
 use Rattle.std.proofs.lemmas.Bool.{and_parts, and_from, cases_Bool, cases_lt, false_from_ne_true, true≢false}
 use Rattle.std.proofs.lemmas.List.{get_or_past}
 use Rattle.std.proofs.lemmas.Slice.Eq.{bytes_eq-Decides}
@@ -7,7 +7,7 @@ use Rattle.std.specs.List.{list_all}
 use Rattle.std.specs.Map.{lookup}
 use Rattle.std.specs.Str.{bytes_eq}
 use Rattle.auth_tables.specs.Keys.{KeyLine, UserKey, key_of, user_at}
-use Rattle.roles.specs.Talks.{Call, give, get, found, heard, unheard, roomless, undone, offered, picked}
+use Rattle.roles.specs.declared.key.SkKey.{SkKey}
 use Rattle.symbolic_runs.specs.Moves.{Role, client, server, mail_client, mail_server}
 use Rattle.symbolic_runs.specs.Spellings.{Atoms, bytes_of}
 use Rattle.symbolic_runs.specs.Trees.{long_key, password}
@@ -15,13 +15,14 @@ use Rattle.wire_histories.specs.declared.step.Step.{Step}
 use Rattle.wire_histories.specs.declared.step.Step.TheVariants.{Start, Out, In, Ask, Heard, Unheard, Accept, Fail, Reply, Refused, AsGot, AsGave, AsEnd, Restart, Reload}
 use Rattle.wire_histories.specs.Histories.{History}
 use Rattle.wire_histories.specs.Legal.{Setting, Spoken, Tables, tables_at}
-use Rattle.clean_runs.specs.Clean.{AtEachPlace, ReadsHolder, ReadsMet, ReadsPassword, ReadsSpoken, ReadsTables}
+use Rattle.wire_histories.specs.Noted.{noted_key}
+use Rattle.clean_runs.specs.Clean.{ReadsHolder, ReadsKept, ReadsPassword, ReadsSpoken, ReadsTables}
 use Rattle.clean_runs.specs.KeyNames.{before_first, holds, key_in, key_name, named_by, with_number}
 use Rattle.clean_runs.specs.Labels.{Labelling}
 use Rattle.clean_runs.specs.Runs.{role_by}
-use Rattle.trace_runs.specs.Tables.{found_by, found_last, reads_below, reads_held, reads_holder, reads_key, reads_password, reads_tables, reads_user, reads_users, tables_of}
-use Rattle.trace_runs.specs.Words.{at_each_place, reads}
-use Rattle.trace_runs.proofs.WordLaws.{all_places, every_place, is_so_read, so_is_read}
+use Rattle.trace_runs.specs.Tables.{held_by, reads_below, reads_held, reads_holder, reads_key, reads_password, reads_tables, reads_user, reads_users, tables_of}
+use Rattle.trace_runs.specs.Words.{reads}
+use Rattle.trace_runs.proofs.WordLaws.{is_so_read, so_is_read}
 
 -- ---- the tables
 
@@ -244,53 +245,38 @@ some_not_read atoms tables number less h =
 
 -- ---- the conversations
 
-met_read : (atoms : Atoms) (role : Role) (holder : List ℕ) (met : List Call) → reads_held atoms role holder (found_last met) ≡ true → ReadsMet atoms role holder met
-met_read atoms role holder [] h = tt
-met_read atoms client holder (found key secret ∷ met) h = is_so_read (bytes_of atoms (long_key holder)) key.des.0 h
-met_read atoms server holder (found key secret ∷ met) h = is_so_read (bytes_of atoms (long_key holder)) key.des.0 h
-met_read atoms (mail_client kind) holder (found key secret ∷ met) h = is_so_read (bytes_of atoms (password holder)) (unwrap_or secret []) h
-met_read atoms (mail_server kind) holder (found key secret ∷ met) h = is_so_read (bytes_of atoms (long_key holder)) key.des.0 h
-met_read atoms role holder (give b ∷ met) h = met_read atoms role holder met h
-met_read atoms role holder (get ∷ met) h = met_read atoms role holder met h
-met_read atoms role holder (heard b ∷ met) h = met_read atoms role holder met h
-met_read atoms role holder (unheard ∷ met) h = met_read atoms role holder met h
-met_read atoms role holder (roomless ∷ met) h = met_read atoms role holder met h
-met_read atoms role holder (undone ∷ met) h = met_read atoms role holder met h
-met_read atoms role holder (offered list ∷ met) h = met_read atoms role holder met h
-met_read atoms role holder (picked place ∷ met) h = met_read atoms role holder met h
+kept_read : (atoms : Atoms) (role : Role) (holder : List ℕ) (o : Option (SkKey × Option (List ℕ))) → reads_held atoms role holder (option_map (λ key. (key.des, key.password)) (option_map noted_key o)) ≡ true → ReadsKept atoms role holder o
+kept_read atoms role holder None h = tt
+kept_read atoms client holder (Some (key, secret)) h = is_so_read (bytes_of atoms (long_key holder)) key.des.0 h
+kept_read atoms server holder (Some (key, secret)) h = is_so_read (bytes_of atoms (long_key holder)) key.des.0 h
+kept_read atoms (mail_client kind) holder (Some (key, secret)) h = is_so_read (bytes_of atoms (password holder)) (unwrap_or secret []) h
+kept_read atoms (mail_server kind) holder (Some (key, secret)) h = is_so_read (bytes_of atoms (long_key holder)) key.des.0 h
 
-read_met : (atoms : Atoms) (role : Role) (holder : List ℕ) (met : List Call) → ReadsMet atoms role holder met → reads_held atoms role holder (found_last met) ≡ true
-read_met atoms role holder [] h = refl
-read_met atoms client holder (found key secret ∷ met) h = so_is_read (bytes_of atoms (long_key holder)) key.des.0 h
-read_met atoms server holder (found key secret ∷ met) h = so_is_read (bytes_of atoms (long_key holder)) key.des.0 h
-read_met atoms (mail_client kind) holder (found key secret ∷ met) h = so_is_read (bytes_of atoms (password holder)) (unwrap_or secret []) h
-read_met atoms (mail_server kind) holder (found key secret ∷ met) h = so_is_read (bytes_of atoms (long_key holder)) key.des.0 h
-read_met atoms role holder (give b ∷ met) h = read_met atoms role holder met h
-read_met atoms role holder (get ∷ met) h = read_met atoms role holder met h
-read_met atoms role holder (heard b ∷ met) h = read_met atoms role holder met h
-read_met atoms role holder (unheard ∷ met) h = read_met atoms role holder met h
-read_met atoms role holder (roomless ∷ met) h = read_met atoms role holder met h
-read_met atoms role holder (undone ∷ met) h = read_met atoms role holder met h
-read_met atoms role holder (offered list ∷ met) h = read_met atoms role holder met h
-read_met atoms role holder (picked place ∷ met) h = read_met atoms role holder met h
+read_kept : (atoms : Atoms) (role : Role) (holder : List ℕ) (o : Option (SkKey × Option (List ℕ))) → ReadsKept atoms role holder o → reads_held atoms role holder (option_map (λ key. (key.des, key.password)) (option_map noted_key o)) ≡ true
+read_kept atoms role holder None h = refl
+read_kept atoms client holder (Some (key, secret)) h = so_is_read (bytes_of atoms (long_key holder)) key.des.0 h
+read_kept atoms server holder (Some (key, secret)) h = so_is_read (bytes_of atoms (long_key holder)) key.des.0 h
+read_kept atoms (mail_client kind) holder (Some (key, secret)) h = so_is_read (bytes_of atoms (password holder)) (unwrap_or secret []) h
+read_kept atoms (mail_server kind) holder (Some (key, secret)) h = so_is_read (bytes_of atoms (long_key holder)) key.des.0 h
 
-spoken_read : (atoms : Atoms) (role : Role) (holder : List ℕ) (o : Option Spoken) → reads_held atoms role holder (found_by o) ≡ true → ReadsSpoken atoms role holder o
+spoken_read : (atoms : Atoms) (role : Role) (holder : List ℕ) (o : Option Spoken) → reads_held atoms role holder (held_by o) ≡ true → ReadsSpoken atoms role holder o
 spoken_read atoms role holder None h = tt
-spoken_read atoms role holder (Some spoken) h = met_read atoms role holder spoken.met h
+spoken_read atoms role holder (Some spoken) h = kept_read atoms role holder spoken.key h
 
-read_spoken : (atoms : Atoms) (role : Role) (holder : List ℕ) (o : Option Spoken) → ReadsSpoken atoms role holder o → reads_held atoms role holder (found_by o) ≡ true
+read_spoken : (atoms : Atoms) (role : Role) (holder : List ℕ) (o : Option Spoken) → ReadsSpoken atoms role holder o → reads_held atoms role holder (held_by o) ≡ true
 read_spoken atoms role holder None h = refl
-read_spoken atoms role holder (Some spoken) h = read_met atoms role holder spoken.met h
+read_spoken atoms role holder (Some spoken) h = read_kept atoms role holder spoken.key h
 
--- the test of the key that a conversation found last decides
-pub decides_held : (atoms : Atoms) (role : Role) (holder : List ℕ) (spoken : Option Spoken) (held : Option (List ℕ × Option (List ℕ))) (so : Bool) → so ≡ reads_held atoms role holder held → found_by spoken ≡ held → (so ≡ true) ↔ ReadsSpoken atoms role holder spoken
+-- the test of the key that a conversation keeps decides
+pub decides_held : (atoms : Atoms) (role : Role) (holder : List ℕ) (spoken : Option Spoken) (held : Option (List ℕ × Option (List ℕ))) (so : Bool) → so ≡ reads_held atoms role holder held → held_by spoken ≡ held → (so ≡ true) ↔ ReadsSpoken atoms role holder spoken
 decides_held atoms role holder spoken held so e told =
-    let is : so ≡ reads_held atoms role holder (found_by spoken) = e ∙ ap (reads_held atoms role holder) (sym told) in (
+    let is : so ≡ reads_held atoms role holder (held_by spoken) = e ∙ ap (reads_held atoms role holder) (sym told) in (
       (λ h. spoken_read atoms role holder spoken (sym is ∙ h)),
       (λ h. is ∙ read_spoken atoms role holder spoken h),
     )
 
-holder_read : (atoms : Atoms) (z : Setting) (l : Labelling) (past : History) (step : Step) → reads_holder atoms z l past step ≡ true → ReadsHolder atoms z l past step
+-- the key of the conversation that a step starts
+pub holder_read : (atoms : Atoms) (z : Setting) (l : Labelling) (past : History) (step : Step) → reads_holder atoms z l past step ≡ true → ReadsHolder atoms z l past step
 holder_read atoms z l past (Start conv protocol role random) h = spoken_read atoms (role_by protocol role) (l.holder conv) (z.spoken conv) h
 holder_read atoms z l past (AsGot session b words) h = tt
 holder_read atoms z l past (Out number conv b) h = tt
@@ -307,7 +293,7 @@ holder_read atoms z l past (AsEnd session) h = tt
 holder_read atoms z l past (Restart node) h = tt
 holder_read atoms z l past Reload h = tt
 
-read_holder : (atoms : Atoms) (z : Setting) (l : Labelling) (past : History) (step : Step) → ReadsHolder atoms z l past step → reads_holder atoms z l past step ≡ true
+pub read_holder : (atoms : Atoms) (z : Setting) (l : Labelling) (past : History) (step : Step) → ReadsHolder atoms z l past step → reads_holder atoms z l past step ≡ true
 read_holder atoms z l past (Start conv protocol role random) h = read_spoken atoms (role_by protocol role) (l.holder conv) (z.spoken conv) h
 read_holder atoms z l past (AsGot session b words) h = refl
 read_holder atoms z l past (Out number conv b) h = refl
@@ -323,9 +309,3 @@ read_holder atoms z l past (AsGave number session b) h = refl
 read_holder atoms z l past (AsEnd session) h = refl
 read_holder atoms z l past (Restart node) h = refl
 read_holder atoms z l past Reload h = refl
-
-pub decides_holders : (atoms : Atoms) (z : Setting) (l : Labelling) (history : History) → (at_each_place history (reads_holder atoms z l) ≡ true) ↔ AtEachPlace history (ReadsHolder atoms z l)
-decides_holders atoms z l history = (
-  all_places history (reads_holder atoms z l) (ReadsHolder atoms z l) (holder_read atoms z l),
-  every_place history (reads_holder atoms z l) (ReadsHolder atoms z l) (read_holder atoms z l),
-)

@@ -152,13 +152,13 @@ requests_on past Reload = refl
 turned : (step : Step) (steps past : List Step) → reverse (step ∷ steps) ++ past ≡ reverse steps ++ step ∷ past
 turned step steps past = ap (λ (x : List Step). x ++ past) (reverse-append (step ∷ []) steps) ∙ append_assoc (reverse steps) (step ∷ []) past
 
-both_ways : (a b : Bool) → (a && b) ≡ (b && a)
+pub both_ways : (a b : Bool) → (a && b) ≡ (b && a)
 both_ways true true = refl
 both_ways true false = refl
 both_ways false true = refl
 both_ways false false = refl
 
-together : (a b c : Bool) → ((a && b) && c) ≡ (a && (b && c))
+pub together : (a b c : Bool) → ((a && b) && c) ≡ (a && (b && c))
 together true b c = refl
 together false b c = refl
 

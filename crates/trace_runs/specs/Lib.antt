@@ -5,8 +5,14 @@ pub mod Gifts
 pub mod Rows
 pub mod Formed
 pub mod Stages
+pub mod Network
 pub mod Ends
+pub mod Given
 pub mod Deeds
 pub mod Readings
 pub mod Words
 pub mod Tables
+pub mod Known
+pub mod Told
+pub mod Holders
+pub mod Grants

@@ -1,9 +1,8 @@
--- The key that a conversation found last; and tests that decide whether a reading spells the keys and passwords of all
+-- The key that a conversation keeps; and tests that decide whether a reading spells the keys and passwords of all
 -- tables, and the key of each conversation.
-use Rattle.std.specs.Prelude.{ℕ, zero, suc, List, [], ◌∷◌, Bool, true, ◌&&◌, length, map, Option, Some, None, unwrap_or}
+use Rattle.std.specs.Prelude.{ℕ, zero, suc, List, [], ◌∷◌, Bool, true, ◌&&◌, length, map, Option, Some, None, option_map, unwrap_or}
 use Rattle.std.specs.List.{list_all}
 use Rattle.auth_tables.specs.Keys.{KeyLine, UserKey}
-use Rattle.roles.specs.Talks.{Call, give, get, found, heard, unheard, roomless, undone, offered, picked}
 use Rattle.symbolic_runs.specs.Moves.{Role, client, server, mail_client, mail_server}
 use Rattle.symbolic_runs.specs.Spellings.{Atoms}
 use Rattle.symbolic_runs.specs.Trees.{long_key, password}
@@ -11,29 +10,17 @@ use Rattle.wire_histories.specs.declared.step.Step.{Step}
 use Rattle.wire_histories.specs.declared.step.Step.TheVariants.{Start}
 use Rattle.wire_histories.specs.Histories.{History}
 use Rattle.wire_histories.specs.Legal.{Setting, Spoken, Tables, tables_at}
+use Rattle.wire_histories.specs.Noted.{key_by}
 use Rattle.clean_runs.specs.KeyNames.{key_in, key_name}
 use Rattle.clean_runs.specs.Labels.{Labelling}
 use Rattle.clean_runs.specs.Runs.{role_by}
 use Rattle.trace_runs.specs.Words.{reads}
 
--- ---- what a conversation found
+-- ---- what a conversation keeps
 
--- the key and the password that a conversation found last, where it found any
-abbrev pub found_last : List Call → Option (List ℕ × Option (List ℕ))
-found_last [] = None
-found_last (found key secret ∷ met) = Some (key.des.0, secret)
-found_last (give b ∷ met) = found_last met
-found_last (get ∷ met) = found_last met
-found_last (heard b ∷ met) = found_last met
-found_last (unheard ∷ met) = found_last met
-found_last (roomless ∷ met) = found_last met
-found_last (undone ∷ met) = found_last met
-found_last (offered list ∷ met) = found_last met
-found_last (picked place ∷ met) = found_last met
-
-abbrev pub found_by : Option Spoken → Option (List ℕ × Option (List ℕ))
-found_by None = None
-found_by (Some spoken) = found_last spoken.met
+-- the DES key and the secret of the key that a conversation keeps, where it keeps one
+abbrev pub held_by : Option Spoken → Option (List ℕ × Option (List ℕ))
+held_by spoken = option_map (λ key. (key.des, key.password)) (key_by spoken)
 
 -- ---- of the code alone: the tables
 
@@ -76,5 +63,5 @@ reads_held atoms (mail_server kind) holder (Some held) = reads atoms (long_key h
 
 abbrev pub reads_holder : Atoms → Setting → Labelling → History → Step → Bool
 reads_holder atoms z l past (Start conv protocol role random) =
-    reads_held atoms (role_by protocol role) (l.holder conv) (found_by (z.spoken conv))
+    reads_held atoms (role_by protocol role) (l.holder conv) (held_by (z.spoken conv))
 reads_holder atoms z l past step = true

@@ -7,9 +7,11 @@ ghost use Rattle.conv_p9any.specs.Offers.{consents};
 ghost use Rattle.sealing.specs.Fields.{field};
 ghost use Rattle.symbolic_runs.specs.Moves as table;
 ghost use Rattle.symbolic_runs.specs.Gifts.{bytes, opened, part, shown};
+ghost use Rattle.symbolic_runs.specs.Runs.{Setting, given};
 ghost use Rattle.symbolic_runs.specs.Trees.{Tree};
 ghost use Rattle.symbolic_runs.specs.Views.{tree};
 ghost use Rattle.wire_histories.specs.Histories.{gave, took};
+ghost use Rattle.trace_runs.specs.Given.{events_by, given_by, label_of};
 ghost use Rattle.trace_runs.specs.Ends.{answer_before, heard_before, heard_first, some_moves, taken_first};
 ghost use Rattle.trace_runs.specs.Parts.{found_tree};
 ghost use Rattle.trace_runs.specs.Stages.{StandsFor, Tells, chooses, stage_after};
@@ -261,6 +263,17 @@ fn put(moves: &mut Vec<Move>, made: Option<Move>) -> Result<(), NoMemory>
     }
 }
 
+// The label of what a move gives, if it gives something.
+fn label_of(alloc: Global, made: Option<&Move>) -> Result<Option<Term>, NoMemory>
+    ensures { IfOk result (λ label. option_map tree label
+        ≡ label_of (option_map (λ m. move_of m.now) made.entry)) }
+{
+    match made {
+        Some(Move::Gives(term) | Move::Asks(term)) => Ok(Some(term.copy(alloc)?)),
+        Some(Move::Takes(_) | Move::Hears(_) | Move::Accepts(_) | Move::Fails) | None => Ok(None),
+    }
+}
+
 /// A conversation, with what it has of its own and the moves that it made.
 #[derive(Drop)]
 pub struct Conversation {
@@ -302,19 +315,47 @@ impl Conversation {
         &self.moves
     }
 
-    /// Does what a record tells next. It takes time for the trees of this act and of the moves that its form speaks of,
-    /// and none for the moves before them. Where memory runs out nothing changes.
-    pub fn act(&mut self, act: &Act) -> Result<(), NoMemory>
+    /// Does what a record tells next, and answers what it gives to the network by it: the label of what it gives or asks,
+    /// or the bytes as they are while a protocol is being chosen; None exactly where it gives nothing. It takes time for
+    /// the trees of this act and of the moves that its form speaks of, and none for the moves before them. Where memory
+    /// runs out nothing changes.
+    pub fn act(&mut self, act: &Act) -> Result<Option<Term>, NoMemory>
         ensures ok { (own : table.Own) (role : table.Role) (acts : List Labelled) (a : Labelled)
             → Tells act.now a → StandsFor own role acts self.old
             → OnOk result (StandsFor own role (a ∷ acts) self.new) }
         ensures err { (own : table.Own) (role : table.Role) (acts : List Labelled)
             → StandsFor own role acts self.old → OnErr result (StandsFor own role acts self.new) }
+        ensures given { (own : table.Own) (role : table.Role) (acts : List Labelled) (a : Labelled)
+            → Tells act.now a → StandsFor own role acts self.old
+            → IfOk result (λ gives. (s : Setting) (number : ℕ)
+            → given s (events_by number own role acts a) ≡ if_some (option_map tree gives)) }
     {
         let made = self.next_move(act)?;
+        let gives = self.gives(act, made.as_ref())?;
         put(&mut self.moves, made)?;
         self.stage = self.stage.after(act);
-        Ok(())
+        Ok(gives)
+    }
+
+    // What an act gives to the network, by the move that it is, if it is one.
+    fn gives(&self, act: &Act, made: Option<&Move>) -> Result<Option<Term>, NoMemory>
+        ensures { (a : Labelled) → Tells act.now a → IfOk result (λ gives. option_map tree gives
+            ≡ given_by a.act (chooses self.now.stage) (option_map (λ m. move_of m.now) made.entry)) }
+    {
+        let alloc = *self.moves.allocator();
+        match act {
+            Act::Gave(bytes) if self.stage.chooses() => {
+                Ok(Some(Term::Pub(Bytes::from_slice(alloc, bytes)?)))
+            }
+            Act::Started(_)
+            | Act::Gave(_)
+            | Act::Took { .. }
+            | Act::Asked(_)
+            | Act::Answered(_)
+            | Act::Unanswered
+            | Act::Accepted
+            | Act::Failed => label_of(alloc, made),
+        }
     }
 
     // The move of an act, if it is one.

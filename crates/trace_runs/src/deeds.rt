@@ -168,11 +168,15 @@ fn is_first_whole(request: &Term) -> bool
     }
 }
 
-/// The challenge in the tickets of a request, and what was used there.
+/// What was used at a request, and what its tickets hold.
 #[derive(Drop)]
 pub struct Granted {
     pub used: Used,
     pub challenge: Term,
+    /// The field of the host's name: none of a request that can't be read.
+    pub host: Bytes,
+    /// The field of the user's name, in the same way.
+    pub user: Bytes,
 }
 
 // Whether a request asks by a right answer.

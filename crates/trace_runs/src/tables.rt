@@ -5,7 +5,7 @@ ghost use Rattle.clean_runs.specs.Clean.{ReadsSpoken, ReadsTables};
 ghost use Rattle.clean_runs.specs.KeyNames.{before_first, is_this, same_key, same_password, with_number};
 ghost use Rattle.clean_runs.specs.Runs.{role_by};
 ghost use Rattle.symbolic_runs.specs.Answers.{atoms_of};
-ghost use Rattle.trace_runs.specs.Tables.{found_by, reads_held, reads_key, reads_password, reads_user, reads_users, tables_of};
+ghost use Rattle.trace_runs.specs.Tables.{held_by, reads_held, reads_key, reads_password, reads_user, reads_users, tables_of};
 ghost use Rattle.wire_histories.specs.Legal.{Setting, Spoken};
 
 use crate::words::reads;
@@ -80,7 +80,7 @@ fn reads_user(
 }
 
 // How many tables stand before the first that hold a user with this key: all of them, where none do.
-fn count_before(tables: &[&KeyTable], user: &[u8], key: &AsKey) -> usize
+pub(crate) fn count_before(tables: &[&KeyTable], user: &[u8], key: &AsKey) -> usize
     ensures { result ≡ before_first (tables_of (map (λ t. t.now) tables.now)) user.now key.now }
 {
     let mut before = 0;
@@ -120,7 +120,7 @@ fn same_password(one: Option<&Text>, other: Option<&Text>) -> bool
 }
 
 // The key name of a user who has his key since the tables of this number.
-fn key_name(alloc: Global, user: &Text, first: usize) -> Result<Text, NoMemory>
+pub(crate) fn key_name(alloc: Global, user: &Text, first: usize) -> Result<Text, NoMemory>
     ensures { IfOk result (λ name. name ≡ with_number user.now first) }
 {
     if first == 0 {
@@ -156,8 +156,8 @@ fn reads_password(reading: &Reading, name: Text, password: Option<&Text>) -> boo
     }
 }
 
-/// Whether a reading spells the key that a conversation found last, with its password where it has one, as that of its
-/// holder: of a mail client the password, which is empty where there is none. So too where it found no key.
+/// Whether a reading spells the key that a conversation keeps, with its password where it has one, as that of its
+/// holder: of a mail client the password, which is empty where there is none. So too where it keeps no key.
 pub fn reads_held(
     reading: &Reading,
     protocol: Protocol,
@@ -167,7 +167,7 @@ pub fn reads_held(
     password: Option<&Text>,
 ) -> bool
     ensures { (spoken : Option Spoken)
-        → found_by spoken ≡ option_map (λ k. (k.0, option_map (λ t. t.now) password.entry)) key
+        → held_by spoken ≡ option_map (λ k. (k.0, option_map (λ t. t.now) password.entry)) key
         → (result ≡ true)
         ↔ ReadsSpoken (atoms_of reading.now) (role_by protocol role) holder spoken }
 {
@@ -177,7 +177,7 @@ pub fn reads_held(
     }
 }
 
-fn reads_found(
+pub(crate) fn reads_found(
     reading: &Reading,
     protocol: Protocol,
     role: Role,
