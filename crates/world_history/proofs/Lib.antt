@@ -5,3 +5,4 @@ pub mod TellLemmas
 mod NamedLemmas
 pub mod AgentLemmas
 pub mod DomainLemmas
+pub mod NoteLemmas

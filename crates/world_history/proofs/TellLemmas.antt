@@ -108,7 +108,7 @@ fitting_parts acts (Some other) act h = by_fit (is_unfit acts other) refl
         let same : other ≡ act = cc in
         (ap Some same, subst (λ (a : Act). is_unfit acts a ≡ false) same e)
 
-named_parts : (acts : List Act) (line : ScriptLine) (cause : Option ScriptCause) (act : Act) → named acts line cause ≡ Ok act → (act_of acts (messages acts) line ≡ Some act) × (is_unfit acts act ≡ false)
+pub named_parts : (acts : List Act) (line : ScriptLine) (cause : Option ScriptCause) (act : Act) → named acts line cause ≡ Ok act → (act_of acts (messages acts) line ≡ Some act) × (is_unfit acts act ≡ false)
 named_parts acts line None act h = fitting_parts acts (act_of acts (messages acts) line) act h
 named_parts acts line (Some cause) act h = absurd cc
 
@@ -290,7 +290,7 @@ speak_tells line left acts tuple tables is h fit =
 -- ---- a request
 
 -- all was told, and no line was bad
-keys_known : (lines left : List (List ℕ)) (bad : Option ℕ) (table : List UsersKey) → left ≡ [] → IsGood fits_keys lines left bad → GivesKeys bad (lines ++ left) table
+pub keys_known : (lines left : List (List ℕ)) (bad : Option ℕ) (table : List UsersKey) → left ≡ [] → IsGood fits_keys lines left bad → GivesKeys bad (lines ++ left) table
     → (user : List ℕ) → key_of user (keys_in (counted lines)) ≡ key_of user table
 keys_known lines left bad table none good gives user =
     let whole : lines ++ left ≡ lines = ap (λ (ls : List (List ℕ)). lines ++ ls) none ∙ append-nil lines in
@@ -298,7 +298,7 @@ keys_known lines left bad table none good gives user =
     let same : GivesKeys None lines table = subst₂ (λ (o : Option ℕ) (ls : List (List ℕ)). GivesKeys o ls table) unbad whole gives in
     sym (same user)
 
-speaks_known : (lines left : List (List ℕ)) (bad : Option ℕ) (table : List HostLine) → left ≡ [] → IsGood fits_speaks lines left bad → GivesSpeaks bad (lines ++ left) table
+pub speaks_known : (lines left : List (List ℕ)) (bad : Option ℕ) (table : List HostLine) → left ≡ [] → IsGood fits_speaks lines left bad → GivesSpeaks bad (lines ++ left) table
     → (host : List ℕ) → names_in (speaks_in (counted lines)) host ≡ names_of host table
 speaks_known lines left bad table none good gives host =
     let whole : lines ++ left ≡ lines = ap (λ (ls : List (List ℕ)). lines ++ ls) none ∙ append-nil lines in

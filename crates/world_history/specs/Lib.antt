@@ -8,4 +8,7 @@ pub mod Writing
 pub mod Told
 pub mod Servers
 pub mod Telling
+pub mod AllTables
+pub mod Noting
+pub mod NotingFronts
 pub mod MadeNames

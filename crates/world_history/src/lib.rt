@@ -5,6 +5,7 @@
 
 mod domains;
 mod laws;
+mod noting;
 mod question;
 mod record;
 mod spelling;
@@ -12,6 +13,7 @@ mod tables;
 mod told;
 
 pub use laws::{names_in_made_scripts_are_known, tables_are_told_in_time};
+pub use noting::{begin_setting, note_told_tables};
 pub use question::{Question, Questions};
 pub use record::{Cut, Record};
 pub use tables::{Tables, read_tables};

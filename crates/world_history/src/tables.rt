@@ -29,8 +29,8 @@ pub struct Tables {
 // Both tables, and the first bad line of each.
 #[derive(Drop)]
 pub(crate) struct ReadTables {
-    keys: KeyTable,
-    speaks: SpeaksTable,
+    pub(crate) keys: KeyTable,
+    pub(crate) speaks: SpeaksTable,
     bad_key: Option<u32>,
     bad_speak: Option<u32>,
 }
@@ -125,8 +125,8 @@ fn read_speaks(alloc: Global, text: &[u8]) -> Result<(SpeaksTable, Option<u32>),
     }
 }
 
-// The tables that lines tell of.
-fn read_lines(alloc: Global, lines: &ScriptLines<'_>) -> Result<ReadTables, NoMemory>
+/// The tables that lines tell of.
+pub(crate) fn read_lines(alloc: Global, lines: &ScriptLines<'_>) -> Result<ReadTables, NoMemory>
     ensures { IfOk result (λ read. AreToldBy lines.now read.bad_key read.bad_speak
         read.keys read.speaks) }
 {

@@ -43,6 +43,7 @@ conversation_front (Some spoken) later past c = record {
   may = c.may;
   talk = c.talk;
   met = c.met;
+  kept = c.kept;
   later = c.later ++ later;
   left = c.left ∙ sym (append_assoc c.later later past);
 }

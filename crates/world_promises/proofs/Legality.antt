@@ -20,7 +20,8 @@ use Rattle.driven_agents.specs.Keys.{AreMet}
 use Rattle.driven_agents.proofs.ToldLaws.{told_ring_keys}
 use Rattle.world_promises.specs.Agents.{AgentsDo}
 use Rattle.world_promises.specs.Conditions.{AreDone}
-use Rattle.world_promises.specs.Settings.{Place, past_tables, place_of, setting, tables_of, spoken_at, spoken_by, standing_at}
+use Rattle.world_history.specs.AllTables.{past_tables, tables_of}
+use Rattle.world_promises.specs.Settings.{Place, place_of, setting, spoken_at, spoken_by, standing_at}
 use Rattle.world_promises.specs.LegalityStatements.{ConversationsAre, KeysAreOfRings, record_of}
 use Rattle.world_promises.proofs.PlayLaws.{played}
 use Rattle.world_promises.proofs.NumberLaws.{numbered}
@@ -74,6 +75,7 @@ by_begun acts done does name place is (Some b) so = record {
   may = may_be acts done does name place b is so (keys_of_rings acts name place b is so);
   talk = b.moves;
   met = refl;
+  kept = refl;
   later = [];
   left = sym (all_said acts done does name ∙ ap (left_at acts) is ∙ ap acts_in so);
 }

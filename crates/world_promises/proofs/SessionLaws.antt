@@ -26,7 +26,8 @@ use Rattle.world_history.specs.Scripts.{has_length, is_misshaped, is_unfit}
 use Rattle.world_history.specs.Worlds.{Done, done_by, has_ended, history, known, messages_in, put_to, requests, session_steps, steps, steps_by, steps_to, was_misasked}
 use Rattle.world_promises.specs.Agents.{conv_in}
 use Rattle.world_promises.specs.Conditions.{AreDone, MayFollow}
-use Rattle.world_promises.specs.Settings.{merged, past_tables, setting, tables_of}
+use Rattle.world_history.specs.AllTables.{merged, past_tables, tables_of}
+use Rattle.world_promises.specs.Settings.{setting}
 use Rattle.world_promises.specs.LegalityStatements.{SessionsAre, record_of}
 use Rattle.world_promises.proofs.SessionSame.{AllCame, came_more, deals_same, posed_same, session_same}
 use Rattle.world_promises.proofs.StayLaws.{done_stays, reloaded, reloads_so, session_stays}

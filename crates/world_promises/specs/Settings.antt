@@ -1,38 +1,17 @@
 -- The setting of the record of a network: how each of its conversations started and what met its needs, read off the
 -- history of its agent, and what the lines of the authentication server's tables say, of each pair that it had.
-use Rattle.std.specs.Prelude.{ℕ, ◌+◌, List, [], ◌∷◌, ◌++◌, map, take, Option, Some, None, option_map, if◌then◌else◌}
+use Rattle.std.specs.Prelude.{ℕ, ◌+◌, List, [], ◌∷◌, take, Option, Some, None, option_map, if◌then◌else◌}
 use Rattle.std.specs.Str.{bytes_eq}
-use Rattle.auth_tables.specs.Lines.{counted}
-use Rattle.auth_tables.specs.Keys.{keys_in}
-use Rattle.auth_tables.specs.Speaks.{SpeakLine, names_in, speaks_in}
 use Rattle.talks.specs.Standings.{Begun, Standing}
 use Rattle.agent_history.specs.Conversations.{opened_talks, standing_of}
 use Rattle.agent_history.specs.Histories.{deeds}
-use Rattle.wire_histories.specs.Conversations.{met_in}
+use Rattle.wire_histories.specs.Conversations.{kept_in, met_in}
 use Rattle.wire_histories.specs.Histories.{reloads_in}
 use Rattle.wire_histories.specs.Histories as wire
-use Rattle.wire_histories.specs.Legal.{Setting, Spoken, Tables}
-use Rattle.world_history.specs.Acts.{Act, Reloaded, Opened, agent_of, domain, key_lines, speak_lines}
+use Rattle.wire_histories.specs.Legal.{Setting, Spoken}
+use Rattle.world_history.specs.Acts.{Act, Opened, agent_of, domain}
+use Rattle.world_history.specs.AllTables.{all_tables}
 use Rattle.world_history.specs.Worlds.{history}
-
--- ---- the authentication server
-
--- each host of some lines, with all the names that they give it
-abbrev pub merged : List SpeakLine → List SpeakLine
-merged lines = map (λ line. (line.0, names_in lines line.0)) lines
-
--- the newest tables
-abbrev pub tables_of : List Act → Tables
-tables_of acts = record {
-  keys = keys_in (counted (key_lines acts));
-  speaks = merged (speaks_in (counted (speak_lines acts)));
-}
-
--- those before them, the first of them first
-abbrev pub past_tables : List Act → List Tables
-past_tables [] = []
-past_tables (Reloaded ∷ before) = past_tables before ++ tables_of before ∷ []
-past_tables (act ∷ before) = past_tables before
 
 -- ---- conversations
 
@@ -61,9 +40,14 @@ place_of (act ∷ before) conv = place_of before conv
 abbrev pub standing_at : List Act → Place → Standing
 standing_at acts place = standing_of (deeds (history acts place.agent)) place.number
 
--- what it was started with, and what met its needs
+-- what it was started with, what met its needs, and the key that it keeps
 abbrev pub spoken_by : List ℕ → Begun → Spoken
-spoken_by node b = record { node = node; start = b.start; met = met_in b.start b.moves }
+spoken_by node b = record {
+  node = node;
+  start = b.start;
+  met = met_in b.start b.moves;
+  key = kept_in b.start b.moves;
+}
 
 abbrev pub spoken_at : List Act → Option Place → Option Spoken
 spoken_at acts None = None
@@ -73,7 +57,7 @@ abbrev pub setting : List Act → Setting
 setting acts = record {
   spoken = λ name. spoken_at acts (place_of acts name);
   dom = domain acts;
-  tables = past_tables acts ++ tables_of acts ∷ [];
+  tables = all_tables acts;
 }
 
 -- what it was when no more than this was recorded: of its tables those that were in force till then

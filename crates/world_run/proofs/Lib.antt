@@ -9,3 +9,5 @@ pub mod PlayLemmas
 pub mod NameLemmas
 pub mod PlayingLemmas
 pub mod RunLemmas
+pub mod NotingLemmas
+pub mod NotedRuns

@@ -1,16 +1,15 @@
 -- What a line comes to, by what is known of the names in it.
-use Rattle.std.proofs.Common.{◌≡◌, ℕ, List, [], ◌∷◌, length, Bool, true, false, Option, Some, None, Result, Ok, Err, refl, sym, ap, ◌∙◌}
-use Rattle.std.specs.Prelude.{is_some, option_map, nat_lt, nat_le, not, ◌||◌}
-use Rattle.attr_tuples.specs.Forms.{is_dom}
+use Rattle.std.proofs.Common.{◌≡◌, ℕ, List, length, Bool, true, false, Some, None, Ok, Err, refl, ap, ◌∙◌}
+use Rattle.std.specs.Prelude.{is_some, nat_lt, nat_le, not, ◌||◌}
 use Rattle.world_scripts.specs.Lines as l
 use Rattle.world_scripts.specs.Lines.{ScriptLine}
 use Rattle.world_scripts.specs.Pieces.{Piece}
 use Rattle.auth_program.specs.declared.cause.ScriptCause.TheVariants.{BadLine, UnknownNode, UnknownConv, NoSuchMessage}
-use Rattle.world_history.specs.Acts.{Act, Domain, KeyLine, SpeakLine, Reloaded, Made, Restarted, Told, Opened, Started, Got, Given, Answered, Unanswered, Asked, Closed, agent_of, has_name, is_node, nodes, opened_names, talk_of, was_asked}
+use Rattle.world_history.specs.Acts.{Act, Reloaded, Made, Restarted, Told, Opened, Started, Got, Given, Answered, Unanswered, Closed, agent_of, has_name, is_node, nodes, opened_names, talk_of}
 use Rattle.world_history.specs.Driving.{refuses_open}
 use Rattle.world_history.specs.Scripts.{act_of, call_now, fitting, is_unfit, judged, misnamed, most_answer, most_nodes, most_request, named, spelled}
 use Rattle.world_history.specs.Talking.{gives, request_text}
-use Rattle.world_history.specs.Worlds.{fid_for, has_ended, history, messages, outstanding}
+use Rattle.world_history.specs.Worlds.{fid_for, history, messages, outstanding}
 use Rattle.world_history.specs.Scripts as scripts
 
 -- ---- lines that take no name

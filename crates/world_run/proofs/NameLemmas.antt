@@ -1,6 +1,6 @@
 -- What carrying out a line does to a run where nodes are made, conversations are opened or closed, or the authentication server
 -- is told of or asked.
-use Rattle.std.proofs.Common.{◌≡◌, ℕ, ◌+◌, ◌<◌, ◌≤◌, List, [], ◌∷◌, ◌++◌, map, filter, length, Bool, true, false, cond, not, ◌||◌, Option, Some, None, Ok, Err, refl, sym, ap, subst, ◌∙◌, inl, inr, arith, length-append}
+use Rattle.std.proofs.Common.{◌≡◌, ℕ, ◌+◌, ◌<◌, ◌≤◌, List, [], ◌∷◌, ◌++◌, length, Bool, true, false, cond, ◌||◌, Option, Some, None, Ok, Err, refl, sym, ap, subst, ◌∙◌, inl, inr, arith, length-append}
 use Rattle.std.specs.Prelude.{is_some, nat_le, option_map}
 use Rattle.std.specs.Map.{lookup}
 use Rattle.std.specs.Str.{bytes_eq}
@@ -9,7 +9,6 @@ use Rattle.std.proofs.lemmas.Bool.{cases_Bool, cond-true, cond-false, false≢tr
 use Rattle.auth_server.specs.Answers.{Knowledge, Posed, answer_in, is_over_in, posed}
 use Rattle.auth_server.specs.Requests.{asked_so, is_served, kind_of}
 use Rattle.auth_server.specs.Standing.{knowledge}
-use Rattle.agent_history.specs.Histories.{History}
 use Rattle.agent_turns.specs.declared.turns.Turned.{Turned}
 use Rattle.wire_histories.specs.declared.step.Step.{Step}
 use Rattle.wire_histories.specs.declared.step.Step.TheVariants as s
@@ -21,8 +20,8 @@ use Rattle.world_scripts.specs.Lines as l
 use Rattle.world_scripts.specs.Pieces.{Piece}
 use Rattle.auth_program.specs.declared.cause.ScriptCause.TheVariants.{NoSuchMessage}
 use Rattle.world_history.specs.Scripts.{fitting, is_unfit, judged, spelled}
-use Rattle.world_history.specs.Turns.{Turn, closes, lets_open, turn_steps}
-use Rattle.world_history.specs.Worlds.{Done, done_to, fid_for, history, history_by, known, messages, messages_in, on_talk, put_to, requests, session_steps, steps, steps_by, steps_to, was_misasked}
+use Rattle.world_history.specs.Turns.{closes, lets_open, turn_steps}
+use Rattle.world_history.specs.Worlds.{Done, fid_for, history, history_by, known, messages, messages_in, put_to, requests, session_steps, steps_by, steps_to, was_misasked}
 use Rattle.world_run.specs.PlayStanding.{IsClosed, IsFree, IsOpen, conv_on}
 use Rattle.world_run.proofs.ListLemmas.{alone_off, fids_named, found_off, left_on, none_off, off_on, one_more, others_off}
 use Rattle.world_run.proofs.TalkLemmas.{SameNames, now_open, free_beside, closed_beside, open_beside, now_closed, free_left, closed_left, open_left, done_on_open}
@@ -34,7 +33,6 @@ use Rattle.world_run.specs.declared.named_talks.Talk.{Talk as Kept}
 use Rattle.world_run.specs.Names.{changed_under, left_behind, put_under}
 use Rattle.world_run.specs.Sessions.{ClientsAre, ServesSo}
 use Rattle.world_run.specs.Sessions as sessions
-use Rattle.world_run.specs.declared.node.Node.{Node}
 use Rattle.world_run.specs.declared.nodes.Nodes.{Nodes}
 use Rattle.world_run.specs.Nodes.{NodeIs, NodesAre, TurnsTo, View, done_on, next_fid, node_at}
 use Rattle.world_run.specs.Nodes as n

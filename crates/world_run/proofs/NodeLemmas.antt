@@ -11,11 +11,11 @@ use Rattle.agent_turns.specs.declared.turns.Turned.{Turned}
 use Rattle.agent_turns.specs.Turning.{Turns}
 use Rattle.world_history.specs.Acts.{least_fid}
 use Rattle.world_history.specs.Driving.{new_node, refuses_open}
-use Rattle.world_history.specs.Turns.{Turn, after, lets_open}
+use Rattle.world_history.specs.Turns.{Turn, after}
 use Rattle.world_run.specs.declared.node.Node.{Node}
 use Rattle.world_run.specs.declared.nodes.Nodes.{Nodes}
-use Rattle.world_run.specs.Fids.{fids, named}
-use Rattle.world_run.specs.Nodes.{IsFree, IsNode, NodeIs, NodesAre, OpensSo, TurnsSo, View, closed, done_on, held_on, made, next_fid, node_at, opened, restarted}
+use Rattle.world_run.specs.Fids.{named}
+use Rattle.world_run.specs.Nodes.{IsNode, NodeIs, NodesAre, OpensSo, TurnsSo, View, closed, done_on, made, next_fid, node_at, opened, restarted}
 use Rattle.world_run.specs.Opening.{OpensOne, its_fid}
 use Rattle.world_run.proofs.FidLemmas.{fids_named, named_left}
 

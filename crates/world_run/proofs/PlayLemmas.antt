@@ -1,12 +1,12 @@
 -- One line after the other.
-use Rattle.std.proofs.Common.{◌≡◌, ℕ, List, [], ◌∷◌, ◌++◌, Option, Some, None, Result, Ok, Err, refl, sym, ap, subst, ◌∙◌, append_assoc, append-nil}
+use Rattle.std.proofs.Common.{◌≡◌, ℕ, List, [], ◌∷◌, ◌++◌, Option, Some, None, Result, Ok, Err, sym, ap, ◌∙◌, append_assoc, append-nil}
 use Rattle.wire_histories.specs.declared.step.Step.{Step}
 use Rattle.world_scripts.specs.Reading.{line_of}
 use Rattle.world_scripts.specs.Scripts.{Numbered}
 use Rattle.auth_program.specs.declared.cause.ScriptCause.{ScriptCause}
 use Rattle.world_history.specs.Acts.{Act}
 use Rattle.world_history.specs.Scripts.{Played, go_on, judged, played, plays}
-use Rattle.world_history.specs.Worlds.{messages, steps, steps_by}
+use Rattle.world_history.specs.Worlds.{steps, steps_by}
 
 -- what is recorded already is the front of what lines behind it come to
 pub record Behind (acts : List Act) (p : Played) : Type 0 where

@@ -1,5 +1,5 @@
 -- One line after the other, in a run.
-use Rattle.std.proofs.Common.{◌≡◌, ℕ, ◌+◌, ◌<◌, ◌≤◌, ◌^◌, List, [], ◌∷◌, ◌++◌, length, codes, Option, Some, None, Result, Ok, Err, refl, sym, ap, subst, ◌∙◌, append_assoc, append-nil, length-append, arith}
+use Rattle.std.proofs.Common.{◌≡◌, ℕ, ◌<◌, ◌≤◌, ◌^◌, List, [], ◌∷◌, ◌++◌, length, codes, Option, Some, None, Err, refl, sym, ap, subst, ◌∙◌, append_assoc, append-nil, length-append, arith}
 use Rattle.wire_streams.specs.Streams.{Gains}
 use Rattle.wire_streams.proofs.StreamLemmas.{Gains-trans}
 use Rattle.std.proofs.lemmas.Grind.{flat_map-append}
@@ -13,7 +13,7 @@ use Rattle.world_scripts.specs.Scripts.{Numbered, script_lines}
 use Rattle.hex.specs.Hex.{encode_lower}
 use Rattle.auth_program.specs.declared.cause.ScriptCause.{ScriptCause}
 use Rattle.world_history.specs.Acts.{Act}
-use Rattle.world_history.specs.Scripts.{Played, judged, play, played, plays}
+use Rattle.world_history.specs.Scripts.{Played, judged, play, plays}
 use Rattle.world_history.specs.Worlds.{messages, steps, steps_by}
 use Rattle.world_run.proofs.PlayLemmas.{is_behind, plays_no_more, plays_on}
 use Rattle.world_history.specs.Writing.{StopsBy, WritesBy, lines_of}

@@ -1,5 +1,5 @@
 -- What carrying out a line does to a run, act by act.
-use Rattle.std.proofs.Common.{◌≡◌, ℕ, suc, ◌+◌, ◌<◌, ◌≤◌, List, [], ◌∷◌, ◌++◌, map, filter, length, Bool, true, false, cond, ◌||◌, Option, Some, None, Ok, Err, ◌⊎◌, refl, sym, ap, subst, ◌∙◌, inl, inr, arith}
+use Rattle.std.proofs.Common.{◌≡◌, ℕ, suc, ◌<◌, ◌≤◌, List, ◌∷◌, length, Bool, true, false, cond, Option, Some, None, Ok, Err, ◌⊎◌, refl, sym, ap, subst, ◌∙◌, inl, inr, arith}
 use Rattle.std.specs.Prelude.{is_some, option_map, nat_lt, Result}
 use Rattle.std.specs.Global.{Vec}
 use Rattle.std.specs.Map.{lookup}
@@ -10,7 +10,6 @@ use Rattle.auth_server.specs.Answers.{Posed}
 use Rattle.agent_history.specs.Histories.{History}
 use Rattle.agent_turns.specs.declared.turns.Turned.{Turned}
 use Rattle.wire_histories.specs.declared.step.Step.{Step}
-use Rattle.world_scripts.specs.Lines as l
 use Rattle.world_scripts.specs.Lines.{ScriptLine}
 use Rattle.world_scripts.specs.Reading.{line_of}
 use Rattle.world_scripts.specs.Scripts.{Numbered}
@@ -19,15 +18,15 @@ use Rattle.world_history.specs.Acts.{Act, Talk, Domain, KeyLine, SpeakLine, Made
 use Rattle.world_history.specs.declared.question.Question.{Question}
 use Rattle.world_history.specs.Scripts.{judged, most_request, spelled}
 use Rattle.world_history.specs.Talking as talk
-use Rattle.world_history.specs.Turns.{Turn, after, tells, asks, hears, misses, closes, turn_questions, turn_steps}
-use Rattle.world_history.specs.Worlds.{Done, call_by, done_by, done_to, fid_for, history, history_by, last_call, messages, messages_in, on_talk, outstanding, requests, steps, steps_by, steps_to, was_misasked}
-use Rattle.world_run.specs.PlayStanding.{IsClosed, IsFree, IsOpen, conv_on, or_else}
-use Rattle.world_run.proofs.ListLemmas.{fids_named, left_on, none_of, one_more, same_name}
-use Rattle.world_run.proofs.TalkLemmas.{SameNames, free_stays, closed_stays, open_stays, now_open, free_beside, closed_beside, open_beside, now_closed, free_left, closed_left, open_left, last_or, done_on_open}
+use Rattle.world_history.specs.Turns.{Turn, after, tells, asks, hears, misses, turn_questions, turn_steps}
+use Rattle.world_history.specs.Worlds.{Done, call_by, done_by, done_to, history, history_by, last_call, messages, messages_in, on_talk, outstanding, requests, steps, steps_by, steps_to, was_misasked}
+use Rattle.world_run.specs.PlayStanding.{IsOpen, conv_on, or_else}
+use Rattle.world_run.proofs.ListLemmas.{none_of}
+use Rattle.world_run.proofs.TalkLemmas.{SameNames, free_stays, closed_stays, open_stays, last_or, done_on_open}
 use Rattle.world_run.specs.declared.named_talks.Talk.{Talk as Kept}
 use Rattle.world_run.specs.declared.live.Client.{Client}
 use Rattle.world_run.specs.Sessions.{ClientIs}
-use Rattle.world_run.specs.Names.{changed_under, put_under, still_open, with_call}
+use Rattle.world_run.specs.Names.{changed_under, still_open, with_call}
 use Rattle.world_run.specs.declared.node.Node.{Node}
 use Rattle.world_run.specs.declared.nodes.Nodes.{Nodes}
 use Rattle.world_run.specs.Nodes.{NodeIs, NodesAre, TurnsTo, View, done_on, node_at}
@@ -43,7 +42,7 @@ use Rattle.world_run.specs.declared.stops.Stop.{Stop}
 use Rattle.world_run.specs.declared.stops.Stop.TheVariants as stop
 use Rattle.world_run.specs.Looking.{FindsSo, SpellsSo, TakesSo, looked_up}
 use Rattle.world_run.specs.declared.run.Run.{Run}
-use Rattle.world_run.specs.Standing.{Asked as AskedSo, Carries, Comes, IsAskedBy, IsDone, act_for, Stands, StandsWith, TalkIs, TalksAre, nodes_by, sessions_by}
+use Rattle.world_run.specs.Standing.{Asked as AskedSo, Carries, Comes, IsDone, act_for, Stands, TalkIs, TalksAre, nodes_by}
 
 none_some : {X : Type 0} {x : X} → None ≡ Some x → ⊥
 none_some e = cc

@@ -1,5 +1,5 @@
 -- A session among others.
-use Rattle.std.proofs.Common.{◌≡◌, ℕ, List, [], ◌∷◌, ◌++◌, Bool, true, false, cond, ◌||◌, Option, Some, None, refl, sym, ap, subst, ◌∙◌, inl, inr}
+use Rattle.std.proofs.Common.{◌≡◌, ℕ, List, [], Bool, true, false, cond, Option, Some, None, refl, sym, subst, ◌∙◌, inl, inr}
 use Rattle.std.specs.Prelude.{is_some}
 use Rattle.std.specs.Map.{lookup}
 use Rattle.std.specs.Str.{bytes_eq}
@@ -10,7 +10,6 @@ use Rattle.auth_server.specs.Standing.{Stands}
 use Rattle.world_run.specs.declared.clients.Served.{Served}
 use Rattle.world_run.specs.declared.clients.Served.TheVariants as served
 use Rattle.world_run.specs.declared.live.Client.{Client}
-use Rattle.world_run.specs.declared.live.Client.TheVariants as client
 use Rattle.world_run.specs.declared.live.Live.{Live}
 use Rattle.world_run.specs.Sessions.{ClientIs, ClientsAre, IsClient, IsLive, IsNew, OneServes, ServesSo, View, answered, misasked}
 

@@ -1,15 +1,13 @@
 -- How each act changes what is known of the conversations.
-use Rattle.std.proofs.Common.{◌≡◌, ℕ, List, [], ◌∷◌, ◌++◌, filter, Bool, true, false, cond, not, ◌||◌, Option, Some, None, refl, sym, ap, subst, ◌∙◌}
+use Rattle.std.proofs.Common.{◌≡◌, ℕ, List, [], ◌∷◌, Bool, true, false, ◌||◌, Option, Some, None, refl, sym, ap, subst, ◌∙◌}
 use Rattle.std.specs.Prelude.{find}
 use Rattle.std.specs.Str.{bytes_eq}
-use Rattle.std.specs.Cmp.Lexicographic.{bytes_decides}
-use Rattle.std.proofs.lemmas.Bool.{cond-true, cond-false}
 use Rattle.world_history.specs.declared.question.Question.{Question}
 use Rattle.world_history.specs.Acts.{Act, Talk, Opened, Closed, has_name, is_node, opened_names, talk_of, talks}
 use Rattle.world_history.specs.Turns.{Turn, closes}
-use Rattle.world_history.specs.Worlds.{Done, call_by, done_to, fid_for, last_call, on_talk, outstanding}
+use Rattle.world_history.specs.Worlds.{call_by, done_to, fid_for, last_call, on_talk, outstanding}
 use Rattle.world_run.specs.PlayStanding.{AreOn, AreOthers, IsClosed, IsFree, IsOpen, or_else}
-use Rattle.world_run.proofs.ListLemmas.{same_name, names_turn, none_of, found_more, found_new, others_more, alone_more, alone_new, others_left, none_left, alone_left, found_left}
+use Rattle.world_run.proofs.ListLemmas.{same_name, found_more, found_new, others_more, alone_more, alone_new, others_left, none_left, alone_left, found_left}
 
 -- ---- an act that opens and closes none
 

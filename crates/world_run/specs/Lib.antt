@@ -9,3 +9,4 @@ pub mod Playing
 pub mod Runs
 pub mod Serving
 pub mod Standing
+pub mod Noting

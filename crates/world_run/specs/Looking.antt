@@ -4,7 +4,6 @@ use Rattle.std.specs.Map.{lookup}
 use Rattle.std.specs.Str.{bytes_eq}
 use Rattle.wire_histories.specs.declared.step.Step.{Step}
 use Rattle.agent_turns.specs.declared.turns.Turned.{Turned}
-use Rattle.auth_program.specs.declared.cause.ScriptCause.{ScriptCause}
 use Rattle.auth_program.specs.declared.cause.ScriptCause.TheVariants.{NoSuchMessage, UnknownConv}
 use Rattle.world_history.specs.Scripts.{spelled}
 use Rattle.world_history.specs.Turns.{Turn}

@@ -1,5 +1,5 @@
 -- What is known of the conversations of a network by their names. This serves proofs alone.
-use Rattle.std.specs.Prelude.{◌≡◌, ℕ, List, [], ◌∷◌, map, filter, Bool, true, false, Option, Some, None}
+use Rattle.std.specs.Prelude.{◌≡◌, ℕ, List, [], ◌∷◌, map, filter, true, false, Option, Some, None}
 use Rattle.std.specs.Str.{bytes_eq}
 use Rattle.world_history.specs.Acts.{Act, Talk, has_name, is_node, opened_names, talk_of, talks}
 use Rattle.world_history.specs.Worlds.{outstanding}

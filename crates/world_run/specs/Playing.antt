@@ -1,19 +1,14 @@
 -- What carrying out lines one after the other comes to. This serves proofs alone. Content is optional: the words on
 -- what was written hold where it is told.
-use Rattle.std.specs.Prelude.{◌≡◌, ℕ, List, ◌∷◌, ◌++◌, Bool, true, false, Option, Some, None, Ok, Err}
-use Rattle.std.specs.List.{flat_map}
+use Rattle.std.specs.Prelude.{◌≡◌, ℕ, List, ◌∷◌, ◌++◌, Bool, false, Option, Some, None, Ok}
 use Rattle.wire_streams.specs.Streams.{Gains}
-use Rattle.wire_streams.specs.Whole.{GainsFront}
 use Rattle.wire_histories.specs.declared.step.Step.{Step}
-use Rattle.wire_histories.specs.Lines.{step_line}
 use Rattle.world_scripts.specs.Reading.{line_of}
 use Rattle.world_scripts.specs.Scripts.{Numbered}
 use Rattle.world_history.specs.Acts.{Act}
 use Rattle.world_history.specs.Scripts.{Played, judged, plays}
-use Rattle.world_history.specs.Worlds.{steps, steps_by}
 use Rattle.world_history.specs.Writing.{lines_of}
 use Rattle.world_run.specs.declared.play.WorldEnd.{WorldEnd}
-use Rattle.world_run.specs.declared.play.WorldEnd.TheVariants.{Done, Bad, WriteFault, NoMemory}
 use Rattle.world_run.specs.declared.run.Run.{Run}
 use Rattle.world_run.specs.Runs.{RunsFrom, is_fault}
 use Rattle.world_run.specs.Standing.{Stands}

@@ -1,5 +1,5 @@
 -- The steps of a request to a session, by what became of it. This serves proofs alone.
-use Rattle.std.specs.Prelude.{ℕ, List, [], ◌∷◌, ◌++◌, Bool, true, if◌then◌else◌}
+use Rattle.std.specs.Prelude.{ℕ, List, [], ◌∷◌, Bool, if◌then◌else◌}
 use Rattle.wire_histories.specs.declared.step.Step.{Step}
 use Rattle.wire_histories.specs.declared.step.Step.TheVariants.{AsEnd, AsGave, AsGot}
 use Rattle.world_run.specs.declared.clients.Served.{Served}

@@ -1,9 +1,10 @@
 // Nodes by their names.
 use crate::node::Node;
-use agent_turns::{Agent, Turn, Turned};
+use agent_turns::{Agent, Turn, Turned, note_key};
 use std::alloc::Global;
 use std::collections::BTreeMap;
 use wire_base::NoMemory;
+use wire_histories::Setting;
 
 /// The nodes of a network.
 #[derive(Drop)]
@@ -14,9 +15,12 @@ pub struct Nodes {
 
 impl Nodes {
     ghost use Rattle.std.specs.Prelude.{◌≡◌, true, false, option_copied, IfOk, OnOk};
+    ghost use Rattle.agent_history.specs.Conversations.{chosen_at};
+    ghost use Rattle.agent_history.specs.Histories.{deeds};
     ghost use Rattle.agent_turns.specs.Agents.{StandsFor};
     ghost use Rattle.agent_turns.specs.Turning.{IsTurn, said_turn};
     ghost use Rattle.world_history.specs.Driving.{new_node};
+    ghost use Rattle.world_history.specs.NotingFronts.{NotesKey};
     ghost use Rattle.world_run.specs.Nodes.{NodesAre, OpensSo, TurnsSo, View, closed, made, node_at, nobody, restarted};
 
     /// No nodes.
@@ -102,5 +106,25 @@ impl Nodes {
             return;
         };
         node.close(conv);
+    }
+
+    /// It is noted of a conversation, which a fid of a node has open, which key it has chosen, or that it has none; nothing
+    /// is where there is no such node.
+    pub fn note_key(
+        &self,
+        name: &[u8],
+        conv: &[u8],
+        fid: u32,
+        setting: &mut Setting,
+    ) -> Result<(), NoMemory>
+        ensures { OnOk result ((v : View) → NodesAre v self.now → v.is name.now ≡ true
+            → NotesKey conv.now (chosen_at (deeds (v.history name.now)) 0 fid)
+            setting.old setting.new) }
+    {
+        let Some(node) = self.look(name) else {
+            return Ok(());
+        };
+        note_key(&node.agent, conv, fid, setting)?;
+        Ok(())
     }
 }

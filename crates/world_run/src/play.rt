@@ -1,6 +1,7 @@
 // A script, line by line.
 ghost use Rattle.std.specs.Prelude.{◌≡◌, ◌≤◌, ◌^◌, length};
 ghost use Rattle.wire_streams.specs.Causes.{CountsOutcome};
+ghost use Rattle.world_run.specs.Noting.{NotesScript};
 ghost use Rattle.world_run.specs.Runs.{RunsSo, is_fault};
 
 use crate::run::Run;
@@ -8,9 +9,9 @@ use crate::stops::{BAD_LINE, Done, Stop};
 use auth_program::ScriptCause;
 use std::alloc::Global;
 use wire_base::NoMemory;
-use wire_histories::Wire;
+use wire_histories::{Setting, Wire};
 use wire_streams::Sink;
-use world_history::{Cut, read_tables};
+use world_history::{Cut, begin_setting, read_tables};
 use world_scripts::{BadForm, Line, NumberedLine, ScriptLines, parse_line};
 
 /// The most bytes of a script.
@@ -35,6 +36,7 @@ impl Run {
     ghost use Rattle.world_scripts.specs.Lines.{is_formed};
     ghost use Rattle.world_scripts.specs.Said.{said_line};
     ghost use Rattle.world_run.specs.Standing.{CarriesBefore, CarriesText, IsShort};
+    ghost use Rattle.world_run.specs.Noting.{NotesAll, NotesDone, NotesOne};
     ghost use Rattle.world_run.specs.Playing.{PlaysAll, PlaysOne, write_failed};
 
     // A line is carried out, before those that are left; its steps.
@@ -86,20 +88,34 @@ impl Run {
         }
     }
 
-    // A line is carried out and recorded, before those that are left. The end that it comes to, if it does.
+    // The same, and what it changes of the setting is noted.
+    fn do_noted(&mut self, text: &[u8], left: &ScriptLines<'_>, setting: &mut Setting) -> Done
+        ensures carried { CarriesText text.now left.now self.old result self.new }
+        ensures recorded { self.new.recorded ≡ self.old.recorded }
+        ensures noted { NotesDone text.now left.now self.old result setting.old setting.new }
+    {
+        let steps = self.do_text(text, left)?;
+        self.note_text(text, left, setting)?;
+        Ok(steps)
+    }
+
+    // A line is carried out, noted and recorded, before those that are left. The end that it comes to, if it does.
     fn play<W: Sink>(
         &mut self,
         line: NumberedLine<'_>,
         left: &ScriptLines<'_>,
+        setting: &mut Setting,
         sink: &mut W,
     ) -> Option<WorldEnd>
         ensures played { PlaysOne (said_number line.entry) left.now self.old result self.new
             (W.holds sink.old) (W.holds sink.new) }
+        ensures noted { NotesOne (said_number line.entry) left.now self.old result
+            setting.old setting.new }
         ensures counted { W.faults sink.old ≤ W.faults sink.new }
         ensures exact { CountsOutcome (W.faults sink.old) (W.faults sink.new)
             (write_failed result) }
     {
-        match self.do_text(line.text, left) {
+        match self.do_noted(line.text, left, setting) {
             Ok(steps) => match self.recorded.put_all(steps, sink) {
                 Ok(()) => None,
                 Err(Cut::WriteFault) => Some(WorldEnd::WriteFault),
@@ -114,19 +130,51 @@ impl Run {
     }
 
     // The lines that are left.
-    fn play_all<W: Sink>(&mut self, mut lines: ScriptLines<'_>, sink: &mut W) -> WorldEnd
+    fn play_all<W: Sink>(
+        &mut self,
+        mut lines: ScriptLines<'_>,
+        setting: &mut Setting,
+        sink: &mut W,
+    ) -> WorldEnd
         ensures played { PlaysAll lines.entry self.old result self.new
             (W.holds sink.old) (W.holds sink.new) }
+        ensures noted { NotesAll lines.entry self.old result setting.old setting.new }
         ensures counted { W.faults sink.old ≤ W.faults sink.new }
         ensures exact { CountsOutcome (W.faults sink.old) (W.faults sink.new) (is_fault result) }
     {
         while let Some(line) = lines.next() {
-            if let Some(end) = self.play(line, &lines, sink) {
+            if let Some(end) = self.play(line, &lines, setting, sink) {
                 return end;
             }
         }
         WorldEnd::Done
     }
+}
+
+/// Runs a script as `run_world` does, and hands out beside its record what a test of labels asks of its setting; None
+/// where memory ran out before its first line.
+pub fn run_world_setting<W: Sink>(
+    alloc: Global,
+    script: &[u8],
+    sink: &mut W,
+) -> (Wire, Option<Setting>, WorldEnd)
+    requires { length script.now ≤ 2 ^ 22 }
+    ensures so { RunsSo result.2 script.now result.0 (W.holds sink.old) (W.holds sink.new) }
+    ensures counted { W.faults sink.old ≤ W.faults sink.new }
+    ensures exact { CountsOutcome (W.faults sink.old) (W.faults sink.new) (is_fault result.2) }
+    ensures noted { NotesScript script.now result.2 result.1 }
+{
+    let tables = match read_tables(alloc, script) {
+        Ok(tables) => tables,
+        Err(NoMemory) => return (Wire::new(alloc), None, WorldEnd::NoMemory),
+    };
+    let mut setting = match begin_setting(alloc, script) {
+        Ok(setting) => setting,
+        Err(NoMemory) => return (Wire::new(alloc), None, WorldEnd::NoMemory),
+    };
+    let mut run = Run::new(alloc, tables);
+    let end = run.play_all(ScriptLines::new(script), &mut setting, sink);
+    (run.recorded.into_steps(), Some(setting), end)
 }
 
 /// Runs a script of at most 2^22 bytes with real agents and the real authentication server. The steps of its record are
@@ -137,11 +185,6 @@ pub fn run_world<W: Sink>(alloc: Global, script: &[u8], sink: &mut W) -> (Wire, 
     ensures counted { W.faults sink.old ≤ W.faults sink.new }
     ensures exact { CountsOutcome (W.faults sink.old) (W.faults sink.new) (is_fault result.1) }
 {
-    let tables = match read_tables(alloc, script) {
-        Ok(tables) => tables,
-        Err(NoMemory) => return (Wire::new(alloc), WorldEnd::NoMemory),
-    };
-    let mut run = Run::new(alloc, tables);
-    let end = run.play_all(ScriptLines::new(script), sink);
-    (run.recorded.into_steps(), end)
+    let (steps, _setting, end) = run_world_setting(alloc, script, sink);
+    (steps, end)
 }

@@ -1,7 +1,4 @@
 use Rattle.world_run.proofs.ListLemmas.{fids_named}
-use Rattle.world_run.proofs.TalkLemmas.{last_or}
-use Rattle.world_run.proofs.LineLemmas.{fits}
-use Rattle.world_run.proofs.PlayLemmas.{is_behind}
 use Rattle.world_run.proofs.standing_laws.a_node_holds_the_fids_of_its_conversations.Goals as goal
 
 pub returns : goal.returns

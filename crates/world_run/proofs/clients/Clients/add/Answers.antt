@@ -1,4 +1,3 @@
-use Rattle.std.proofs.Common.{◌∙◌}
 use Rattle.auth_tables.proofs.MapLemmas.{put_by_query}
 use Rattle.world_run.proofs.NamedLemmas.{put_found}
 use Rattle.world_run.proofs.SessionLemmas.{one_more}

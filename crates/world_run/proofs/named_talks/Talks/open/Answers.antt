@@ -1,4 +1,3 @@
-use Rattle.std.proofs.Common.{ap, ◌∙◌}
 use Rattle.auth_tables.proofs.MapLemmas.{put_by_query}
 use Rattle.world_run.proofs.named_talks.Talks.open.Goals as goal
 

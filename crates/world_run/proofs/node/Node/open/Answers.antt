@@ -1,4 +1,4 @@
-use Rattle.std.proofs.Common.{◌≡◌, ◌∷◌, ◌++◌, [], ℕ, List, Bool, true, false, not, refl, sym, ap, subst, ◌∙◌}
+use Rattle.std.proofs.Common.{ℕ, refl, sym, ap, subst, ◌∙◌}
 use Rattle.agent_turns.specs.Agents.{StandsFor}
 use Rattle.world_history.specs.Acts.{least_fid}
 use Rattle.world_history.specs.Driving as driving

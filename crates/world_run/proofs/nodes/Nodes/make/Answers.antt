@@ -1,4 +1,4 @@
-use Rattle.std.proofs.Common.{subst, sym, ◌∙◌}
+use Rattle.std.proofs.Common.{subst, sym}
 use Rattle.agent_turns.specs.Agents.{StandsFor}
 use Rattle.world_history.specs.Driving.{new_node}
 use Rattle.auth_tables.proofs.MapLemmas.{put_by_query}

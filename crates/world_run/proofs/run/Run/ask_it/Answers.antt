@@ -1,12 +1,8 @@
-use Rattle.std.proofs.Common.{◌≡◌, ◌∷◌, ◌++◌, [], ℕ, List, length, true, false, Some, None, Ok, Err, refl, sym, ap, subst, ◌∙◌, rules, arith}
-use Rattle.std.specs.Prelude.{is_some}
+use Rattle.std.proofs.Common.{ap, ◌∙◌}
 use Rattle.std.proofs.lemmas.Result.{err_from_is_err_and}
 use Rattle.agent_turns.specs.Turning.{said_asks}
 use Rattle.world_history.specs.Acts as a
-use Rattle.world_history.specs.Talking as talk
 use Rattle.world_history.specs.Turns as does
-use Rattle.world_history.specs.Worlds.{history}
-use Rattle.world_scripts.specs.Lines as l
 use Rattle.world_scripts.specs.Reading.{line_of}
 use Rattle.world_run.specs.Standing.{nodes_by}
 use Rattle.world_run.proofs.RunLemmas.{asked_done, take_stops, with_both}

@@ -1,18 +1,13 @@
-use Rattle.std.proofs.Common.{◌≡◌, ◌∷◌, ◌++◌, [], ℕ, List, length, true, false, Some, None, Ok, Err, refl, sym, ap, subst, ◌∙◌, rules, arith}
-use Rattle.std.specs.Prelude.{is_some}
+use Rattle.std.proofs.Common.{Some, refl, ap, ◌∙◌}
 use Rattle.std.proofs.lemmas.Result.{err_from_is_err_and}
-use Rattle.agent_turns.specs.Turning.{said_asks}
 use Rattle.world_history.specs.Acts as a
-use Rattle.world_history.specs.Talking as talk
 use Rattle.world_history.specs.Turns as does
-use Rattle.world_history.specs.Worlds.{history}
 use Rattle.world_scripts.specs.Lines as l
-use Rattle.world_scripts.specs.Reading.{line_of}
 use Rattle.world_run.specs.Standing.{nodes_by}
 use Rattle.world_history.specs.Scripts.{judged}
-use Rattle.world_run.specs.Nodes.{NodesAre, closed, done_on}
+use Rattle.world_run.specs.Nodes.{done_on}
 use Rattle.world_run.proofs.LineLemmas.{close_judged, conv_unknown}
-use Rattle.world_run.proofs.RunLemmas.{done_as, find_gives, find_stops, line_judged, open_found, take_stops, with_both}
+use Rattle.world_run.proofs.RunLemmas.{done_as, find_gives, find_stops, open_found, take_stops, with_both}
 use Rattle.world_run.proofs.NameLemmas.{closed_done}
 use Rattle.world_run.proofs.run.Run.close.Goals as goal
 

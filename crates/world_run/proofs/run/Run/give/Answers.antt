@@ -1,16 +1,9 @@
-use Rattle.std.proofs.Common.{◌≡◌, ◌∷◌, ◌++◌, [], ℕ, List, length, true, false, Some, None, Ok, Err, refl, sym, ap, subst, ◌∙◌, rules, arith}
-use Rattle.std.specs.Prelude.{is_some}
+use Rattle.std.proofs.Common.{length, Some, Ok, refl, sym, ap, subst, ◌∙◌, arith}
 use Rattle.std.proofs.lemmas.Result.{err_from_is_err_and}
-use Rattle.agent_turns.specs.Turning.{said_asks}
 use Rattle.world_history.specs.Acts as a
-use Rattle.world_history.specs.Talking as talk
-use Rattle.world_history.specs.Turns as does
-use Rattle.world_history.specs.Worlds.{history}
 use Rattle.world_scripts.specs.Lines as l
-use Rattle.world_scripts.specs.Reading.{line_of}
-use Rattle.world_run.specs.Standing.{Comes, nodes_by}
+use Rattle.world_run.specs.Standing.{Comes}
 use Rattle.world_history.specs.Scripts.{judged}
-use Rattle.world_scripts.specs.Pieces.{Piece}
 use Rattle.world_run.proofs.LineLemmas.{conv_unknown, fits, given_fits, given_unfit, unfit, write_judged, write_unspelled}
 use Rattle.world_run.proofs.RunLemmas.{find_gives, find_stops, given_long, given_short, open_found, spell_stops, spelled_now}
 use Rattle.world_run.proofs.run.Run.give.Goals as goal

@@ -1,4 +1,4 @@
-use Rattle.std.proofs.Common.{◌≡◌, ◌∷◌, ◌++◌, [], ℕ, List, true, false, Some, None, Ok, Err, refl, sym, ap, subst, ◌∙◌, rules}
+use Rattle.std.proofs.Common.{[], sym}
 use Rattle.world_history.specs.Acts.{Made}
 use Rattle.world_scripts.specs.Lines as l
 use Rattle.world_run.proofs.LineLemmas.{node_made, node_twice, too_many}

@@ -1,17 +1,12 @@
-use Rattle.std.proofs.Common.{◌≡◌, ◌∷◌, ◌++◌, [], ℕ, List, length, true, false, Some, None, Ok, Err, refl, sym, ap, subst, ◌∙◌, rules, arith}
-use Rattle.std.specs.Prelude.{is_some}
+use Rattle.std.proofs.Common.{Some, Ok, refl, ap, ◌∙◌, rules}
 use Rattle.std.proofs.lemmas.Result.{err_from_is_err_and}
-use Rattle.agent_turns.specs.Turning.{said_asks}
 use Rattle.world_history.specs.Acts as a
-use Rattle.world_history.specs.Talking as talk
 use Rattle.world_history.specs.Turns as does
-use Rattle.world_history.specs.Worlds.{history}
 use Rattle.world_scripts.specs.Lines as l
-use Rattle.world_scripts.specs.Reading.{line_of}
 use Rattle.world_run.specs.Standing.{nodes_by}
 use Rattle.world_history.specs.Scripts.{call_now, call_or, judged}
 use Rattle.world_run.proofs.LineLemmas.{conv_known, conv_unknown, fits, miss_fits, miss_unfit, unfit}
-use Rattle.world_run.proofs.RunLemmas.{done_as, find_gives, find_stops, line_judged, miss_done, open_found, take_stops, with_both}
+use Rattle.world_run.proofs.RunLemmas.{done_as, find_gives, find_stops, miss_done, open_found, take_stops, with_both}
 use Rattle.world_run.proofs.run.Run.miss.Goals as goal
 
 pub returns-in_err-found-clause-carried : goal.returns-in_err-found-clause-carried

@@ -1,4 +1,3 @@
-use Rattle.std.proofs.Common.{◌≡◌, ◌∷◌, []}
 use Rattle.world_history.specs.Acts.{Reloaded}
 use Rattle.world_scripts.specs.Lines as l
 use Rattle.world_run.proofs.LineLemmas.{reloaded_judged}

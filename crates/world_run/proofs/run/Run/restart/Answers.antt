@@ -1,4 +1,4 @@
-use Rattle.std.proofs.Common.{◌≡◌, ◌∷◌, [], ℕ, List, sym, ap, ◌∙◌}
+use Rattle.std.proofs.Common.{◌∷◌, [], ℕ, List, sym, ap, ◌∙◌}
 use Rattle.wire_histories.specs.declared.step.Step.TheVariants as s
 use Rattle.world_history.specs.Acts.{Restarted}
 use Rattle.world_scripts.specs.Lines as l

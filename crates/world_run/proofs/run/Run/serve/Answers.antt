@@ -1,11 +1,10 @@
-use Rattle.std.proofs.Common.{◌≡◌, ◌∷◌, ◌++◌, [], ℕ, List, length, true, false, Some, None, Ok, Err, refl, sym, ap, subst, ◌∙◌, rules, arith}
+use Rattle.std.proofs.Common.{◌∷◌, [], length, Some, ap, ◌∙◌}
 use Rattle.std.proofs.lemmas.Result.{err_from_is_err_and}
 use Rattle.auth_server.specs.Standing.{knowledge}
 use Rattle.world_history.specs.Acts as a
 use Rattle.world_history.specs.Scripts.{judged}
 use Rattle.world_history.specs.Worlds.{messages_in}
 use Rattle.world_scripts.specs.Lines as l
-use Rattle.world_scripts.specs.Reading.{line_of}
 use Rattle.world_run.proofs.LineLemmas.{unfit}
 use Rattle.world_history.proofs.TellLemmas.{asked_known}
 use Rattle.world_run.specs.Standing.{sessions_by}

@@ -1,12 +1,6 @@
-use Rattle.std.proofs.Common.{◌≡◌, ◌∷◌, ◌++◌, [], ℕ, List, true, false, Some, None, Ok, Err, refl, sym, ap, subst, ◌∙◌, arith}
-use Rattle.std.specs.Prelude.{is_some}
-use Rattle.std.proofs.lemmas.Result.{err_from_is_err_and}
-use Rattle.world_history.specs.Acts as a
+use Rattle.std.proofs.Common.{refl, arith}
 use Rattle.world_history.specs.Talking as talk
-use Rattle.world_history.specs.Turns as does
-use Rattle.world_history.specs.Worlds.{history}
 use Rattle.world_scripts.specs.Lines as l
-use Rattle.world_scripts.specs.Reading.{line_of}
 use Rattle.world_run.proofs.LineLemmas.{conv_unknown, start_judged}
 use Rattle.world_run.proofs.RunLemmas.{asked_line}
 use Rattle.world_run.proofs.run.Run.start.Goals as goal

@@ -1,6 +1,5 @@
-use Rattle.std.proofs.Common.{◌≡◌, ◌∷◌, ◌++◌, [], ℕ, List, true, false, Some, None, Ok, Err, refl, sym, ap, subst, ◌∙◌}
-use Rattle.world_history.specs.Acts.{Domain, was_asked}
-use Rattle.world_history.specs.Scripts.{is_unfit}
+use Rattle.std.proofs.Common.{[], sym, ◌∙◌}
+use Rattle.world_history.specs.Acts.{Domain}
 use Rattle.world_scripts.specs.Lines as l
 use Rattle.world_run.proofs.LineLemmas.{fits, unfit}
 use Rattle.world_history.proofs.TellLemmas.{dom_told}

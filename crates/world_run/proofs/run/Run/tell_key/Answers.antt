@@ -1,6 +1,5 @@
-use Rattle.std.proofs.Common.{◌≡◌, ◌∷◌, ◌++◌, [], ℕ, List, true, false, Some, None, Ok, Err, refl, sym, ap, subst, ◌∙◌, rules}
-use Rattle.std.specs.Prelude.{◌||◌}
-use Rattle.world_history.specs.Acts.{KeyLine, key_lines, were_used}
+use Rattle.std.proofs.Common.{[], sym, ap, ◌∙◌, rules}
+use Rattle.world_history.specs.Acts.{KeyLine}
 use Rattle.world_scripts.specs.Lines as l
 use Rattle.world_run.proofs.LineLemmas.{fits, unfit}
 use Rattle.world_history.specs.Servers.{is_next}
